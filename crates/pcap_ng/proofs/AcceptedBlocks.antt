@@ -45,7 +45,7 @@ module _ (q : State) (blocks : List Framed) (bytes : List ℕ) (now out out_now 
   accepted_bytes run = elim run [ inl why ↦ absurd (no_first why) | inr copy ↦ all_copied copy ]
 
 module _ (bytes : List ℕ) (now out out_now : Option (List ℕ)) (most : ℕ) (copied : NgCopied) where
-  -- what went out behind items is a beginning of the bytes
+  -- The bytes that were written after items are a beginning of the capture.
   begins : (vs : List Item) (left mid : Option (List ℕ)) (most n : ℕ) → CopiesTexts block_format opening vs (Some bytes) left out mid
       → core.Ends as_they_came (block_format.says (state_after block_format opening vs)) left now mid out_now most n copied.fault copied.read_failed copied.write_failed
       → (gone rest : List ℕ) × (bytes ≡ gone ++ rest) × Appends out out_now gone
@@ -54,7 +54,7 @@ module _ (bytes : List ℕ) (now out out_now : Option (List ℕ)) (most : ℕ) (
       let l = taken_known bytes went.2.bytes went.1 went.2.took in
       (went.3, went.4 ++ l.0, l.2 ∙ ap (λ (s : List ℕ). s ++ l.0) went.5 ∙ append_assoc went.3 went.4 l.0, went.6)
 
-  -- whatever fails, what goes out is a beginning of the capture
+  -- Whatever fails, what was written is a beginning of the capture.
   pub copy_begins : CopyNgRun (Some bytes) now out out_now most copied → (gone rest : List ℕ) × (bytes ≡ gone ++ rest) × Appends out out_now gone
   copy_begins (inl (n, inl early)) = ([], bytes, refl, Appends-kept out out out_now [] (Appends-nil out) early.out)
   copy_begins (inl (n, inr why)) = begins [] (Some bytes) out 1 0 (copies_none block_format as_they_came bytes_writing opening (Some bytes) out) (inr (omega arith, why))

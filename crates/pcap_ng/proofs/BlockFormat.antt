@@ -1,4 +1,4 @@
--- Blocks are a lawful format, from their frames and what their bodies mean.
+-- Blocks are a lawful format, because of their frames and the meanings of their bodies.
 use Rattle.std.proofs.Common.{◌≡◌, ℕ, List, ◌++◌, true, false, Bool, refl, sym, ap, subst, ◌∙◌, arith, inl, inr}
 use Rattle.pcap_core.specs.Answer.{number_in, Verdict, whole, lacks, faulty}
 use Rattle.pcap_core.specs.Faults.{Fault}
@@ -15,12 +15,12 @@ use Rattle.pcap_ng.specs.State.{State, order_at, is_read, leads, MeansIf, Means}
 use Rattle.pcap_ng.specs.Blocks.{Item, BlockText, BlockSays, block_format}
 use Rattle.pcap_ng.proofs.HeadedFrames.{frames_lawful}
 
--- a body never lacks bytes
+-- A body never lacks bytes.
 body_no_lack : (order : ℕ → List ℕ → ℕ) (type : BlockType) (s : List ℕ) (n : ℕ) → BodySays order type s (lacks n) → ⊥
 body_no_lack order types.SectionHeader s n x = x
 body_no_lack order _ s n x = x
 
--- an item leads to the state behind it
+-- An item leads to the state after it.
 pub goes_after : (q : State) (item : Item) → block_format.goes q item ≡ item.after
 unfolding block_format
 goes_after q item = refl
@@ -202,7 +202,7 @@ blocks_lawful = record {
   last = λ q s more n m long x count y. frames_lawful.last (order_at q) s more n m long x count y;
 }
 
--- a block's text, by the format
+-- The text of a block, by the format.
 pub block_said : (q : State) (item : Item) (s rest : List ℕ) → BlockText q item s rest → block_format.says q s (whole item rest)
 unfolding block_format
 block_said q item s rest text = text

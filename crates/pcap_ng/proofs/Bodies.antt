@@ -1,4 +1,4 @@
--- The body of a block is read as one thing.
+-- The body of a block is read as exactly one value.
 use Rattle.std.proofs.Common.{◌≡◌, ℕ, List, refl, ap, sym, ◌∙◌}
 use Rattle.pcap_core.specs.declared.errors.PcapError.{PcapError}
 use Rattle.pcap_core.specs.declared.errors.PcapError.TheVariants as errors
@@ -15,14 +15,14 @@ use Rattle.pcap_written.specs.Bodies.{type_of}
 use Rattle.pcap_ng.specs.Bodies.{SaysOfBody}
 use Rattle.pcap_ng.specs.Frames.{Framed}
 
--- a block has one body
+-- A block has exactly one body.
 pub bodies_same : (b : Framed) (x y : Body) (r t : List ℕ) → SaysOfBody b (whole x r) → SaysOfBody b (whole y t) → x ≡ y
 bodies_same b x y r t p q =
     let o = body_one (number_in b.endianness) b.type_ b.body in
     let e : whole x r ≡ whole y t = o.only (whole x r) p ∙ sym (o.only (whole y t) q) in
     cc
 
--- a body is read of a block of its own type
+-- A body is read from a block of its own type.
 pub type_is : (order : Order) (type : BlockType) (s : List ℕ) (body : Body) (rest : List ℕ) → BodySays order type s (whole body rest) → type_of body ≡ type
 type_is order (types.Unknown n) s body rest says = rw says.1 (ap (λ (u : UnknownBody). u.type_) says.2.0)
 type_is order _ s body rest says = rw says.1 refl
@@ -43,7 +43,7 @@ module _ (b : Framed) (body : Body) (rest : List ℕ) (says : SaysOfBody b (whol
   no_shown : (e : PcapError) → Shows (λ fault. SaysOfBody b (faulty fault)) e → ⊥
   no_shown e x = let there = shown_fault (λ fault. SaysOfBody b (faulty fault)) e x in no_fault there.0 there.1
 
-  -- a body that is read is refused for want of memory alone
+  -- A body that can be read is refused only if memory runs out.
   pub refused_for_memory : (MayGrow : Type 0) (e : PcapError) → Refuses MayGrow (λ n. SaysOfBody b (lacks n)) (λ fault. SaysOfBody b (faulty fault)) e
       → IsMemory e
   refused_for_memory MayGrow (errors.OutOfMemory a) x = tt

@@ -1,4 +1,4 @@
--- What begins with a first block has one front and no other.
+-- Bytes that begin with a first block have exactly one front.
 use Rattle.std.proofs.Common.{◌≡◌, ℕ, List, ◌∷◌, map, refl, sym, ap, ◌∙◌}
 use Rattle.pcap_core.specs.Answer.{whole}
 use Rattle.pcap_items.specs.Format.{state_after, Front}

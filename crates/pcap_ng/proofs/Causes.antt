@@ -1,4 +1,4 @@
--- What refuses a block's frame off a stream refuses the block.
+-- The cause that refuses a block's frame from a stream refuses the block.
 use Rattle.std.proofs.Common.{◌≡◌, ℕ, List, [], take, Bool, false, Some, None, Ok, Err, subst, inl, inr, ◌⊎◌, arith}
 use Rattle.std.specs.Prelude.{Option, IfSome, Result, ⊤}
 use Rattle.std.specs.Io.KnownBytes.{Consumes, Keeps}
@@ -54,13 +54,13 @@ module _ (q : State) where
   pub asked_block : (before after : Option (List ℕ)) → TakesAsked (FrameSays (order_at q)) before after → TakesAsked (BlockSays q) before after
   asked_block before after x = record { taken = x.taken; from_stream = x.from_stream; asked = λ n less. short_block (take n x.taken) (x.asked n less) }
 
--- a refusal is for want of memory, or shows a fault
+-- A refusal either reports that memory ran out, or shows a fault.
 memory_or_shows : (M : Type 0) (F : Fault → Type 0) (e : PcapError) → Refuses M (λ n. ⊥) F e → IsMemory e ⊎ Shows F e
 memory_or_shows M F (errors.IncompleteBuffer n) x = absurd x
 memory_or_shows M F (errors.OutOfMemory a) x = inl tt
 memory_or_shows M F _ x = inr x
 
--- a frame that was refused, in the order of a state
+-- A frame that was refused, in the byte order of a state, refuses the block.
 pub pull_frame : (q : State) (order : Endianness) → order ≡ order_at q → (before after : Option (List ℕ)) (failed : Bool) (e : PcapError) → HasCause (frame_format.says order) before failed e × TakesAsked (frame_format.says order) before after
     → HasCause (block_format.says q) before failed e × TakesAsked (block_format.says q) before after
 unfolding frame_format block_format
@@ -70,7 +70,7 @@ pull_frame q order is before after failed e x =
     (cause_block q before failed e cause, asked_block q before after took)
 
 module _ (q : State) (order : Endianness) (is : order ≡ order_at q) (held : List ℕ) (before after : Option (List ℕ)) (failed : Bool) (unfailed : failed ≡ false) (came : Consumes before after held) (asked : IsAskedFor (frame_format.says order) held) where
-  -- a whole frame is no more than was asked for
+  -- A whole frame is no more than the reader requested.
   frame_asked : TakesAsked (block_format.says q) before after
   unfolding frame_format block_format
   frame_asked =
@@ -80,7 +80,7 @@ module _ (q : State) (order : Endianness) (is : order ≡ order_at q) (held : Li
   pub pull_room : (e : PcapError) → IsMemory e → HasCause (block_format.says q) before failed e × TakesAsked (block_format.says q) before after
   pull_room e memory = (no_memory memory unfailed, frame_asked)
 
-  -- what is held is refused
+  -- The block that is held is refused.
   pub pull_held : (M : Type 0) (e : PcapError) → Refuses M (λ n. ⊥) (λ f. block_format.says q held (faulty f)) e → HasCause (block_format.says q) before failed e × TakesAsked (block_format.says q) before after
   pull_held M e x =
       elim (memory_or_shows M (λ f. block_format.says q held (faulty f)) e x) [
@@ -107,7 +107,7 @@ opening_fault : (known : Option (List ℕ)) (f : Fault) → IsFaultOf (BlockSays
 opening_fault None f x = record { bytes = x.bytes; stands = x.stands; some = x.some; shown = tt }
 opening_fault (Some s) f x = record { bytes = x.bytes; stands = x.stands; some = x.some; shown = elim x.shown [ inl stands ↦ inl stands | inr early ↦ inr (record { n = early.n; lack = early.lack; certain = early.certain }) ] }
 
--- why a reader was not made
+-- The cause for which no reader was made.
 pub opening_refused : (before : Option (List ℕ)) (failed : Bool) (e : PcapError) → HasCause (block_format.says opening) before failed e → RefusesOpening before e
 unfolding block_format
 opening_refused before failed e (read_failed io is) = inl io
@@ -115,26 +115,26 @@ opening_refused before failed e (no_memory memory is) = inr (inl memory)
 opening_refused before failed e (torn io is rest) = inl io
 opening_refused before failed e (refused shown is) = inr (inr (shows_more (opening_fault before) e shown))
 
--- no more was taken of the first block than was asked for
+-- No more was taken of the first block than the reader requested.
 pub opening_asked : (before after : Option (List ℕ)) → TakesAsked (block_format.says opening) before after → TakesAsked OpeningSays before after
 unfolding block_format
 opening_asked before after x = record { taken = x.taken; from_stream = x.from_stream; asked = λ n less. record { n = (x.asked n less).n; lack = (x.asked n less).lack } }
 
--- nothing of it was taken
+-- Nothing was taken of the first block.
 pub opening_kept : (before after : Option (List ℕ)) → Keeps before after → TakesAsked OpeningSays before after
 opening_kept before after kept = record { taken = []; from_stream = Consumes-kept _ _ _ [] (Consumes-nil before) kept; asked = λ n less. absurd (omega (arith, less)) }
 
--- what is said of the first block, by the format of all blocks
+-- The verdict of the first block, by the format of all blocks.
 pub opening_says : (M : Type 0) (held : List ℕ) (e : PcapError) → Refuses M (λ n. ⊥) (λ f. OpeningSays held (faulty f)) e → Refuses M (λ n. ⊥) (λ f. block_format.says opening held (faulty f)) e
 unfolding block_format
 opening_says M held e x = x
 
--- a first frame that is refused
+-- A first frame that is refused refuses the capture.
 pub frame_opens : (held : List ℕ) (e : PcapError) → Shows (λ f. frame_format.says Big held (faulty f)) e → Refuses ⊤ (λ n. ⊥) (λ f. OpeningSays held (faulty f)) e
 unfolding frame_format order_at
 frame_opens held e x = shows_refuses ⊤ (λ f. OpeningSays held (faulty f)) e (shows_more {P = λ f. frame_format.says Big held (faulty f)} {Q = λ f. OpeningSays held (faulty f)} (λ f stands. inl stands) e x)
 
--- a first frame whose body is read
+-- A first frame whose body is read opens the capture or is refused.
 pub body_opens : (b : Framed) (held : List ℕ) (result : Result InForce PcapError) → frame_format.says Big held (whole b []) → OpensTells b result → OpensHeld held result
 unfolding frame_format order_at
 body_opens b held (Ok f) text means = (b, record { frame = text; means = means })

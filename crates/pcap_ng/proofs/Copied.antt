@@ -21,7 +21,7 @@ use Rattle.pcap_ng.proofs.Causes.{body_refused, pull_item}
 use Rattle.pcap_ng.proofs.Refusing.{refuses_wider, shows_refuses}
 use Rattle.pcap_ng.proofs.BlockFormat.{blocks_lawful}
 
--- what was copied behind a first block
+-- The first block and the blocks that were copied after it are a copy.
 pub first_copies : (first : Item) (q : State) (a b now s r out : Option (List ℕ)) (most : ℕ) (tally : Tally) (fault : Option PcapError) → first.after ≡ q → CopiesTexts block_format opening (first ∷ []) a b s r
     → core.CopiesBehind block_format as_they_came q b now r out most tally.items fault tally.read_failed tally.write_failed → CopiesNg a now s out most (copied_of tally fault)
 unfolding block_format
@@ -39,20 +39,20 @@ first_copies first q a b now s r out most tally fault leads one more =
       ends = behind.ends;
     }
 
--- a frame that is held and refused
+-- A frame that is held and malformed refuses the block.
 pub held_frame : (q : State) (order : Endianness) → order ≡ order_at q → (held : List ℕ) (e : PcapError) → Shows (λ f. frame_format.says order held (faulty f)) e → Refuses ⊤ (λ n. ⊥) (λ f. block_format.says q held (faulty f)) e
 unfolding frame_format block_format
 held_frame q order is held e x =
     let step : (f : Fault) → FrameSays order held (faulty f) → BlockSays q held (faulty f) = λ f stands. inl (subst (λ (o : Endianness). FrameSays o held (faulty f)) is stands) in
     shows_refuses ⊤ (λ f. BlockSays q held (faulty f)) e (shows_more {P = λ f. FrameSays order held (faulty f)} {Q = λ f. BlockSays q held (faulty f)} step e x)
 
--- a block that is held is followed
+-- Following a held block leads to its state, or refuses its bytes.
 pub held_follows : (q next : State) (order : Endianness) → order ≡ order_at q → (b : Framed) (held : List ℕ) → frame_format.says order held (whole b []) → (r : Result (Unit {0}) PcapError) → FollowTells q next b r → FollowsHeld q next held r
 held_follows q next order is b held text (Ok u) means = (record { block = b; after = next }, refl, pull_item q order is b held text b next refl means)
 held_follows q next order is b held text (Err e) x =
     refuses_wider (CanGrow q b) ⊤ (λ f. block_format.says q held (faulty f)) (λ f. block_format.says q held (faulty f)) (λ grows. tt) (λ f stands. stands) e (body_refused q order is b held text (CanGrow q b) e x.1)
 
--- the first block as an item
+-- The first block of a capture, as an item.
 pub opening_item : (held : List ℕ) (q : State) → OpeningSays held (whole q []) → (item : Item) × (item.after ≡ q) × block_format.says opening held (whole item [])
 unfolding block_format
 opening_item held q x = (record { block = x.0; after = q }, refl, x.1)

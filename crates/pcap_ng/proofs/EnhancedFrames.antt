@@ -1,4 +1,4 @@
--- Enhanced packets that are read where they lie.
+-- Enhanced packets that are read in place.
 use Rattle.std.proofs.Common.{◌≡◌, ◌≤◌, ◌<◌, ◌+◌, ℕ, List, [], ◌++◌, length, take, Some, inl, inr, refl, sym, ap, subst, ◌∙◌, rules, arith, length-append}
 use Rattle.std.specs.Prelude.{◌%◌}
 use Rattle.byteorder.specs.Endian.{big_number}
@@ -25,7 +25,7 @@ use Rattle.pcap_ng.proofs.Frames.{head_long}
 use Rattle.pcap_ng.proofs.HeadedFrames.{frames_lawful}
 use Rattle.pcap_ng.proofs.Stretched.{own_text, text_within}
 
--- a body with no room for them is refused
+-- A body that is too short is refused.
 pub no_room_refused : (order : Order) (body : List ℕ) → HasNoRoom order body → IsRefused order body
 no_room_refused order body (inl short) = (_, short)
 no_room_refused order body (inr cut) = (_, cut)
@@ -34,13 +34,13 @@ other_order : (e : Endianness) (magic : ℕ) → own_order e 6 magic ≡ Some e
 unfolding own_order
 other_order e magic = refl
 
--- the number of an enhanced packet's type
+-- The type number of an enhanced packet is 6.
 number_of_enhanced : (n : ℕ) → types.EnhancedPacket ≡ block_type n → n ≡ 6
 number_of_enhanced n is =
     let back : type_number (block_type n) ≡ n = search rules in
     sym back ∙ ap type_number (sym is)
 
--- an enhanced packet's block by its numbers, in this order
+-- The block of an enhanced packet, from its numbers in this byte order.
 pub enhanced_framed : (e : Endianness) (order : Order) → number_in e ≡ order → (number len again : ℕ) (s after_number after body behind rest : List ℕ)
     → Number order 4 number s after_number → Number order 4 len after_number after → Number order 4 again behind rest → after ≡ body ++ behind → number ≡ 6 → len ≡ length body + 12 → len % 4 ≡ 0 → again ≡ len
     → FrameText e (enhanced_frame e len body) s rest
@@ -65,14 +65,14 @@ enhanced_framed e order named number len again s after_number after body behind 
     } in
     record { number = 6; after = after; head = head; type_is = refl; aligned = aligned; tail = tail; same = refl }
 
--- a block has so many bytes
+-- An enhanced packet's block has as many bytes as its length.
 pub enhanced_long : (e : Endianness) (len : ℕ) (body s rest : List ℕ) → FrameText e (enhanced_frame e len body) s rest → length s ≡ len + length rest
 enhanced_long e len body s rest text =
     let long = head_long e text.number len e s text.after text.head in
     let last = number_length (number_in e) 4 len text.tail.after_body rest text.tail.trailer_is in
     omega (arith, long, ap length text.tail.body_is, length-append body text.tail.after_body, text.tail.length_is, last)
 
--- an enhanced packet's block where s is two numbers in this order, and then after
+-- An enhanced packet's block in which s is two numbers in this byte order, followed by `after`.
 module _ (e : Endianness) (order : Order) (named : number_in e ≡ order) (number len : ℕ) (s after_number after : List ℕ) (number_is : Number order 4 number s after_number) (len_is : Number order 4 len after_number after)
     (body rest : List ℕ) (frame : EnhancedFrame e body s rest) where
   begins : (frame.1.number ≡ number) × (frame.0 ≡ len) × (frame.1.after ≡ after)
@@ -83,7 +83,7 @@ module _ (e : Endianness) (order : Order) (named : number_in e ≡ order) (numbe
       let second = number_same order 4 frame.0 len after_number frame.1.after after (subst (λ (t : List ℕ). Number order 4 frame.0 t frame.1.after) first.1 there) len_is in
       (first.0, second.0, second.1)
 
-  -- the numbers are that of its type, and its length
+  -- The two numbers are those of its type and its length.
   pub is_enhanced : number ≡ 6
   is_enhanced = sym begins.0 ∙ number_of_enhanced frame.1.number frame.1.type_is
 
@@ -93,7 +93,7 @@ module _ (e : Endianness) (order : Order) (named : number_in e ≡ order) (numbe
   pub holds_all : (12 ≤ len) × (len ≤ length s)
   holds_all = (omega (arith, begins.1, frame.1.tail.length_is), omega (arith, begins.1, enhanced_long e frame.0 body s rest frame.1))
 
-  -- its length stands again behind its body
+  -- Its length is repeated after its body.
   pub same_again : (again : ℕ) (front behind more : List ℕ) → after ≡ front ++ behind → len ≡ length front + 12 → Number order 4 again behind more → again ≡ len
   same_again again front behind more split size again_is =
       let tail = frame.1.tail in
@@ -102,14 +102,14 @@ module _ (e : Endianness) (order : Order) (named : number_in e ≡ order) (numbe
       let same = number_same order 4 again frame.0 behind more rest again_is (subst (λ (t : List ℕ). Number order 4 frame.0 t rest) parts.1 there) in
       same.0 ∙ begins.1
 
--- two blocks at one front have one body
+-- Two enhanced packets' blocks at the front of the same bytes have the same body.
 pub same_body : (e : Endianness) (s a b x y : List ℕ) → EnhancedFrame e a s x → EnhancedFrame e b s y → a ≡ b
 unfolding frame_format
 same_body e s a b x y first second =
     let same = text_same frame_format frames_lawful e (enhanced_frame e first.0 a) (enhanced_frame e second.0 b) s x y first.1 second.1 in
     ap (λ (f : Framed). f.body) same.0
 
--- a body whose options are read
+-- A body whose options are read is the text of an enhanced packet.
 pub parts_read : (order : Order) (parts : EnhancedParts) (body : List ℕ) → PartsText order parts body → (options : List Entry) (rest : List ℕ) → OptionList may_end_with_body order enhanced_packet options parts.options.now rest
     → EnhancedText order (enhanced_with parts options) body rest
 parts_read order parts body text options rest list = record {
@@ -125,7 +125,7 @@ parts_read order parts body text options rest list = record {
   };
 }
 
--- a block in front of other bytes, alone
+-- A block at the front of other bytes is a block by itself.
 pub packet_alone : (e : Endianness) (packet : EnhancedNumbers) (s rest : List ℕ) (n : ℕ) → PacketText e packet s rest → n + length rest ≡ length s → PacketText e packet (take n s) []
 packet_alone e packet s rest n text size =
     let b = enhanced_frame e text.frame.0 text.body in
@@ -133,11 +133,11 @@ packet_alone e packet s rest n text size =
     let same : take n s ≡ own.0 = front_of s own.0 rest n own.1 size in
     record { body = text.body; frame = (text.frame.0, subst (λ (t : List ℕ). FrameText e b t []) (sym same) own.2); tells = text.tells }
 
--- a block takes some bytes
+-- A block takes at least one byte.
 pub packet_within : (e : Endianness) (packet : EnhancedNumbers) (s rest : List ℕ) → PacketText e packet s rest → length rest < length s
 packet_within e packet s rest text = text_within e (enhanced_frame e text.frame.0 text.body) s rest text.frame.1
 
--- an enhanced packet as an item, which leaves what is in force
+-- An enhanced packet as an item, which leaves what is in force unchanged.
 abbrev pub packet_item : Endianness → ℕ → List ℕ → State → Item
 packet_item e len body q = record { block = enhanced_frame e len body; after = q }
 

@@ -35,7 +35,7 @@ holds_blocks s n (inl x) =
     inl (now, map part x.2, x.3, front, x.6 ∙ sym (length-map x.2 part))
 holds_blocks s n (inr x) = inr x
 
--- a run over all pieces
+-- A run over all pieces is the run over their bytes.
 pub fed_run : (s : List ℕ) (run : NgRun) → IsFedUpTo OpeningSays block_format (λ (item : Item). item.block) (state_of run.parser) s run.rest run.used (map framed_of run.blocks.items) → IsRun run s
 fed_run s run x =
     let r : Reaches OpeningSays block_format (λ (item : Item). item.block) (state_of run.parser) (map framed_of run.blocks.items) s x.left = x.reaches in
@@ -46,12 +46,12 @@ fed_run s run x =
       rest = x.rest_is;
     }
 
--- what has a front has a first block
+-- Bytes that have a front have a first block.
 front_opens : (q : State) (blocks : List Framed) (s rest : List ℕ) → NgFront q blocks s rest → OpensNone OpeningSays s → ⊥
 unfolding block_format
 front_opens q blocks s rest front none = none front.first.after front.front.texts.0 (front.first.block, front.front.texts.1)
 
--- the number of blocks that bytes hold is one
+-- The number of blocks in given bytes is unique.
 pub blocks_held_same : (s : List ℕ) (n m : ℕ) → HoldsBlocks s n → HoldsBlocks s m → n ≡ m
 blocks_held_same s n m (inl x) (inl y) =
     let same = front_same_ng x.0 y.0 x.1 y.1 s x.2 y.2 x.3 y.3 in

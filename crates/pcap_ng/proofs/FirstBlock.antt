@@ -1,4 +1,4 @@
--- What is said of a first block, from what is said of blocks.
+-- The verdict of a first block, derived from the verdict of a block.
 use Rattle.std.proofs.Common.{◌≡◌, ◌++◌, ℕ, List, refl, ap, ◌∙◌}
 use Rattle.pcap_core.specs.Answer.{Verdict, whole, lacks, faulty}
 use Rattle.pcap_core.specs.Laws.{ExactlyOne, IsStable}
@@ -9,7 +9,7 @@ use Rattle.pcap_ng.specs.State.{State, opening, order_at}
 use Rattle.pcap_ng.proofs.BlockFormat.{block_one, blocks_lawful}
 use Rattle.pcap_ng.proofs.HeadedFrames.{frames_lawful}
 
--- the verdict of a block, with the state after it alone
+-- The verdict of a block with only the state after it.
 state_verdict : Verdict Item → Verdict State
 state_verdict (whole item rest) = whole item.after rest
 state_verdict (lacks n) = lacks n
@@ -40,7 +40,7 @@ pub block_stable : (q : State) → IsStable (BlockSays q)
 unfolding block_format
 block_stable q = blocks_lawful.stable q
 
--- what may grow may also grow before more bytes
+-- If a call may need memory at these bytes, it may also need memory if more bytes follow.
 pub grows_more : (q : State) (s more : List ℕ) → MayGrow q s → MayGrow q (s ++ more)
 unfolding frame_format
 grows_more q s more x = record { block = x.block; rest = x.rest ++ more; frame = (frames_lawful.stable (order_at q)).text s more x.rest x.block x.frame; grows = x.grows }

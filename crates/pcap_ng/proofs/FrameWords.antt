@@ -1,4 +1,4 @@
--- The frame format by name says what frames say.
+-- The frame format that has a name gives the verdicts of frames.
 use Rattle.std.proofs.Common.{ℕ, List}
 use Rattle.pcap_core.specs.declared.common.Endianness.{Endianness}
 use Rattle.pcap_core.specs.Answer.{Verdict}

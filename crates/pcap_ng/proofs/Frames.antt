@@ -1,4 +1,4 @@
--- How long the parts of a frame are.
+-- The lengths of the parts of a frame.
 use Rattle.std.proofs.Common.{◌≡◌, ◌≤◌, ℕ, ◌+◌, List, length, ap, arith, length-append}
 use Rattle.pcap_core.specs.declared.common.Endianness.{Endianness}
 use Rattle.pcap_core.specs.Answer.{Number, number_in}
@@ -10,7 +10,7 @@ number_long order w n s rest t = omega (arith, ap length t.text, length-append t
 pub head_long : (e : Endianness) (number len : ℕ) (own : Endianness) (s after : List ℕ) → FrameHeadText e number own len s after → length s ≡ 8 + length after
 head_long e number len own s after t = omega (arith, number_long (number_in e) 4 number s t.after_number t.number_is, number_long (number_in own) 4 len t.after_number after t.len_is)
 
--- a block has a head and its length again
+-- A block has at least the 12 bytes of its head and its trailing length.
 pub frame_long : (e : Endianness) (b : Framed) (s rest : List ℕ) → FrameText e b s rest → 12 + length rest ≤ length s
 frame_long e b s rest t =
     omega (

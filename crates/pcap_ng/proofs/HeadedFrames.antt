@@ -1,4 +1,4 @@
--- Frames are a lawful format: twelve bytes that say how many follow, and these.
+-- Frames are a lawful format: twelve bytes that determine how many bytes follow, and these bytes.
 use Rattle.std.proofs.Common.{◌≡◌, ℕ, ◌+◌, ◌-◌, ◌<◌, ◌≤◌, List, ◌++◌, length, take, drop, Option, Some, None, refl, sym, ap, subst, ◌∙◌, arith, append_assoc, length-append, inl, inr}
 use Rattle.std.specs.Prelude.{◌≢◌, ◌%◌, ◌⊎◌}
 use Rattle.std.proofs.lemmas.Bool.{cases_lt, cases_eq}
@@ -17,14 +17,14 @@ use Rattle.pcap_blocks.specs.declared.block_type.BlockType.{BlockType}
 use Rattle.pcap_blocks.specs.BlockType.{block_type}
 use Rattle.pcap_ng.specs.Frames.{Framed, own_order, FrameHeadText, NoOrder, no_order, unaligned, too_short, FrameTail, FrameText, LengthsDiffer, FrameFault, in_head, unequal, FrameSays, frame_format}
 
--- a good head, and the four bytes after its length
+-- A good head, and the four bytes after its length.
 record Head : Type 0 where
   number : ℕ
   own : Endianness
   len : ℕ
   third : List ℕ
 
--- what is said of a length
+-- The reading of a head by its length.
 LengthReads : Head → HeadReading Head → Type 0
 LengthReads x (good y) = (y ≡ x) × (x.len % 4 ≡ 0) × (12 ≤ x.len)
 LengthReads x (bad f) = ((f ≡ Invalid BlockUnaligned) × (x.len % 4 ≢ 0)) ⊎ ((f ≡ Invalid BlockTooShort) × (x.len % 4 ≡ 0) × (x.len < 12))
@@ -55,7 +55,7 @@ length_only x (bad f) (bad g) (inr h) (inr k) = rw (h.0, k.0) refl
 head_with : ℕ → Endianness → List ℕ → List ℕ → Head
 head_with number own l third = record { number = number; own = own; len = number_in own 4 l; third = third }
 
--- what is said of an order, if there is one, and of the length in it
+-- The reading of a head by its byte order, if it has one, and by the length in that order.
 OrderReads : Option Endianness → ℕ → List ℕ → List ℕ → HeadReading Head → Type 0
 OrderReads None number l third r = r ≡ bad (Invalid SectionMagic)
 OrderReads (Some own) number l third r = LengthReads (head_with number own l third) r
@@ -67,11 +67,11 @@ order_one (Some own) number l third =
     let there = length_there (head_with number own l third) in
     record { value = there.0; holds = there.1; only = λ w k. length_only (head_with number own l third) w there.0 k there.1 }
 
--- what is said of twelve bytes, by their three numbers
+-- The reading of twelve bytes by their three numbers.
 HeadReads : Endianness → List ℕ → HeadReading Head → Type 0
 HeadReads e b = OrderReads (own_order e (number_in e 4 (take 4 b)) (big_number 4 (drop 4 (drop 4 b)))) (number_in e 4 (take 4 b)) (take 4 (drop 4 b)) (drop 4 (drop 4 b))
 
--- the block that a head and these bytes are
+-- The block with this head and these bytes.
 framed_by : Head → List ℕ → Framed
 framed_by x m = record {
   type_ = block_type x.number;
@@ -119,9 +119,9 @@ headed_frames_lawful =
     } in
     headed_lawful headed_frames is
 
--- ---- the readable words say the same
+-- ---- The readable definitions agree with the readings.
 
--- twelve bytes by their parts
+-- The reading of twelve bytes by their parts.
 reads_parts : (e : Endianness) (a l c : List ℕ) (r : HeadReading Head) → length a ≡ 4 → length l ≡ 4 → OrderReads (own_order e (number_in e 4 a) (big_number 4 c)) (number_in e 4 a) l c r → HeadReads e (a ++ (l ++ c)) r
 unfolding HeadReads
 reads_parts e a l c r wide long h = rw (take_at a (l ++ c) 4 wide, drop_at a (l ++ c) 4 wide, take_at l c 4 long, drop_at l c 4 long) h
@@ -132,7 +132,7 @@ parts_text s a b c r1 r2 r3 x y z = rw (x, y, z) (simp append_assoc)
 parts_length : (a b c : List ℕ) → length a ≡ 4 → length b ≡ 4 → length c ≡ 4 → length (a ++ (b ++ c)) ≡ 12
 parts_length a b c x y z = omega (arith, length-append a (b ++ c), length-append b c, x, y, z)
 
--- a head's text is twelve bytes that are a head's
+-- The text of a head is twelve bytes that are read as a head.
 head_piece : (e : Endianness) (number len : ℕ) (own : Endianness) (s after : List ℕ) (t : FrameHeadText e number own len s after) (r : HeadReading Head)
     → LengthReads (record { number = number; own = own; len = len; third = t.magic_is.bytes }) r → Piece 12 (λ b. HeadReads e b r) s t.more
 unfolding OrderReads head_with
@@ -167,7 +167,7 @@ no_order_piece e s t =
       holds = reads_parts e a l c r t.number_is.length_is t.len_is.length_is there;
     }
 
--- what twelve bytes that are read are
+-- The parts of twelve bytes that are read.
 record Raw (b : List ℕ) : Type 0 where
   text : b ≡ take 4 b ++ (take 4 (drop 4 b) ++ drop 4 (drop 4 b))
   first : length (take 4 b) ≡ 4
@@ -256,7 +256,7 @@ framed_is : (b : Framed) (type : BlockType) (body : List ℕ) (trailer : ℕ) �
 unfolding make_framed
 framed_is b type body trailer x y z = let e : make_framed b.type_ b.initial_len b.body b.trailer_len b.endianness ≡ make_framed type b.initial_len body trailer b.endianness = rw (x, y, z) refl in e
 
--- body and length again, as bytes after the first four
+-- The body and the trailing length, as bytes after the first four.
 record Cut (third more body tail rest : List ℕ) : Type 0 where
   m : List ℕ
   text : more ≡ m ++ rest
@@ -332,7 +332,7 @@ module _ (e : Endianness) where
       inr (inr (record { number = t.number; own = t.own; len = t.len; third = h.magic_is.bytes }, h.more, p, (t.some, omega (arith, t.missing, t.good.1, ap length p.text, length-append p.bytes h.more, p.length_is))))
   frame_to s (faulty f) t = fault_to s f t
 
-  -- the bytes after a head, as a body and a length
+  -- The bytes after a head are a body and a length.
   tail_again : (x : Head) (more m rest : List ℕ) → 12 ≤ x.len → length x.third ≡ 4 → more ≡ m ++ rest → length m ≡ x.len - 12
       → FrameTail x.own x.len (take (x.len - 12) (x.third ++ m)) (number_in x.own 4 (drop (x.len - 12) (x.third ++ m))) (x.third ++ more) rest
   tail_again x more m rest long wide text count =
@@ -346,7 +346,7 @@ module _ (e : Endianness) where
         trailer_is = number_put (number_in x.own) (drop n all) rest (number_in x.own 4 (drop n all)) (length-drop n all ∙ omega (arith, size)) refl;
       }
 
-  -- a head and the bytes after it are a frame
+  -- A head and the bytes after it are a frame.
   frame_again : (x : Head) (s more m rest : List ℕ) → FrameHeadText e x.number x.own x.len s (x.third ++ more) → x.len % 4 ≡ 0 → 12 ≤ x.len → length x.third ≡ 4 → more ≡ m ++ rest → length m ≡ x.len - 12
       → number_in x.own 4 (drop (x.len - 12) (x.third ++ m)) ≡ x.len → FrameText e (framed_by x m) s rest
   unfolding framed_by

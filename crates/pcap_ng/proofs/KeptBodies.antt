@@ -1,4 +1,4 @@
--- What a block puts in force, and what is kept of it, leads on as its body does.
+-- A block's change of what is in force, and the kept copy of its body, lead to the same state as the body.
 use Rattle.std.proofs.Common.{◌≡◌, ℕ, List, [], ◌∷◌, ◌++◌, true, Bool, refl, sym, ap, subst, inl, Result, Ok, Err}
 use Rattle.std.specs.Prelude.{⊤}
 use Rattle.pcap_core.specs.declared.errors.PcapError.{PcapError}
@@ -46,7 +46,7 @@ module _ (b : Framed) (is : b.type_ ≡ types.SectionHeader) where
       let said : BodySays (number_in b.endianness) types.SectionHeader b.body (whole (SectionBody section) rest) = (section, refl, says) in
       subst (λ (t : BlockType). BodySays (number_in b.endianness) t b.body (whole (SectionBody section) rest)) (sym is) said
 
-  -- a section header leads to its section, whatever was in force
+  -- A section header leads to its section, whatever was in force.
   pub section_means : (q : State) (section : Section) (rest : List ℕ) → SectionSays b.body (whole section rest) → Means q b (good (within section []))
   section_means q section rest says = read_means q b (good (within section [])) (read_section q) (SectionBody section, rest, section_said section rest says, leads_section q section)
 

@@ -1,4 +1,4 @@
--- What a reader lends of the bytes that it holds.
+-- A block that a reader lends is the block in the bytes that it holds.
 use Rattle.std.proofs.Common.{◌≡◌, ◌∙◌, ◌+◌, ◌-◌, ℕ, List, [], length, take, drop, refl, sym, ap, arith, length-append}
 use Rattle.std.proofs.lemmas.List.{take_at}
 use Rattle.pcap_core.specs.declared.common.Endianness.{Endianness}
@@ -8,7 +8,7 @@ use Rattle.pcap_ng.specs.Lent.{header_of, framed_around, body_in}
 use Rattle.pcap_ng.proofs.Frames.{number_long, head_long}
 use Rattle.pcap_ng.proofs.StatedFrames.{head_drop}
 
--- a block with another body and another length after it
+-- The block with another body and another length after it.
 framed_by : Framed → List ℕ → ℕ → Framed
 framed_by b body n = record { type_ = b.type_; initial_len = b.initial_len; body = body; trailer_len = n; endianness = b.endianness }
 
@@ -16,7 +16,7 @@ same_block : (b : Framed) (body : List ℕ) (n : ℕ) → body ≡ b.body → n 
 unfolding framed_by
 same_block b body n e f = rw (e, f) refl
 
--- the block that bytes are is that of its header and of their body
+-- The block in these bytes is that of its header and its body.
 pub held_block : (e : Endianness) (b : Framed) (s : List ℕ) → frame_format.says e s (whole b []) → framed_around (header_of b) (body_in s) ≡ b
 unfolding frame_format framed_by
 held_block e b s text =

@@ -1,4 +1,4 @@
--- A block whose list of options has its mark is a block.
+-- A block whose list of options ends with its mark is a block.
 use Rattle.std.proofs.Common.{◌≡◌, ℕ, List, ◌++◌, refl, sym, ap, subst, ◌∙◌}
 use Rattle.pcap_core.specs.Answer.{number_in, whole}
 use Rattle.pcap_items.specs.Format.{Extends, Front}

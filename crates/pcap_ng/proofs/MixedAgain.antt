@@ -1,4 +1,4 @@
--- Blocks of values and of bytes that are written one after the other are read as they were.
+-- Blocks of values and of bytes that were written one after another are read as they were.
 use Rattle.std.proofs.Common.{◌≡◌, ◌≤◌, ℕ, List, [], ◌∷◌, ◌++◌, length, length-append, take, refl, sym, ap, subst, ◌∙◌, arith}
 use Rattle.std.specs.Prelude.{All, Option, Some, Ok}
 use Rattle.std.specs.List.{AllZip}
@@ -33,13 +33,14 @@ use Rattle.pcap_ng.proofs.MarkedLists.{block_unmarked}
 use Rattle.pcap_ng.proofs.RawAgain.{raw_again, section_again}
 use Rattle.pcap_ng.proofs.WrittenAgain.{item_in, one_again, order_within, says_again, section_read}
 
--- the number that stands first is that of the first bytes
+-- The number at the front is that of the first four bytes.
 first_number : (n : ℕ) (s rest : List ℕ) → Number big_number 4 n s rest → big_number 4 (take 4 s) ≡ n
 first_number n s rest x =
     let long : 4 ≤ length x.bytes = omega (arith, x.length_is) in
     big_from-take 0 4 4 s (omega arith) ∙ ap (big_number 4) x.text ∙ big_from-append 4 x.bytes rest long ∙ x.value
 
--- a block that went out at a place is read under this state, and the writer's place behind it is that of the state that it leads to
+-- A block that was written at a place is read under this state, and the writer's place after it agrees with the state to which it
+-- leads.
 record IsReadHere (q : State) (behind : Place) (block : Written) (text rest : List ℕ) : Type 0 where
   framed : Framed
   section : Section
@@ -49,7 +50,7 @@ record IsReadHere (q : State) (behind : Place) (block : Written) (text rest : Li
   read : BlockText q (record { block = framed; after = within section interfaces }) (text ++ rest) rest
   as_it_was : IsReadAs (record { block = framed; after = within section interfaces }) block
 
--- where a block of bytes leads
+-- IsLed q behind b: a block of bytes leads to a section whose state agrees with the writer's place after it.
 record IsLed (q : State) (behind : Place) (b : Framed) : Type 0 where
   section : Section
   interfaces : List Interface
@@ -57,11 +58,11 @@ record IsLed (q : State) (behind : Place) (b : Framed) : Type 0 where
   counted : length interfaces ≡ behind.interfaces
   means : Means q b (good (within section interfaces))
 
--- a section header of bytes
+-- A section header as a block of bytes.
 abbrev header_raw : Endianness → List ℕ → Raw
 header_raw e body = record { type_ = types.SectionHeader; endianness = e; body = body }
 
--- a section header's body names the order of the place behind it
+-- The body of a section header names the byte order of the place after it.
 section_led : (q : State) (behind : Place) (e : Endianness) (body : List ℕ) → magic_order (big_number 4 (take 4 body)) ≡ Some behind.endianness
     → behind.interfaces ≡ 0
     → ((section : Section) (rest : List ℕ) → SaysOfBody (framed_raw (header_raw e body)) (whole (SectionBody section) rest)
@@ -75,7 +76,7 @@ section_led q behind e body named none means readable =
     let magic : section.magic ≡ big_number 4 (take 4 body) = sym (first_number section.magic body text.after_magic text.magic_is) in
     record { section = section; interfaces = []; names = ap magic_order magic ∙ named; counted = sym none; means = means section read.1 says }
 
--- a block of bytes is read where its frame is
+-- A block of bytes is read if its frame is read and it leads to the place after it.
 raw_here : (q : State) (behind : Place) (raw : Raw) (text rest : List ℕ) → text ≡ raw_text raw → IsLed q behind (framed_raw raw)
     → FrameText (order_at q) (framed_raw raw) (raw_text raw ++ rest) rest
     → IsReadHere q behind (of_bytes raw) text rest
@@ -95,7 +96,7 @@ module _ (s : Section) (is : List Interface) (at behind : Place) (names : magic_
   abbrev here : State
   here = within s is
 
-  -- what a block of bytes leads to that is neither a section header nor an interface
+  -- A block of bytes that is neither a section header nor an interface description leaves what is in force unchanged.
   abbrev stays : (type : BlockType) (e : Endianness) (body : List ℕ) → ◌≡◌ {A = Option Endianness} (Some at.endianness) (Some behind.endianness)
       → behind.interfaces ≡ at.interfaces
       → Means here (framed_raw (record { type_ = type; endianness = e; body = body })) (good here)
@@ -148,7 +149,7 @@ module _ (s : Section) (is : List Interface) (at behind : Place) (names : magic_
       subst (λ (o : Endianness). FrameText o b (raw_text raw ++ rest) rest) (order_within at.endianness s is names) there in
       raw_here here behind raw text rest is_text (raw_led raw.type_ raw.endianness raw.body tells readable) frame
 
--- a section header is read where a capture begins
+-- A section header is read at the beginning of a capture.
 first_here : (at behind : Place) (block : Written) (text rest : List ℕ) → type_written block ≡ types.SectionHeader → IsReadable block
     → GoesOut at block text behind → IsReadHere opening behind block text rest
 first_here at behind (of_value (SectionBody s)) text rest is readable one =
@@ -189,7 +190,7 @@ first_here at behind (of_bytes raw) text rest is readable one = raw_first at beh
     raw_first at behind types.InterfaceDescription e body text rest is readable one = absurd cc
     raw_first at behind _ e body text rest is readable one = absurd cc
 
--- what is read of blocks that go out
+-- AreReadHere q end blocks bytes: written blocks are read from their bytes as they were, under this state.
 record AreReadHere (q : State) (end : Place) (blocks : List Written) (bytes : List ℕ) : Type 0 where
   items : List Item
   texts : Texts block_format q items bytes []
@@ -210,7 +211,7 @@ all_here s is at (block ∷ blocks) bytes end names counted readable (behind, te
     let there : BlockText (within s is) item bytes more = subst (λ (t : List ℕ). BlockText (within s is) item t more) (sym parts) read.read in
     record { items = item ∷ tail.items; texts = (more, there, tail.texts); as_they_were = (read.as_it_was, tail.as_they_were); stands = tail.stands }
 
--- a capture of blocks of values and of bytes
+-- A capture of blocks of values and of bytes is read as it was written.
 pub mixed_again : (at end : Place) (first : Written) (blocks : List Written) (bytes : List ℕ) → type_written first ≡ types.SectionHeader
     → All IsReadable (first ∷ blocks) → GoOut at (first ∷ blocks) bytes end
     → (items : List Item) × Front block_format opening items bytes [] × AllZip IsReadAs items (first ∷ blocks) × StandsAt end (state_after block_format opening items)

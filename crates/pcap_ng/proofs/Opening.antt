@@ -1,4 +1,4 @@
--- A first block that is no section.
+-- A first block that is not a section header.
 use Rattle.std.proofs.Common.{◌≡◌, ℕ, List, refl, inr}
 use Rattle.pcap_core.specs.Answer.{whole}
 use Rattle.pcap_core.specs.declared.rules.Rule.TheVariants.{SectionMissing}

@@ -1,4 +1,4 @@
--- Blocks of which a walk reads the number of their type and their two lengths.
+-- Blocks of which the code reads only the type number and the two lengths.
 use Rattle.std.proofs.Common.{◌≡◌, ◌≤◌, ◌+◌, ◌-◌, ℕ, List, ◌++◌, length, Some, false, refl, sym, ap, subst, ◌∙◌, arith, append_assoc, length-append, inl, inr}
 use Rattle.std.specs.Prelude.{◌%◌}
 use Rattle.std.proofs.lemmas.Bool.Decides.{eqb_tells}
@@ -14,13 +14,13 @@ use Rattle.pcap_ng.specs.State.{is_kept}
 use Rattle.pcap_ng.specs.Stretches.{LeavesInForce}
 use Rattle.pcap_ng.proofs.Frames.{head_long}
 
--- s is the number of a type and a length, in one order, and then after
+-- Begins e number len s after: s is a type number and a length in this byte order, followed by `after`.
 pub record Begins (e : Endianness) (number len : ℕ) (s after : List ℕ) : Type 0 where
   pub after_number : List ℕ
   pub number_is : Number (number_in e) 4 number s after_number
   pub len_is : Number (number_in e) 4 len after_number after
 
--- s is so many bytes, of which the last four are this number, and then rest
+-- Ends e len trailer s rest: s is `len` bytes, of which the last four are the number `trailer`, followed by rest.
 pub record Ends (e : Endianness) (len trailer : ℕ) (s rest : List ℕ) : Type 0 where
   pub front : List ℕ
   pub last : List ℕ
@@ -32,7 +32,7 @@ pub record Ends (e : Endianness) (len trailer : ℕ) (s rest : List ℕ) : Type 
 pub begins_with : (e : Endianness) (number len : ℕ) (s after_number after : List ℕ) → Number (number_in e) 4 number s after_number → Number (number_in e) 4 len after_number after → Begins e number len s after
 begins_with e number len s after_number after first second = record { after_number = after_number; number_is = first; len_is = second }
 
--- s that was split behind a block, and the block in front of its last four bytes
+-- If s is split after a block, and the block before its last four bytes, the block ends in the number in these.
 pub ends_with : (e : Endianness) (len trailer : ℕ) (s block rest front last : List ℕ) → s ≡ block ++ rest → length block ≡ len → block ≡ front ++ last → length front ≡ len - 4 → 12 ≤ len → number_in e 4 last ≡ trailer
     → Ends e len trailer s rest
 ends_with e len trailer s block rest front last split size parts before long value = record {
@@ -44,7 +44,7 @@ ends_with e len trailer s block rest front last split size parts before long val
   value = value;
 }
 
--- a type that leaves what is in force has the order that holds there
+-- A block of a type that leaves what is in force unchanged has the byte order of its section.
 leaving_order : (e : Endianness) (number magic : ℕ) → is_kept (block_type number) ≡ false → own_order e number magic ≡ Some e
 unfolding own_order
 leaving_order e number magic leaves =
@@ -54,7 +54,7 @@ leaving_order e number magic leaves =
     ]
 
 module _ (e : Endianness) (number len : ℕ) (s after : List ℕ) (begins : Begins e number len s after) where
-  -- the body is what lies between the head and the length after it
+  -- The body is what is between the head and the length after it.
   body_between : (trailer : ℕ) (rest : List ℕ) (ends : Ends e len trailer s rest) → 12 ≤ len → (body : List ℕ) × (after ≡ body ++ (ends.last ++ rest)) × (len ≡ length body + 12)
   body_between trailer rest ends long =
       let a = begins.number_is.bytes in
@@ -64,7 +64,7 @@ module _ (e : Endianness) (number len : ℕ) (s after : List ℕ) (begins : Begi
       let cut = beginning (a ++ b) after ends.front (ends.last ++ rest) (sym text ∙ ends.split) (omega (arith, eight, long, ends.front_is)) in
       (cut.0, cut.2, omega (arith, ends.front_is, ap length cut.1, length-append (a ++ b) cut.0, eight))
 
-  -- a block whose two lengths are one
+  -- Bytes whose two lengths are equal, with a type that leaves what is in force unchanged, are a block.
   pub block_passed : (trailer : ℕ) (rest : List ℕ) → Ends e len trailer s rest → is_kept (block_type number) ≡ false → len % 4 ≡ 0 → 12 ≤ len → trailer ≡ len
       → (b : Framed) × FrameText e b s rest × LeavesInForce b
   block_passed trailer rest ends leaves aligned long same =
@@ -88,7 +88,7 @@ module _ (e : Endianness) (number len : ℕ) (s after : List ℕ) (begins : Begi
       let b : Framed = record { type_ = block_type number; initial_len = len; body = between.0; trailer_len = trailer; endianness = e } in
       (b, record { number = number; after = after; head = head; type_is = refl; aligned = aligned; tail = tail; same = same }, leaves)
 
-  -- a block that leaves what is in force has the number and the length that its bytes begin with
+  -- A block that leaves what is in force unchanged has the type number and the length with which its bytes begin.
   module _ (b : Framed) (rest : List ℕ) (text : FrameText e b s rest) (leaves : LeavesInForce b) where
     pub leaving_type : is_kept (block_type number) ≡ false
     leaving_type =

@@ -1,4 +1,4 @@
--- Blocks around bytes are read as they were written, and blocks that were read are written as their bytes.
+-- Blocks of bytes are read as they were written, and blocks that were read are written as their bytes.
 use Rattle.std.proofs.Common.{◌≡◌, ◌≢◌, ℕ, ◌≤◌, ◌+◌, ◌%◌, List, [], ◌∷◌, ◌++◌, length, take, drop, refl, sym, inl, inr, rules, ap, subst, ◌∙◌, append_assoc, take-append-drop, length-append, arith}
 use Rattle.std.specs.Prelude.{◌==◌, false, Option, Some, Ok}
 use Rattle.std.proofs.lemmas.Bool.{cases_eq, ne_eqb}
@@ -24,7 +24,7 @@ use Rattle.pcap_ng.specs.RawBlocks.{framed_raw, raw_in}
 any_number : (s : List ℕ) → 4 ≤ length s → Number big_number 4 (big_number 4 (take 4 s)) s (drop 4 s)
 any_number s long = record { bytes = take 4 s; text = sym (take-append-drop 4 s); length_is = length-take-le 4 s long; value = refl }
 
--- a section's type number is the same in both orders
+-- The type number of a section header has the same bytes in both byte orders.
 pub same_both_ways : (e : Endianness) → number_bytes e 4 0x0A0D0D0A ≡ big_bytes 4 0x0A0D0D0A
 same_both_ways Big = refl
 same_both_ways Little = refl
@@ -33,11 +33,11 @@ framed_text : (e : Endianness) (type : ℕ) (body rest : List ℕ)
     → block_text (number_bytes e) type body ++ rest ≡ number_bytes e 4 type ++ (number_bytes e 4 (length body + 12) ++ (body ++ (number_bytes e 4 (length body + 12) ++ rest)))
 framed_text e type body rest = simp append_assoc
 
--- the bytes behind the length of a block of bytes
+-- The bytes after the length of a block of bytes.
 abbrev behind_length : Raw → List ℕ → List ℕ
 behind_length raw rest = raw.body ++ (number_bytes raw.endianness 4 (length raw.body + 12) ++ rest)
 
--- a block is read where the order that holds there, or its magic number, names its own
+-- A block is read if the byte order of the state, or its magic number, gives its own order.
 frame_again : (there : Endianness) (raw : Raw) (rest : List ℕ) → IsFitRaw raw
     → own_order there (type_number raw.type_) (big_number 4 (take 4 (behind_length raw rest))) ≡ Some raw.endianness
     → number_bytes raw.endianness 4 (type_number raw.type_) ≡ number_bytes there 4 (type_number raw.type_)
@@ -77,18 +77,18 @@ frame_again there raw rest fit own same =
     framed_text e type raw.body rest ∙ ap (λ (t : List ℕ). t ++ (write 4 len ++ after)) same in
     subst (λ (t : List ℕ). FrameText there (framed_raw raw) t rest) (sym both) text
 
--- a block that is no section is read in the order that holds there
+-- A block that is not a section header is read in its section's byte order.
 pub plain_again : (raw : Raw) (rest : List ℕ) → IsFitRaw raw → (type_number raw.type_ == 0x0A0D0D0A) ≡ false → FrameText raw.endianness (framed_raw raw) (raw_text raw ++ rest) rest
 unfolding own_order
 plain_again raw rest fit other = frame_again raw.endianness raw rest fit (rw other refl) refl
 
--- a body that begins with a magic number has its four bytes
+-- A body that begins with a magic number has at least four bytes.
 long_enough : (body : List ℕ) (e : Endianness) → length body % 4 ≡ 0 → magic_order (big_number 4 (take 4 body)) ≡ Some e → 4 ≤ length body
 unfolding magic_order
 long_enough [] e aligned named = absurd cc
 long_enough (byte ∷ bytes) e aligned named = omega (arith, aligned)
 
--- a section is read whatever order holds there
+-- A section header is read in any byte order of the state before it.
 pub section_again : (there e : Endianness) (body rest : List ℕ) → IsFitRaw (record { type_ = types.SectionHeader; endianness = e; body = body })
     → magic_order (big_number 4 (take 4 body)) ≡ Some e
     → FrameText there (framed_raw (record { type_ = types.SectionHeader; endianness = e; body = body })) (raw_text (record { type_ = types.SectionHeader; endianness = e; body = body }) ++ rest) rest
@@ -100,11 +100,11 @@ section_again there e body rest fit named =
     let own : magic_order (big_number 4 (take 4 (body ++ behind))) ≡ Some e = subst (λ (t : List ℕ). magic_order (big_number 4 t) ≡ Some e) (sym front) named in
     frame_again there raw rest fit own (same_both_ways e ∙ sym (same_both_ways there))
 
--- what is read of a block of bytes that was written at a place
+-- IsRead there raw rest: a block of bytes that was written at a place with byte order `there` is read as it was.
 abbrev IsRead : Endianness → Raw → List ℕ → Type 0
 IsRead there raw rest = FrameText there (framed_raw raw) (raw_text raw ++ rest) rest
 
--- a block that is no section is in the order that holds there
+-- A block that is not a section header has the byte order of its section.
 read_there : (there e : Endianness) (raw : Raw) (rest : List ℕ) → ◌≡◌ {A = Option Endianness} (Some there) (Some e) → e ≡ raw.endianness
     → FrameText raw.endianness (framed_raw raw) (raw_text raw ++ rest) rest → IsRead there raw rest
 read_there there e raw rest named same text =
@@ -133,11 +133,11 @@ raw_again at behind (types.Unknown n) e body rest (fit, place, same) =
     let differ : n ≢ 0x0A0D0D0A = λ is. let wrong : block_type 0x0A0D0D0A ≡ types.Unknown n = subst (λ (k : ℕ). block_type k ≡ types.Unknown n) is fit.named in absurd cc in
     read_there at.endianness behind.endianness (record { type_ = types.Unknown n; endianness = e; body = body }) rest place.0.named same (plain_again _ rest fit (ne_eqb n 0x0A0D0D0A differ))
 
--- the number of a type that is read by its number
+-- The number of a type that was read from a number is that number.
 number_of_type : (n : ℕ) → type_number (block_type n) ≡ n
 number_of_type n = search rules
 
--- the order of a block's type number is its own, or the number is a section's
+-- The type number of a block has the same bytes in the order of its section and in its own order.
 type_bytes : (there own : Endianness) (number magic : ℕ) → own_order there number magic ≡ Some own → number_bytes there 4 number ≡ number_bytes own 4 number
 unfolding own_order
 type_bytes there own number magic names =
@@ -146,7 +146,7 @@ type_bytes there own number magic names =
       | inr differ ↦ let same : there ≡ own = let named : ◌≡◌ {A = Option Endianness} (Some there) (Some own) = rw (ne_eqb number 0x0A0D0D0A differ) at names in cc in ap (λ (o : Endianness). number_bytes o 4 number) same
     ]
 
--- the bytes of a block that is read are the text of its type, its order and its body
+-- The bytes of a block that is read are the text of its type, its byte order and its body.
 pub text_of_frame : (there : Endianness) (b : Framed) (s rest : List ℕ) → IsBytes s → FrameText there b s rest → s ≡ raw_text (raw_in b) ++ rest
 text_of_frame there b s rest fits f =
     let own = b.endianness in

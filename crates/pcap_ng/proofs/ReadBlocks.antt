@@ -1,4 +1,4 @@
--- What was taken off a stream that tells its bytes is the front of these.
+-- The blocks that were taken from a stream with known bytes are the front of these bytes.
 use Rattle.std.proofs.Common.{◌≡◌, ℕ, List, [], ◌++◌, Some, None, Ok, false, All, refl, sym, subst}
 use Rattle.std.specs.Prelude.{Option, Result, IfNone, IfOk, IfSome, map}
 use Rattle.pcap_core.specs.declared.errors.PcapError.{PcapError}
@@ -19,7 +19,7 @@ use Rattle.pcap_ng.specs.Reader.{state_of, stream_of, has_failed, is_done, text_
 use Rattle.pcap_ng.specs.Reads.{TakesNg, ReadsNg}
 use Rattle.pcap_ng.proofs.BlockFormat.{blocks_lawful}
 
--- a text that opens a capture opens it also where more follows
+-- A text that opens a capture also opens it if more bytes follow.
 pub opened_more : (t rest : List ℕ) (q : State) → OpeningSays t (whole q []) → OpeningSays (t ++ rest) (whole q rest)
 unfolding block_format
 opened_more t rest q x = (x.0, (blocks_lawful.stable opening).text t rest [] (record { block = x.0; after = q }) x.1)
@@ -42,14 +42,14 @@ front_read remaining None most read x = tt
 front_read remaining (Some s) most read x = front_of most read x.first s (remaining (stream_of read.reader)) x.after x.opened x.blocks
 
 module _ {T : Type 0} (remaining : T → Option (List ℕ)) (most : ℕ) (stream : T) (old : PcapNgReader T) (opened : OpensReader remaining stream (Ok old)) where
-  -- one call of a reader's next
+  -- The contract of one call of a reader's `next`.
   abbrev pub GivesBlock : PcapNgReader T → Option (Result Block PcapError) → PcapNgReader T → Type 0
   GivesBlock a r b =
       StaysUnlessGiven (state_of a) (state_of b) r
       × NextGives (block_format.says (state_of a)) (item_of (state_of b)) (remaining (stream_of a)) (remaining (stream_of b)) (is_done a) (is_done b) (has_failed a) (has_failed b) r
       × (text_of b ≡ []) × IfSome r (λ given. IfOk given (λ block. IsOwned block.body))
 
-  -- the blocks that a new reader gave
+  -- The blocks that a new reader returned are the parts that were taken from the stream.
   pub blocks_given : (now : PcapNgReader T) (blocks : List Block) (fault : Option PcapError) → GivesItems GivesBlock (λ refused e. e ≡ OutOfMemory refused) old now most blocks fault
       → TakesParts block_format (λ (item : Item). item.block) (state_of old) (state_of now) (remaining (stream_of old)) (remaining (stream_of now)) (has_failed now) most (map framed_of blocks) fault
       × IfNone fault (is_done now ≡ false) × All (λ block. IsOwned block.body) blocks

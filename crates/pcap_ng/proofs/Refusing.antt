@@ -1,4 +1,4 @@
--- What refuses a frame, or what a block means, refuses the block.
+-- A fault that refuses a frame, or what the block means, refuses the block.
 use Rattle.std.proofs.Common.{◌≡◌, ℕ, List, refl, inl, inr}
 use Rattle.pcap_core.specs.declared.common.Endianness.TheVariants.{Big}
 use Rattle.pcap_core.specs.declared.errors.PcapError.{PcapError}
@@ -10,7 +10,7 @@ use Rattle.pcap_ng.specs.Frames.{Framed, FrameText, FrameSays}
 use Rattle.pcap_ng.specs.State.{State, opening, order_at, Means, CanGrow}
 use Rattle.pcap_ng.specs.Blocks.{BlockSays, MayGrow}
 
--- a refusal says what follows from the fault that it shows, and memory may run out where it may
+-- A refusal for a fault is a refusal for what follows from that fault, and a refusal for memory is one where memory may run out.
 pub refuses_wider : (M N : Type 0) (P Q : Fault → Type 0) → (M → N) → ((f : Fault) → P f → Q f) → (e : PcapError) → Refuses M (λ n. ⊥) P e → Refuses N (λ n. ⊥) Q e
 refuses_wider M N P Q grow step (errors.IncompleteBuffer n) x = x
 refuses_wider M N P Q grow step (errors.InvalidField text) x = (x.0, x.1, step (Invalid x.0) x.2)
@@ -20,7 +20,7 @@ refuses_wider M N P Q grow step (errors.FromUtf8Error a) x = x
 refuses_wider M N P Q grow step (errors.OutOfMemory a) x = grow x
 refuses_wider M N P Q grow step errors.WriterFailed x = x
 
--- an error that shows a fault refuses for it
+-- An error that shows a fault is a refusal for that fault.
 pub shows_refuses : (M : Type 0) (F : Fault → Type 0) (e : PcapError) → Shows F e → Refuses M (λ n. ⊥) F e
 shows_refuses M F (errors.OutOfMemory a) x = absurd x
 shows_refuses M F _ x = x

@@ -1,4 +1,4 @@
--- Runs over blocks.
+-- Runs over the blocks of a capture.
 use Rattle.std.proofs.Common.{ℕ, List, sym, subst}
 use Rattle.pcap_core.specs.Answer.{whole}
 use Rattle.pcap_items.specs.Items.{LeadsTo}
@@ -8,7 +8,7 @@ use Rattle.pcap_ng.specs.Front.{NgFront}
 use Rattle.pcap_ng.specs.Opening.{OpeningSays}
 use Rattle.pcap_ng.specs.State.{State}
 
--- where a first block is behind which blocks lead to what no block begins, they are the front
+-- If a first block and blocks after it lead to bytes that no block begins, these blocks are the front.
 pub run_front : (first now : State) (blocks : List Framed) (s after left : List ℕ) → OpeningSays s (whole first after) → LeadsTo block_format (λ (item : Item). item.block) first now blocks after left
     → ((item : Item) (t : List ℕ) → block_format.says now left (whole item t) → ⊥) → NgFront now blocks s left
 unfolding block_format

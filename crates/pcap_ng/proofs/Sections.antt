@@ -1,4 +1,4 @@
--- The state that blocks lead to is what their bodies leave in force.
+-- The state to which blocks lead is what their bodies leave in force.
 use Rattle.std.proofs.Common.{◌≡◌, ℕ, List, [], ◌∷◌, ◌++◌, map, refl, sym, ap, subst, ◌∙◌, true, false, append_assoc, append-nil}
 use Rattle.std.specs.Prelude.{All, filter}
 use Rattle.std.specs.List.{AllZip}
@@ -22,15 +22,15 @@ use Rattle.pcap_ng.proofs.BlockFormat.{good_in}
 pub bad_no_good : (f : Fault) (a : State) → bad f ≡ good a → ⊥
 bad_no_good f a e = absurd cc
 
--- a body of a block of this type, read as such
+-- The body of a block of this type is read by this type.
 body_as : (b : Framed) (type : BlockType) (body : Body) (rest : List ℕ) → b.type_ ≡ type → SaysOfBody b (whole body rest) → BodySays (number_in b.endianness) type b.body (whole body rest)
 body_as b type body rest is says = subst (λ (t : BlockType). BodySays (number_in b.endianness) t b.body (whole body rest)) is says
 
--- where a body leads, once it is known
+-- Equal bodies lead to the same state.
 leads_as : (q next : State) (body other : Body) → body ≡ other → leads q body ≡ good next → leads q other ≡ good next
 leads_as q next body other is e = subst (λ (x : Body). leads q x ≡ good next) is e
 
--- a section header leaves its section in force, and no interface
+-- A section header leaves its section in force, with no interface.
 section_leaves : (blocks : List Framed) (q next : State) (b : Framed) (section : Section) (rest : List ℕ) → b.type_ ≡ types.SectionHeader → SaysOfBody b (whole (SectionBody section) rest)
     → leads q (SectionBody section) ≡ good next → Leaves (blocks ++ b ∷ []) next
 section_leaves blocks q next b section rest is says e =
@@ -48,7 +48,7 @@ section_leaves blocks q next b section rest is says e =
     } in
     subst (λ (p : State). Leaves (blocks ++ b ∷ []) p) there left
 
--- the first block leaves a section in force
+-- The first block leaves a section in force.
 section_opens : (b : Framed) (type : BlockType) (next : State) (body : Body) (rest : List ℕ) → b.type_ ≡ type → SaysOfBody b (whole body rest) → leads opening body ≡ good next → Leaves (b ∷ []) next
 section_opens b types.SectionHeader next body rest is says e =
     let x = body_as b types.SectionHeader body rest is says in
@@ -66,7 +66,7 @@ section_opens b (types.Unknown n) next body rest is says e = let x = body_as b (
 abbrev interfaces_of : List Framed → List Framed
 interfaces_of bs = filter (λ (x : Framed). is_interface x.type_) bs
 
--- a block that is no interface adds none
+-- A block that is not an interface description adds no interface.
 no_interface : (b : Framed) → is_interface b.type_ ≡ false → interfaces_of (b ∷ []) ≡ []
 no_interface b is = rw is refl
 
@@ -87,7 +87,7 @@ module _ (blocks : List Framed) (section : Section) (interfaces : List Interface
   last_push : is_section b.type_ ≡ false → All (λ (c : Framed). is_section c.type_ ≡ false) (x.after ++ b ∷ [])
   last_push none = All-push (λ (c : Framed). is_section c.type_ ≡ false) x.after b x.is_last none
 
-  -- any other block leaves what was in force
+  -- Any other block leaves what is in force unchanged.
   other_leaves : (next : State) → is_section b.type_ ≡ false → is_interface b.type_ ≡ false → next ≡ within section interfaces → Leaves (blocks ++ b ∷ []) next
   other_leaves next none is e =
       let same : interfaces_of (x.after ++ b ∷ []) ≡ interfaces_of x.after = filter-append (λ (c : Framed). is_interface c.type_) x.after (b ∷ []) ∙ ap (λ (l : List Framed). interfaces_of x.after ++ l) (no_interface b is) ∙ append-nil (interfaces_of x.after) in
@@ -104,7 +104,7 @@ module _ (blocks : List Framed) (section : Section) (interfaces : List Interface
       } in
       subst (λ (p : State). Leaves (blocks ++ b ∷ []) p) (sym e) left
 
-  -- an interface description leaves one interface more
+  -- An interface description adds one interface.
   interface_leaves : (next : State) (interface : Interface) (rest : List ℕ) → b.type_ ≡ types.InterfaceDescription → SaysOfBody b (whole (InterfaceBody interface) rest)
       → leads (within section interfaces) (InterfaceBody interface) ≡ good next → Leaves (blocks ++ b ∷ []) next
   interface_leaves next interface rest is says e =
@@ -123,7 +123,7 @@ module _ (blocks : List Framed) (section : Section) (interfaces : List Interface
       } in
       subst (λ (p : State). Leaves (blocks ++ b ∷ []) p) there left
 
-  -- a block by its type
+  -- A block of any type leaves in force the state to which it leads.
   block_leaves : (type : BlockType) (next : State) → b.type_ ≡ type → MeansIf (is_kept type) (within section interfaces) b (good next) → Leaves (blocks ++ b ∷ []) next
   block_leaves types.SectionHeader next is m =
       let y = body_as b types.SectionHeader m.0 m.1 is m.2 in
@@ -136,7 +136,7 @@ module _ (blocks : List Framed) (section : Section) (interfaces : List Interface
   block_leaves types.Packet next is m = other_leaves next (ap is_section is) (ap is_interface is) m
   block_leaves _ next is m = other_leaves next (ap is_section is) (ap is_interface is) m
 
--- one block more
+-- If blocks leave a state in force, one more block leaves the state after it in force.
 leaves_more : (blocks : List Framed) (q : State) (item : Item) → Leaves blocks q → Means q item.block (good item.after) → Leaves (blocks ++ item.block ∷ []) item.after
 leaves_more blocks opening item x m = absurd x
 leaves_more blocks (within section interfaces) item x m = block_leaves blocks section interfaces x item.block item.block.type_ item.after refl m

@@ -1,4 +1,4 @@
--- Blocks that are shown as they are asked for.
+-- Runs over blocks whose bytes are shown when the parser requests them.
 use Rattle.std.proofs.Common.{◌≡◌, ℕ, List, ◌∷◌, ◌++◌, drop, map, refl, sym, ap, subst, ◌∙◌, arith, append_assoc, length-append, length-drop}
 use Rattle.std.proofs.lemmas.List.{length-map}
 use Rattle.pcap_core.specs.declared.errors.PcapError.{PcapError}
@@ -20,7 +20,7 @@ use Rattle.pcap_ng.specs.Run.{IsRun}
 use Rattle.pcap_ng.specs.State.{State, opening}
 use Rattle.pcap_ng.proofs.BlockFormat.{blocks_lawful}
 
--- a run whose requests were counted
+-- A run whose requests were counted is an exact run.
 pub exact_is : (run : NgRun) (ended : Ended PcapError) (q : State) (bytes earlier mid now : List ℕ) (start before count : ℕ) → OpeningSays bytes (whole q (drop start bytes)) → AsksItem block_format opening bytes earlier mid 0 before
     → run.rest ≡ rest_of ended → ExactItems block_format (λ (item : Item). item.block) ShowsFault q (state_of run.parser) (map framed_of run.blocks.items) bytes start run.used ended mid now before count → IsExact run count bytes earlier now
 unfolding block_format

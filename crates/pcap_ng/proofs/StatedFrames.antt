@@ -1,4 +1,4 @@
--- What a frame's head states.
+-- A frame whose head is read.
 use Rattle.std.proofs.Common.{◌≡◌, ◌<◌, ◌+◌, ℕ, List, [], ◌++◌, length, drop, refl, sym, ap, subst, ◌∙◌, arith, append-nil, append_assoc, length-append, inl, inr}
 use Rattle.std.proofs.lemmas.Bool.{cases_eq}
 use Rattle.std.proofs.lemmas.List.{drop_at}
@@ -33,7 +33,7 @@ head_more e number len own s after more t = record {
   own_is = t.own_is;
 }
 
--- what follows a length is what follows eight bytes
+-- The bytes after the length are the bytes after the first eight.
 pub head_drop : (e : Endianness) (number len : ℕ) (own : Endianness) (s after : List ℕ) → FrameHeadText e number own len s after → drop 8 s ≡ after
 head_drop e number len own s after t =
     let a = t.number_is.bytes in
@@ -41,7 +41,7 @@ head_drop e number len own s after t =
     let text : s ≡ (a ++ b) ++ after = t.number_is.text ∙ ap (λ (l : List ℕ). a ++ l) t.len_is.text ∙ sym (append_assoc a b after) in
     ap (drop 8) text ∙ drop_at (a ++ b) after 8 (length-append a b ∙ omega (arith, t.number_is.length_is, t.len_is.length_is))
 
--- the head of all bytes, from that of the first twelve
+-- A head in the first twelve bytes is the head of all bytes.
 pub head_of_all : (e : Endianness) (head : FrameHead) (s : List ℕ) → Stated (KnowsFrame e) (frame_format.head e) head s → FrameHeadText e head.number head.endianness head.len s (drop 8 s)
 head_of_all e head s t =
     let k = t.knows in
@@ -53,7 +53,7 @@ pub stated_length : (e : Endianness) (head : FrameHead) (s : List ℕ) → State
 stated_length e head s t = omega (arith, ap length t.split, length-append t.front t.body, t.length_is, frame_head e, t.knows.follows)
 
 module _ (e : Endianness) (head : FrameHead) (s after : List ℕ) (text : FrameHeadText e head.number head.endianness head.len s after) (good : IsGoodLength head.len) where
-  -- what follows a head makes it a block
+  -- The bytes after a head make it a block.
   pub tail_text : (b : Framed) (rest : List ℕ) → TailOf head b after rest → FrameText e b s rest
   tail_text b rest t = record {
     number = head.number;
@@ -85,7 +85,7 @@ module _ (e : Endianness) (head : FrameHead) (n : ℕ) (s : List ℕ) (long : le
   unfolding frame_format
   frame_lacks some = inr (record { number = head.number; len = head.len; own = head.endianness; after = k.after; head = k.text; good = k.good; some = some; missing = omega (arith, long, k.follows) })
 
-  -- a block of twelve bytes has no body: what follows its length is its length again
+  -- A block of twelve bytes has no body: what follows its length is its length again.
   no_body : n ≡ 0 → FrameTail head.endianness head.len [] (number_in head.endianness 4 k.after) k.after []
   no_body none = record {
     after_body = k.after;
@@ -112,7 +112,7 @@ pub frame_breaks : (e : Endianness) (s : List ℕ) (rule : Rule) → BreaksHead 
 unfolding frame_format
 frame_breaks e s rule broken = in_head rule broken
 
--- how long what follows a head is
+-- The length of what follows a head.
 pub tail_length : (head : FrameHead) (b : Framed) (s rest : List ℕ) → TailOf head b s rest → length s + 8 ≡ head.len + length rest
 tail_length head b s rest t =
     let c = t.tail in

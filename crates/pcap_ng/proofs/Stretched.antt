@@ -1,4 +1,4 @@
--- Blocks that lie one behind the other in a buffer, and go out from there.
+-- Consecutive blocks in a buffer, which are written from there.
 use Rattle.std.proofs.Common.{◌≡◌, ◌≤◌, ◌<◌, ℕ, ◌+◌, ◌-◌, List, [], ◌∷◌, ◌++◌, length, take, drop, refl, ap, sym, ◌∙◌, subst, arith, append_assoc, length-append, take-append-drop, Bool, Some, None}
 use Rattle.std.specs.Prelude.{Option, All}
 use Rattle.std.proofs.lemmas.List.{length-take, take-take}
@@ -21,13 +21,13 @@ use Rattle.pcap_ng.specs.State.{within, order_at, Means, MeansIf}
 use Rattle.pcap_ng.specs.Stretches.{LeavesInForce, IsStretch, Passes, TearsBlock, SendsWhole, SendsTorn, Sends}
 use Rattle.pcap_ng.proofs.HeadedFrames.{frames_lawful}
 
--- the order stays behind frames
+-- The byte order stays unchanged after frames.
 order_stays : (e : Endianness) (blocks : List Framed) → state_after frame_format e blocks ≡ e
 unfolding frame_format
 order_stays e [] = refl
 order_stays e (b ∷ blocks) = order_stays e blocks
 
--- the text of a block without what follows it
+-- The text of a block is a block by itself.
 pub own_text : (e : Endianness) (b : Framed) (s rest : List ℕ) → FrameText e b s rest → (t : List ℕ) × (s ≡ t ++ rest) × FrameText e b t []
 unfolding frame_format
 own_text e b s rest text = frames_lawful.own e s rest b text
@@ -35,7 +35,7 @@ own_text e b s rest text = frames_lawful.own e s rest b text
 pub no_blocks : (e : Endianness) → IsStretch e [] 0
 no_blocks e = record { blocks = []; count = refl; texts = refl; leave = All-nil LeavesInForce }
 
--- one block more
+-- A stretch and one more block are a stretch.
 pub one_more : (e : Endianness) (s t : List ℕ) (n : ℕ) (b : Framed) → IsStretch e s n → FrameText e b t [] → LeavesInForce b → IsStretch e (s ++ t) (n + 1)
 unfolding frame_format
 one_more e s t n b so_far text leaves =
@@ -56,12 +56,12 @@ more_taken e bytes rest after n b so_far text leaves =
       stretch = one_more e so_far.front own.0 n b so_far.stretch own.2 leaves;
     }
 
--- the bytes behind a block
+-- The bytes after a block are shorter than the bytes that begin with the block.
 pub text_within : (e : Endianness) (b : Framed) (s rest : List ℕ) → FrameText e b s rest → length rest < length s
 unfolding frame_format
 text_within e b s rest text = shorter frame_format frames_lawful e b s rest text
 
--- no more blocks than bytes
+-- There are at most as many blocks as bytes.
 pub fewer_blocks : (e : Endianness) (blocks : List Framed) (s : List ℕ) → Texts frame_format e blocks s [] → length blocks ≤ length s
 unfolding frame_format
 fewer_blocks e [] s texts = omega arith
@@ -70,7 +70,8 @@ fewer_blocks e (b ∷ blocks) s (after, one, others) = omega (arith, text_within
 pub rest_within : (e : Endianness) (bytes rest : List ℕ) (n : ℕ) → Passes e bytes rest n → length rest ≤ length bytes
 rest_within e bytes rest n so_far = omega (arith, ap length so_far.split, length-append so_far.front rest)
 
--- Of a stretch in which a write failed so many blocks are whole, and others follow.
+-- Tearing e stretch rest gone n: of a stretch in which a write failed, n blocks were written whole, and `rest` is the blocks
+-- after them.
 pub record Tearing (e : Endianness) (stretch rest : List ℕ) (gone n : ℕ) : Type 0 where
   pub taken : Passes e stretch rest n
   pub begun : length taken.front ≤ gone
@@ -80,7 +81,7 @@ pub record Tearing (e : Endianness) (stretch rest : List ℕ) (gone n : ℕ) : T
 pub tearing_none : (e : Endianness) (stretch : List ℕ) (gone more : ℕ) → IsStretch e stretch more → Tearing e stretch stretch gone 0
 tearing_none e stretch gone more left = record { taken = record { front = []; split = refl; stretch = no_blocks e }; begun = omega arith; more = more; left = left }
 
--- the blocks behind the first of a row
+-- The blocks after the first of a stretch are a stretch.
 behind_first : (e : Endianness) (rest after : List ℕ) (b : Framed) (blocks : List Framed) → Texts frame_format e blocks rest [] → All LeavesInForce blocks → FrameText e b rest after
     → (k : ℕ) × IsStretch e after k
 unfolding frame_format
@@ -89,31 +90,31 @@ behind_first e rest after b (p ∷ blocks) (next, one, others) leave text =
     let same = text_same frame_format frames_lawful e p b rest next after one text in
     (length blocks, record { blocks = blocks; count = refl; texts = subst (λ (s : List ℕ). Texts frame_format e blocks s []) same.1 others; leave = All-tail LeavesInForce p blocks leave })
 
--- the first block of a row that is not empty
+-- A stretch that is not empty has a first block.
 first_there : (e : Endianness) (rest : List ℕ) (blocks : List Framed) → Texts frame_format e blocks rest [] → All LeavesInForce blocks → 0 < length rest
     → (b : Framed) × (after : List ℕ) × FrameText e b rest after × LeavesInForce b
 unfolding frame_format
 first_there e rest [] texts leave some = absurd (omega (arith, some, ap length texts))
 first_there e rest (b ∷ blocks) (after, one, others) leave some = (b, after, one, All-head LeavesInForce b blocks leave)
 
--- no more blocks are passed than the stretch has bytes
+-- At most as many blocks are counted as bytes of the stretch come before the rest.
 pub tearing_count : (e : Endianness) (stretch rest : List ℕ) (gone n : ℕ) → Tearing e stretch rest gone n → n + length rest ≤ length stretch
 tearing_count e stretch rest gone n so_far =
     let row = so_far.taken.stretch in
     omega (arith, fewer_blocks e row.blocks so_far.taken.front row.texts, row.count, ap length so_far.taken.split, length-append so_far.taken.front rest)
 
--- in a stretch that is torn a block follows
+-- A block follows in a stretch of which not all bytes were written.
 pub tearing_goes_on : (e : Endianness) (stretch rest : List ℕ) (gone n : ℕ) → Tearing e stretch rest gone n → gone < length stretch
     → (b : Framed) × (after : List ℕ) × FrameText e b rest after × LeavesInForce b
 tearing_goes_on e stretch rest gone n so_far less =
     let taken = so_far.taken in
     first_there e rest so_far.left.blocks so_far.left.texts so_far.left.leave (omega (arith, less, so_far.begun, ap length taken.split, length-append taken.front rest))
 
--- the lengths of a stretch in which a block follows others
+-- The lengths of the parts of a stretch in which a block follows others.
 lengths : (stretch front rest t after : List ℕ) → stretch ≡ front ++ rest → rest ≡ t ++ after → length stretch ≡ length front + length t + length after
 lengths stretch front rest t after split own = omega (arith, ap length split, length-append front rest, ap length own, length-append t after)
 
--- the block that follows is whole in what is gone
+-- The block that follows was written whole, so one more block was.
 pub tearing_more : (e : Endianness) (stretch rest after : List ℕ) (gone n : ℕ) (b : Framed) → Tearing e stretch rest gone n → FrameText e b rest after → LeavesInForce b
     → length stretch - length after ≤ gone → Tearing e stretch after gone (n + 1)
 tearing_more e stretch rest after gone n b so_far text leaves less =
@@ -131,7 +132,7 @@ tearing_more e stretch rest after gone n b so_far text leaves less =
       left = next.1;
     }
 
--- the block that follows is torn
+-- The block that follows was not written whole.
 pub tearing_ends : (e : Endianness) (stretch rest after : List ℕ) (gone n : ℕ) (b : Framed) → Tearing e stretch rest gone n → FrameText e b rest after → LeavesInForce b
     → gone < length stretch - length after → TearsBlock e stretch gone (length stretch - length after) n
 tearing_ends e stretch rest after gone n b so_far text leaves less =
@@ -151,13 +152,13 @@ tearing_ends e stretch rest after gone n b so_far text leaves less =
       torn = less;
     }
 
--- no more blocks are passed than bytes are gone
+-- At most as many blocks are counted as bytes were written.
 pub tearing_fewer : (e : Endianness) (stretch rest : List ℕ) (gone n : ℕ) → Tearing e stretch rest gone n → n ≤ gone
 tearing_fewer e stretch rest gone n so_far =
     let row = so_far.taken.stretch in
     omega (arith, fewer_blocks e row.blocks so_far.taken.front row.texts, row.count, so_far.begun)
 
--- of two rows at the front of the same bytes, that which leaves none is longer
+-- Of two rows of blocks at the front of the same bytes, the one that takes all bytes is longer.
 longer_row : (e : Endianness) (ks ps : List Framed) (s mid : List ℕ) → Texts frame_format e ks s mid → Texts frame_format e ps s [] → 0 < length mid → length ks < length ps
 unfolding frame_format
 longer_row e [] [] s mid x y some = absurd (omega (arith, some, ap length x, ap length y))
@@ -168,7 +169,7 @@ longer_row e (k ∷ ks) (p ∷ ps) s mid x y some =
     let more = longer_row e ks ps x.0 mid x.2 (subst (λ (t : List ℕ). Texts frame_format e ps t []) same.1 y.2) some in
     omega (arith, more)
 
--- fewer blocks are whole than the stretch has
+-- Fewer blocks were written whole than the stretch has.
 pub torn_fewer : (e : Endianness) (stretch : List ℕ) (gone used k n : ℕ) → TearsBlock e stretch gone used k → IsStretch e stretch n → k < n
 torn_fewer e stretch gone used k n torn row =
     let behind = torn.text ++ torn.back in
@@ -178,13 +179,13 @@ torn_fewer e stretch gone used k n torn row =
     let longer = longer_row e ones.blocks row.blocks stretch behind there row.texts (omega (arith, length-append torn.text torn.back, torn.used_is, torn.begun, torn.torn)) in
     omega (arith, longer, ones.count, row.count)
 
--- the row at the front of a buffer
+-- The blocks at the front of a buffer are a stretch.
 pub row_of : (e : Endianness) (shown rest : List ℕ) (n : ℕ) → Passes e shown rest n → IsStretch e (take (length shown - length rest) shown) n
 row_of e shown rest n taken =
     let is = front_of shown taken.front rest (length shown - length rest) taken.split (omega (arith, rest_within e shown rest n taken)) in
     subst (λ (l : List ℕ). IsStretch e l n) (sym is) taken.stretch
 
--- a row of a buffer in which a write failed
+-- A stretch in which a write failed was sent as whole blocks and a part of the next.
 pub torn_sent : (e : Endianness) (stretch : List ℕ) (a b : Option (List ℕ)) (gone used n : ℕ) → TearsBlock e stretch gone used n → gone < length stretch → Appends a b (take gone stretch)
     → SendsTorn e (take used stretch) a b n
 torn_sent e stretch a b gone used n torn less out =
@@ -209,7 +210,7 @@ torn_sent e stretch a b gone used n torn less out =
       out = (rest.0, omega (arith, ap length rest.1, length-append begun.0 rest.0, begun_length, torn.torn, torn.used_is), record { gone = begun.0; split = rest.1; out = apart.2 });
     }
 
--- a block that leaves what is in force
+-- A block that leaves what is in force unchanged, as an item.
 abbrev item_left : Section → List Interface → Framed → Item
 item_left s is b = record { block = b; after = within s is }
 
@@ -219,7 +220,7 @@ left_text s is b bytes rest text leaves =
     let means : Means (within s is) b (good (within s is)) = subst (λ (kept : Bool). MeansIf kept (within s is) b (good (within s is))) (sym leaves) refl in
     record { frame = text; means = means }
 
--- a part of a buffer's row went out
+-- A part of the stretch in a buffer was written.
 pub torn_shown : (e : Endianness) (shown rest : List ℕ) (a b : Option (List ℕ)) (gone used k n : ℕ) → Passes e shown rest n → TearsBlock e (take (length shown - length rest) shown) gone used k
     → gone < length (take (length shown - length rest) shown) → Appends a b (take gone (take (length shown - length rest) shown)) → SendsTorn e (take used shown) a b k × (k < n) × (used ≤ length shown)
 torn_shown e shown rest a b gone used k n taken torn less out =
@@ -229,7 +230,7 @@ torn_shown e shown rest a b gone used k n taken torn less out =
     let sent = torn_sent e stretch a b gone used k torn less out in
     (subst (λ (l : List ℕ). SendsTorn e l a b k) (take-take used all shown within) sent, torn_fewer e stretch gone used k n torn (row_of e shown rest n taken), omega (arith, within))
 
--- blocks that leave what is in force are items under it
+-- Blocks that leave what is in force unchanged are items in that state.
 pub leaving : (s : Section) (is : List Interface) (blocks : List Framed) (bytes : List ℕ) → Texts frame_format (order_at (within s is)) blocks bytes [] → All LeavesInForce blocks
     → (items : List Item) × Texts block_format (within s is) items bytes [] × (state_after block_format (within s is) items ≡ within s is) × (length items ≡ length blocks)
 unfolding frame_format block_format
@@ -239,13 +240,13 @@ leaving s is (b ∷ blocks) bytes (after, one, others) leave =
     (item_left s is b ∷ more.0, (after, left_text s is b bytes after one (All-head LeavesInForce b blocks leave), more.1), more.2, omega (arith, more.3))
 
 module _ (s : Section) (is : List Interface) (order : Endianness) (same : order ≡ order_at (within s is)) where
-  -- what went out whole, as items
+  -- Blocks that were written whole, as items.
   whole_left : (bytes : List ℕ) (a b : Option (List ℕ)) (n : ℕ) → SendsWhole order bytes a b n → core.SendsWhole block_format as_they_came (within s is) bytes a b n
   whole_left bytes a b n sent =
       let items = leaving s is sent.stretch.blocks bytes (subst (λ (o : Endianness). Texts frame_format o sent.stretch.blocks bytes []) same sent.stretch.texts) sent.stretch.leave in
       record { items = items.0; count = items.3 ∙ sent.stretch.count; texts = items.1; leave = items.2; out = sent.out }
 
-  -- what of a buffer went out, as items
+  -- The part of a buffer that was written, as items.
   pub sends_left : (bytes : List ℕ) (a b : Option (List ℕ)) (most n : ℕ) (old new : Bool) (fault : Option PcapError) → Sends order bytes a b most n old new fault
       → core.Sends block_format as_they_came (within s is) bytes a b most n old new fault
   unfolding block_format

@@ -1,4 +1,4 @@
--- A capture that is written is read again.
+-- A capture that was written is read as it was.
 use Rattle.std.proofs.Common.{◌≡◌, ◌≢◌, ℕ, ◌<◌, ◌%◌, ◌^◌, List, [], ◌∷◌, ◌++◌, length, length-append, map, take, refl, sym, ap, subst, ◌∙◌, arith}
 use Rattle.std.specs.Prelude.{◌==◌, false, Option, Some, None}
 use Rattle.std.specs.List.{AllZip}
@@ -41,7 +41,7 @@ use Rattle.pcap_ng.proofs.BlockFormat.{blocks_lawful}
 use Rattle.pcap_ng.proofs.MarkedLists.{marked_extends}
 use Rattle.pcap_ng.proofs.RawAgain.{plain_again, section_again}
 
--- the number of a block that is no section
+-- The type number of a block that is not a section header.
 record IsPlainType (body : Body) : Type 0 where
   fits : type_number (type_of body) < 2 ^ 32
   other : (type_number (type_of body) == 0x0A0D0D0A) ≡ false
@@ -58,19 +58,19 @@ other_plain _ len bytes fit = absurd cc
 length_good : (e : Endianness) (body : Body) → length (body_text (number_bytes e) body) % 4 ≡ 0
 length_good e body = omega (arith, body_aligned (number_bytes e) (codec e).wide body)
 
--- the text of a block's body, as a block of bytes
+-- The body of a value, as a block of bytes.
 abbrev raw_of_body : Endianness → Body → Raw
 raw_of_body e body = record { type_ = type_of body; endianness = e; body = body_text (number_bytes e) body }
 
 raw_fit : (e : Endianness) (body : Body) → type_number (type_of body) < 2 ^ 32 → type_of body ≡ block_type (type_number (type_of body)) → IsFitIn e body → IsFitRaw (raw_of_body e body)
 raw_fit e body number named fit = record { number = number; named = sym named; aligned = length_good e body; short = fit.short }
 
--- a block that is no section
+-- The frame of a block that is not a section header.
 plain_frame : (e : Endianness) (body : Body) (rest : List ℕ) → IsPlainType body → IsFitIn e body
     → FrameText e (framed_in e body) (text_of (number_bytes e) body ++ rest) rest
 plain_frame e body rest plain fit = plain_again (raw_of_body e body) rest (raw_fit e body plain.fits plain.named fit) plain.other
 
--- a section, whatever order holds there
+-- The frame of a section header, in any byte order of the state before it.
 section_frame : (there e : Endianness) (s : Section) (rest : List ℕ) → magic_order s.magic ≡ Some e → IsFitIn e (SectionBody s)
     → FrameText there (framed_in e (SectionBody s)) (text_of (number_bytes e) (SectionBody s) ++ rest) rest
 section_frame there e s rest names fit =
@@ -78,7 +78,7 @@ section_frame there e s rest names fit =
     let first : big_number 4 (take 4 inner) ≡ s.magic = big_from-take 0 4 4 inner (omega arith) ∙ (codec Big).again 4 s.magic (after_magic_text (number_bytes e) s) fit.fit.magic in
     section_again there e inner rest (raw_fit e (SectionBody s) (omega arith) refl fit) (subst (λ (n : ℕ). magic_order n ≡ Some e) (sym first) names)
 
--- the order that a block names by itself
+-- The byte order that a block names by itself.
 own_named : (there e : Endianness) (magic : Option ℕ) → order_under there magic ≡ Some e → order_under e magic ≡ Some e
 own_named there e None named = refl
 own_named there e (Some n) named = named
@@ -87,12 +87,12 @@ pub says_again : (there e : Endianness) (body : Body) → order_under there (mag
     → (rest : List ℕ) × SaysOfBody (framed_in e body) (whole (kept_body body) rest)
 says_again there e body named fit = body_again e body fit (own_named there e (magic_in body) named)
 
--- a section's order is in force
+-- The byte order of a section is in force in that section.
 pub order_within : (e : Endianness) (s : Section) (is : List Interface) → magic_order s.magic ≡ Some e → e ≡ order_at (within s is)
 unfolding order_at
 order_within e s is names = rw names refl
 
--- a block that was made of a value
+-- A block that was made from a value is read as it was.
 pub made_again : (order : Endianness) (body : Body) (b : Framed) → IsMadeOf order body b
     → ((rest : List ℕ) × SaysOfBody b (whole (kept_body body) rest)) × (raw_text (raw_in b) ≡ text_of (number_bytes b.endianness) body)
 made_again order body b made =
@@ -105,7 +105,7 @@ made_again order body b made =
 abbrev pub item_in : Endianness → Body → State → Item
 item_in e body after = record { block = framed_in e body; after = after }
 
--- the options of a section that is written have their mark
+-- The options of a section header that was written end with their mark.
 section_marked : (e : Endianness) (s : Section) → magic_order s.magic ≡ Some e → IsFitIn e (SectionBody s) → MarkedSection s (section_text (number_bytes e) s) []
 section_marked e s names fit =
     let list = list_text (number_bytes e) section_header s.options in
@@ -119,7 +119,7 @@ section_marked e s names fit =
       options_are = options_marked e section_header s.options fit.fit.options;
     }
 
--- and so have those of an interface
+-- The options of an interface description that was written end with their mark.
 interface_marked : (e : Endianness) (i : Interface) → IsFitIn e (InterfaceBody i) → MarkedInterface (number_in e) i (interface_text (number_bytes e) i) []
 interface_marked e i fit =
     let list = list_text (number_bytes e) interface_description i.options in
@@ -129,7 +129,7 @@ interface_marked e i fit =
       options_are = options_marked e interface_description i.options fit.fit.options;
     }
 
--- a block that is written is read under the section in force, and leaves a section of its own order in force
+-- A written block is read under the section in force, and a section with its byte order is in force after it.
 pub record IsReadUnder (q : State) (e : Endianness) (body : Body) (n : ℕ) (rest : List ℕ) : Type 0 where
   pub section : Section
   pub interfaces : List Interface
@@ -137,13 +137,13 @@ pub record IsReadUnder (q : State) (e : Endianness) (body : Body) (n : ℕ) (res
   pub counted : length interfaces ≡ interfaces_after n (type_of body)
   pub text : MarkedText q (item_in e body (within section interfaces)) (text_of (number_bytes e) body ++ rest) rest
 
--- a section is read under any state
+-- A section header is read under any state.
 pub section_read : (q : State) (e : Endianness) (s : Section) (rest : List ℕ) → magic_order s.magic ≡ Some e → IsFitIn e (SectionBody s)
     → MarkedText q (item_in e (SectionBody s) (within s [])) (text_of (number_bytes e) (SectionBody s) ++ rest) rest
 section_read q e s rest names fit =
     record { frame = section_frame (order_at q) e s rest names fit; leads_on = to_section q s [] refl (section_marked e s names fit) refl }
 
--- a block that is no section is read under one, and leaves it in force
+-- A block that is not a section header is read under a section and keeps it in force.
 plain_read : (s : Section) (is next : List Interface) (there e : Endianness) (body : Body) (rest : List ℕ) → IsPlainType body → magic_order s.magic ≡ Some there
     → ◌≡◌ {A = Option Endianness} (Some there) (Some e) → IsFitIn e body → length next ≡ interfaces_after (length is) (type_of body)
     → MarkedLeads (framed_in e body) (within s next) (within s is) → IsReadUnder (within s is) e body (length is) rest
@@ -168,7 +168,7 @@ numbered : (body : Body) → type_number (type_of body) < 2 ^ 32 → (type_numbe
     → type_of body ≡ block_type (type_number (type_of body)) → IsPlainType body
 numbered body fits other named = record { fits = fits; other = other; named = named }
 
--- an unknown block describes no interface
+-- A block whose body is not kept describes no interface.
 never_counted : (n : ℕ) (type : BlockType) → is_kept type ≡ false → n ≡ interfaces_after n type
 never_counted n types.SectionHeader fit = absurd cc
 never_counted n types.InterfaceDescription fit = absurd cc
@@ -211,7 +211,7 @@ blocks_again s is at (body ∷ bodies) bytes end names (behind, text, more, one,
     let there : MarkedText (within s is) item bytes more = subst (λ (t : List ℕ). MarkedText (within s is) item t more) (sym (parts ∙ ap (λ (t : List ℕ). t ++ more) one.text)) read.text in
     (item ∷ tail.0, (more, there, tail.1), (says_again at.endianness e body named one.fit, tail.2))
 
--- a capture that is written has all its marks
+-- A capture that was written has all marks at the ends of its lists.
 pub capture_marked : (at end : Place) (s : Section) (bodies : List Body) (bytes : List ℕ) → AreWritten at (SectionBody s ∷ bodies) bytes end
     → (items : List Item) × Front marked_format opening items bytes [] × AllZip IsBodyOf items (map kept_body (SectionBody s ∷ bodies))
 unfolding marked_format block_format

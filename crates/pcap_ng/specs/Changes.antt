@@ -1,4 +1,4 @@
--- What a block puts in force ('Section Header Block', 'Interface Description Block').
+-- The changes that blocks make to what is in force ('Section Header Block', 'Interface Description Block').
 use Rattle.std.specs.Prelude.{◌≡◌, ℕ, List, true, false, ⊤, Result, Ok, Err}
 use Rattle.pcap_core.specs.declared.errors.PcapError.{PcapError}
 use Rattle.pcap_core.specs.Answer.{number_in, whole, faulty, Refuses}
@@ -13,8 +13,8 @@ use Rattle.pcap_ng.specs.Bodies.{GrowsInBody, SaysOfBody}
 use Rattle.pcap_ng.specs.Frames.{Framed}
 use Rattle.pcap_ng.specs.State.{opening, is_kept, Means}
 
--- what a block puts in force behind a first section header: its section, its interface or nothing, by its type; only a section
--- header and an interface description are refused, as their bodies are
+-- After the first section header, a block puts in force its section, its interface or nothing, by its type. Only a section header
+-- or an interface description can be refused, for a fault of its body or for memory.
 abbrev pub ChangeTells : Framed → Result Change PcapError → Type 0
 ChangeTells b (Ok (changes.Section section)) = (b.type_ ≡ types.SectionHeader) × (rest : List ℕ) × SectionSays b.body (whole (section_of section) rest)
 ChangeTells b (Ok (changes.Interface interface)) =
@@ -22,13 +22,13 @@ ChangeTells b (Ok (changes.Interface interface)) =
 ChangeTells b (Ok changes.Nothing) = is_kept b.type_ ≡ false
 ChangeTells b (Err e) = (is_kept b.type_ ≡ true) × Refuses (GrowsInBody b) (λ n. ⊥) (λ fault. SaysOfBody b (faulty fault)) e
 
--- what it holds is borrowed
+-- The contents of a change are borrowed.
 abbrev pub ChangeIsBorrowed : Change → Type 0
 ChangeIsBorrowed (changes.Section section) = SectionIsBorrowed section
 ChangeIsBorrowed (changes.Interface interface) = InterfaceIsBorrowed interface
 ChangeIsBorrowed changes.Nothing = ⊤
 
--- the section that a first block puts in force, which has to be a section header, or its refusal
+-- A first block puts its section in force, or is refused: it is no section header, its body has a fault, or memory runs out.
 abbrev pub FirstTells : Framed → Result SectionHeaderBlock PcapError → Type 0
 FirstTells b (Ok section) = (b.type_ ≡ types.SectionHeader) × (rest : List ℕ) × SectionSays b.body (whole (section_of section) rest)
 FirstTells b (Err e) = Refuses (GrowsInBody b) (λ n. ⊥) (λ fault. Means opening b (bad fault)) e

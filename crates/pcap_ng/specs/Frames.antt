@@ -14,7 +14,7 @@ use Rattle.pcap_blocks.specs.SectionHeader.{magic_order}
 use Rattle.pcap_blocks.specs.BlockType.{block_type}
 use Rattle.pcap_ng.specs.declared.pcapng.block.Block.{Block}
 
--- a block, wherever its body lies: its type, its length before and after the body, the body, and the order of its numbers
+-- A block in its frame is its type, its length before and after the body, the body, and the byte order of its numbers.
 pub record Framed : Type 0 where
   pub type_ : BlockType
   pub initial_len : ℕ
@@ -22,7 +22,7 @@ pub record Framed : Type 0 where
   pub trailer_len : ℕ
   pub endianness : Endianness
 
--- a block of the code
+-- A block of the code, as a block in its frame.
 abbrev pub framed_of : Block → Framed
 framed_of block = record {
   type_ = block.type_;
@@ -32,13 +32,13 @@ framed_of block = record {
   endianness = block.endianness;
 }
 
--- the order of a block with this type number: a section names its own by the magic number after its length, any other block
--- has the one that holds there ('Section Header Block')
+-- The byte order of a block with this type number. A section header names its own by the magic number after its length; any other
+-- block has the order of its section ('Section Header Block').
 unfoldable pub own_order : Endianness → ℕ → ℕ → Option Endianness
 own_order e number magic = if number == 0x0A0D0D0A then magic_order magic else Some e
 
--- s is the number of a block's type, in the order that holds there, and the block's length, in its own order, and then after,
--- by whose first number a section names its order ('General Block Structure')
+-- FrameHeadText e number own len s after: s is a block's type number in the section's order e, its length in the block's own
+-- order, and `after`. A section header names its order by the first number of `after` ('General Block Structure').
 pub record FrameHeadText (e : Endianness) (number : ℕ) (own : Endianness) (len : ℕ) (s after : List ℕ) : Type 0 where
   pub after_number : List ℕ
   pub more : List ℕ
@@ -48,11 +48,11 @@ pub record FrameHeadText (e : Endianness) (number : ℕ) (own : Endianness) (len
   pub magic_is : Number big_number 4 magic after more
   pub own_is : own_order e number magic ≡ Some own
 
--- the length of a block is a multiple of 4, and holds at least the fields around the body
+-- The length of a block is a multiple of 4, and at least the 12 bytes of the fields around the body.
 abbrev pub IsGoodLength : ℕ → Type 0
 IsGoodLength len = (len % 4 ≡ 0) × (12 ≤ len)
 
--- s is a section's type number, a length, and a magic number that names no order
+-- NoOrder e s: s is a section header's type number, a length, and a magic number that names no byte order.
 pub record NoOrder (e : Endianness) (s : List ℕ) : Type 0 where
   pub number : ℕ
   pub magic : ℕ
@@ -64,21 +64,21 @@ pub record NoOrder (e : Endianness) (s : List ℕ) : Type 0 where
   pub magic_is : Number big_number 4 magic after more
   pub none : own_order e number magic ≡ None
 
--- the first rule that a head breaks
+-- The first rule that a head breaks.
 pub data BreaksHead (e : Endianness) (s : List ℕ) : Rule → Type 0 where
   no_order : NoOrder e s → BreaksHead e s SectionMagic
   unaligned : (number len : ℕ) (own : Endianness) (after : List ℕ) → FrameHeadText e number own len s after → len % 4 ≢ 0 → BreaksHead e s BlockUnaligned
   too_short : (number len : ℕ) (own : Endianness) (after : List ℕ)
       → FrameHeadText e number own len s after → len % 4 ≡ 0 → len < 12 → BreaksHead e s BlockTooShort
 
--- s is the body of a block of this length, the length that stands after it, and then rest
+-- FrameTail own len body trailer s rest: s is the body of a block of this length, then the trailing length, then rest.
 pub record FrameTail (own : Endianness) (len : ℕ) (body : List ℕ) (trailer : ℕ) (s rest : List ℕ) : Type 0 where
   pub after_body : List ℕ
   pub body_is : s ≡ body ++ after_body
   pub length_is : len ≡ length body + 12
   pub trailer_is : Number (number_in own) 4 trailer after_body rest
 
--- s is a block, and then rest: its head, its body, and its length again
+-- FrameText e b s rest: s is the block b (its head, its body, and its length again), followed by rest.
 pub record FrameText (e : Endianness) (b : Framed) (s rest : List ℕ) : Type 0 where
   pub number : ℕ
   pub after : List ℕ
@@ -88,7 +88,7 @@ pub record FrameText (e : Endianness) (b : Framed) (s rest : List ℕ) : Type 0 
   pub tail : FrameTail b.endianness b.initial_len b.body b.trailer_len after rest
   pub same : b.trailer_len ≡ b.initial_len
 
--- of the length that a good head states n bytes are missing
+-- LacksRest e s n: n bytes are missing from the length in a good head.
 pub record LacksRest (e : Endianness) (s : List ℕ) (n : ℕ) : Type 0 where
   pub number : ℕ
   pub len : ℕ
@@ -99,11 +99,11 @@ pub record LacksRest (e : Endianness) (s : List ℕ) (n : ℕ) : Type 0 where
   pub some : 0 < n
   pub missing : length s + n ≡ len
 
--- n bytes are missing of a head, or of the length that a good head states
+-- FrameLacks e s n: n bytes are missing from a head, or from the length in a good head.
 abbrev pub FrameLacks : Endianness → List ℕ → ℕ → Type 0
 FrameLacks e s n = ((0 < n) × (length s + n ≡ 12)) ⊎ LacksRest e s n
 
--- after the body stands another length
+-- The length after the body differs from the length before it.
 pub record LengthsDiffer (e : Endianness) (s : List ℕ) : Type 0 where
   pub number : ℕ
   pub len : ℕ
@@ -117,15 +117,15 @@ pub record LengthsDiffer (e : Endianness) (s : List ℕ) : Type 0 where
   pub tail : FrameTail own len body trailer after rest
   pub differ : trailer ≢ len
 
--- the first fault of a frame
+-- The first fault of a frame.
 pub data FrameFault (e : Endianness) (s : List ℕ) : Fault → Type 0 where
   in_head : (rule : Rule) → BreaksHead e s rule → FrameFault e s (Invalid rule)
   unequal : LengthsDiffer e s → FrameFault e s (Invalid BlockLengthsDiffer)
 
--- what is said of bytes where a block in its frame is asked for
+-- The verdict of bytes as a block in its frame.
 abbrev pub FrameSays : Endianness → List ℕ → Verdict Framed → Type 0
 FrameSays e s = Says (λ b rest. FrameText e b s rest) (FrameLacks e s) (FrameFault e s)
 
--- blocks in their frames, in this order where they are no sections
+-- The format of blocks in their frames, with this byte order for blocks that are not section headers.
 unfoldable pub frame_format : Format Endianness Framed
 frame_format = record { says = FrameSays; goes = λ e b. e; head = λ e. 12 }

@@ -5,11 +5,11 @@ use Rattle.pcap_ng.specs.Blocks.{Item}
 use Rattle.pcap_ng.specs.Frames.{Framed}
 use Rattle.pcap_ng.specs.State.{State}
 
--- what stands around the body of a block
+-- The header of a block is its type, its length and its byte order.
 abbrev pub header_of : Framed → BlockHeader
 header_of b = record { type_ = b.type_; initial_len = b.initial_len; endianness = b.endianness }
 
--- the block of this header around a body: its length stands again after the body
+-- The block with this header and this body; its length is repeated after the body.
 abbrev pub framed_around : BlockHeader → List ℕ → Framed
 framed_around header body = record {
   type_ = header.type_;
@@ -19,10 +19,10 @@ framed_around header body = record {
   endianness = header.endianness;
 }
 
--- the body of the block that these bytes are: what stands between its first eight bytes and its last four
+-- The body of the block in these bytes is what is between the first eight bytes and the last four.
 abbrev pub body_in : List ℕ → List ℕ
 body_in s = take (length s - 12) (drop 8 s)
 
--- the block of this header that these bytes are, and this is in force after it
+-- The item of the block with this header and these bytes, after which this state is in force.
 abbrev pub held_item : State → List ℕ → BlockHeader → Item
 held_item after s header = record { block = framed_around header (body_in s); after = after }

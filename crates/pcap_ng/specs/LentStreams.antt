@@ -1,6 +1,6 @@
--- Values with another stream in them.
+-- Readers whose stream is replaced by another.
 use Rattle.pcap_ng.specs.declared.pcapng.reader.PcapNgReader.{PcapNgReader}
 
--- a reader with another stream behind it
+-- The same reader with another stream.
 abbrev pub reader_with : {T : Type 0} → PcapNgReader T → T → PcapNgReader T
 reader_with r x = record r { inner = x }

@@ -1,4 +1,4 @@
--- Captures whose lists of options all end with their mark, as the rule was before a list could end with its block ('Options').
+-- Captures in which every list of options ends with its mark, as the rule was before a list could end with its block ('Options').
 use Rattle.std.specs.Prelude.{◌≡◌, ℕ, List, [], ◌∷◌, ◌++◌, false, Some}
 use Rattle.byteorder.specs.Endian.{big_number}
 use Rattle.pcap_core.specs.declared.common.Endianness.{Endianness}
@@ -14,7 +14,8 @@ use Rattle.pcap_ng.specs.Blocks.{Item}
 use Rattle.pcap_ng.specs.Frames.{Framed, FrameText, FrameLacks, FrameFault}
 use Rattle.pcap_ng.specs.State.{State, within, order_at, is_read}
 
--- s is the body of a section whose options, if there are any, end with the mark, and then rest
+-- MarkedSection section s rest: s is the body of a section header whose options, if it has any, end with the mark, followed by
+-- rest.
 pub record MarkedSection (section : Section) (s rest : List ℕ) : Type 0 where
   pub after_magic : List ℕ
   pub after_version : List ℕ
@@ -24,13 +25,14 @@ pub record MarkedSection (section : Section) (s rest : List ℕ) : Type 0 where
   pub version : VersionText (number_in endianness) section after_magic after_version
   pub options_are : OptionList wants_end (number_in endianness) section_header section.options after_version rest
 
--- the same of an interface
+-- MarkedInterface order interface s rest: s is the body of an interface description whose options, if it has any, end with the
+-- mark, followed by rest.
 pub record MarkedInterface (order : Order) (interface : Interface) (s rest : List ℕ) : Type 0 where
   pub after_head : List ℕ
   pub head : InterfaceHead order interface s after_head
   pub options_are : OptionList wants_end order interface_description interface.options after_head rest
 
--- where such a block leads
+-- MarkedLeads b next q: a block with marked lists leads from state q to state next.
 pub data MarkedLeads (b : Framed) (next : State) : State → Type 0 where
   to_section : (q : State) (section : Section) (rest : List ℕ)
       → b.type_ ≡ types.SectionHeader → MarkedSection section b.body rest → next ≡ within section [] → MarkedLeads b next q
@@ -39,12 +41,12 @@ pub data MarkedLeads (b : Framed) (next : State) : State → Type 0 where
       → next ≡ within section (interfaces ++ interface ∷ []) → MarkedLeads b next (within section interfaces)
   nowhere : (q : State) → is_read q b.type_ ≡ false → next ≡ q → MarkedLeads b next q
 
--- s is such a block under this state, and then rest
+-- MarkedText q item s rest: s is a block with marked lists under state q, followed by rest.
 pub record MarkedText (q : State) (item : Item) (s rest : List ℕ) : Type 0 where
   pub frame : FrameText (order_at q) item.block s rest
   pub leads_on : MarkedLeads item.block item.after q
 
--- such blocks; for a front only their texts count
+-- The format of blocks with marked lists; a front depends only on their texts.
 unfoldable pub marked_format : Format State Item
 marked_format = record {
   says = λ q s. Says (λ item rest. MarkedText q item s rest) (FrameLacks (order_at q) s) (FrameFault (order_at q) s);

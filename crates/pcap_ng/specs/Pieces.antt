@@ -1,4 +1,4 @@
--- What a run tells over a capture that comes in pieces.
+-- The number of blocks in the beginning of a capture that comes in pieces.
 use Rattle.std.specs.Prelude.{◌≡◌, ◌⊎◌, ℕ, List, length}
 use Rattle.pcap_items.specs.Pieces.{OpensNone}
 use Rattle.pcap_ng.specs.Frames.{Framed}
@@ -6,7 +6,7 @@ use Rattle.pcap_ng.specs.Front.{NgFront}
 use Rattle.pcap_ng.specs.Opening.{OpeningSays}
 use Rattle.pcap_ng.specs.State.{State}
 
--- the front of s has n blocks after the first, or no section header begins s, and n is 0
+-- HoldsBlocks s n: the front of s has n blocks after the first, or no section header begins s and n is 0.
 abbrev pub HoldsBlocks : List ℕ → ℕ → Type 0
 HoldsBlocks s n =
     ((q : State) × (blocks : List Framed) × (rest : List ℕ) × NgFront q blocks s rest × (n ≡ length blocks))

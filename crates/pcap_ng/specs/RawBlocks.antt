@@ -1,13 +1,13 @@
--- Blocks in their frames, as they are written without their bodies being read ('General Block Structure').
+-- Blocks in their frames, which are written without reading their bodies ('General Block Structure').
 use Rattle.std.specs.Prelude.{◌+◌, length}
 use Rattle.pcap_ng.specs.Frames.{Framed}
 use Rattle.pcap_written.specs.Raw.{Raw}
 
--- the type, the order and the body of a block; its lengths are written by the body's
+-- A block of bytes is the type, the byte order and the body of a block; the body determines its lengths.
 abbrev pub raw_in : Framed → Raw
 raw_in b = record { type_ = b.type_; endianness = b.endianness; body = b.body }
 
--- a block of bytes in its frame, whose length is that of the body and the 12 bytes around it
+-- The frame of a block of bytes, whose length is that of the body and the 12 bytes around it.
 abbrev pub framed_raw : Raw → Framed
 framed_raw raw = record {
   type_ = raw.type_;

@@ -1,4 +1,4 @@
--- What a run over a stream of blocks tells.
+-- The result of a run over a stream of blocks.
 use Rattle.std.specs.Prelude.{◌≡◌, ℕ, List, map, Option}
 use Rattle.pcap_items.specs.Format.{state_after}
 use Rattle.pcap_items.specs.Reading.{Takes}
@@ -11,7 +11,7 @@ use Rattle.pcap_ng.specs.Blocks.{Item, block_format}
 use Rattle.pcap_ng.specs.Opening.{OpeningSays}
 use Rattle.pcap_ng.specs.Reader.{state_of, stream_of, has_failed}
 
--- the first block was taken, and then blocks up to a cause to stop
+-- The first block was taken, and then blocks up to a cause to stop.
 pub record TakesNg {T : Type 0} (remaining : T → Option (List ℕ)) (known : Option (List ℕ)) (most : ℕ) (read : NgRead T) : Type 0 where
   pub after : Option (List ℕ)
   pub first : State
@@ -19,7 +19,7 @@ pub record TakesNg {T : Type 0} (remaining : T → Option (List ℕ)) (known : O
   pub blocks : TakesParts block_format (λ (item : Item). item.block) first (state_of read.reader) after
       (remaining (stream_of read.reader)) (has_failed read.reader) most (map framed_of read.blocks.items) read.fault
 
--- the first block is that of the bytes, and whatever failed, the blocks are a beginning of the front's
+-- The first block is that of the bytes, and whatever failed, the blocks after it are a beginning of the front's blocks.
 pub record ReadsNg {T : Type 0} (bytes : List ℕ) (most : ℕ) (read : NgRead T) : Type 0 where
   pub first : State
   pub rest : List ℕ

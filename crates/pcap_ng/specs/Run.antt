@@ -1,4 +1,4 @@
--- What a run over a whole slice tells.
+-- The result of a run over a whole slice.
 use Rattle.std.specs.Prelude.{◌≡◌, ◌+◌, ℕ, List, length, map}
 use Rattle.pcap_items.specs.Run.{IsRest}
 use Rattle.pcap_ng.specs.declared.run.NgRun.{NgRun}
@@ -7,7 +7,8 @@ use Rattle.pcap_ng.specs.Frames.{framed_of}
 use Rattle.pcap_ng.specs.Blocks.{block_format}
 use Rattle.pcap_ng.specs.Parser.{state_of}
 
--- the run is the front of s: its blocks after the first, what is in force after them, its length, and what is said of its rest
+-- IsRun run s: the run is the front of s, with its blocks after the first, the state after them, its length, and the verdict of
+-- the rest.
 pub record IsRun (run : NgRun) (s : List ℕ) : Type 0 where
   pub left : List ℕ
   pub front : NgFront (state_of run.parser) (map framed_of run.blocks.items) s left

@@ -1,4 +1,5 @@
--- What a list of blocks leaves in force, by their bodies alone ('Section Header Block', 'Interface Description Block').
+-- The section and interfaces that a list of blocks leaves in force, determined by their bodies alone ('Section Header Block',
+-- 'Interface Description Block').
 use Rattle.std.specs.Prelude.{◌≡◌, ℕ, List, ◌∷◌, ◌++◌, All, Bool, true, false, filter}
 use Rattle.std.specs.List.{AllZip}
 use Rattle.pcap_core.specs.Answer.{whole}
@@ -11,22 +12,22 @@ use Rattle.pcap_ng.specs.Bodies.{SaysOfBody}
 use Rattle.pcap_ng.specs.Frames.{Framed}
 use Rattle.pcap_ng.specs.State.{State, opening, within}
 
--- a block is a section header
+-- Blocks of this type are section headers.
 abbrev pub is_section : BlockType → Bool
 is_section types.SectionHeader = true
 is_section _ = false
 
--- a block describes an interface
+-- Blocks of this type are interface descriptions.
 abbrev pub is_interface : BlockType → Bool
 is_interface types.InterfaceDescription = true
 is_interface _ = false
 
--- the interface is the body of the block
+-- The body of the block is this interface.
 abbrev pub IsInterfaceIn : Framed → Interface → Type 0
 IsInterfaceIn b interface = (rest : List ℕ) × SaysOfBody b (whole (InterfaceBody interface) rest)
 
--- the section is the body of the last section header among these blocks, and the interfaces are the bodies of the interface
--- descriptions after it, in order
+-- LeavesInForce blocks section interfaces: the section is the body of the last section header among these blocks, and the
+-- interfaces are the bodies of the interface descriptions after it, in order.
 pub record LeavesInForce (blocks : List Framed) (section : Section) (interfaces : List Interface) : Type 0 where
   pub before : List Framed
   pub header : Framed
@@ -38,7 +39,7 @@ pub record LeavesInForce (blocks : List Framed) (section : Section) (interfaces 
   pub is_last : All (λ b. is_section b.type_ ≡ false) after
   pub interfaces_are : AllZip IsInterfaceIn (filter (λ b. is_interface b.type_) after) interfaces
 
--- these blocks leave this in force
+-- These blocks leave this state in force.
 abbrev pub Leaves : List Framed → State → Type 0
 Leaves blocks opening = ⊥
 Leaves blocks (within section interfaces) = LeavesInForce blocks section interfaces

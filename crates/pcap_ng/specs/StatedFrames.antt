@@ -1,4 +1,4 @@
--- What is known of a frame once its head is read.
+-- The facts that are known about a frame once its head is read.
 use Rattle.std.specs.Prelude.{◌≡◌, ◌≢◌, ◌+◌, ℕ, List, Result, Ok, Err}
 use Rattle.std.specs.Borrow.{Bor}
 use Rattle.pcap_core.specs.declared.common.Endianness.{Endianness}
@@ -9,19 +9,19 @@ use Rattle.pcap_ng.specs.declared.pcapng.block.Block.{Block}
 use Rattle.pcap_ng.specs.declared.pcapng.framing.FrameHead.{FrameHead}
 use Rattle.pcap_ng.specs.Frames.{Framed, framed_of, FrameHeadText, IsGoodLength, BreaksHead, FrameTail}
 
--- what the first twelve bytes say: a good head, or the rule that it breaks
+-- The first twelve bytes are a good head, or break this rule.
 abbrev pub HeadTells : Endianness → List ℕ → Result (FrameHead × Bor (List ℕ)) Rule → Type 0
 HeadTells e s (Ok x) = FrameHeadText e x.0.number x.0.endianness x.0.len s x.1.now × IsGoodLength x.0.len
 HeadTells e s (Err rule) = BreaksHead e s rule
 
--- the bytes begin with this head, which says that n bytes follow the first twelve
+-- KnowsFrame e head n bytes: the bytes begin with this head, in which n bytes follow the first twelve.
 pub record KnowsFrame (e : Endianness) (head : FrameHead) (n : ℕ) (bytes : List ℕ) : Type 0 where
   pub after : List ℕ
   pub text : FrameHeadText e head.number head.endianness head.len bytes after
   pub good : IsGoodLength head.len
   pub follows : head.len ≡ 12 + n
 
--- s is what follows the head of this block, and then rest
+-- TailOf head b s rest: s is what follows the head of the block b, followed by rest.
 pub record TailOf (head : FrameHead) (b : Framed) (s rest : List ℕ) : Type 0 where
   pub type_is : b.type_ ≡ block_type head.number
   pub len_is : b.initial_len ≡ head.len
@@ -29,7 +29,7 @@ pub record TailOf (head : FrameHead) (b : Framed) (s rest : List ℕ) : Type 0 w
   pub tail : FrameTail head.endianness head.len b.body b.trailer_len s rest
   pub same : b.trailer_len ≡ head.len
 
--- after the body that follows this head stands another length
+-- TailDiffers head s: the length after the body that follows this head differs from the head's length.
 pub record TailDiffers (head : FrameHead) (s : List ℕ) : Type 0 where
   pub body : List ℕ
   pub trailer : ℕ
@@ -37,7 +37,7 @@ pub record TailDiffers (head : FrameHead) (s : List ℕ) : Type 0 where
   pub tail : FrameTail head.endianness head.len body trailer s rest
   pub differ : trailer ≢ head.len
 
--- what follows a head says: the block, or that its lengths differ
+-- TailTells head s result: s is the rest of the block after this head, or its lengths differ.
 abbrev pub TailTells : FrameHead → List ℕ → Result (Bor (List ℕ) × Block) Rule → Type 0
 TailTells head s (Ok x) = TailOf head (framed_of x.1) s x.0.now
 TailTells head s (Err rule) = (rule ≡ BlockLengthsDiffer) × TailDiffers head s

@@ -1,4 +1,4 @@
-//! Laws of the grammar of blocks. Each contract is the law.
+//! Laws of the format of blocks. Each contract is the law.
 
 ghost use Rattle.std.specs.Prelude.{◌≡◌, ◌≤◌, ℕ, List, [], ◌∷◌, ◌++◌, length, map, All, Option, Some, Ok};
 ghost use Rattle.pcap_core.specs.declared.common.Endianness.{Endianness};
@@ -33,117 +33,118 @@ ghost use Rattle.pcap_written.specs.Raw.{Raw, TellsRaw, raw_text};
 ghost use Rattle.pcap_written.specs.Fits.{kept_body};
 ghost use Rattle.pcap_written.specs.declared.place.Place.{Place};
 
-/// Of each slice exactly one thing is said where a block in its frame is asked for: its text begins the slice, so many bytes
-/// are missing, or there is one fault.
+/// Each slice has exactly one verdict as a block in its frame: a block's text begins the slice, a number of bytes is missing, or
+/// there is one fault.
 pub fn frame_is_one()
     ensures { (order : Endianness) (s : List ℕ) → ExactlyOne (FrameSays order s) }
 {}
 
-/// The same where a block is asked for under a section and its interfaces.
+/// Each slice has exactly one verdict as a block under a section and its interfaces.
 pub fn block_is_one()
     ensures { (q : State) (s : List ℕ) → ExactlyOne (BlockSays q s) }
 {}
 
-/// The same where the first block is asked for.
+/// Each slice has exactly one verdict as the first block of a capture.
 pub fn first_block_is_one()
     ensures { (s : List ℕ) → ExactlyOne (OpeningSays s) }
 {}
 
-/// More bytes change neither a block nor its fault, and shrink a request by their number.
+/// More bytes change neither a block nor its fault, and reduce the number of missing bytes by their own number.
 pub fn block_is_stable()
     ensures { (q : State) → IsStable (BlockSays q) }
 {}
 
-/// The same of the first block.
+/// More bytes change neither a first block nor its fault, and reduce the number of missing bytes by their own number.
 pub fn first_block_is_stable()
     ensures { IsStable OpeningSays }
 {}
 
-/// Blocks are a format: of all bytes one thing is said, more bytes change nothing, a text is its own, and a request is
-/// the head's, or else the last.
+/// Blocks are a lawful format. All bytes have one verdict, more bytes don't change it, a text is a block by itself, and a request
+/// is for the head or is the last one.
 pub fn blocks_are_lawful()
     ensures { IsLawful block_format }
 {}
 
-/// Who adds exactly what is asked for is asked twice at most, and has nothing after the block that comes.
+/// If the caller supplies exactly the bytes requested, the parser asks at most twice for a block, and nothing follows that block.
 pub fn blocks_are_asked_for_twice()
     ensures { (q : State) (n : ℕ) (ns s t : List ℕ) → Asks block_format q (n ∷ ns) s t →
         (length (n ∷ ns) ≤ 2) × ((item : Item) (rest : List ℕ) → BlockText q item t rest → rest ≡ []) }
 {}
 
-/// All bytes have one front of blocks and no other.
+/// All bytes have exactly one front of blocks.
 pub fn blocks_have_one_front()
     ensures { (q : State) (s : List ℕ) → ExactlyOne (λ (p : List Item × List ℕ). Front block_format q p.0 s p.1) }
 {}
 
-/// What begins with a first block has one front as a capture and no other.
+/// Bytes that begin with a first block have exactly one front as a capture.
 pub fn capture_has_one_front()
     ensures { (q : State) (s after : List ℕ) → OpeningSays s (whole q after) →
         ExactlyOne (λ (p : State × List Framed × List ℕ). NgFront p.0 p.1 s p.2) }
 {}
 
-/// What is in force after blocks is what their bodies say: the section is that of the last section header, and the
-/// interfaces are those described after it.
+/// The bodies of blocks determine what is in force after them: the section is that of the last section header, and the interfaces
+/// are those described after it.
 pub fn blocks_leave_their_section_in_force()
     ensures { (first : Item) (items : List Item) (s rest : List ℕ) → Texts block_format opening (first ∷ items) s rest →
         Leaves (map (λ (item : Item). item.block) (first ∷ items)) (state_after block_format opening (first ∷ items)) }
 {}
 
-/// Where each list of options has to end with its mark, the blocks of a front are a beginning of those of the front.
+/// If every list of options must end with its mark, the blocks of the front are a beginning of the blocks of the ordinary front.
 pub fn unmarked_lists_keep_blocks()
     ensures { (q : State) (items others : List Item) (s a b : List ℕ) → Front marked_format q items s a → Front block_format q others s b →
         (more : List Item) × (others ≡ items ++ more) }
 {}
 
-/// The requests of a run over blocks, the first one among them, are these and no others.
+/// The requests of a run over blocks, including those for the first block, are unique.
 pub fn requests_are_one()
     ensures { (q : State) (items : List Item) (s rest ns others : List ℕ) →
         RunRequests block_format q items s rest ns → RunRequests block_format q items s rest others → ns ≡ others }
 {}
 
-/// Where a block stands, the first one too, what is asked for are the 12 bytes of its head, and then the rest of it. These
-/// requests are what asking gives: each of them met exactly, the block's text is there, and no more.
+/// At a block, including the first, the requests are the 12 bytes of its head and then the rest of it. Meeting each request
+/// exactly supplies the block's text and no more.
 pub fn block_requests_are()
     ensures { (q : State) (item : Item) (s rest ns : List ℕ) → BlockText q item s rest → RequestsAt block_format q s ns →
         (t : List ℕ) × (s ≡ t ++ rest) × HeadThenRest 12 (length t) ns × Asks block_format q ns [] t }
 {}
 
-/// The number of blocks that bytes hold is one.
+/// The number of blocks in given bytes is unique.
 pub fn blocks_held_are_one()
     ensures { (s : List ℕ) (n m : ℕ) → HoldsBlocks s n → HoldsBlocks s m → n ≡ m }
 {}
 
-/// A capture of blocks that is accepted whole is copied whole where nothing fails: its bytes, and all its blocks.
+/// If a capture is accepted whole, its blocks are at most `most`, and nothing fails, the copy has all of its bytes and all of its
+/// blocks.
 pub fn accepted_capture_is_copied()
     ensures { (q : State) (blocks : List Framed) (bytes : List ℕ) (now out out_now : Option (List ℕ)) (most : ℕ) (copied : NgCopied) →
         NgFront q blocks bytes [] → length blocks ≤ most → NothingFailed copied →
         CopyNgRun (Some bytes) now out out_now most copied → CopiesBytes bytes (length blocks) out out_now copied }
 {}
 
-/// Whatever is refused or fails, what a copy has written is a beginning of the capture.
+/// Whatever is refused or fails, a copy has written a beginning of the capture.
 pub fn copy_is_a_beginning()
     ensures { (bytes : List ℕ) (now out out_now : Option (List ℕ)) (most : ℕ) (copied : NgCopied) →
         CopyNgRun (Some bytes) now out out_now most copied → (gone rest : List ℕ) × (bytes ≡ gone ++ rest) × Appends out out_now gone }
 {}
 
-/// Blocks that are written one after the other, the first of them a section header, are in front of their bytes as a capture,
-/// with the bodies that were written, and nothing behind them. Where bytes are the rest of a block, they are read with the padding.
+/// Blocks that are written one after another, beginning with a section header, are the whole front of their bytes as a capture,
+/// with the bodies that were written. If a body's bytes extend to the end of the block, they are read with the padding.
 pub fn written_capture_is_read()
     ensures { (at end : Place) (section : Section) (bodies : List Body) (bytes : List ℕ) → AreWritten at (SectionBody section ∷ bodies) bytes end →
         (items : List Item) × Front block_format opening items bytes [] × AllZip IsBodyOf items (map kept_body (SectionBody section ∷ bodies)) }
 {}
 
-/// In such a capture all lists of options of sections and interfaces end with their mark, where they have an option: it is a
-/// capture also where each of them has to.
+/// In a capture that is written this way, every nonempty list of options in a section or an interface ends with its mark. So it
+/// is also a capture where each list must.
 pub fn written_capture_has_its_marks()
     ensures { (at end : Place) (section : Section) (bodies : List Body) (bytes : List ℕ) → AreWritten at (SectionBody section ∷ bodies) bytes end →
         (items : List Item) × Front marked_format opening items bytes [] × AllZip IsBodyOf items (map kept_body (SectionBody section ∷ bodies)) }
 {}
 
-/// Blocks of values and blocks of bytes that are written one after the other, in any order, the first of them a section header, are
-/// in front of their bytes as a capture, and nothing is behind them: each value as it was, each block of bytes with its type, its
-/// order and its body, where those that are section headers or interfaces can be read. The order and the number of interfaces that
-/// are in force behind them are those that the writer tells.
+/// Blocks of values and blocks of bytes, written one after another in any order, beginning with a section header, are the whole
+/// front of their bytes as a capture. Each value is read as it was, and each block of bytes has its type, its byte order and its
+/// body, if the blocks of bytes that are section headers or interfaces can be read. The byte order and the number of interfaces
+/// in force after them are those that the writer reports.
 pub fn mixed_capture_is_read()
     ensures { (at end : Place) (first : Written) (blocks : List Written) (bytes : List ℕ) → type_written first ≡ types.SectionHeader →
         All IsReadable (first ∷ blocks) → GoOut at (first ∷ blocks) bytes end →
@@ -151,21 +152,21 @@ pub fn mixed_capture_is_read()
         × AllZip IsReadAs items (first ∷ blocks) × StandsAt end (state_after block_format opening items) }
 {}
 
-/// A block that was made of a value is read as it was, with the padding where its bytes are the rest of the block, and its text is
-/// the one that is written for the value.
+/// A block that was made from a value is read as it was, with the padding if its bytes extend to the end of the block. Its text
+/// is the one that is written for the value.
 pub fn made_block_is_read()
     ensures { (order : Endianness) (body : Body) (block : Framed) → IsMadeOf order body block →
         ((rest : List ℕ) × SaysOfBody block (whole (kept_body body) rest)) × (raw_text (raw_in block) ≡ text_of (number_bytes block.endianness) body) }
 {}
 
-/// A block of bytes that may be written at a place is read there as a block in its frame, whatever follows it: its type, its order
-/// and its body are those that were written.
+/// A block of bytes that may be written at a place is read there as a block in its frame, whatever follows it. Its type, its byte
+/// order and its body are those that were written.
 pub fn written_raw_block_is_read()
     ensures { (at behind : Place) (raw : Raw) (rest : List ℕ) → TellsRaw at raw (Ok behind) →
         (block : Framed) × FrameText at.endianness block (raw_text raw ++ rest) rest × (raw_in block ≡ raw) }
 {}
 
-/// The bytes of a block that is read are the text that is written for its type, its order and its body.
+/// The bytes of a block that is read are the text that is written for its type, its byte order and its body.
 pub fn read_block_is_written()
     ensures { (order : Endianness) (block : Framed) (s rest : List ℕ) → IsBytes s → FrameText order block s rest → s ≡ raw_text (raw_in block) ++ rest }
 {}

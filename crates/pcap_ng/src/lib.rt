@@ -1,4 +1,4 @@
-//! PcapNg captures, read: blocks in their frames, under the section and the interfaces in force.
+//! Readers and parsers of PcapNg captures: blocks in their frames, with the section and interfaces in force.
 #![tactic(auto)]
 
 pub mod laws;

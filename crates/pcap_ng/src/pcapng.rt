@@ -1,4 +1,4 @@
-//! PcapNg captures: blocks in their frames, a parser, a reader and a writer of them, and their bodies.
+//! PcapNg captures: blocks in their frames and their bodies, with a parser, a reader and a writer.
 
 mod ahead;
 mod block;

@@ -1,4 +1,4 @@
-//! Whole runs over a capture of blocks.
+//! Functions that read a whole PcapNg capture from a slice or a stream.
 
 mod exact;
 mod find;
@@ -26,23 +26,23 @@ pub use pieces::pieces_pcapng;
 use std::alloc::Global;
 use std::io::Read;
 
-/// A capture's blocks after the first, the parser after them, how many bytes they take, and what follows them.
+/// The result of a run over a slice: the blocks after the first, the parser after them, their length and the rest.
 #[derive(Drop)]
 pub struct NgRun<'a> {
     /// The blocks after the first section header, in order.
     pub blocks: Vec<Block<'a>>,
-    /// The parser after them, with the section in force there and its interfaces.
+    /// The parser after these blocks, with the section in force and its interfaces.
     pub parser: PcapNgParser,
-    /// How many bytes the first section header and the blocks take.
+    /// How many bytes the first section header and these blocks take.
     pub used: usize,
-    /// What follows them.
+    /// The rest of the slice, after these blocks: nothing, a truncated block or a malformed one.
     pub rest: Rest,
 }
 
-/// The whole run over one slice: all blocks of its longest front, and what is said of the rest.
+/// Parses a whole slice and returns all blocks of its longest front, and what follows them.
 ///
-/// The errors are those of `PcapNgParser::new` on the first block. A later block that is refused ends the blocks, and is told
-/// in `rest`; but `OutOfMemory`, where something can't grow, is the answer wherever it comes.
+/// Returns the errors of `PcapNgParser::new` for the first block. If a later block is malformed or truncated, the blocks end
+/// before it, and `rest` reports why. Returns `OutOfMemory` wherever something can't grow.
 pub fn parse_pcapng<'a>(alloc: Global, bytes: &'a [u8]) -> ResultParsing<NgRun<'a>>
     ensures front { IfOk result (λ run. IsRun run bytes.now) }
     ensures borrowed { IfOk result (λ run. All (λ block. IsBorrowed block.body) run.blocks.items) }
@@ -59,21 +59,21 @@ pub fn parse_pcapng<'a>(alloc: Global, bytes: &'a [u8]) -> ResultParsing<NgRun<'
     })
 }
 
-/// A capture's blocks after the first that came off a stream, the reader after them, and why they end.
+/// The result of a run over a stream: the blocks after the first, the reader after them, and why they end.
 #[derive(Drop)]
 pub struct NgRead<R> {
     /// The blocks after the first section header, in order.
     pub blocks: Vec<Block<'static>>,
-    /// The reader after them, with the section in force there and its interfaces. Its `failed` tells whether a read failed.
+    /// The reader after these blocks, with the section in force and its interfaces. Its `failed` reports whether a read failed.
     pub reader: PcapNgReader<R>,
-    /// The refusal that ended them. None where the stream ended after a block, or there were enough.
+    /// The error that ended the blocks. None if the stream ended after a block, or `most` blocks were read.
     pub fault: Option<PcapError>,
 }
 
-/// Reads the first block of a capture and at most so many blocks after it off a stream, up to a refusal or the stream's end.
+/// Reads the first block of a capture from a stream, and at most `most` blocks after it, up to an error or the end of the stream.
 ///
-/// The errors are those of `PcapNgReader::new` on the first block. What comes after it ends the blocks, and is told in
-/// `fault`. With `most` blocks the stream isn't asked again.
+/// Returns the errors of `PcapNgReader::new` for the first block. A later error ends the blocks and is in `fault`. After `most`
+/// blocks the function doesn't read the stream again.
 pub fn read_pcapng<R: Read + Drop>(alloc: Global, reader: R, most: u64) -> ResultParsing<NgRead<R>>
     ensures taken { IfOk result (λ read. TakesNg R.remaining (R.remaining reader) most read) }
     ensures front { IfOk result (λ read. IfSome (R.remaining reader) (λ bytes. ReadsNg bytes most read)) }

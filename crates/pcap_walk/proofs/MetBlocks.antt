@@ -22,7 +22,7 @@ use Rattle.pcap_walk.specs.declared.walking.Front.{Front}
 use Rattle.pcap_walk.specs.MetBlocks.{EnhancedInFront, met_block}
 use Rattle.pcap_walk.specs.Walks.{StandsInFront, HoldsNext}
 
--- what is said of a block's text is said of the block of its header and text
+-- The verdict of a block's text is that of the block with its header and text.
 said_frame : (q : State) (item : Item) (t : List ℕ) → block_format.says q t (whole item []) → frame_format.says (order_at q) t (whole item.block [])
 unfolding block_format frame_format
 said_frame q item t text = text.frame
@@ -32,7 +32,7 @@ met q item t says =
     let same : framed_around (header_of item.block) (body_in t) ≡ item.block = held_block (order_at q) item.block t (said_frame q item t says) in
     subst (λ (b : Framed). let i : Item = record { block = b; after = item.after } in block_format.says q t (whole i [])) (sym same) says
 
--- an enhanced packet that was found in front of bytes
+-- An enhanced packet that was found at the front of bytes is an item there.
 pub enhanced_stands : (section : Section) (interfaces : List Interface) (e : Endianness) (s : List ℕ) (header : BlockHeader) (size : ℕ) → e ≡ order_at (within section interfaces) → EnhancedInFront e s header size
     → StandsInFront block_format (met_block (within section interfaces)) (within section interfaces) s header size
 enhanced_stands section interfaces e s header size order_is found =
@@ -52,14 +52,14 @@ enhanced_stands section interfaces e s header size order_is found =
       stays = goes_after q (met_block q header (take size s));
     }
 
--- the enhanced packet that was found in front of bytes, if one was
+-- The enhanced packet that was found at the front of bytes, if one was, is an item there.
 pub enhanced_found : (section : Section) (interfaces : List Interface) (e : Endianness) (s : List ℕ) (found : Option (Front BlockHeader)) → e ≡ order_at (within section interfaces)
     → IfSome found (λ front. EnhancedInFront e s front.head front.size)
     → IfSome found (λ front. StandsInFront block_format (met_block (within section interfaces)) (within section interfaces) s front.head front.size)
 enhanced_found section interfaces e s None order_is front = tt
 enhanced_found section interfaces e s (Some x) order_is front = enhanced_stands section interfaces e s x.head x.size order_is front
 
--- a block that was held
+-- A block that was held is the next item.
 pub block_held : (q next : State) (before after : Option (List ℕ)) (held : List ℕ) (failed : Bool) (result : Result (Option BlockHeader) PcapError)
     → Pulls (block_format.says q) (held_item next held) before after failed result → HoldsText (block_format.says q) (held_item next held) before after held result
     → HoldsNext block_format (met_block next) q next before after held failed result

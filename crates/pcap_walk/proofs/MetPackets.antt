@@ -21,14 +21,14 @@ use Rattle.pcap_walk.specs.MetPackets.{met_packet}
 use Rattle.pcap_walk.specs.Walks.{StandsInFront, HoldsNext}
 use Rattle.pcap_walk.proofs.Walks.{shown_front}
 
--- a packet is that of its header and its text
+-- A packet is determined by its header and its text.
 met : (order : Order) (r : TsResolution) (p : Captured) (t : List ℕ) → PacketText packet_limit order r p t [] → p ≡ met_packet p.header t
 met order r p t text =
     let piece = head_piece order text.header.head t text.after text.header.text in
     let behind : drop 16 t ≡ p.bytes = ap (drop 16) piece.text ∙ drop_at piece.bytes text.after 16 piece.length_is ∙ text.data_is ∙ append-nil p.bytes in
     ap (λ (l : List ℕ). let c : Captured = record { header = p.header; bytes = l } in c) (sym behind)
 
--- a packet that was read in front of bytes
+-- A packet that was read at the front of bytes is an item there.
 pub front_stands : (order : Order) (r : TsResolution) (p : Captured) (s rest : List ℕ) → PacketSays packet_limit order r s (whole p rest)
     → StandsInFront (packet_format packet_limit order r) met_packet tt s p.header (length s - length rest)
 unfolding packet_format
@@ -46,7 +46,7 @@ under_says : (header : PcapHeader) (order : Endianness) (r : TsResolution) (s : 
 unfolding packet_format
 under_says header order r s p order_is resolution_is text = rw (sym order_is, sym resolution_is) text
 
--- and under a header
+-- A packet that was read at the front of bytes is also an item under a header.
 pub under_stands : (header : PcapHeader) (order : Endianness) (r : TsResolution) (s : List ℕ) (head : PacketHeader) (size : ℕ) → is_magic header.magic_number ≡ true → order ≡ order_of header.magic_number
     → r ≡ resolution_of header.magic_number → StandsInFront (packet_format packet_limit (number_in order) r) met_packet tt s head size → StandsInFront (reader_format packet_limit header) met_packet tt s head size
 under_stands header order r s head size valid order_is resolution_is stands =
@@ -54,7 +54,7 @@ under_stands header order r s head size valid order_is resolution_is stands =
     let packet = met_packet head text in
     record { within = stands.within; text = reader_says packet_limit header text (whole packet []) valid (under_says header order r text packet order_is resolution_is stands.text); stays = refl }
 
--- a packet that was filled with
+-- A packet that was held is the next item.
 pub packet_filled : (header : PcapHeader) (before after : Option (List ℕ)) (held : List ℕ) (failed : Bool) (result : Result (Option PacketHeader) PcapError)
     → FillsHeaded ((reader_format packet_limit header).says tt) (KnowsHeader header) ((reader_format packet_limit header).head tt) before after held failed result
     → HoldsNext (reader_format packet_limit header) met_packet tt tt before after held failed result
@@ -62,7 +62,7 @@ packet_filled header before after held failed (Ok (Some head)) x = (x.0, shown_s
 packet_filled header before after held failed (Ok None) x = (x.0, x.2, x.3)
 packet_filled header before after held failed (Err e) x = x
 
--- the packet that was found in front of bytes, if one was
+-- The packet that was found at the front of bytes, if one was, is an item there.
 pub under_found : (header : PcapHeader) (order : Endianness) (r : TsResolution) (s : List ℕ) (found : Option (Front PacketHeader)) → is_magic header.magic_number ≡ true → order ≡ order_of header.magic_number
     → r ≡ resolution_of header.magic_number → IfSome found (λ front. StandsInFront (packet_format packet_limit (number_in order) r) met_packet tt s front.head front.size)
     → IfSome found (λ front. StandsInFront (reader_format packet_limit header) met_packet tt s front.head front.size)

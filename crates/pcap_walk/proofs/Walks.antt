@@ -1,4 +1,4 @@
--- Walks, one behind the other, over any lawful format and any sink.
+-- Consecutive walks, over any lawful format and any sink.
 use Rattle.std.proofs.Common.{◌≡◌, ◌≤◌, ◌+◌, ◌-◌, ℕ, List, [], ◌∷◌, ◌++◌, length, take, drop, Bool, true, false, Option, Some, None, Ok, Err, ◌⊎◌, inl, inr, refl, sym, ap, ◌∙◌, subst, arith, length-append, append_assoc, append-nil}
 use lib.Seq.{take-append_seam}
 use Rattle.std.proofs.lemmas.List.{take-append-drop}
@@ -16,22 +16,22 @@ use Rattle.pcap_walk.specs.declared.walking.Ended.TheVariants.{AtEnd, AtMost, Re
 use Rattle.pcap_walk.specs.Walks.{Does, Folds, Walks, Meets, MeetsStop, MeetsShown, Ends, EndsWalk, TurnGives, fault_of, IsStop, TakesAndKeeps}
 
 module _ {V K E : Type 0} (does : Does V K E) where
-  -- what went out stays
+  -- Buffered output may be written after the items.
   pub folds_kept : (n : ℕ) (vs : List V) (bytes : List ℕ) (old new : K) (a b c : Option (List ℕ)) → Folds does n vs bytes old a new b → Keeps b c → Folds does n vs bytes old a new c
   folds_kept n [] bytes old new a b c so_far kept = (so_far.0, so_far.1, Keeps-trans a b c so_far.2 kept)
   folds_kept n (v ∷ vs) bytes old new a b c so_far kept =
       (so_far.0, so_far.1, so_far.2, so_far.3, so_far.4, so_far.5, so_far.6, so_far.7, folds_kept (n + 1) vs so_far.1 so_far.2 new so_far.4 b c so_far.8 kept)
 
-  -- what waited goes out first
+  -- Buffered output may be written before the items.
   pub folds_ready : (n : ℕ) (vs : List V) (bytes : List ℕ) (old new : K) (a b c : Option (List ℕ)) → Keeps a b → Folds does n vs bytes old b new c → Folds does n vs bytes old a new c
   folds_ready n [] bytes old new a b c kept more = (more.0, more.1, Keeps-trans a b c kept more.2)
   folds_ready n (v ∷ vs) bytes old new a b c kept more = (more.0, more.1, more.2, more.3, more.4, more.5, Keeps-trans a b more.3 kept more.6, more.7, more.8)
 
-  -- one item
+  -- One item is folded into what is kept.
   pub folds_one : (n : ℕ) (v : V) (text : List ℕ) (old new : K) (a b : Option (List ℕ)) → does (n + 1) v text old a new b (Ok tt) → Folds does n (v ∷ []) text old a new b
   folds_one n v text old new a b step = (text, [], new, a, b, sym (append-nil text), Keeps-refl a, step, (refl, refl, Keeps-refl b))
 
-  -- items behind items
+  -- Items after items are folded into what is kept.
   pub folds_all : (n m : ℕ) (vs ws : List V) (bytes more : List ℕ) (old mid new : K) (a b c : Option (List ℕ)) → m ≡ n + length vs → Folds does n vs bytes old a mid b → Folds does m ws more mid b new c
       → Folds does n (vs ++ ws) (bytes ++ more) old a new c
   folds_all n m [] ws bytes more old mid new a b c count so_far next =
@@ -43,7 +43,7 @@ module _ {V K E : Type 0} (does : Does V K E) where
       let deeper = folds_all (n + 1) m vs ws so_far.1 more so_far.2 mid new so_far.4 b c (omega (arith, count)) so_far.8 next in
       (so_far.0, so_far.1 ++ more, so_far.2, so_far.3, so_far.4, ap (λ (l : List ℕ). l ++ more) so_far.5 ∙ append_assoc so_far.0 so_far.1 more, so_far.6, so_far.7, deeper)
 
--- the front of bytes that end with these
+-- The length of the rest determines the front of the bytes before it.
 pub shown_front : (shown front rest : List ℕ) → shown ≡ front ++ rest → take (length shown - length rest) shown ≡ front
 shown_front shown front rest split =
     let count : length shown - length rest ≡ length front = omega (arith, ap length split, length-append front rest) in
@@ -53,7 +53,7 @@ module _ {S V K E : Type 0} (f : Format S V) (does : Does V K E) where
   pub walks_none : (q : S) (a : Option (List ℕ)) (n : ℕ) (old : K) (p r : Option (List ℕ)) → Keeps p r → Walks f does q q a a n n old old p r
   walks_none q a n old p r kept = record { items = []; count = omega arith; leads = refl; took = record { bytes = []; texts = refl; took = Consumes-nil a }; kept = (refl, refl, kept) }
 
-  -- one item was taken
+  -- One item that was taken is a walk.
   pub walks_one : (q next : S) (item : V) (text : List ℕ) (a b : Option (List ℕ)) (n : ℕ) (old new : K) (p r : Option (List ℕ)) → f.says q text (whole item []) → f.goes q item ≡ next → Consumes a b text
       → does (n + 1) item text old p new r (Ok tt) → Walks f does q next a b n (n + 1) old new p r
   walks_one q next item text a b n old new p r says leads took step = record {
@@ -64,7 +64,7 @@ module _ {S V K E : Type 0} (f : Format S V) (does : Does V K E) where
     kept = folds_one does n item text old new p r step;
   }
 
-  -- what was met of shown bytes was taken
+  -- The items that the walk met in a buffer were taken.
   pub walks_met : (q : S) (bytes : List ℕ) (a b : Option (List ℕ)) (n m : ℕ) (old new : K) (p r : Option (List ℕ)) → Consumes a b bytes → Meets f does q bytes n m old new p r → Walks f does q q a b n m old new p r
   walks_met q bytes a b n m old new p r took met = record {
     items = met.items;
@@ -74,7 +74,7 @@ module _ {S V K E : Type 0} (f : Format S V) (does : Does V K E) where
     kept = met.kept;
   }
 
-  -- what waited goes out before it
+  -- Buffered output may be written before a walk.
   pub walks_ready : (q here : S) (a b : Option (List ℕ)) (n m : ℕ) (old new : K) (p r t : Option (List ℕ)) → Keeps p r → Walks f does q here a b n m old new r t → Walks f does q here a b n m old new p t
   walks_ready q here a b n m old new p r t kept walks = record {
     items = walks.items;
@@ -84,7 +84,7 @@ module _ {S V K E : Type 0} (f : Format S V) (does : Does V K E) where
     kept = folds_ready does n walks.items walks.took.bytes old new p r t kept walks.kept;
   }
 
-  -- of these bytes, items that leave the state were met up to this rest
+  -- MeetsTo q shown rest ..: of the shown bytes, items that leave the state unchanged were met up to this rest.
   pub record MeetsTo (q : S) (shown rest : List ℕ) (n m : ℕ) (old new : K) (out out_now : Option (List ℕ)) : Type 0 where
     pub front : List ℕ
     pub split : shown ≡ front ++ rest
@@ -97,18 +97,18 @@ module _ {S V K E : Type 0} (f : Format S V) (does : Does V K E) where
   meets_used q shown rest n m old new p r so_far = subst (λ (l : List ℕ). Meets f does q l n m old new p r) (sym (shown_front shown so_far.front rest so_far.split)) so_far.met
 
   module _ (IsUnready : E → Type 0) (wants : ℕ → K → Bool) where
-    -- a walk that ends where it began
+    -- A walk may end where it began.
     pub ends_here : (q : S) (a now : Option (List ℕ)) (failed : Bool) (most n : ℕ) (old new : K) (p r t : Option (List ℕ)) (ended : Ended E) → Keeps p r
         → Ends f does IsUnready wants q a now failed most n old new r t ended → EndsWalk f does IsUnready wants q a now failed most n n old new p t ended
     ends_here q a now failed most n old new p r t ended kept ends = record { here = q; left = a; kept = old; mid = r; so_far = walks_none q a n old p r kept; ends = ends }
 
-    -- what waited goes out before it
+    -- Buffered output may be written before a walk that ends.
     pub ends_ready : (q : S) (a now : Option (List ℕ)) (failed : Bool) (most n m : ℕ) (old new : K) (p r t : Option (List ℕ)) (ended : Ended E) → Keeps p r
         → EndsWalk f does IsUnready wants q a now failed most n m old new r t ended → EndsWalk f does IsUnready wants q a now failed most n m old new p t ended
     ends_ready q a now failed most n m old new p r t ended kept ends =
         record { here = ends.here; left = ends.left; kept = ends.kept; mid = ends.mid; so_far = walks_ready q ends.here a ends.left n m old ends.kept p r ends.mid kept ends.so_far; ends = ends.ends }
 
-    -- the sink stopped among shown bytes
+    -- If the sink stopped at an item in a buffer, the walk ended there.
     pub stops_met : (q : S) (bytes : List ℕ) (a now : Option (List ℕ)) (failed : Bool) (most n m : ℕ) (old new : K) (p r : Option (List ℕ)) (stop : E) → failed ≡ false → Consumes a now bytes
         → MeetsShown f does q bytes most n m old new p r (Some stop) → EndsWalk f does IsUnready wants q a now failed most n m old new p r (Stopped stop)
     stops_met q bytes a now failed most n m old new p r stop unfailed took met =
@@ -141,7 +141,7 @@ module _ {S V K E : Type 0} (f : Format S V) (does : Does V K E) where
           kept = folds_all does n m so_far.items more.items so_far.took.bytes more.took.bytes old mid new s r t so_far.count so_far.kept more.kept;
         }
 
-    -- one item more of shown bytes
+    -- One more item of a buffer was met.
     pub meets_more : (q : S) (shown rest : List ℕ) (size n m : ℕ) (item : V) (old mid new : K) (p r t : Option (List ℕ)) → MeetsTo q shown rest n m old mid p r → size ≤ length rest
         → f.says q (take size rest) (whole item []) → f.goes q item ≡ q → does (m + 1) item (take size rest) mid r new t (Ok tt) → MeetsTo q shown (drop size rest) n (m + 1) old new p t
     meets_more q shown rest size n m item old mid new p r t so_far within says stays step =
@@ -160,7 +160,7 @@ module _ {S V K E : Type 0} (f : Format S V) (does : Does V K E) where
           };
         }
 
-    -- the sink stops at it
+    -- The sink stops at the next item of the bytes in a buffer.
     pub meets_stop : (q : S) (shown rest : List ℕ) (size n m : ℕ) (item : V) (old mid new : K) (p r t : Option (List ℕ)) (stop : E) → MeetsTo q shown rest n m old mid p r → size ≤ length rest
         → f.says q (take size rest) (whole item []) → does (m + 1) item (take size rest) mid r new t (Err stop) → MeetsStop f does q (take (length shown - length (drop size rest)) shown) n m old new p t stop
     meets_stop q shown rest size n m item old mid new p r t stop so_far within says stops =
@@ -179,7 +179,7 @@ module _ {S V K E : Type 0} (f : Format S V) (does : Does V K E) where
         }
 
     module _ (IsUnready : E → Type 0) (wants : ℕ → K → Bool) where
-      -- a walk that ends behind items
+      -- After items, the end of a walk is the end of the walk over all.
       pub ends_behind : (q p : S) (a b now : Option (List ℕ)) (failed : Bool) (most n m k : ℕ) (old mid new : K) (s r t : Option (List ℕ)) (ended : Ended E) → Walks f does q p a b n m old mid s r
           → EndsWalk f does IsUnready wants p b now failed most m k mid new r t ended → EndsWalk f does IsUnready wants q a now failed most n k old new s t ended
       ends_behind q p a b now failed most n m k old mid new s r t ended so_far ends = record {
@@ -191,7 +191,7 @@ module _ {S V K E : Type 0} (f : Format S V) (does : Does V K E) where
         ends = ends.ends;
       }
 
-      -- a turn behind items
+      -- After items, a turn of a walk is a turn of the walk over all.
       pub turn_behind : (q p here : S) (a b now : Option (List ℕ)) (failed : Bool) (most n m k : ℕ) (old mid new : K) (s r t : Option (List ℕ)) (result : Option (Ended E)) → n ≤ m → Walks f does q p a b n m old mid s r
           → TurnGives f does IsUnready wants p here b now failed most m k mid new r t result → TurnGives f does IsUnready wants q here a now failed most n k old new s t result
       turn_behind q p here a b now failed most n m k old mid new s r t None more so_far turn =
@@ -215,7 +215,7 @@ keeps f does q before now failed most m old new out out_now fault here left kept
       kept = subst (λ (k : _). Folds does 0 so_far.items so_far.took.bytes old out k out_now) (sym same) (folds_kept does 0 so_far.items so_far.took.bytes old kept out mid out_now so_far.kept still);
     }
 
--- where no item was met nothing changed
+-- If no item was met, nothing changed.
 pub met_nothing : {S V K E : Type 0} (f : Format S V) (does : Does V K E) (q : S) (bytes : List ℕ) (n m : ℕ) (old new : K) (p r : Option (List ℕ)) → Meets f does q bytes n m old new p r → m ≤ n → new ≡ old
 met_nothing f does q bytes n m old new p r met few = nothing met.items (omega (arith, met.count, few)) met.kept
   where
@@ -223,7 +223,7 @@ met_nothing f does q bytes n m old new p r met few = nothing met.items (omega (a
     nothing [] none folds = folds.1
     nothing (v ∷ vs) none folds = absurd (omega (arith, none))
 
--- what a walk took in which the sink did not stop
+-- A walk in which the sink did not stop has taken and kept items.
 pub walk_keeps : {S V K E : Type 0} (f : Format S V) (does : Does V K E) (IsUnready : E → Type 0) (wants : ℕ → K → Bool) → ((k : ℕ) (s : K) → wants k s ≡ true) → (q : S) (before now : Option (List ℕ)) (failed : Bool) (most m : ℕ) (old new : K) (out out_now : Option (List ℕ)) (ended : Ended E)
     → (IsStop ended → ⊥) → EndsWalk f does IsUnready wants q before now failed most 0 m old new out out_now ended → TakesAndKeeps f does q before now failed most m old new out out_now (fault_of ended)
 walk_keeps f does IsUnready wants always q before now failed most m old new out out_now AtEnd goes walk =

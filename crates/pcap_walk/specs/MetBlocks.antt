@@ -8,11 +8,11 @@ use Rattle.pcap_ng.specs.Enhanced.{EnhancedFrame}
 use Rattle.pcap_ng.specs.Lent.{held_item}
 use Rattle.pcap_ng.specs.State.{State}
 
--- the block of this header and text, behind which this is in force
+-- The item of the block with this header and text, after which this state is in force.
 abbrev pub met_block : State → BlockHeader → List ℕ → Item
 met_block after header text = held_item after text header
 
--- an enhanced packet's block of this header stands in front of the bytes, so long
+-- EnhancedInFront e s header size: s begins with an enhanced packet's block of this size, and this is its header.
 pub record EnhancedInFront (e : Endianness) (s : List ℕ) (header : BlockHeader) (size : ℕ) : Type 0 where
   pub body : List ℕ
   pub rest : List ℕ

@@ -1,4 +1,4 @@
-//! Blocks that are walked over.
+//! A walker over the blocks of a PcapNg capture.
 
 ghost use Rattle.std.specs.Prelude.{◌≡◌, IfSome};
 ghost use Rattle.pcap_core.specs.Answer.{number_in};
@@ -11,7 +11,7 @@ use pcap_ng::pcapng::enhanced::split_frame;
 use pcap_ng::pcapng::{BlockHeader, BlockType, BlocksAhead};
 use std::io::Read;
 
-// The enhanced packet in front of the bytes, where numbers are read in this order.
+// Returns the enhanced packet at the front of the bytes, with numbers read in this byte order.
 #[inline(always)]
 fn front_in<B: ByteOrder>(order: Endianness, bytes: &[u8]) -> Option<Front<BlockHeader>>
     requires { number_in order ≡ B.number_of }
@@ -32,7 +32,7 @@ fn front_in<B: ByteOrder>(order: Endianness, bytes: &[u8]) -> Option<Front<Block
     })
 }
 
-// The same in either order.
+// Does the same in either byte order.
 #[inline(always)]
 fn front_of(order: Endianness, bytes: &[u8]) -> Option<Front<BlockHeader>>
     ensures { IfSome result (λ front. EnhancedInFront order bytes.now front.head front.size) }

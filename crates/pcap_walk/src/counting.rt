@@ -1,4 +1,4 @@
-//! Items that are counted, with their bytes.
+//! Functions that count items and their bytes.
 
 ghost use Rattle.std.specs.Prelude.{◌≡◌, ◌<◌, ◌^◌, [], true, false};
 ghost use Rattle.pcap_classic.specs.Magic.{is_magic};
@@ -20,14 +20,14 @@ use std::io::{BufRead, Write};
 /// The most items that are counted.
 const MOST: u64 = 18_446_744_073_709_551_614;
 
-/// No reason to stop.
+/// The type of reasons to stop for a sink that never stops: it has no value.
 #[derive(Clone, Copy)]
 pub enum Never {}
 
-/// How many bytes the items have. The largest number means that many or more.
+/// A count of the bytes of items. The largest number means that many bytes or more.
 #[derive(Debug, Drop)]
 pub struct Counting {
-    /// The bytes.
+    /// The number of bytes.
     pub bytes: u64,
 }
 
@@ -68,8 +68,8 @@ impl<F, H> Sink<F, H> for Counting {
     }
 }
 
-/// Counts the packets behind a header, 2^64 - 2 at most, and returns the error of the first that can't be taken. Only a packet that the
-/// input's buffer cuts off is held in memory.
+/// Counts the packets after a header, at most 2^64 - 2, and returns the error of the first packet that can't be taken. The
+/// function holds a packet in memory only if the input's buffer ends inside it.
 pub fn count_packets<R: BufRead>(
     alloc: Global,
     header: &PcapHeader,
@@ -93,8 +93,8 @@ pub fn count_packets<R: BufRead>(
     }
 }
 
-/// Counts the blocks behind those that were taken, 2^64 - 2 at most, and returns the error of the first that can't be taken. Only blocks
-/// that are no enhanced packets, and one that the input's buffer cuts off, are held in memory, one at a time.
+/// Counts the blocks after those already taken, at most 2^64 - 2, and returns the error of the first block that can't be taken.
+/// The function holds a block in memory, one at a time, only if it is no enhanced packet or the input's buffer ends inside it.
 pub fn count_blocks<R: BufRead>(
     blocks: &mut BlocksAhead,
     input: &mut R,

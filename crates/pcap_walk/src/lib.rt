@@ -1,5 +1,4 @@
-//! One walk over the items of a capture, and what becomes of each: a [`Walker`] knows a format, a [`Sink`] takes the items, and [`walk`] joins
-//! the two.
+//! A walk over the items of a capture: a [`Walker`] knows a format, a [`Sink`] takes the items, and [`walk`] joins the two.
 #![tactic(auto)]
 
 mod blocks;

@@ -1,4 +1,4 @@
-//! Packets of a classic capture that are walked over.
+//! A walker over the packet records of a classic capture.
 
 ghost use Rattle.std.specs.Prelude.{◌≡◌, [], true, IfSome};
 ghost use Rattle.pcap_core.specs.Answer.{number_in};
@@ -18,7 +18,7 @@ use pcap_items::stream::{Held, fill_item};
 use std::alloc::Global;
 use std::io::Read;
 
-/// The packets behind a header, and the one that is held.
+/// The packets after a header, and the one that is held.
 #[derive(Drop)]
 pub struct Packets<'a> {
     header: &'a PcapHeader,
@@ -30,7 +30,7 @@ pub struct Packets<'a> {
     ghost resolution_is: { ts_resolution ≡ resolution_of header.now.magic_number },
 }
 
-// The packet in front of the bytes, where numbers are read in this order.
+// Returns the packet at the front of the bytes, with numbers read in this byte order.
 #[inline(always)]
 fn front_in<B: ByteOrder>(ts_resolution: TsResolution, bytes: &[u8]) -> Option<Front<PacketHeader>>
     ensures { IfSome result (λ front. StandsInFront (packet_format packet_limit B.number_of ts_resolution) met_packet tt bytes.now front.head front.size) }
@@ -44,7 +44,7 @@ fn front_in<B: ByteOrder>(ts_resolution: TsResolution, bytes: &[u8]) -> Option<F
     }
 }
 
-// The same in either order.
+// Does the same in either byte order.
 #[inline(always)]
 fn front_of(
     order: Endianness,
@@ -60,7 +60,7 @@ fn front_of(
 }
 
 impl<'a> Packets<'a> {
-    /// Those behind this header.
+    /// Returns a walker over the packets after this header, which holds no packet yet.
     pub fn new(alloc: Global, header: &'a PcapHeader) -> Packets<'a>
         requires { is_magic header.now.magic_number ≡ true }
         ensures header { result.header.now ≡ header.now }

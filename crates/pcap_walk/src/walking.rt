@@ -1,4 +1,5 @@
-//! One walk over the items of a stream: those that lie whole in its buffer are met there, and the one that is torn at its end is held.
+//! A walk over the items of a stream. The sink takes items that are whole in the stream's buffer from there; an item that the
+//! buffer cuts off is held first.
 
 ghost use Rattle.std.specs.Prelude.{◌≡◌, ◌≤◌, ◌<◌, ◌+◌, ℕ, List, Option, Result, [], Bool, length, take, true, false, IfOk, IfErr, IfSome};
 ghost use Rattle.std.specs.Io.KnownBytes.{Keeps};
@@ -8,40 +9,40 @@ ghost use Rattle.pcap_walk.specs.Walks.{does_of, Serves, MeetsShown, TurnGives, 
 use pcap_core::{PcapError, ResultParsing};
 use std::io::{BufRead, Read, Write};
 
-/// How a walk ended.
+/// The cause for which a walk ended.
 #[derive(Debug, Drop)]
 pub enum Ended<E> {
-    /// At the end of the stream.
+    /// The walk reached the end of the stream.
     AtEnd,
-    /// At the most items.
+    /// The sink has taken as many items as requested, or wants no more.
     AtMost,
-    /// At bytes that are no item, or where a read failed or memory was refused.
+    /// The bytes that follow are no item, a read failed, or memory ran out.
     Refused(PcapError),
-    /// Where the sink stopped.
+    /// The sink stopped.
     Stopped(E),
 }
 
-/// How far a walk is.
+/// The progress of a walk.
 #[derive(Debug, Drop)]
 pub struct Walked {
-    /// How many items the sink took.
+    /// How many items the sink has taken.
     pub items: u64,
     /// Whether a read failed.
     pub read_failed: bool,
 }
 
-/// An item in front of bytes.
+/// An item at the front of bytes.
 #[derive(Drop)]
 pub struct Front<H> {
-    /// What its head says.
+    /// The head of the item.
     pub head: H,
-    /// How many bytes it has.
+    /// The item's size in bytes.
     pub size: usize,
 }
 
-/// What walks over the items of a format, with what is in force between two of them, and the one that is held.
+/// A walker over the items of a format, with the state between two items and the item that is held.
 pub trait Walker {
-    /// What is read of an item's head.
+    /// The type of an item's head, as the walker reads it.
     type Head: Drop;
 
     ghost Setting: { Type 0 };
@@ -60,11 +61,12 @@ pub trait Walker {
 
     ghost held: { Self → List ℕ };
 
-    /// The item that lies whole in front of the bytes, where it leaves what is in force.
+    /// Returns the item that is whole at the front of the bytes and leaves the state unchanged. None if the walker finds no such
+    /// item.
     fn front(&self, bytes: &[u8]) -> Option<Front<Self::Head>>
         ensures { IfSome result (λ front. StandsInFront (format (setting self.now)) (value self.now) (state self.now) bytes.now front.head front.size) };
 
-    /// Holds the next item, puts in force what it says, and gives its head.
+    /// Holds the next item, updates the state, and returns the item's head. None at the end of the input.
     fn hold_next<R: Read>(
         &mut self,
         input: &mut R,
@@ -76,20 +78,20 @@ pub trait Walker {
         ensures holds { HoldsNext (format (setting self.old)) (value self.new) (state self.old) (state self.new)
             (R.remaining input.old) (R.remaining input.new) (held self.new) read_failed.new result };
 
-    /// The bytes that are held.
+    /// Returns the bytes that are held.
     fn held(&self) -> &[u8]
         ensures { result.now ≡ held self.now };
 
-    /// Lets the held bytes go.
+    /// Releases the bytes that are held.
     fn clear(&mut self)
         ensures held { held self.new ≡ [] }
         ensures same { setting self.new ≡ setting self.old }
         ensures state { state self.new ≡ state self.old };
 }
 
-/// What becomes of the items that something walks over.
+/// A sink, which takes the items of a walk.
 pub trait Sink<F, H> {
-    /// Why it takes no more.
+    /// The reason why the sink takes no more items.
     type Stop: Drop;
 
     ghost fits: { F → H → List ℕ → Type 0 };
@@ -100,11 +102,11 @@ pub trait Sink<F, H> {
 
     ghost wants: { ℕ → Self → Bool };
 
-    /// Whether it wants an item of this index.
+    /// Returns whether the sink wants an item with this index.
     fn wants(&self, index: u64) -> bool
         ensures { result ≡ wants index self.now };
 
-    /// Takes the item of this head and text at this index.
+    /// Takes the item with this head, text and index.
     fn item<W: Write>(
         &mut self,
         output: &mut W,
@@ -116,22 +118,22 @@ pub trait Sink<F, H> {
         requires { fits walker.now head.now text.now }
         ensures { gives index walker.now head.now text.now self.old (W.contents output.old) self.new (W.contents output.new) result };
 
-    /// Makes ready for a wait: what was written goes out.
+    /// Flushes the sink's output before the input may wait.
     fn wait<W: Write>(&self, output: &mut W) -> Result<(), Self::Stop>
         ensures kept { Keeps (W.contents output.old) (W.contents output.new) }
         ensures stops { IfErr result is_unready };
 }
 
-// What was met of shown bytes.
+// The part of a buffer's bytes that the walk met.
 #[derive(Drop)]
 struct Shown<E> {
-    // How many of them.
+    // How many of the bytes it used.
     used: usize,
-    // Where the sink stopped.
+    // Why the sink stopped, if it did.
     stop: Option<E>,
 }
 
-// Meets the items that lie whole in front of the bytes and leave what is in force.
+// Gives the sink the items that are whole at the front of the bytes and leave the state unchanged.
 #[inline(always)]
 fn walk_shown<F: Walker, W: Write, S: Sink<F, F::Head>>(
     walker: &F,
@@ -187,7 +189,7 @@ fn give_held<F: Walker, W: Write, S: Sink<F, F::Head>>(
     sink.item(output, index, walker, &head, walker.held())
 }
 
-// Holds the next item and meets it.
+// Holds the next item and gives it to the sink.
 fn walk_torn<F: Walker, R: BufRead, W: Write, S: Sink<F, F::Head>>(
     walker: &mut F,
     input: &mut R,
@@ -224,8 +226,8 @@ fn walk_torn<F: Walker, R: BufRead, W: Write, S: Sink<F, F::Head>>(
     }
 }
 
-// Meets the items that lie whole in the input's buffer, else the one that is torn at its end. Before the input waits, the sink is
-// ready for it.
+// Gives the sink the items that are whole in the input's buffer, or else the one that the buffer cuts off. The sink flushes its
+// output before the input waits.
 fn walk_turn<F: Walker, R: BufRead, W: Write, S: Sink<F, F::Head>>(
     walker: &mut F,
     input: &mut R,
@@ -271,7 +273,8 @@ fn walk_turn<F: Walker, R: BufRead, W: Write, S: Sink<F, F::Head>>(
     walk_torn(walker, input, output, sink, walked, most)
 }
 
-/// Walks over the items of an input and gives each to a sink, until the sink has taken `most`.
+/// Walks over the items of an input and gives each to a sink, until the sink has taken `most` items or wants no more, or the walk
+/// ends early.
 pub fn walk<F: Walker, R: BufRead, W: Write, S: Sink<F, F::Head>>(
     walker: &mut F,
     input: &mut R,

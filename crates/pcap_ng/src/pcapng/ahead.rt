@@ -1,4 +1,4 @@
-//! Blocks that are held one by one, off an input that stays the caller's.
+//! Blocks that are held one by one, read from an input that the caller keeps.
 
 ghost use Rattle.std.specs.Prelude.{◌≡◌, false, [], IfOk, IfErr, OnErr, OnOk};
 ghost use Rattle.pcap_items.specs.Reading.{Pulls, TakesAsked};
@@ -17,7 +17,7 @@ use pcap_items::stream::Held;
 use std::alloc::Global;
 use std::io::Read;
 
-/// What is in force, and the block that is held.
+/// The section and interfaces in force in a capture, and the block that is held.
 #[derive(Drop)]
 pub struct BlocksAhead {
     alloc: Global,
@@ -26,7 +26,7 @@ pub struct BlocksAhead {
 }
 
 impl BlocksAhead {
-    /// Those behind the first block of an input, which is held.
+    /// Reads the first block of an input and holds it; the blocks after it come next.
     pub fn open<R: Read>(
         alloc: Global,
         input: &mut R,
@@ -48,7 +48,7 @@ impl BlocksAhead {
         })
     }
 
-    /// Holds the next block, puts in force what it says, and gives its header.
+    /// Holds the next block, puts it in force if it is a section header or an interface description, and returns its header.
     pub fn hold_next<R: Read>(
         &mut self,
         input: &mut R,
@@ -70,14 +70,14 @@ impl BlocksAhead {
         )
     }
 
-    /// The bytes of the block that is held.
+    /// Returns the bytes of the block that is held.
     pub fn text(&self) -> &[u8]
         ensures { result.now ≡ text_of self.now }
     {
         self.held.as_slice()
     }
 
-    /// Lets the held bytes go.
+    /// Releases the bytes that are held.
     pub fn clear(&mut self)
         ensures text { text_of self.new ≡ [] }
         ensures state { state_of self.new ≡ state_of self.old }
@@ -85,7 +85,7 @@ impl BlocksAhead {
         self.held.clear();
     }
 
-    /// The order of the next block's numbers, where it is no section header.
+    /// Returns the byte order of the next block's numbers if that block is not a section header.
     pub fn order(&self) -> Endianness
         ensures { result ≡ order_at (state_of self.now) }
     {

@@ -18,31 +18,32 @@ use pcap_core::{CowBytes, Endianness, PcapError, ResultParsing};
 use pcap_written::{RawBlock, RawPcapNgBlock};
 use std::alloc::Global;
 
-/// A block in its frame: its body is still bytes, which `parsed` reads.
+/// A block in its frame, whose body is still bytes; `parsed` reads the body.
 #[derive(Clone, Debug, Drop)]
 pub struct Block<'a> {
-    /// The type of the block, which says what its body is.
+    /// The type of the block, which determines how the body is read.
     pub type_: BlockType,
-    /// The length of the whole block in bytes, as it stands before the body.
+    /// The length of the whole block in bytes, from the field before the body.
     pub initial_len: u32,
-    /// The body.
+    /// The bytes of the body.
     pub body: CowBytes<'a>,
-    /// The length of the whole block again, as it stands after the body.
+    /// The length of the whole block in bytes, from the field after the body.
     pub trailer_len: u32,
     pub(crate) endianness: Endianness,
 }
 
 impl<'a> Block<'a> {
-    /// The order of the block's numbers: a section header names its own, any other block has that of its section.
+    /// Returns the byte order of the block's numbers. A section header names its own; any other block has the order of its
+    /// section.
     pub fn endianness(&self) -> Endianness
         ensures { result ≡ (framed_of self.now).endianness }
     {
         self.endianness
     }
 
-    /// The same block, with a body of its own: a borrowed one is copied, an owned one kept.
+    /// Returns the same block with an owned body: a borrowed body is copied, an owned one is kept.
     ///
-    /// `OutOfMemory` where the copy can't be made; the block is then dropped.
+    /// Returns `OutOfMemory` if the copy can't be made; the block is then dropped.
     pub fn into_owned(self, alloc: Global) -> ResultParsing<Block<'static>>
         ensures same { IfOk result (λ kept. framed_of kept ≡ framed_of self.entry) }
         ensures owned { IfOk result (λ kept. IsOwned kept.body) }
@@ -65,11 +66,11 @@ impl<'a> Block<'a> {
         })
     }
 
-    /// The body, read as the block's type says, in the block's own order. What follows it is left out.
+    /// Parses the body by the block's type, in the block's own byte order. Bytes after the parsed value are ignored.
     ///
-    /// The errors are those of `from_slice` of this type's body: `InvalidField` for the first rule that it breaks,
-    /// `Utf8Error` for a string that isn't UTF-8, `IoError` for a value that is too short. `OutOfMemory` where it has options
-    /// or records, and their list can't grow.
+    /// Returns the errors of `from_slice` for this type's body: `InvalidField` for the first rule that it breaks, `Utf8Error` for
+    /// a string that isn't UTF-8, `IoError` for a value that is too short. Returns `OutOfMemory` if the body has options or
+    /// records and their list can't grow.
     pub fn parsed(&self, alloc: Global) -> ResultParsing<ParsedBlock<'_>>
         ensures tells { ParsesWhere (GrowsInBody (framed_of self.now)) (SaysOfBody (framed_of self.now)) body_of result }
         ensures borrowed { IfOk result ParsedIsBorrowed }
@@ -78,11 +79,11 @@ impl<'a> Block<'a> {
         Ok(parsed)
     }
 
-    /// The block at the front of a slice, in this order where it is no section header, and what follows it. Its body is
-    /// borrowed from the slice, and isn't read.
+    /// Parses the frame of the block at the front of a slice, and returns the bytes after the block and the block. `order` is the
+    /// byte order if the block is not a section header. The body is borrowed from the slice and isn't parsed.
     ///
-    /// `IncompleteBuffer` where bytes are missing, of the first 12 or then of the whole block. `InvalidField` for the first
-    /// rule that its frame breaks.
+    /// Returns `IncompleteBuffer` if bytes of the first 12, or then of the whole block, are missing. Returns `InvalidField` for
+    /// the first rule that the frame breaks.
     pub fn from_slice(order: Endianness, slice: &'a [u8]) -> ResultParsing<(&'a [u8], Block<'a>)>
         ensures tells { Tells (FrameSays order slice.now) framed_of result }
         ensures borrowed { IfOk result (λ x. IsBorrowed x.1.body) }
@@ -98,7 +99,7 @@ impl<'a> Block<'a> {
         Ok(Block::of_head(head, after)?)
     }
 
-    // The block of this head, from what follows its first length, and what follows the block.
+    // Returns the block with this head, from the bytes after its first length, and what follows the block.
     pub(crate) fn of_head(head: FrameHead, after: &'a [u8]) -> Result<(&'a [u8], Block<'a>), Rule>
         requires long { 12 ≤ head.len }
         requires whole { head.len ≤ 8 + length after.now }
@@ -136,7 +137,7 @@ impl<'a> RawPcapNgBlock for Block<'a> {
     }
 }
 
-// The body of a block of this type, in this order, and what follows it.
+// Parses the body of a block of this type, in this byte order, and returns what follows it too.
 fn parsed_in<'a>(
     order: Endianness,
     alloc: Global,

@@ -1,4 +1,4 @@
-//! What stands around the body of a block.
+//! The fields around the body of a block.
 
 ghost use Rattle.std.specs.Prelude.{◌≡◌};
 ghost use Rattle.pcap_core.specs.Bytes.{IsBorrowed};
@@ -9,19 +9,19 @@ use crate::pcapng::block::Block;
 use pcap_blocks::BlockType;
 use pcap_core::{CowBytes, Endianness};
 
-/// What stands around the body of a block.
+/// The fields around the body of a block.
 #[derive(Clone, Copy, Debug, PartialEq, Eq)]
 pub struct BlockHeader {
-    /// The type of the block, which says what its body is.
+    /// The type of the block, which determines how the body is read.
     pub type_: BlockType,
-    /// The length of the whole block in bytes, as it stands before the body and again after it.
+    /// The length of the whole block in bytes, which is both before and after the body.
     pub initial_len: u32,
-    /// The order of the block's numbers: a section header names its own, any other block has that of its section.
+    /// The byte order of the block's numbers. A section header names its own; any other block has the order of its section.
     pub endianness: Endianness,
 }
 
 impl BlockHeader {
-    // What stands around the body of this block.
+    // Returns the header of this block.
     pub(crate) fn of(block: &Block) -> BlockHeader
         ensures { result ≡ header_of (framed_of block.now) }
     {
@@ -32,7 +32,7 @@ impl BlockHeader {
         }
     }
 
-    // The block of this header around a body.
+    // Returns the block with this header and this body.
     pub(crate) fn around(self, body: &[u8]) -> Block<'_>
         ensures block { framed_of result ≡ framed_around self body.now }
         ensures borrowed { IsBorrowed result.body }

@@ -1,4 +1,4 @@
-//! Blocks, their bodies, and the options and records of these.
+//! Blocks, their bodies, and the options and records of the bodies.
 
 pub use crate::pcapng::block::Block;
 pub use pcap_blocks::{

@@ -1,4 +1,4 @@
-//! Copies of captures of blocks, out of a reader's own buffer.
+//! Copies of PcapNg captures from a reader's own buffer.
 
 ghost use Rattle.std.specs.Prelude.{◌≤◌};
 ghost use Rattle.pcap_ng.specs.Copies.{CopyNgRun};
@@ -8,12 +8,12 @@ use pcap_items::stream::{Held, Tally, copy_buffers};
 use std::alloc::Global;
 use std::io::{BufRead, Write};
 
-/// Copies a PcapNg capture as `copy_pcapng` does, from a reader that shows its buffer: blocks that lie whole in it are written
-/// from there and never copied, all of them at once up to a section header or an interface description. These, and the block
-/// that ends outside of the buffer, are held, as all are by `copy_pcapng`. A reader that shows no byte is at its end; what its
-/// buffer holds and no block took stays in it.
+/// Copies a PcapNg capture as `copy_pcapng` does, from a reader that shows its buffer. Whole blocks in the buffer are written
+/// from there without a copy, all of them at once up to a section header or an interface description. These two kinds, and a
+/// block that ends outside the buffer, are held in memory, as `copy_pcapng` holds all blocks. A reader that shows no byte is at
+/// its end. Bytes in its buffer that no block took stay there.
 ///
-/// It is refused as `copy_pcapng` is.
+/// Its faults are those of `copy_pcapng`.
 pub fn copy_pcapng_buffered<R: BufRead, W: Write>(
     alloc: Global,
     reader: &mut R,

@@ -1,4 +1,4 @@
-//! What a block puts in force.
+//! The changes that blocks make to the section and interfaces in force.
 
 ghost use Rattle.std.specs.Prelude.{◌≡◌, IfOk};
 ghost use Rattle.pcap_core.specs.Answer.{TellsWhere, number_in};
@@ -14,23 +14,23 @@ use pcap_core::rules::Rule;
 use pcap_core::{Endianness, PcapError, ResultParsing};
 use std::alloc::Global;
 
-/// What a block puts in force, behind the first section header of a capture.
+/// A change that a block makes to what is in force, after the first section header of a capture.
 #[derive(Debug, Drop)]
 pub enum Change<'a> {
-    /// The section of this header, which has no interface yet.
+    /// The section with this header, which has no interface yet.
     Section(SectionHeaderBlock<'a>),
-    /// One interface more of the section in force.
+    /// One more interface of the section in force.
     Interface(InterfaceDescriptionBlock<'a>),
-    /// Nothing: what is in force stays.
+    /// Nothing: what is in force stays unchanged.
     Nothing,
 }
 
 impl<'a> Block<'a> {
-    /// What the block puts in force, behind the first section header of a capture: a section header its section, an interface
-    /// description its interface, and any other block nothing. Only these two bodies are read, in the block's own order.
+    /// Returns what the block puts in force after the first section header of a capture: its section, its interface, or nothing
+    /// for other blocks. Only the bodies of section headers and interface descriptions are parsed, in the block's own byte order.
     ///
-    /// The errors are those of `parsed` for these two: `InvalidField`, `Utf8Error` or `IoError` for the first fault of the
-    /// body, and `OutOfMemory` where it has options and their list can't grow.
+    /// Returns the errors of `parsed` for these two: `InvalidField`, `Utf8Error` or `IoError` for the first fault of the body,
+    /// and `OutOfMemory` if it has options and their list can't grow.
     #[inline(always)]
     pub fn change(&self, alloc: Global) -> ResultParsing<Change<'_>>
         ensures tells { ChangeTells (framed_of self.now) result }
@@ -63,9 +63,9 @@ impl<'a> Block<'a> {
         Ok(Change::Interface(interface))
     }
 
-    /// The section that the block puts in force as the first one of a capture.
+    /// Returns the section that the block puts in force as the first block of a capture.
     ///
-    /// The errors are those of `parsed`, and then `InvalidField` by `SectionMissing` where it is no section header.
+    /// Returns the errors of `parsed`, and then `InvalidField` by `SectionMissing` if the block is no section header.
     pub fn first_section(&self, alloc: Global) -> ResultParsing<SectionHeaderBlock<'_>>
         ensures tells { FirstTells (framed_of self.now) result }
         ensures borrowed { IfOk result SectionIsBorrowed }
@@ -77,7 +77,7 @@ impl<'a> Block<'a> {
     }
 }
 
-// The body of an interface, in this order, and what follows it.
+// Parses the body of an interface description in this byte order, and returns what follows it too.
 fn interface_in<'a>(
     order: Endianness,
     alloc: Global,

@@ -1,4 +1,4 @@
-//! Copies of captures of blocks, from a reader to a writer.
+//! Copies of PcapNg captures from a reader to a writer.
 
 ghost use Rattle.std.specs.Prelude.{◌≡◌, ◌≤◌, [], OnOk};
 ghost use Rattle.pcap_items.specs.Copying.{NothingCopied};
@@ -18,12 +18,12 @@ use pcap_items::stream::{Ahead, AheadShown, Held, Sent, Tally, copy_items, fill_
 use std::alloc::Global;
 use std::io::{Read, Write};
 
-/// How a copy of blocks ended.
+/// The result of a copy of a PcapNg capture: the number of blocks, and why the copy ended.
 #[derive(Debug, Drop)]
 pub struct NgCopied {
-    /// How many whole blocks went out after the first section header.
+    /// How many whole blocks were written after the first section header.
     pub blocks: u64,
-    /// Why the copy ended before the end of the capture and before the most blocks that were asked for.
+    /// Why the copy ended before the end of the capture and before `most` blocks. None if it didn't.
     pub fault: Option<PcapError>,
     /// Whether a read failed.
     pub read_failed: bool,
@@ -32,7 +32,7 @@ pub struct NgCopied {
 }
 
 impl NgCopied {
-    // A copy that came so far, and ended with this fault, or none.
+    // Returns the result of a copy that has this tally and ended with this fault, or none.
     pub(crate) fn of(tally: &Tally, fault: Option<PcapError>) -> NgCopied
         ensures { result ≡ copied_of tally.now fault }
     {
@@ -45,14 +45,14 @@ impl NgCopied {
     }
 }
 
-/// Copies a PcapNg capture from a reader to a writer, byte by byte: its first section header, and then at most `most` of the
-/// blocks after it, each of them before the next one is read. Where there is no fault exactly what was copied was taken from
-/// the reader.
+/// Copies a PcapNg capture byte by byte from a reader to a writer: its first section header, and then at most `most` of the
+/// blocks after it. Each block is written before the next one is read. If there is no fault, exactly the copied bytes were taken
+/// from the reader.
 ///
-/// A first block that is refused gives what `PcapNgReader::new` gives, and nothing is written; a rest that is refused gives
-/// what `PcapNgReader` gives there, all blocks before it have gone out, and no more of it was taken than was missing.
-/// `IoError` also where a write failed: a beginning of the block that comes next has gone out then, and that block was
-/// taken. `OutOfMemory` where a block can't be held, or a section or interface that it brings can't be kept.
+/// If the first block is refused, the fault is that of `PcapNgReader::new`, and nothing is written. If a later block is refused,
+/// the fault is that of `PcapNgReader`; all blocks before it were written, and no more of it was taken than was missing. The
+/// fault is `IoError` also if a write failed: the next block was taken then, and a beginning of it was written. It is
+/// `OutOfMemory` if a block can't be held, or a section or interface that it puts in force can't be kept.
 pub fn copy_pcapng<R: Read, W: Write>(
     alloc: Global,
     reader: &mut R,
@@ -71,7 +71,7 @@ pub fn copy_pcapng<R: Read, W: Write>(
     NgCopied::of(tally, result.err())
 }
 
-// Copies the first block.
+// Copies the first block, and returns what is in force after it.
 pub(crate) fn copy_first<R: Read, W: Write>(
     alloc: Global,
     reader: &mut R,
@@ -96,7 +96,7 @@ pub(crate) fn copy_first<R: Read, W: Write>(
     Ok(in_force)
 }
 
-// Blocks, which go out as they came.
+// The blocks of a copy, which are written as they came.
 #[derive(Drop)]
 pub(crate) struct Blocks;
 
@@ -155,7 +155,7 @@ impl AheadShown for Blocks {
     }
 }
 
-// Puts in force what the block says that has this head and is these bytes.
+// Puts in force the block that has this head and these bytes.
 #[inline(always)]
 fn follow_held(
     alloc: Global,

@@ -1,4 +1,4 @@
-//! Enhanced packets that are read where they lie, by their types, lengths and numbers alone.
+//! Enhanced packets that are read in place, by their types, lengths and numbers alone.
 
 ghost use Rattle.std.specs.Prelude.{◌≡◌, ◌+◌, ◌*◌, ◌^◌, MatchOption};
 ghost use Rattle.pcap_core.specs.Answer.{number_in};
@@ -10,39 +10,39 @@ use pcap_core::Endianness;
 use pcap_core::fields::{split_padded, split_u32};
 use std::alloc::Global;
 
-/// The number of an enhanced packet's type.
+/// The type number of an enhanced packet block.
 const ENHANCED: u32 = 6;
 
-/// What an enhanced packet says: the number of its interface, the units of that one's clock, and its lengths.
+/// The numbers of an enhanced packet: its interface, its timestamp in units of the interface's clock, and its lengths.
 #[derive(Clone, Copy)]
 pub struct EnhancedNumbers {
     /// The number of its interface in the section.
     pub interface: u32,
-    /// When it was seen, in units of its interface.
+    /// The packet's timestamp, in units of its interface.
     pub units: u64,
-    /// How many bytes of it are stored.
+    /// How many bytes of the packet are stored.
     pub stored: usize,
-    /// How many bytes it had on the wire.
+    /// The packet's original length on the wire, in bytes.
     pub original: u32,
 }
 
-/// What the body of an enhanced packet says, with its bytes and its options where they lie. No option is read.
+/// The parts of an enhanced packet's body, with its bytes and its options in place. The options aren't parsed.
 #[derive(Clone, Copy)]
 pub struct EnhancedParts<'a> {
     /// The number of its interface in the section.
     pub interface: u32,
-    /// When it was seen, in units of its interface.
+    /// The packet's timestamp, in units of its interface.
     pub units: u64,
-    /// How many bytes it had on the wire.
+    /// The packet's original length on the wire, in bytes.
     pub original: u32,
-    /// The bytes that are stored of it.
+    /// The stored bytes of the packet.
     pub bytes: &'a [u8],
-    /// What follows these and their padding in the body.
+    /// The bytes that follow the stored bytes and their padding in the body.
     pub options: &'a [u8],
 }
 
-/// The enhanced packet at the front of a slice, and what follows its block. None where no such block stands whole there, its body is
-/// refused, or its options can't be held.
+/// Returns the bytes after the enhanced packet at the front of a slice, and the packet's numbers. None if no such block is whole
+/// there, its body is malformed, or there is no memory for its options.
 #[inline(always)]
 pub fn packet_at(alloc: Global, order: Endianness, slice: &[u8]) -> Option<(&[u8], EnhancedNumbers)>
     ensures { MatchOption result (NonePlain order slice.now) (λ x. PacketText order x.1 slice.now x.0.now) }
@@ -53,7 +53,7 @@ pub fn packet_at(alloc: Global, order: Endianness, slice: &[u8]) -> Option<(&[u8
     }
 }
 
-// The same, where numbers are read in this order.
+// Does the same with numbers in this byte order.
 #[inline(always)]
 fn packet_in<B: ByteOrder>(
     alloc: Global,
@@ -68,8 +68,8 @@ fn packet_in<B: ByteOrder>(
     Some((rest, packet))
 }
 
-/// The body of the enhanced packet at the front of a slice, and what follows its block. None where no such block stands whole there,
-/// with the same length at both its ends. The order is the one in which numbers are read.
+/// Returns the body of the enhanced packet at the front of a slice, and the bytes after its block. None if no such block is whole
+/// there, with the same length at both ends. `order` is the byte order that `B` reads.
 #[inline(always)]
 pub fn split_frame<B: ByteOrder>(order: Endianness, slice: &[u8]) -> Option<(&[u8], &[u8])>
     requires { number_in order ≡ B.number_of }
@@ -95,7 +95,7 @@ pub fn split_frame<B: ByteOrder>(order: Endianness, slice: &[u8]) -> Option<(&[u
     Some((body, rest))
 }
 
-/// The parts of an enhanced packet's body. None where it is too short for its numbers, or for the bytes that are stored.
+/// Returns the parts of an enhanced packet's body. None if the body is too short for its numbers, or for the stored bytes.
 #[inline(always)]
 pub fn split_body<B: ByteOrder>(body: &[u8]) -> Option<EnhancedParts<'_>>
     ensures { MatchOption result (HasNoRoom B.number_of body.now) (λ parts. PartsText B.number_of parts body.now) }
@@ -118,7 +118,7 @@ pub fn split_body<B: ByteOrder>(body: &[u8]) -> Option<EnhancedParts<'_>>
     })
 }
 
-// The number of these halves.
+// Returns the number with these halves.
 #[inline(always)]
 fn joined(high: u32, low: u32) -> u64
     ensures { result ≡ high * 2 ^ 32 + low }
@@ -126,7 +126,7 @@ fn joined(high: u32, low: u32) -> u64
     (u64::from(high) << 32) + u64::from(low)
 }
 
-// The packet that a body is. None where it is refused, or its options can't be held.
+// Returns the numbers of the packet in a body. None if the body is malformed, or there is no memory for its options.
 #[inline(always)]
 fn body_in<B: ByteOrder>(alloc: Global, body: &[u8]) -> Option<EnhancedNumbers>
     ensures { MatchOption result (MayBeRefused B.number_of body.now) (BodyTells B.number_of body.now) }
@@ -143,7 +143,7 @@ fn body_in<B: ByteOrder>(alloc: Global, body: &[u8]) -> Option<EnhancedNumbers>
     })
 }
 
-// The same of a body that has options: out of line, as most have none.
+// Does the same for a body with options, out of line because most bodies have none.
 #[cold]
 #[inline(never)]
 fn body_with_options<B: ByteOrder>(alloc: Global, body: &[u8]) -> Option<EnhancedNumbers>

@@ -1,4 +1,4 @@
-//! Numbers at the front of a slice, in an order that is known as a value.
+//! Numbers at the front of a slice, in a byte order that is a value.
 
 ghost use Rattle.std.specs.Prelude.{◌≡◌, ◌≤◌, ◌+◌, length};
 ghost use Rattle.pcap_core.specs.Answer.{Number, number_in};
@@ -7,7 +7,7 @@ use byteorder::{BigEndian, ByteOrder, LittleEndian};
 use pcap_core::Endianness;
 use pcap_core::fields::split_u32;
 
-// The number in the first four bytes, and the bytes after them.
+// Returns the number in the first four bytes, and the bytes after them.
 pub(crate) fn split_u32_in(order: Endianness, bytes: &[u8]) -> (u32, &[u8])
     requires { 4 ≤ length bytes.now }
     ensures number { Number (number_in order) 4 result.0 bytes.now result.1.now }
@@ -19,7 +19,7 @@ pub(crate) fn split_u32_in(order: Endianness, bytes: &[u8]) -> (u32, &[u8])
     }
 }
 
-// The number that four bytes are.
+// Returns the number in four bytes.
 pub(crate) fn u32_in(order: Endianness, bytes: &[u8]) -> u32
     requires { length bytes.now ≡ 4 }
     ensures { number_in order 4 bytes.now ≡ result }

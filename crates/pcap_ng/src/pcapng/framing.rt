@@ -1,4 +1,4 @@
-//! Frames of blocks: their heads, and what these say of the bytes after them.
+//! The frames of blocks: their heads, and what the heads say about the bytes after them.
 
 ghost use Rattle.std.specs.Prelude.{◌≡◌, ◌≤◌, length};
 ghost use Rattle.pcap_items.specs.Filling.{Stated, TellsSettled};
@@ -13,13 +13,13 @@ use pcap_core::rules::Rule;
 use pcap_core::{Endianness, ResultParsing};
 use pcap_items::stream::HasHead;
 
-/// Blocks in their frames, in this order where they are no sections.
+/// The format of blocks in their frames, in this byte order if they are not section headers.
 #[derive(Clone, Copy)]
 pub(crate) struct FramesIn {
     pub(crate) order: Endianness,
 }
 
-/// What the first twelve bytes of a frame say: the number of its type, the order of its numbers, and its length.
+/// The first twelve bytes of a frame: its type number, the byte order of its numbers, and its length.
 #[derive(Clone, Copy)]
 pub(crate) struct FrameHead {
     pub(crate) number: u32,
@@ -55,7 +55,7 @@ impl HasHead for FramesIn {
 }
 
 impl FramesIn {
-    // The block of this head that the bytes are, lent from them.
+    // Returns the block of this head in the bytes, lent from them.
     pub(crate) fn block<'a>(&self, head: FrameHead, bytes: &'a [u8]) -> ResultParsing<Block<'a>>
         requires { Stated (KnowsFrame self.now.order) (frame_format.head self.now.order) head bytes.now }
         ensures { TellsSettled (frame_format.says self.now.order bytes.now) framed_of result }
@@ -66,7 +66,7 @@ impl FramesIn {
     }
 }
 
-// The order of a block with this type number, where this magic number follows its length.
+// Returns the byte order of a block with this type number, if this magic number follows its length.
 #[tactic(auto, unfolding(crate::specs::Frames::own_order, pcap_blocks::specs::SectionHeader::magic_order))]
 fn order_of(order: Endianness, number: u32, magic: u32) -> Option<Endianness>
     ensures { result ≡ own_order order number magic }
@@ -81,7 +81,7 @@ fn order_of(order: Endianness, number: u32, magic: u32) -> Option<Endianness>
     }
 }
 
-// The head at the front of twelve bytes or more, and what follows its length.
+// Returns the head at the front of twelve bytes or more, and what follows its length.
 pub(crate) fn split_head(order: Endianness, slice: &[u8]) -> Result<(FrameHead, &[u8]), Rule>
     requires { 12 ≤ length slice.now }
     ensures { HeadTells order slice.now result }

@@ -1,4 +1,4 @@
-//! A parser of a capture that comes in slices, or block by block off streams that stay the caller's.
+//! A parser of a capture that comes in slices, or block by block from streams that the caller keeps.
 
 ghost use Rattle.std.specs.Prelude.{◌≡◌, IfOk, IfErr, IfSome, OnErr, map, option_map, slice_get};
 ghost use Rattle.pcap_core.specs.Answer.{TellsWhere};
@@ -20,8 +20,8 @@ use pcap_items::stream::Held;
 use std::alloc::Global;
 use std::io::Read;
 
-/// Parser of a PcapNg capture: it holds the section in force and its interfaces, and gives a block for each slice or stream
-/// that begins with one.
+/// A parser of a PcapNg capture, which keeps the section in force and its interfaces. It returns one block for each slice or
+/// stream that begins with a block.
 #[derive(Drop)]
 pub struct PcapNgParser {
     alloc: Global,
@@ -29,12 +29,12 @@ pub struct PcapNgParser {
 }
 
 impl PcapNgParser {
-    /// The parser after the section header at the front of a slice, and what follows that block.
+    /// Parses the section header at the front of a slice, and returns the bytes after it and a parser of the blocks there.
     ///
-    /// The block is read big-endian, a section header in the order that its magic number names. `IncompleteBuffer` where
-    /// bytes of it are missing. `InvalidField` for the first rule that its frame breaks, then for the fault of its body,
-    /// whatever its type, and then where it is no section header; `Utf8Error` and `IoError` are faults of bodies too.
-    /// `OutOfMemory` where a whole block stands there and something can't grow.
+    /// The block is read big-endian, but a section header in the order that its magic number names. Returns `IncompleteBuffer` if
+    /// bytes of it are missing. Returns `InvalidField` for the first rule that its frame breaks, then for the fault of its body,
+    /// whatever its type, and then if it is no section header. `Utf8Error` and `IoError` are faults of bodies too. Returns
+    /// `OutOfMemory` if the block is whole and something can't grow.
     pub fn new(alloc: Global, slice: &[u8]) -> ResultParsing<(&[u8], PcapNgParser)>
         ensures tells { TellsWhere (MayGrow opening slice.now) (OpeningSays slice.now) state_of result }
     {
@@ -43,11 +43,11 @@ impl PcapNgParser {
         Ok((rest, PcapNgParser { alloc, in_force }))
     }
 
-    /// The parser after the section header at the front of a stream, of which exactly that block is taken. A refused call has
-    /// taken no more than was missing.
+    /// Reads the section header at the front of a stream, and returns the parser after it. Exactly that block is taken. A call
+    /// that fails has taken no more than was missing.
     ///
-    /// The refusals are those of `new`, but where that one would ask for bytes: `IoError` where the stream ended early, or a
-    /// read failed. `OutOfMemory` where something can't grow.
+    /// Returns the errors of `new` except `IncompleteBuffer`. Returns `IoError` if the stream ended early or a read failed, and
+    /// `OutOfMemory` if something can't grow.
     pub fn from_reader<R: Read>(alloc: Global, reader: &mut R) -> ResultParsing<PcapNgParser>
         ensures takes { IfOk result (λ parser. Takes OpeningSays (R.remaining reader.old) (R.remaining reader.new) (state_of parser)) }
         ensures refused { IfErr result (RefusesOpening (R.remaining reader.old)) }
@@ -59,13 +59,14 @@ impl PcapNgParser {
         Ok(PcapNgParser { alloc, in_force })
     }
 
-    /// The block at the front of a slice, and what follows it. Its body is borrowed from the slice. A section header
-    /// becomes the section in force, with no interface yet; an interface description is one interface more.
+    /// Parses the block at the front of a slice, and returns the bytes after it and the block. The block's body is borrowed from
+    /// the slice. A section header becomes the section in force, with no interface yet; an interface description adds one
+    /// interface.
     ///
-    /// `IncompleteBuffer` where bytes are missing, 12 for the empty slice. `InvalidField` for the first rule that the
-    /// block's frame breaks. In a section header and an interface description the first fault of the body refuses the
-    /// block too: `InvalidField`, `Utf8Error` or `IoError`. `OutOfMemory` where a whole one of these two stands there, and
-    /// something can't grow. A refused call leaves the section and its interfaces as they are.
+    /// Returns `IncompleteBuffer` if bytes are missing, 12 for the empty slice. Returns `InvalidField` for the first rule that
+    /// the block's frame breaks. In a section header or an interface description, the first fault of the body is an error too:
+    /// `InvalidField`, `Utf8Error` or `IoError`. Returns `OutOfMemory` if a block of these two types is whole and something can't
+    /// grow. A call that fails leaves the section and its interfaces unchanged.
     pub fn next_block<'a>(&mut self, slice: &'a [u8]) -> ResultParsing<(&'a [u8], Block<'a>)>
         ensures tells { TellsWhere (MayGrow (state_of self.old) slice.now) (BlockSays (state_of self.old) slice.now) (item_of (state_of self.new)) result }
         ensures borrowed { IfOk result (λ x. IsBorrowed x.1.body) }
@@ -76,13 +77,13 @@ impl PcapNgParser {
         Ok((rest, block))
     }
 
-    /// The block at the front of a stream, with a body of its own. None where the stream ends before it. What it puts in force
-    /// is said at `next_block`. Exactly its bytes are taken; a refused call has taken no more than was missing, and leaves the
-    /// section and its interfaces as they are.
+    /// Reads the block at the front of a stream, with an owned body. Returns None if the stream ends before it. The block is put
+    /// in force as by `next_block`. Exactly its bytes are taken. A call that fails has taken no more than was missing, and leaves
+    /// the section and its interfaces unchanged.
     ///
-    /// The refusals are those of `next_block`, but where that one would ask for bytes: `IoError` where the stream ended inside
-    /// the block, or a read failed. `OutOfMemory` where its bytes can't be held, or what stays in force can't be kept. What a
-    /// refused call took is gone: only behind a whole block that is refused does the stream stand before the next one.
+    /// Returns the errors of `next_block` except `IncompleteBuffer`. Returns `IoError` if the stream ended inside the block or a
+    /// read failed. Returns `OutOfMemory` if the block's bytes can't be held, or what stays in force can't be kept. Bytes that a
+    /// failed call took are lost. The stream is at the next block only after a whole block that is refused.
     pub fn read_block<R: Read>(&mut self, reader: &mut R) -> ResultParsing<Option<Block<'static>>>
         ensures reads { ReadsBlock (state_of self.old) (state_of self.new) (R.remaining reader.old) (R.remaining reader.new) result }
         ensures stays { StaysUnlessTaken (state_of self.old) (state_of self.new) result }
@@ -99,21 +100,22 @@ impl PcapNgParser {
         )
     }
 
-    /// The section in force.
+    /// Returns the section in force.
     pub fn section(&self) -> &SectionHeaderBlock<'static>
         ensures { section_of result.now ≡ section_in_force self.now }
     {
         self.in_force.section()
     }
 
-    /// The interfaces of the section in force, so far.
+    /// Returns the interfaces of the section in force, so far.
     pub fn interfaces(&self) -> &[InterfaceDescriptionBlock<'static>]
         ensures { map interface_of result.now ≡ interfaces_in_force self.now }
     {
         self.in_force.interfaces()
     }
 
-    /// The interface that a packet came by: that of its number among those of the section in force. None past their end.
+    /// Returns the interface on which a packet was captured: the one with the packet's number among those of the section in
+    /// force. None if there is no such interface.
     pub fn packet_interface(
         &self,
         packet: &EnhancedPacketBlock,

@@ -20,12 +20,12 @@ use pcap_items::stream::Held;
 use std::alloc::Global;
 use std::io::Read;
 
-/// Reads the blocks of a capture off a stream, one for each call of `next`, or of `next_header`, which takes no memory for
-/// each of them. The first section header isn't one of them: it is the section that is in force from the start.
+/// Reads the blocks of a capture from a stream, one for each call of `next`, or of `next_header`, which needs no separate memory
+/// for each block. The first section header isn't one of these blocks: it is the section in force from the start.
 ///
-/// Both are None where the stream ends between blocks; the next call asks the stream again. After their first refusal they
-/// are None for good. Between blocks exactly the bytes of the blocks were taken; a refused call has taken no more than was
-/// missing, and leaves the section and its interfaces as they are. A loop needs a bound to be proved, as one over packets.
+/// Both return None if the stream ends between blocks, and the next call reads the stream again. After their first error they
+/// always return None. Between blocks, exactly the bytes of the blocks were taken. A call that fails has taken no more than was
+/// missing, and leaves the section and its interfaces unchanged. A loop needs a bound to be proved, as a loop over packets does.
 #[derive(Drop)]
 pub struct PcapNgReader<T> {
     alloc: Global,
@@ -41,11 +41,11 @@ impl<T: Read + Drop> PcapNgReader<T> {
     ghost use Rattle.pcap_items.specs.Lent.{LendsText};
     ghost use Rattle.pcap_ng.specs.Reader.{state_of, stream_of, has_failed, is_done, text_of, lent_item, OpensReader, StaysUnlessGiven};
 
-    /// Reads the first block off a stream, which has to be a section header, and makes a reader of the blocks after it, which
-    /// lends the section's bytes (`text`). A refused call drops the stream.
+    /// Reads the first block of a stream, which must be a section header, and makes a reader of the blocks after it. The reader
+    /// lends the bytes of the section header (`text`). A call that fails drops the stream.
     ///
-    /// The refusals are those of `PcapNgParser::new`, but where that one would ask for bytes: `IoError` where the stream
-    /// ended early, or a read failed. `OutOfMemory` where something can't grow.
+    /// Returns the errors of `PcapNgParser::new` except `IncompleteBuffer`. Returns `IoError` if the stream ended early or a read
+    /// failed, and `OutOfMemory` if something can't grow.
     pub fn new(alloc: Global, mut reader: T) -> ResultParsing<PcapNgReader<T>>
         ensures { OpensReader T.remaining reader result }
     {
@@ -62,14 +62,14 @@ impl<T: Read + Drop> PcapNgReader<T> {
         })
     }
 
-    /// The header of the next block, which the reader lends from then on (`block`, `body`, `text`), until it is called again. So
-    /// a block costs no memory of its own, but for a section header or an interface description, which stays in force. What it
-    /// answers, when, and what it puts in force, is said as of `next`.
+    /// Reads the next block and returns its header. The reader lends the block (`block`, `body`, `text`) until it is called
+    /// again. So a block needs no memory of its own, except a section header or an interface description, which stays in force.
+    /// Otherwise the method behaves as `next`.
     ///
-    /// `InvalidField` for the first rule that the block's frame breaks. In a section header and an interface description the
-    /// first fault of the body refuses the block too: `InvalidField`, `Utf8Error` or `IoError`. `IoError` where a read failed,
-    /// or the stream ended inside the block. `OutOfMemory` where its bytes can't be held, or what stays in force can't be
-    /// kept: room grows with the bytes that come, and stays.
+    /// Returns `InvalidField` for the first rule that the block's frame breaks. In a section header or an interface description,
+    /// the first fault of the body is an error too: `InvalidField`, `Utf8Error` or `IoError`. Returns `IoError` if a read failed
+    /// or the stream ended inside the block. Returns `OutOfMemory` if the block's bytes can't be held, or what stays in force
+    /// can't be kept. The buffer grows with the bytes that come, and keeps its size.
     ///
     /// ```
     /// for _ in 0..u64::MAX {
@@ -113,11 +113,12 @@ impl<T> PcapNgReader<T> {
     ghost use Rattle.pcap_ng.specs.LentStreams.{reader_with};
     ghost use Rattle.pcap_ng.specs.Reader.{stream_of, has_failed, text_of, body_of, section_in_force, interfaces_in_force};
 
-    /// The text of the block whose header `next_header` gave last: all of its bytes, from its type to the length behind its body,
-    /// as they stood in the stream. Before the first call it is that of the first section header. Empty where the last call gave
-    /// no header, and once `next` was called.
+    /// Returns all bytes of the block whose header `next_header` returned last, from its type to the length after its body, as
+    /// they were in the stream. Before the first call these are the bytes of the first section header. The slice is empty if the
+    /// last call returned no header, and after a call of `next`.
     ///
-    /// What is written so is a part of the capture byte by byte, where the section and all its interfaces are in it:
+    /// Blocks that are written this way are a part of the capture byte for byte, if the section and all its interfaces are among
+    /// them:
     ///
     /// ```
     /// output.write_all(reader.text())?;
@@ -136,7 +137,7 @@ impl<T> PcapNgReader<T> {
         self.held.as_slice()
     }
 
-    /// The body of the block whose `text` the reader lends.
+    /// Returns the body of the block whose `text` the reader lends.
     pub fn body(&self) -> &[u8]
         ensures { result.now ≡ body_of self.now }
     {
@@ -149,7 +150,7 @@ impl<T> PcapNgReader<T> {
         body
     }
 
-    /// The block whose header `next_header` gave last, its body lent by the reader.
+    /// Returns the block whose header `next_header` returned last, with its body lent by the reader.
     pub fn block(&self, header: BlockHeader) -> Block<'_>
         ensures block { framed_of result ≡ framed_around header (body_of self.now) }
         ensures borrowed { IsBorrowed result.body }
@@ -157,21 +158,22 @@ impl<T> PcapNgReader<T> {
         header.around(self.body())
     }
 
-    /// The section in force.
+    /// Returns the section in force.
     pub fn section(&self) -> &SectionHeaderBlock<'static>
         ensures { section_of result.now ≡ section_in_force self.now }
     {
         self.in_force.section()
     }
 
-    /// The interfaces of the section in force, so far.
+    /// Returns the interfaces of the section in force, so far.
     pub fn interfaces(&self) -> &[InterfaceDescriptionBlock<'static>]
         ensures { map interface_of result.now ≡ interfaces_in_force self.now }
     {
         self.in_force.interfaces()
     }
 
-    /// The interface that a packet came by: that of its number among those of the section in force. None past their end.
+    /// Returns the interface on which a packet was captured: the one with the packet's number among those of the section in
+    /// force. None if there is no such interface.
     pub fn packet_interface(
         &self,
         packet: &EnhancedPacketBlock,
@@ -181,14 +183,15 @@ impl<T> PcapNgReader<T> {
         self.in_force.interface(packet.interface_id)
     }
 
-    /// The wrapped stream.
+    /// Returns a reference to the wrapped stream.
     pub fn get_ref(&self) -> &T
         ensures { result.now ≡ stream_of self.now }
     {
         &self.inner
     }
 
-    /// The wrapped stream. What is taken of it directly is no block of this reader's, and leaves what is in force as it is.
+    /// Returns a mutable reference to the wrapped stream. Bytes that the caller takes from it directly are no blocks of this
+    /// reader, and leave what is in force unchanged.
     pub fn get_mut(&mut self) -> &mut T
         ensures value { result.now ≡ stream_of self.old }
         ensures* writes_back { sem 𝓛 (Lends (reader-row T.row) T.row self.entry result (reader_with self.old)) }
@@ -196,7 +199,7 @@ impl<T> PcapNgReader<T> {
         &mut self.inner
     }
 
-    /// Whether a read of the wrapped stream failed.
+    /// Returns whether a read of the wrapped stream failed.
     pub fn failed(&self) -> bool
         ensures { result ≡ has_failed self.now }
     {

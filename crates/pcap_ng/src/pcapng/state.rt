@@ -24,7 +24,7 @@ impl InForce {
     ghost use Rattle.pcap_ng.specs.Frames.{framed_of};
     ghost use Rattle.pcap_ng.specs.State.{state_in, order_at, within, with_interface, FollowTells, Keeps, OpensTells};
 
-    // What is in force after a first block.
+    // Returns what is in force after a first block.
     pub(crate) fn after(alloc: Global, block: &Block) -> ResultParsing<InForce>
         ensures { OpensTells (framed_of block.now) result }
     {
@@ -35,7 +35,7 @@ impl InForce {
         })
     }
 
-    // The order of blocks that are no section.
+    // Returns the byte order of blocks that are not section headers.
     #[tactic(auto, unfolding(crate::specs::State::order_at))]
     pub(crate) fn order(&self) -> Endianness
         ensures { result ≡ order_at (state_in self.now) }
@@ -55,14 +55,14 @@ impl InForce {
         self.interfaces.as_slice()
     }
 
-    // The interface of this number, which counts from 0 in the order of their blocks.
+    // Returns the interface with this number. Interfaces count from 0 in the order of their blocks.
     pub(crate) fn interface(&self, number: u32) -> Option<&InterfaceDescriptionBlock<'static>>
         ensures { option_map (λ interface. interface_of interface.now) result ≡ slice_get (map interface_of self.now.interfaces.items) number }
     {
         self.interfaces.get(number as usize)
     }
 
-    // Puts in force what a block says, where it is a section or an interface. A refused call changes nothing.
+    // Puts a block in force if it is a section header or an interface description. A call that fails changes nothing.
     #[inline(always)]
     pub(crate) fn follow(&mut self, alloc: Global, block: &Block) -> ResultParsing<()>
         ensures { FollowTells (state_in self.old) (state_in self.new) (framed_of block.now) result }

@@ -1,4 +1,4 @@
-//! Whole blocks that lie one behind the other in a buffer, and go out from there.
+//! Whole blocks that follow each other in a buffer and are written from there.
 
 ghost use Rattle.std.specs.Prelude.{◌≡◌, ◌≤◌, ◌<◌, ◌⊎◌, ℕ, length, take};
 ghost use Rattle.pcap_ng.specs.State.{is_kept};
@@ -10,8 +10,8 @@ use pcap_core::Endianness;
 use pcap_items::stream::{Sent, Torn, put_or_tear};
 use std::io::Write;
 
-// Writes the whole blocks at the front of a buffer at once, as they came: at most so many, and up to a section header or an
-// interface.
+// Writes the whole blocks at the front of a buffer in one write, as they came: at most `most`, and up to a section header or an
+// interface description.
 pub(crate) fn put_shown<W: Write>(
     writer: &mut W,
     has_failed: &mut bool,
@@ -42,8 +42,8 @@ pub(crate) fn put_shown<W: Write>(
     }
 }
 
-// The whole blocks at the front of the bytes that leave what is in force, at most so many: how many these are, and what follows
-// them. Where there are fewer no such block stands there.
+// Returns how many whole blocks at the front of the bytes leave what is in force unchanged, at most `most`, and what follows
+// them. If there are fewer than `most`, no such block follows.
 fn whole_blocks(order: Endianness, bytes: &[u8], most: u64) -> (u64, &[u8])
     ensures passes { Passes order bytes.now result.1.now result.0 }
     ensures within { result.0 ≤ most }
@@ -62,7 +62,8 @@ fn whole_blocks(order: Endianness, bytes: &[u8], most: u64) -> (u64, &[u8])
     }
 }
 
-// The same of those behind each of which another head fits. Each order has its own walk, in which no number's order is tested.
+// Does the same for the blocks after each of which another head fits. Each byte order has its own loop, so the loop never tests
+// the order.
 fn blocks_before_a_head(order: Endianness, bytes: &[u8], most: u64) -> (u64, &[u8])
     requires { 12 ≤ length bytes.now }
     ensures passes { Passes order bytes.now result.1.now result.0 }
@@ -96,7 +97,7 @@ fn pass_blocks(order: Endianness, bytes: &[u8], most: u64) -> (u64, &[u8])
     (most, rest)
 }
 
-// How many blocks of a stretch end within so many bytes, and where the one behind them ends.
+// Returns how many blocks of a stretch end within `gone` bytes, and where the block after them ends.
 fn torn_block(order: Endianness, stretch: &[u8], gone: usize) -> (u64, usize)
     requires stretch { (n : ℕ) × IsStretch order stretch.now n }
     requires torn { gone < length stretch.now }
@@ -115,8 +116,8 @@ fn torn_block(order: Endianness, stretch: &[u8], gone: usize) -> (u64, usize)
     (blocks, stretch.len())
 }
 
-// What follows the block at the front of twelve bytes or more, if it is whole there, what is in force stays behind it, and at
-// least so many bytes follow. Its type and its two lengths are read, and no more of it.
+// Returns what follows the block at the front of twelve bytes or more, if the block is whole, leaves what is in force unchanged,
+// and at least `behind` bytes follow it. The function reads only the block's type and its two lengths.
 #[inline(always)]
 fn pass_block(order: Endianness, slice: &[u8], behind: u32) -> Option<&[u8]>
     requires { 12 ≤ length slice.now }
@@ -142,7 +143,7 @@ fn pass_block(order: Endianness, slice: &[u8], behind: u32) -> Option<&[u8]>
     Some(rest)
 }
 
-// Whether what a block of this type says stays in force.
+// Returns whether a block of this type changes what is in force, so that its body is kept.
 #[inline(always)]
 fn stays_in_force(type_: BlockType) -> bool
     ensures { result ≡ is_kept type_ }

@@ -1,4 +1,4 @@
-//! Blocks that are taken off a stream, over the parts of what reads them.
+//! Functions that take blocks from a stream, given the parts of a reader.
 
 ghost use Rattle.std.specs.Prelude.{◌≡◌, false, [], IfOk, IfErr, IfSome, OnOk, OnErr};
 ghost use Rattle.pcap_core.specs.Bytes.{IsOwned};
@@ -25,7 +25,8 @@ use std::alloc::Global;
 use std::io;
 use std::io::{ErrorKind, Read};
 
-// Takes the next block. Nothing is held before it, nor after an `Ok`; what is in force moves only where a block comes.
+// Takes the next block. Nothing is held before the call, nor after an `Ok`. The section and interfaces in force change only if a
+// block comes.
 pub(crate) fn pull<T: Read>(
     alloc: Global,
     in_force: &mut InForce,
@@ -53,8 +54,8 @@ pub(crate) fn pull<T: Read>(
     Ok(Some(own))
 }
 
-// Holds the text of the next block. Nothing is held before it, nor where none comes; what is in force moves only where one
-// does.
+// Holds the text of the next block. Nothing is held before the call, nor after it if no block comes. The section and interfaces
+// in force change only if a block comes.
 pub(crate) fn hold<T: Read>(
     alloc: Global,
     in_force: &mut InForce,
@@ -81,7 +82,7 @@ pub(crate) fn hold<T: Read>(
     Ok(Some(header))
 }
 
-// What is in force after the first block, which has this head and is these bytes.
+// Returns what is in force after the first block, which has this head and these bytes.
 pub(crate) fn opened(alloc: Global, head: FrameHead, bytes: &[u8]) -> ResultParsing<InForce>
     requires { Stated (KnowsFrame Big) (frame_format.head Big) head bytes.now }
     ensures { OpensHeld bytes.now result }
@@ -93,7 +94,7 @@ pub(crate) fn opened(alloc: Global, head: FrameHead, bytes: &[u8]) -> ResultPars
     InForce::after(alloc, &block)
 }
 
-// Holds the text of the first block. Nothing is held before it.
+// Holds the text of the first block. Nothing is held before the call.
 pub(crate) fn open<T: Read>(
     alloc: Global,
     stream: &mut T,

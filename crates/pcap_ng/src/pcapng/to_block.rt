@@ -1,4 +1,4 @@
-//! Blocks in their frames, made of their values.
+//! Blocks in their frames, made from values.
 
 ghost use Rattle.std.specs.Prelude.{IfOk};
 ghost use Rattle.pcap_core.specs.Bytes.{IsOwned};
@@ -9,13 +9,13 @@ use pcap_core::{CowBytes, Endianness, ResultParsing};
 use pcap_written::{PcapNgBlock, encode_body};
 use std::alloc::Global;
 
-/// What can be made a block in its frame: the value of any body.
+/// A value of any body, which can be made into a block in its frame.
 pub trait ToBlock: PcapNgBlock {
-    /// The block in its frame, with a body of its own: in this order, or, a section header, in that which its magic number
-    /// names. Its body is the one that `PcapNgWriter` writes, and `Block::parsed` reads it as it was; whether the section has
-    /// described the interface that it speaks of isn't asked.
+    /// Makes the block in its frame, with an owned body. A section header has the byte order that its magic number names, and any
+    /// other block has `order`. The body is the one that `PcapNgWriter` writes, and `Block::parsed` reads it as it was. The
+    /// function doesn't check that the section has described the interface to which the block refers.
     ///
-    /// `InvalidField` where the block has no text in that order (see `Unwritable`), or `OutOfMemory`.
+    /// Returns `InvalidField` if the block has no text in that order (see `Unwritable`), or `OutOfMemory`.
     final fn to_block(&self, alloc: Global, order: Endianness) -> ResultParsing<Block<'static>>
         ensures made { MakesBlock order (Self.sees self.now) result }
         ensures owned { IfOk result (λ block. IsOwned block.body) }

@@ -1,4 +1,4 @@
-//! Runs over a PcapNg capture that is shown exactly as the parser asks for it.
+//! Runs over a PcapNg capture that shows exactly the bytes that the parser requests.
 
 ghost use Rattle.std.specs.Prelude.{◌≡◌, ◌⊎◌, All, IfOk, IfErr, drop};
 ghost use Rattle.pcap_core.specs.Answer.{Refuses, lacks, faulty};
@@ -21,16 +21,16 @@ use pcap_items::Rest;
 use pcap_items::run::{Found, Window, show_items};
 use std::alloc::{AllocError, Global};
 
-/// The whole run over the bytes of a window that has shown none, each of them shown only once the parser asked for it,
-/// and how many requests that took. The blocks' bodies are lent from the bytes.
+/// Parses the bytes of a window that has shown none yet, showing bytes only when the parser requests them, and counts the
+/// requests. The blocks' bodies are lent from the bytes.
 ///
-/// The requests are those that the format states: 12 bytes for the head of a block, the first one too, and then the rest
-/// of its total length ('General Block Structure'). Where fewer bytes are left than are asked for, the parser isn't asked
-/// again, and the rest is `Needs` of the difference. After the last block nothing is asked for.
+/// The format determines the requests: 12 bytes for the head of each block, including the first, and then the rest of its total
+/// length ('General Block Structure'). If fewer bytes are left than the parser requests, it isn't called again, and the rest is
+/// `Needs` of the difference. After the last block there is no request.
 ///
-/// The errors are those of `PcapNgParser::new` on the first block, with `IncompleteBuffer` where it isn't whole; then the
-/// requests are those for that block alone. `OutOfMemory`, where something can't grow, is the answer wherever it comes, and
-/// how many bytes were shown then is open.
+/// Returns the errors of `PcapNgParser::new` for the first block, with `IncompleteBuffer` if it is truncated; then the requests
+/// are those for that block alone. Returns `OutOfMemory` wherever something can't grow; the number of bytes shown is then
+/// unspecified.
 pub fn exact_pcapng<'a>(alloc: Global, window: &mut Window<'a>) -> ResultParsing<(NgRun<'a>, u64)>
     requires { shown_of window.old ≡ 0 }
     ensures bytes { bytes_of window.new ≡ bytes_of window.old }
@@ -57,7 +57,7 @@ pub fn exact_pcapng<'a>(alloc: Global, window: &mut Window<'a>) -> ResultParsing
     }
 }
 
-// Shows what the parser asks for of the first block, and counts the requests.
+// Shows the bytes that the parser requests for the first block, and counts the requests.
 fn show_first(
     alloc: Global,
     window: &mut Window<'_>,

@@ -1,4 +1,4 @@
-//! What a parser finds where a capture begins.
+//! The search for the first block of a capture.
 
 ghost use Rattle.pcap_items.specs.Found.{FindsWhere};
 ghost use Rattle.pcap_ng.specs.Blocks.{MayGrow};
@@ -11,7 +11,7 @@ use pcap_core::PcapError;
 use pcap_items::run::{Found, found_in};
 use std::alloc::{AllocError, Global};
 
-// The parser after the first block at the front of a slice.
+// Finds the first block at the front of a slice, and returns the parser after it.
 pub(crate) fn find_first<'a>(
     alloc: Global,
     slice: &'a [u8],

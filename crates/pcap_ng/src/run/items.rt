@@ -1,4 +1,4 @@
-//! Blocks as the items of runs.
+//! The blocks of a capture as the items of runs.
 
 ghost use Rattle.pcap_core.specs.Bytes.{IsBorrowed};
 ghost use Rattle.pcap_items.specs.Items.{ShowsFault};

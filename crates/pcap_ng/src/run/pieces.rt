@@ -59,14 +59,14 @@ impl PieceParser for PcapNgParser {
     }
 }
 
-/// The whole run over a capture that comes in pieces, with owned blocks; and for each piece, how many blocks after the first
-/// it and those before it hold, 0 while the first one isn't whole. Empty pieces are pieces too.
+/// Parses a capture that comes in pieces, and returns owned blocks. For each piece it also returns how many blocks after the
+/// first are in that piece and the ones before it, or 0 while the first block is incomplete. Empty pieces count too.
 ///
-/// The pieces' lengths together fit `usize`, which `pieces_fit` tests. Only bytes that no block has taken are kept, and
-/// the parser is asked about each block three times at most, so the cost is linear in the bytes and the pieces.
+/// The sum of the pieces' lengths must fit `usize`, which `pieces_fit` tests. The function keeps only bytes that no block has
+/// taken, and calls the parser at most three times for each block, so the cost is linear in the bytes and the pieces.
 ///
-/// The errors are those of `PcapNgParser::new` on the first block, with `IncompleteBuffer` where it isn't whole.
-/// `OutOfMemory` where something can't grow.
+/// Returns the errors of `PcapNgParser::new` for the first block, with `IncompleteBuffer` if it is truncated. Returns
+/// `OutOfMemory` if something can't grow.
 pub fn pieces_pcapng(alloc: Global, pieces: &[&[u8]]) -> ResultParsing<(NgRun<'static>, Vec<usize>)>
     requires { length (joined_pieces pieces.now) < 2 ^ 64 }
     ensures run { IfOk result (λ x. IsRun x.0 (joined_pieces pieces.now)) }
