@@ -1,4 +1,4 @@
--- What a conversion to PcapNg has written is a beginning of the whole.
+-- The output of a conversion to PcapNg is a beginning of the output of the whole conversion.
 use Rattle.std.proofs.Common.{◌≡◌, ℕ, List, [], ◌++◌, map, refl, ap, sym, ◌∙◌, subst, append_assoc, Some, ◌⊎◌, inl, inr}
 use Rattle.std.specs.Prelude.{Option}
 use Rattle.std.specs.Io.KnownBytes.{Appends, Keeps}

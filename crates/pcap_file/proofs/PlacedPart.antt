@@ -1,4 +1,4 @@
--- What a conversion to a classic capture has written is a beginning of the whole.
+-- The output of a conversion to a classic capture is a beginning of the output of the whole conversion.
 use Rattle.std.proofs.Common.{◌≡◌, ◌++◌, ℕ, List, [], ◌∷◌, refl, ap, sym, ◌∙◌, subst, append_assoc, append-nil, Some, None, inl, inr}
 use Rattle.std.specs.Prelude.{Option}
 use Rattle.std.specs.List.{AllZip, flat_map}

@@ -81,7 +81,7 @@ left_not_refused LeaveOut is other = absurd cc
 left_not_refused Refuse is other = absurd cc
 
 module _ (header : PcapHeader) (choice : IfUnplaced) where
-  -- What a block became gives the turn that is written and counted.
+  -- The outcome of a block gives the turn that is written and counted.
   pub turned : (interfaces : List Interface) (b : Framed) (c d : Sink) (became : Became) (old new : NgConverted) → PlacesBlock header choice interfaces b c d (Ok became) → CountsBecame became old new
       → (turn : Turn) × BecomesIn interfaces header.datalink b turn × Goes header choice turn c d × CountsTurn turn old new
   turned interfaces b c d became.Packet old new went counts = (

@@ -46,8 +46,8 @@ carried packet = record {
   bytes = packet.bytes;
 }
 
--- Places: a packet of these bytes and this original length, captured on this interface at this time in units of its clock, is this
--- packet in a classic capture of this link type ('Packet Record' of pcap, 'Enhanced Packet Block' of pcapng).
+-- Places: this packet of a classic capture ('Packet Record' of pcap) has this link type, and the bytes, the original length and the
+-- time of a block of this interface ('Enhanced Packet Block' of pcapng). The block's time is in units of the interface's clock.
 pub record Places (interface : Option Interface) (link : DataLink) (units original : ℕ) (bytes : List ℕ) (packet : Captured) : Type 0 where
   pub by : Interface
   pub described : interface ≡ Some by

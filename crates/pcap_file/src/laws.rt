@@ -53,7 +53,7 @@ pub fn conversion_is_a_beginning()
         (gone : List ℕ) × Appends out out_now gone × ((gone ≡ []) ⊎ BeginsConverted bytes gone) }
 {}
 
-/// If nothing fails, an accepted classic capture is converted whole: the program writes the section, the interface and the block of
+/// If nothing fails, an accepted classic capture is converted whole: the output is the section, the interface and the block of
 /// each packet. The number of the link type must fit into two bytes, and there must not be more packets than `most`.
 pub fn accepted_capture_is_converted()
     ensures { (header : PcapHeader) (packets : List Captured) (bytes : List ℕ) (now out out_now : Option (List ℕ)) (most : ℕ) (copied : Copied) →

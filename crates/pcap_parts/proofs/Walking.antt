@@ -109,7 +109,7 @@ walked_state bytes s left q p first header before places items x texts y =
     let here : state_after block_format q items ≡ state_after block_format (state_after block_format opening x.items) items = ap (λ (z : State). state_after block_format z items) (sym x.leads) in
     here ∙ sym (state_all block_format opening x.items items) ∙ ap (λ (l : List Item). state_after block_format opening l) (sym one) ∙ y.leads
 
--- What a walk skips follows the blocks that it walked over.
+-- A walk skips blocks that follow those that it walked over.
 pub passes_behind : (bytes s left after : List ℕ) (q p : State) (first header : ℕ) (before places : List ℕ) (items : List Item) (n count : ℕ) (said : Option Rest) → IsWalked bytes s q first before
     → Texts block_format q items s left → IsWalked bytes left p header places → Passes block_format p left after n count said → Passes block_format (state_after block_format q items) left after n count said
 passes_behind bytes s left after q p first header before places items n count said x texts y passes =
