@@ -41,7 +41,7 @@ use Rattle.pcap_ng.specs.Written.{IsBodyOf}
 use Rattle.pcap_file.proofs.Converting.{blocks_out}
 use Rattle.pcap_ng.proofs.WrittenAgain.{capture_again}
 
--- behind so many interfaces, little-endian
+-- The place behind n interfaces of a little-endian section.
 abbrev behind : ℕ → Place
 behind n = record { endianness = Little; interfaces = n }
 
@@ -90,7 +90,7 @@ blocks_written header packets fit all =
       ),
     )
 
--- packets are kept as they are
+-- The bodies of packet blocks are kept unchanged.
 packets_kept : (packets : List Captured) → map kept_body (map packet_block packets) ≡ map packet_block packets
 packets_kept [] = refl
 packets_kept (packet ∷ packets) = ap (λ (blocks : List Body). packet_block packet ∷ blocks) (packets_kept packets)
@@ -112,7 +112,7 @@ exactly_timed header packet =
       time_is = record { counted = packet.header.ts_sec + packet.header.ts_nsec / 10 ^ 9; split = record { together = omega arith; no_second_more = omega arith }; moved = omega (arith, ints) };
     }
 
--- the packets that a conversion read have room in a capture
+-- The packets that a conversion read fit into a capture.
 wholes : (bytes after : List ℕ) (header : PcapHeader) (most : ℕ) (packets : List Captured) (fault : Option PcapError) (failed : Bool) → IsBytes bytes → HeaderText header bytes after
     → ReadsFront (format_under packet_limit header) tt after most packets fault failed → All IsWhole packets
 wholes bytes after header most packets fault failed fits text reads =
@@ -123,7 +123,7 @@ wholes bytes after header most packets fault failed fits text reads =
 pub conversion_wholes : (bytes : List ℕ) (out_before out_now : Option (List ℕ)) (most : ℕ) (copied : Copied) → IsBytes bytes → (c : IsConversion bytes out_before out_now most copied) → All IsWhole c.packets
 conversion_wholes bytes out_before out_now most copied fits c = wholes bytes c.after c.header most c.packets copied.fault copied.read_failed fits c.header_text c.reads
 
--- what a conversion of known bytes wrote where no write failed
+-- If no write failed, a conversion of known bytes wrote a capture that is read as the conversion of its packets.
 pub conversion_again : (bytes : List ℕ) (now out_before out_now : Option (List ℕ)) (most : ℕ) (copied : Copied) → IsBytes bytes → copied.write_failed ≡ false
     → ConvertsPackets (Some bytes) now out_before out_now most copied → IsConversion bytes out_before out_now most copied
 conversion_again bytes now out_before out_now most copied fits wrote run =

@@ -1,4 +1,4 @@
--- What a conversion has written is a beginning of the whole.
+-- The output of a conversion to PcapNg is a beginning of the output of the whole conversion.
 use Rattle.std.proofs.Common.{◌≡◌, ℕ, List, [], ◌++◌, map, refl, ap, sym, ◌∙◌, subst, append_assoc, Some, ◌⊎◌, inl, inr}
 use Rattle.std.specs.Prelude.{Option}
 use Rattle.std.specs.Io.KnownBytes.{Appends, Keeps}
@@ -25,7 +25,7 @@ use Rattle.pcap_file.specs.Conversion.{BeginsConverted}
 use Rattle.pcap_file.specs.Converted.{converted, converted_text, little_text, little_texts, opening_blocks, packet_block}
 use Rattle.pcap_file.specs.Converts.{ConvertRun}
 
--- the blocks of some packets, and of more behind them
+-- The blocks of two lists of packets are the blocks of the first and then those of the second.
 more_texts : (header : PcapHeader) (packets more : List Captured)
     → little_texts (converted header (packets ++ more)) ≡ little_texts (converted header packets) ++ little_texts (map packet_block more)
 more_texts header packets more =
@@ -37,14 +37,14 @@ more_texts header packets more =
     ∙ sym (append_assoc (little_texts opening) (little_texts first) (little_texts last))
     ∙ ap (λ (t : List ℕ). t ++ little_texts last) (sym (flat_map-append little_text opening first))
 
--- the header of known bytes, and what is behind it
+-- If a header was taken from known bytes, the bytes behind it are known.
 header_known : (bytes : List ℕ) (now : Option (List ℕ)) (header : PcapHeader) → Takes HeaderSays (Some bytes) now header
     → (after : List ℕ) × (now ≡ Some after) × HeaderText header bytes after
 header_known bytes now header took =
     let l = taken_known bytes took.0 now took.2 in
     (l.0, l.1, subst (λ (s : List ℕ). HeaderText header s l.0) (sym l.2) (header_stable.text took.0 l.0 [] header took.1))
 
--- a beginning of the blocks of packets that were taken is one of those of the front
+-- A beginning of the blocks of packets that were taken is a beginning of the blocks of the front.
 begins : (bytes after : List ℕ) (now : Option (List ℕ)) (header : PcapHeader) (packets : List Captured) (gone more : List ℕ) → HeaderText header bytes after
     → TakesTexts (format_under packet_limit header) tt packets (Some after) now → little_texts (converted header packets) ≡ gone ++ more
     → BeginsConverted bytes gone
@@ -66,7 +66,7 @@ begins bytes after now header packets gone more text took split =
     }
 
 module _ (bytes : List ℕ) (now out out_now : Option (List ℕ)) (most : ℕ) (copied : Copied) where
-  -- what went out of a conversion
+  -- The output of a conversion is nothing or a beginning of the whole conversion.
   abbrev Begins : Type 0
   Begins = (gone : List ℕ) × Appends out out_now gone × ((gone ≡ []) ⊎ BeginsConverted bytes gone)
 

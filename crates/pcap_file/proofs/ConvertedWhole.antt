@@ -53,7 +53,7 @@ any_two P y z (zero, x, few, is, p) = inl (subst P (sym is) p)
 any_two P y z (suc zero, x, few, is, p) = inr (subst P (sym is) p)
 any_two P y z (suc (suc k), x, few, is, p) = absurd (omega (arith, few))
 
--- nothing stands against the option that says nanoseconds
+-- The option for nanoseconds has no flaw.
 no_option_flaw : (flaw : Unwritable) → OptionFlaw (number_in Little) (number_bytes Little) interface_description flaw in_nanoseconds → ⊥
 no_option_flaw flaws.OptionTooLong x = absurd (omega (arith, x))
 no_option_flaw flaws.OptionMisplaced (inl is) = absurd cc
@@ -62,13 +62,13 @@ no_option_flaw flaws.OptionLengthDiffers x = x
 no_option_flaw (flaws.Breaks rule) x = absurd cc
 no_option_flaw _ x = absurd x
 
--- nothing stands against the section
+-- The section has no flaw.
 no_section_flaw : (flaw : Unwritable) → FlawIn Little (SectionBody (plain_section Little)) flaw → ⊥
 no_section_flaw flaws.BlockTooLong x = let long : length (body_text (number_bytes Little) (SectionBody (plain_section Little))) ≡ 16 = refl in absurd (omega (arith, x, long))
 no_section_flaw _ x = any_none _ x
 
 module _ (header : PcapHeader) (plain : IsPlain header.datalink) (link : link_number header.datalink < 2 ^ 16) where
-  -- nor against the interface, where its link type has room
+  -- The interface has no flaw, if its link type fits.
   no_interface_flaw : (flaw : Unwritable) → FlawIn Little (InterfaceBody (interface_for header)) flaw → ⊥
   no_interface_flaw flaws.BlockTooLong x = let long : length (body_text (number_bytes Little) (InterfaceBody (interface_for header))) ≡ 20 = refl in absurd (omega (arith, x, long))
   no_interface_flaw flaws.LinkTooLarge x = absurd (omega (arith, x, link))
@@ -82,14 +82,14 @@ module _ (header : PcapHeader) (plain : IsPlain header.datalink) (link : link_nu
         | inr bad ↦ no_interface_flaw flaw bad
       ]
 
-  -- so only memory can be wanting for the blocks before the packets
+  -- So only a lack of memory can refuse the blocks before the packets.
   no_refusal : (fault : Option PcapError) → IfSome fault (λ e. IsMemory e → ⊥) → IsSomeAnd fault (RefusesBlocks (opening_blocks header)) → ⊥
   no_refusal None memory refused = refused
   no_refusal (Some (errors.OutOfMemory e)) memory refused = memory tt
   no_refusal (Some (errors.InvalidField text)) memory refused = no_flaw refused.0 refused.2
   no_refusal (Some _) memory refused = absurd refused
 
--- a header that was taken of a capture is its header, and the same bytes are behind it
+-- A header that was taken from a capture is its header, and the same bytes follow it.
 same_header : (bytes after : List ℕ) (now : Option (List ℕ)) (taken header : PcapHeader) → HeaderText header bytes after
     → Takes HeaderSays (Some bytes) now taken → (taken ≡ header) × (now ≡ Some after)
 same_header bytes after now taken header text took =

@@ -1,4 +1,4 @@
--- Packets that are converted, one after another.
+-- Proofs about the conversion of packets, one after another.
 use Rattle.std.proofs.Common.{◌≡◌, ◌≤◌, ℕ, List, [], sym, subst, arith, length, map}
 use Rattle.std.specs.Prelude.{Any, Option, Result}
 use Rattle.std.specs.Io.KnownBytes.{Appends}
@@ -27,7 +27,7 @@ use Rattle.pcap_written.specs.Writing.{FlawIn}
 use Rattle.pcap_file.specs.Converted.{converted, converted_text, little_text, little_texts, opening_blocks, packet_block}
 use Rattle.pcap_file.specs.Converts.{RefusesBlocks}
 
--- what stands against one of some blocks
+-- If one of these blocks has a flaw or memory runs out, the error is one that refuses the blocks.
 pub block_refused : (blocks : List Body) (block : Body) → ((flaw : Unwritable) → FlawIn Little block flaw → Any (λ b. FlawIn Little b flaw) blocks)
     → (unput : Unput) (shown : PcapError) → RefusesPut (FlawIn Little block) unput → IsShownAs unput shown → RefusesBlocks blocks shown
 block_refused blocks block any (Memory e) (errors.OutOfMemory x) stands is = tt
@@ -35,7 +35,7 @@ block_refused blocks block any (Unfit flaw) (errors.InvalidField message) stands
 block_refused blocks block any (Memory e) _ stands is = absurd is
 block_refused blocks block any (Unfit flaw) _ stands is = absurd is
 
--- the bytes of a packet that is read have room in a block
+-- The bytes of a packet that was read fit into a block.
 pub packet_short : (header : PcapHeader) (s : List ℕ) (packet : Captured) → (reader_format packet_limit header).says tt s (whole packet []) → length packet.bytes ≤ 4294967260
 unfolding packet_format
 packet_short header s packet says =
@@ -43,7 +43,7 @@ packet_short header s packet says =
     let included : packet.header.incl_len ≤ 262144 = rw text.header.value (omega (arith, text.header.good.included, text.header.good.original)) in
     omega (arith, text.whole, included)
 
--- a packet's block went out, or a beginning of it
+-- Equal times and bytes have equal blocks, so what was written of one block was written of the other.
 pub packet_put : (a b : Option (List ℕ)) (result : Result (Unit {0}) PcapError) (time units original : ℕ) (bytes others : List ℕ) → time ≡ units → bytes ≡ others
     → WritesAll a b (text_of (number_bytes Little) (EnhancedBody (plain_packet 0 time original bytes))) result
     → WritesAll a b (text_of (number_bytes Little) (EnhancedBody (plain_packet 0 units original others))) result
@@ -52,7 +52,7 @@ packet_put a b result time units original bytes others t d out =
     subst (λ (n : ℕ). WritesAll a b (text_of (number_bytes Little) (EnhancedBody (plain_packet 0 n original bytes))) result) t out in
     subst (λ (l : List ℕ). WritesAll a b (text_of (number_bytes Little) (EnhancedBody (plain_packet 0 units original l))) result) d first
 
--- the blocks of packets went out behind those before them
+-- The opening blocks were written and then the blocks of packets, so the conversion of these packets was written.
 pub blocks_out : (header : PcapHeader) (packets : List Captured) (a b c : Option (List ℕ)) → Appends a b (little_texts (opening_blocks header)) → Appends b c (flat_map converted_text packets)
     → Appends a c (little_texts (converted header packets))
 blocks_out header packets a b c opening out =

@@ -1,4 +1,4 @@
--- What a block becomes is one packet, or none.
+-- A block becomes exactly one packet, or none.
 use Rattle.std.proofs.Common.{◌≡◌, ◌<◌, ◌+◌, ◌*◌, ◌^◌, arith, ℕ, List, [], ◌∷◌, ◌++◌, length, refl, sym, ap, subst, ◌∙◌, length-append, true, false, Some, None}
 use Rattle.std.specs.Prelude.{Option, pos, ◌+ℤ◌}
 use Rattle.std.specs.List.{AllZip, slice_get}
@@ -23,15 +23,15 @@ use Rattle.pcap_ng.specs.State.{interfaces_at}
 use Rattle.pcap_ng.proofs.Bodies.{bodies_same, type_is}
 use Rattle.pcap_written.specs.Bodies.{type_of}
 
--- a block holds a packet where its body is a packet's
+-- A block holds a packet exactly if its body does.
 pub packet_as_body : (b : Framed) (body : Body) (rest : List ℕ) → SaysOfBody b (whole body rest) → is_packet b.type_ ≡ is_packet (type_of body)
 packet_as_body b body rest says = ap is_packet (sym (type_is (number_in b.endianness) b.type_ b.body body rest says))
 
--- seconds and nanoseconds are one way to split a number of nanoseconds
+-- A number of nanoseconds splits into seconds and nanoseconds in only one way.
 split_same : (m n x y : ℕ) → m * 10 ^ 9 + x ≡ n * 10 ^ 9 + y → x < 10 ^ 9 → y < 10 ^ 9 → (m ≡ n) × (x ≡ y)
 split_same m n x y e few less = (omega (arith, e, few, less), omega (arith, e, few, less))
 
--- an interface's clock shows one time
+-- An interface's clock shows only one time.
 time_same : (interface : Interface) (units : ℕ) (s t : Timestamp) → IsTimeAt interface units s → IsTimeAt interface units t
     → (s.seconds ≡ t.seconds) × (s.nanoseconds ≡ t.nanoseconds)
 time_same interface units s t x y =
@@ -60,7 +60,7 @@ pos_same : (m n : ℕ) → pos m ≡ pos n → m ≡ n
 pos_same m n e = cc
 
 module _ (interface : Option Interface) (link : DataLink) (units original : ℕ) (bytes : List ℕ) (p : Captured) (x : Places interface link units original bytes p) where
-  -- the interface is one
+  -- There is only one such interface.
   by_same : (by : Interface) → interface ≡ Some by → x.by ≡ by
   by_same by is = same_Some x.by by (sym x.described ∙ is)
 
@@ -74,7 +74,7 @@ module _ (interface : Option Interface) (link : DataLink) (units original : ℕ)
       let included : p.header.incl_len ≡ q.header.incl_len = sym x.whole.included ∙ ap length stored ∙ y.whole.included in
       captured_same p q (pos_same p.header.ts_sec q.header.ts_sec time.0) time.1 included (x.original_is ∙ sym y.original_is) stored
 
-  -- what has a place has no reason against it
+  -- A packet that has a place has no reason against it.
   no_reason : (reason : Unplaced) → HasNoPlace interface link units original bytes reason → ⊥
   no_reason reasons.NoTime none = none
   no_reason reasons.InterfaceMissing none = let e : ◌≡◌ {A = Option Interface} None (Some x.by) = sym none ∙ x.described in absurd cc
@@ -97,7 +97,7 @@ module _ (interfaces : List Interface) (link : DataLink) where
   body_no_reason _ p x = absurd x
 
   module _ (b : Framed) where
-    -- a block becomes one packet, or has no place for some reason, or holds none
+    -- A block becomes one packet, or has a packet without a place, or holds none.
     abbrev IsSame : Turn → Turn → Type 0
     IsSame t u = (packet_of_turn t ≡ packet_of_turn u) × (length (reason_of_turn t) ≡ length (reason_of_turn u))
 
@@ -119,7 +119,7 @@ module _ (interfaces : List Interface) (link : DataLink) where
     turn_same no_packet (unplaced reason) x y = let e : true ≡ false = sym y.0 ∙ x in absurd cc
     turn_same no_packet no_packet x y = (refl, refl)
 
--- blocks become the same packets, and as many have none for some reason
+-- Blocks always become the same packets, and equally many of their packets have no place.
 pub turns_same : (link : DataLink) (items : List Item) (ts us : List Turn) → AllZip (Becomes link) items ts → AllZip (Becomes link) items us
     → (packets_of ts ≡ packets_of us) × (length (reasons_of ts) ≡ length (reasons_of us))
 turns_same link [] [] [] x y = (refl, refl)
@@ -137,7 +137,7 @@ turns_same link (item ∷ items) (t ∷ ts) (u ∷ us) x y =
       omega (arith, left, right, one.1, more.1),
     )
 
--- the body of a packet's block is read
+-- The body of a packet's block is read.
 pub packet_is_read : (interfaces : List Interface) (link : DataLink) (b : Framed) (t : Turn) → is_packet b.type_ ≡ true → BecomesIn interfaces link b t
     → (body : Body) × (rest : List ℕ) × SaysOfBody b (whole body rest)
 packet_is_read interfaces link b (placed p) is x = (x.1, x.2, x.3)

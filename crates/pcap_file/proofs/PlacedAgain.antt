@@ -1,4 +1,4 @@
--- Packets of blocks, as they are read again.
+-- Proofs that packets of blocks are read again from a classic capture.
 use Rattle.std.proofs.Common.{◌<◌, ◌^◌, List, [], ◌∷◌, refl, arith}
 use Rattle.std.specs.Prelude.{All}
 use Rattle.std.specs.List.{AllZip}
@@ -15,7 +15,7 @@ use Rattle.pcap_file.specs.Placed.{Becomes, PlacesBody, Turn, carried, no_packet
 use Rattle.pcap_ng.specs.State.{interfaces_at}
 use Rattle.pcap_file.proofs.ConvertedAgain.{exactly_timed}
 
--- a packet of a block: it is whole, and no whole second is among its nanoseconds
+-- IsPlaced: a packet of a block is whole, and its nanoseconds are less than a second.
 pub record IsPlaced (packet : Captured) : Type 0 where
   pub whole : IsWhole packet
   pub no_second_more : packet.header.ts_nsec < 10 ^ 9
@@ -25,7 +25,7 @@ body_placed interfaces link (EnhancedBody b) packet x = record { whole = x.whole
 body_placed interfaces link (OldPacketBody b) packet x = record { whole = x.whole; no_second_more = x.time.time_is.split.no_second_more }
 body_placed interfaces link _ packet x = absurd x
 
--- packets of blocks have room in a classic capture
+-- Packets of blocks fit into a classic capture.
 pub packets_whole : (link : DataLink) (items : List Item) (turns : List Turn) → AllZip (Becomes link) items turns → All IsWhole (packets_of turns)
 packets_whole link [] [] x = All-nil IsWhole
 packets_whole link [] (turn ∷ turns) x = absurd x
@@ -35,7 +35,7 @@ packets_whole link (item ∷ items) (placed packet ∷ turns) x =
 packets_whole link (item ∷ items) (unplaced reason ∷ turns) x = packets_whole link items turns x.1
 packets_whole link (item ∷ items) (no_packet ∷ turns) x = packets_whole link items turns x.1
 
--- a packet that was converted becomes itself again
+-- A packet that was converted becomes itself again.
 pub packet_back : (header : PcapHeader) (packet : Captured) → IsWhole packet → (carried packet).header.ts_sec < 2 ^ 32
     → PlacesBody (interface_for header ∷ []) header.datalink (packet_block packet) (carried packet)
 packet_back header packet whole few = record {

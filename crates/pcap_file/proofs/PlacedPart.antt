@@ -1,4 +1,4 @@
--- What a conversion to a classic capture has written is a beginning of the whole.
+-- The output of a conversion to a classic capture is a beginning of the output of the whole conversion.
 use Rattle.std.proofs.Common.{◌≡◌, ◌++◌, ℕ, List, [], ◌∷◌, refl, ap, sym, ◌∙◌, subst, append_assoc, append-nil, Some, None, inl, inr}
 use Rattle.std.specs.Prelude.{Option}
 use Rattle.std.specs.List.{AllZip, flat_map}
@@ -28,14 +28,14 @@ use Rattle.pcap_items.proofs.Taking.{taken_known}
 use Rattle.pcap_ng.proofs.BlockFormat.{blocks_lawful}
 use Rattle.pcap_file.proofs.OneTurn.{turn_same}
 
--- the bytes of packets of blocks, in two parts
+-- The bytes of packets of two lists of turns are the bytes of the first and then those of the second.
 two_parts : (header : PcapHeader) (turns more : List Turn)
     → flat_map (written_under header) (packets_of (turns ++ more)) ≡ flat_map (written_under header) (packets_of turns) ++ flat_map (written_under header) (packets_of more)
 two_parts header turns more =
     ap (λ (ps : List Captured). flat_map (written_under header) ps) (flat_map-append packet_of_turn turns more)
     ∙ flat_map-append (written_under header) (packets_of turns) (packets_of more)
 
--- blocks that were taken stand at the front of the bytes
+-- Blocks that were taken are at the front of the bytes.
 taken_row : (header : PcapHeader) (choice : IfUnplaced) (q : State) (bytes : List ℕ) (now : Option (List ℕ)) (items : List Item) (turns : List Turn)
     → TakesTexts block_format q items (Some bytes) now → AllZip (Becomes header.datalink) items turns → (choice ≡ Refuse → reasons_of turns ≡ [])
     → PlacesRow header choice q bytes turns
@@ -47,7 +47,7 @@ taken_row header choice q bytes now items turns took become allowed =
     record { items = items; others = on.0; rest = there.1; front = rw (sym on.1) there.2; become = become; allowed = allowed }
 
 module _ (header : PcapHeader) (choice : IfUnplaced) (bytes : List ℕ) (a b : Source) (c d : Sink) (known : a.left ≡ Some bytes) where
-  -- what went out
+  -- The output is a beginning of the packets of blocks at the front.
   abbrev Begins : Type 0
   Begins = (gone : List ℕ) × Appends c.out d.out gone × BeginsPlaced header choice a.state bytes gone
 
@@ -96,7 +96,7 @@ module _ (header : PcapHeader) (choice : IfUnplaced) (bytes : List ℕ) (a b : S
   placing_begins most converted (inl refused) = nothing (subst (λ (s : Sink). Keeps c.out s.out) (sym refused.writer) (Keeps-refl c.out))
   placing_begins most converted (inr run) = ended run.mid run.between converted run.so_far converted.blocks most converted.fault run.ends
 
--- where blocks go no further than some, the packets of any others at the front are a beginning of theirs
+-- If blocks go no further than one row, the packets of any other row at the front are a beginning of that row's packets.
 longest_row : (header : PcapHeader) (choice : IfUnplaced) (items others all behind : List Item) (turns whole : List Turn) → items ++ others ≡ all ++ behind
     → AllZip (Becomes header.datalink) items turns → AllZip (Becomes header.datalink) all whole → (choice ≡ Refuse → reasons_of turns ≡ [])
     → GoesNoFurther header choice behind → (more : List Captured) × (packets_of whole ≡ packets_of turns ++ more)
@@ -124,7 +124,7 @@ longest_row header choice (i ∷ is) others (j ∷ js) behind (t ∷ ts) (u ∷ 
     no_last [] ys e = e
     no_last (z ∷ zs) ys e = absurd cc
 
--- what begins a row begins the longest
+-- A beginning of a row is a beginning of the longest row.
 pub begins_whole : (header : PcapHeader) (choice : IfUnplaced) (q : State) (bytes gone : List ℕ) (whole : List Turn) (row : PlacesRow header choice q bytes whole)
     → GoesNoFurther header choice row.others → BeginsPlaced header choice q bytes gone
     → (rest : List ℕ) × (flat_map (written_under header) (packets_of whole) ≡ gone ++ rest)

@@ -1,4 +1,4 @@
--- A capture of blocks that is converted whole.
+-- A capture of blocks is converted whole.
 use Rattle.std.proofs.Common.{◌≡◌, ◌≤◌, ◌+◌, ℕ, List, [], ◌∷◌, ◌++◌, length, refl, ap, sym, ◌∙◌, subst, arith, length-append, append-nil, true, false, Some, None, inl, inr, suc, Ok}
 use Rattle.std.specs.Prelude.{Option, IfSome}
 use Rattle.std.specs.List.{AllZip, flat_map}
@@ -42,7 +42,7 @@ use Rattle.pcap_ng.proofs.Bodies.{refused_for_memory}
 use Rattle.pcap_ng.proofs.FirstBlock.{opening_stable}
 use Rattle.pcap_file.proofs.OneTurn.{packet_as_body, packet_is_read, turn_same, turns_same}
 
--- a list that is zipped with another, in two parts
+-- A list that is zipped with a concatenation of two lists splits into two parts.
 zip_split : {X Y : Type 0} (P : X → Y → Type 0) (xs more : List X) (ys : List Y) → AllZip P (xs ++ more) ys
     → (us ws : List Y) × (ys ≡ us ++ ws) × AllZip P xs us × AllZip P more ws
 zip_split P [] more ys all = ([], ys, refl, tt, all)
@@ -59,13 +59,13 @@ nil_of : {X : Type 0} (l : List X) → length l ≡ 0 → l ≡ []
 nil_of [] e = refl
 nil_of (x ∷ xs) e = absurd (omega (arith, e))
 
--- a writer that takes packets is none that can't
+-- A writer that accepts packets cannot be refused.
 can_write : (header : PcapHeader) (c : Sink) (fault : Option PcapError) → c.failed ≡ false → is_magic header.magic_number ≡ true
     → CannotWrite header c fault → ⊥
 can_write header c fault fine valid (inl why) = true≢false (sym why.0 ∙ fine)
 can_write header c fault fine valid (inr why) = true≢false (sym valid ∙ why.1)
 
--- the block that was taken is the next one
+-- The block that was taken is the next block of the front.
 next_is : (q : State) (more : List Item) (after : List ℕ) (left now : Option (List ℕ)) (item : Item) → left ≡ Some after
     → Front block_format q more after [] → Takes (block_format.says q) left now item
     → (others : List Item) × (more ≡ item ∷ others)
@@ -83,7 +83,7 @@ next_is q more after left now item is front took =
         let same = text_same block_format blocks_lawful q other item after front.texts.0 rest front.texts.1 text in
         (others, ap (λ (i : Item). i ∷ others) same.0)
 
--- where no packet is refused that has no place, and nothing failed, a block that was taken doesn't end a conversion
+-- If packets without a place may be left out or there are none, and nothing failed, a block that was taken does not end a conversion.
 no_block_fails : (header : PcapHeader) (choice : IfUnplaced) (item : Item) (turn : Turn) (c d : Sink) (e : PcapError) → Becomes header.datalink item turn
     → (choice ≡ Refuse → reason_of_turn turn ≡ [])
     → (IsMemory e → ⊥) → d.failed ≡ false → FailsBlock header choice (interfaces_at item.after) item.block c d e → ⊥
@@ -97,7 +97,7 @@ no_block_fails header choice item turn c d e becomes allowed memory fine (inr (i
 
 module _ (header : PcapHeader) (choice : IfUnplaced) (turns : List Turn) (a b : Source) (c d : Sink) (most : ℕ) (converted : NgConverted) (can : CanPlace header choice a turns) (ready : AreReady header a c) (few : length turns ≤ most) (fine : NothingFailed b d converted) where
   module _ (mid : Source) (between : Sink) (so_far : PlacesAll header choice a mid c between converted) where
-    -- what is left of the reader's stream, and of the blocks
+    -- Left: what remains of the reader's stream, and of the blocks.
     record Left : Type 0 where
       after : List ℕ
       more : List Item
@@ -145,7 +145,7 @@ module _ (header : PcapHeader) (choice : IfUnplaced) (turns : List Turn) (a b : 
             AllZip-long (Becomes header.datalink) l.more l.others l.will_become,
           )
 
-      -- where no block is left, each has become what it is
+      -- If no block is left, each block became its turn.
       all_placed : l.more ≡ [] → converted.fault ≡ None → Appends c.out d.out (flat_map (written_under header) (packets_of so_far.turns))
           → PlacesEach header turns c d converted
       all_placed none no_fault out =
@@ -161,7 +161,7 @@ module _ (header : PcapHeader) (choice : IfUnplaced) (turns : List Turn) (a b : 
             out = subst (λ (ps : List Captured). Appends c.out d.out (flat_map (written_under header) ps)) same.0 out;
           }
 
-      -- a block that is left does not end the conversion
+      -- A block that is left does not end the conversion.
       next_fails : (e : PcapError) (item : Item) (more : List Item) (others : List Turn) → l.more ≡ more → l.others ≡ others → TakesNext mid b item
           → (IsMemory e → ⊥)
           → FailsBlock header choice (interfaces_at item.after) item.block between d e → ⊥
@@ -190,7 +190,7 @@ module _ (header : PcapHeader) (choice : IfUnplaced) (turns : List Turn) (a b : 
           no_stop block_format blocks_lawful b.failed (Some e) mid.state l.more l.after b.left fine.no_read_failed memory l.front cause part
       no_fail e memory (inr why) = next_fails e why.0 l.more l.others refl refl why.1 memory why.2
 
-      -- the stream is at its end
+      -- If the reader returns no block, no block is left.
       none_left : TakesNone mid b → l.more ≡ []
       none_left none =
           elim none.why [
@@ -217,7 +217,7 @@ module _ (header : PcapHeader) (choice : IfUnplaced) (turns : List Turn) (a b : 
 
 -- ---- what was converted comes back
 
--- a first block is no packet's
+-- A first block holds no packet.
 opened : (body : Body) (q : State) → leads opening body ≡ good q → is_packet (type_of body) ≡ false
 opened (SectionBody x) q e = refl
 opened _ q e = absurd cc
@@ -228,7 +228,7 @@ none_of_first interfaces link b (placed p) is x = let e : true ≡ false = sym x
 none_of_first interfaces link b (unplaced reason) is x = let e : true ≡ false = sym x.0 ∙ is in absurd cc
 none_of_first interfaces link b no_packet is x = refl
 
--- a reader behind the first block stands at the front of the blocks that become the packets
+-- Behind: after the first block, the reader is at the front of the blocks that become the packets.
 record Behind (link : DataLink) (packets : List Captured) (q : State) (after : List ℕ) (count : ℕ) : Type 0 where
   items : List Item
   turns : List Turn
@@ -279,7 +279,7 @@ come_back header choice packets bytes a b c d most converted x few opens ready f
       out = subst (λ (ps : List Captured). Appends c.out d.out (flat_map (written_under header) ps)) l.packets_are each.out;
     }
 
--- a reader that was made of known bytes stands behind the first block of these
+-- A reader that was made of known bytes is behind their first block.
 pub opened_ready : (T : Type 0) (remaining : T → Option (List ℕ)) (stream : T) (reader : PcapNgReader T) (bytes : List ℕ) → remaining stream ≡ Some bytes
     → OpensReader remaining stream (Ok reader)
     → IsOpened bytes (source_of remaining reader) × ((source_of remaining reader).done ≡ false)

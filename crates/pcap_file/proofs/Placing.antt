@@ -1,4 +1,4 @@
--- Blocks that are converted to packets, one after another.
+-- Proofs about the conversion of blocks to packets, one after another.
 use Rattle.std.proofs.Common.{◌≡◌, ◌≤◌, ◌<◌, ◌+◌, ℕ, List, [], ◌∷◌, ◌++◌, refl, ap, sym, ◌∙◌, subst, arith, length, length-append, append-nil, Bool, true, false, Ok, Err, Some, None, inl, inr}
 use Rattle.std.specs.Prelude.{Result}
 use Rattle.std.specs.List.{flat_map}
@@ -33,7 +33,7 @@ use Rattle.pcap_file.specs.Placing.{CountsBecame, CountsTurn, FailsNext, Goes, I
 use Rattle.pcap_ng.specs.State.{State}
 use Rattle.pcap_ng.proofs.BlockFormat.{blocks_lawful}
 
--- what a packet's block becomes, by what its packet does
+-- The outcome of a packet's block follows from the outcome of its packet.
 pub block_placed : (header : PcapHeader) (choice : IfUnplaced) (interfaces : List Interface) (b : Framed) (c d : Sink) (body : Body) (rest : List ℕ) → is_packet b.type_ ≡ true → SaysOfBody b (whole body rest)
     → (outcome : Result PlacedPacket Unplaced) → TellsPlacedBody interfaces header.datalink body outcome → (result : Result Became PcapError) → PutsPlaced header choice outcome c d result → PlacesBlock header choice interfaces b c d result
 block_placed header choice interfaces b c d body rest is says (Ok packet) told (Ok became.Packet) puts = (captured_of packet, (is, body, rest, says, told), puts.0, puts.1)
@@ -52,7 +52,7 @@ none_by : {X : Type 0} (view : X → Item) (a b : Source) (done : Bool) → a.do
 none_by view a b true is same gives = record { why = inr is; taken = gives.2; state = same; no_read_failed = λ failed. sym gives.1 ∙ failed }
 none_by view a b false is same gives = record { why = inl gives.2; taken = gives.3; state = same; no_read_failed = λ failed. absurd (true≢false (sym failed ∙ gives.1)) }
 
--- a reader gives no block
+-- The reader returns no block.
 pub gives_none : {X : Type 0} (view : X → Item) (a b : Source) → b.state ≡ a.state → NextGives (block_format.says a.state) view a.left b.left a.done b.done a.failed b.failed None → TakesNone a b
 gives_none view a b = none_by view a b a.done refl
 
@@ -61,7 +61,7 @@ next_by : {X : Type 0} (view : X → Item) (a b : Source) (x : X) (done : Bool) 
 next_by view a b x true is leads gives = absurd gives
 next_by view a b x false is leads gives = record { took = gives.2; leads = leads; no_read_failed = gives.1; went_on = is; goes_on = gives.0 }
 
--- a reader gives a block
+-- The reader returns a block.
 pub gives_next : {X : Type 0} (view : X → Item) (a b : Source) (x : X) → (view x).after ≡ b.state
     → NextGives (block_format.says a.state) view a.left b.left a.done b.done a.failed b.failed (Some (Ok x)) → TakesNext a b (view x)
 gives_next view a b x = next_by view a b x a.done refl
@@ -71,7 +71,7 @@ refused_by : {X : Type 0} (view : X → Item) (a b : Source) (e : PcapError) (do
 refused_by view a b e true same gives = absurd gives
 refused_by view a b e false same gives = record { cause = gives.1; part = gives.2; state = same; ended = gives.0 }
 
--- a reader refuses a block
+-- The reader refuses a block.
 pub gives_refused : {X : Type 0} (view : X → Item) (a b : Source) (e : PcapError) → b.state ≡ a.state
     → NextGives (block_format.says a.state) view a.left b.left a.done b.done a.failed b.failed (Some (Err e)) → RefusesNext a b e
 gives_refused view a b e = refused_by view a b e a.done
@@ -81,7 +81,7 @@ left_not_refused LeaveOut is other = absurd cc
 left_not_refused Refuse is other = absurd cc
 
 module _ (header : PcapHeader) (choice : IfUnplaced) where
-  -- what a block became, and what is counted of it
+  -- The outcome of a block gives the turn that is written and counted.
   pub turned : (interfaces : List Interface) (b : Framed) (c d : Sink) (became : Became) (old new : NgConverted) → PlacesBlock header choice interfaces b c d (Ok became) → CountsBecame became old new
       → (turn : Turn) × BecomesIn interfaces header.datalink b turn × Goes header choice turn c d × CountsTurn turn old new
   turned interfaces b c d became.Packet old new went counts = (
@@ -152,7 +152,7 @@ module _ (header : PcapHeader) (choice : IfUnplaced) where
       → PlacesAll header choice a next c behind new
   all_more_under other is a b next c d behind old new so_far one = all_more a b next c d behind old new so_far (subst (λ (h : PcapHeader). PlacesNext h choice b next d behind old new) is one)
 
-  -- the same, with what ended a conversion
+  -- The same blocks were placed once the conversion's error is recorded.
   ended : (a b : Source) (c d : Sink) (converted : NgConverted) (result : Result (Unit {0}) PcapError) → PlacesAll header choice a b c d converted → PlacesAll header choice a b c d (outcome_of converted result)
   ended a b c d converted result all = record {
     items = all.items;
@@ -170,12 +170,12 @@ module _ (header : PcapHeader) (choice : IfUnplaced) where
   }
 
   module _ (a b : Source) (c d : Sink) (most : ℕ) (converted : NgConverted) (so_far : PlacesAll header choice a b c d converted) where
-    -- the most blocks are converted
+    -- The conversion has reached the limit of blocks.
     pub ends_full : converted.blocks ≡ most → PlacesBlocks header choice a b c d most (outcome_of converted (Ok tt))
     ends_full full = record { mid = b; between = d; so_far = ended a b c d converted (Ok tt) so_far; ends = inl (refl, refl, full) }
 
     module _ (now : Source) (out : Sink) (new : NgConverted) (same : new ≡ converted) where
-      -- no block is left
+      -- No block is left.
       pub ends_none : TakesNone b now → IsQuiet d out → PlacesBlocks header choice a now c out most (outcome_of new (Ok tt))
       ends_none none still = record {
         mid = b;
@@ -184,7 +184,7 @@ module _ (header : PcapHeader) (choice : IfUnplaced) where
         ends = inr (none, still);
       }
 
-      -- the next block ends it
+      -- The next block ends the conversion.
       pub ends_failed : (other : PcapHeader) (e : PcapError) → other ≡ header → converted.blocks < most → FailsNext other choice b now d out e → PlacesBlocks header choice a now c out most (outcome_of new (Err e))
       ends_failed other e under fewer why = record {
         mid = b;
@@ -193,7 +193,7 @@ module _ (header : PcapHeader) (choice : IfUnplaced) where
         ends = (subst (λ (n : NgConverted). n.blocks < most) (sym same) fewer, subst (λ (h : PcapHeader). FailsNext h choice b now d out e) under why);
       }
 
--- a block is one packet at most, or one reason
+-- A block has at most one packet and at most one reason.
 pub one_at_most : (turn : Turn) → (length (packet_of_turn turn) ≤ 1) × (length (reason_of_turn turn) ≤ 1)
 one_at_most (placed packet) = (omega arith, omega arith)
 one_at_most (unplaced reason) = (omega arith, omega arith)

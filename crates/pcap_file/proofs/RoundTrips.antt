@@ -43,7 +43,7 @@ use Rattle.pcap_file.proofs.ConvertedAgain.{converted_again}
 use Rattle.pcap_file.proofs.PlacedAgain.{IsPlaced, body_placed, packet_back}
 use Rattle.pcap_ng.proofs.BlockFormat.{good_in}
 
--- a body of a type that isn't kept leaves what is in force
+-- A body of a type that is not kept leaves the state unchanged.
 unkept_stays : (section : Section) (interfaces : List Interface) (order : Order) (type : BlockType) (s : List ℕ) (body : Body) (rest : List ℕ)
     → is_kept type ≡ false
     → BodySays order type s (whole body rest) → leads (within section interfaces) body ≡ good (within section interfaces)
@@ -51,7 +51,7 @@ unkept_stays section interfaces order types.SectionHeader s body rest kept says 
 unkept_stays section interfaces order types.InterfaceDescription s body rest kept says = absurd cc
 unkept_stays section interfaces order _ s body rest kept says = rw says.1 refl
 
--- where a block leads whose body is read, or is not
+-- The state behind a block follows from its body, whether the reader reads the body or not.
 led : (q : State) (b : Framed) (body : Body) (rest : List ℕ) (next : State) (read : Bool) → SaysOfBody b (whole body rest) → is_read q b.type_ ≡ read
     → MeansIf read q b (good next) → leads q body ≡ good next
 led q b body rest next true says is means = ap (leads q) (bodies_same b body means.0 rest means.1 says means.2) ∙ means.3
@@ -59,11 +59,11 @@ led opening b body rest next false says is means = absurd cc
 led (within section interfaces) b body rest next false says is means =
     unkept_stays section interfaces (number_in b.endianness) b.type_ b.body body rest is says ∙ ap good (sym means)
 
--- a block leads where its body does
+-- A block leads to the state to which its body leads.
 pub leads_by_body : (q : State) (item : Item) (body : Body) (s rest : List ℕ) → BlockText q item s rest → IsBodyOf item body → leads q body ≡ good item.after
 leads_by_body q item body s rest text is = led q item.block body is.0 item.after (is_read q item.block.type_) is.1 refl text.means
 
--- what the packets' blocks become
+-- The turns that the blocks of packets become.
 abbrev turns_of : List Captured → List Turn
 turns_of packets = map (λ packet. placed (carried packet)) packets
 
@@ -76,7 +76,7 @@ none_unplaced [] = refl
 none_unplaced (packet ∷ packets) = none_unplaced packets
 
 module _ (header : PcapHeader) (section : Section) where
-  -- the state of a converted capture, from its interface on
+  -- The state of a converted capture behind its interface.
   abbrev described : State
   described = within section (interface_for header ∷ [])
 
@@ -99,7 +99,7 @@ module _ (header : PcapHeader) (section : Section) where
         packets_become packets items texts.0 rest (All-tail IsWhole packet packets wholes) (All-tail HasSecondsInside packet packets inside) behind bodies.1,
       )
 
--- a capture that was converted becomes its packets
+-- A capture that was converted becomes its packets.
 become : (header : PcapHeader) (packets : List Captured) (bytes : List ℕ) (items : List Item) → All IsWhole packets → All HasSecondsInside packets
     → Front block_format opening items bytes []
     → AllZip IsBodyOf items (converted header packets) → BlocksBecome header.datalink (map carried packets) bytes
@@ -133,7 +133,7 @@ pub blocks_become : (header : PcapHeader) (packets : List Captured) (bytes : Lis
     → BlocksBecome header.datalink (map carried packets) bytes
 blocks_become header packets bytes wholes inside blocks = become header packets bytes blocks.items wholes inside blocks.front blocks.bodies
 
--- a packet with less than a second of nanoseconds has no whole seconds among them
+-- A packet with less than a second of nanoseconds has no whole seconds among them.
 pub carried_same : (packet : Captured) → packet.header.ts_nsec < 10 ^ 9 → carried packet ≡ packet
 carried_same packet few =
     let seconds : packet.header.ts_sec + packet.header.ts_nsec / 10 ^ 9 ≡ packet.header.ts_sec = omega (arith, few) in
@@ -142,7 +142,7 @@ carried_same packet few =
 
 -- ---- and the other way
 
--- the blocks before the packets have a text where the header's link type has room in an interface
+-- The blocks before the packets have a text, if the header's link type fits into an interface.
 pub opening_fit : (header : PcapHeader) → IsPlain header.datalink → link_number header.datalink < 2 ^ 16 → header.snaplen < 2 ^ 32
     → All (IsFitIn Little) (opening_blocks header)
 opening_fit header plain link snaplen =
@@ -161,12 +161,12 @@ opening_fit header plain link snaplen =
     } in
     All-cons (IsFitIn Little) section (interface ∷ []) section_fit (All-cons (IsFitIn Little) interface [] interface_fit (All-nil (IsFitIn Little)))
 
--- the packet's nanoseconds, cut, are no more
+-- Cutting a packet's nanoseconds does not make them more.
 cut_less : (r : TsResolution) (packet : Captured) → (cut r packet).header.ts_nsec ≤ packet.header.ts_nsec
 cut_less MicroSecond packet = omega arith
 cut_less NanoSecond packet = omega arith
 
--- a packet of a block, cut, is carried as it is
+-- IsKeptCut: a packet of a block, after it is cut, is carried unchanged.
 record IsKeptCut (r : TsResolution) (packet : Captured) : Type 0 where
   whole : IsWhole (cut r packet)
   inside : HasSecondsInside (cut r packet)
@@ -182,7 +182,7 @@ kept_cut r packet x =
       same = carried_same (cut r packet) few;
     }
 
--- the same of all packets of blocks
+-- AreKeptCut: the same holds for all packets of blocks.
 record AreKeptCut (r : TsResolution) (packets : List Captured) : Type 0 where
   wholes : All IsWhole (map (cut r) packets)
   inside : All HasSecondsInside (map (cut r) packets)
@@ -203,7 +203,7 @@ all_kept r link (item ∷ items) (placed packet ∷ turns) x =
 all_kept r link (item ∷ items) (unplaced reason ∷ turns) x = all_kept r link items turns x.1
 all_kept r link (item ∷ items) (no_packet ∷ turns) x = all_kept r link items turns x.1
 
--- packets of blocks, as a classic capture has them, become themselves again
+-- Packets of blocks, as a classic capture has them, become themselves again.
 pub placed_back : (header : PcapHeader) (items : List Item) (turns : List Turn) → IsWholeHeader header → link_number header.datalink < 2 ^ 16
     → AllZip (Becomes header.datalink) items turns
     → BlocksBecome header.datalink (packets_read header turns) (little_texts (converted header (packets_read header turns)))

@@ -1,4 +1,4 @@
--- What a conversion wrote, as it is read.
+-- The output of a conversion from classic to PcapNg, as a reader reads it.
 use Rattle.std.specs.Prelude.{◌≡◌, ◌+◌, ◌/◌, ◌%◌, ◌^◌, ◌++◌, ℕ, List, [], length, Option, None, pos}
 use Rattle.std.specs.Io.KnownBytes.{Appends}
 use Rattle.std.specs.List.{AllZip}
@@ -16,14 +16,14 @@ use Rattle.pcap_file.specs.Converted.{converted, little_texts}
 use Rattle.pcap_ng.specs.State.{opening}
 use Rattle.pcap_ng.specs.Written.{IsBodyOf}
 
--- The bytes are a PcapNg capture of these blocks, with nothing behind them.
+-- AreBlocksOf: the bytes are a PcapNg capture of the blocks of these packets, with nothing behind them.
 pub record AreBlocksOf (header : PcapHeader) (packets : List Captured) (bytes : List ℕ) : Type 0 where
   pub items : List Item
   pub front : Front block_format opening items bytes []
   pub bodies : AllZip IsBodyOf items (converted header packets)
 
--- What went out is a PcapNg capture of the first packets of the input's front: all of them, or the first `most`, or those before a
--- refusal.
+-- IsConversion: the output is a PcapNg capture of the first packets of the input's front: all of them, the first `most`, or those
+-- before an error.
 pub record IsConversion (bytes : List ℕ) (out_before out_now : Option (List ℕ)) (most : ℕ) (copied : Copied) : Type 0 where
   pub header : PcapHeader
   pub after : List ℕ
@@ -34,17 +34,17 @@ pub record IsConversion (bytes : List ℕ) (out_before out_now : Option (List �
   pub out : Appends out_before out_now (little_texts (converted header packets))
   pub blocks : AreBlocksOf header packets (little_texts (converted header packets))
 
--- the blocks of all of these packets went out, and nothing was refused
+-- ConvertsEach: the blocks of all of these packets were written, and nothing was refused.
 pub record ConvertsEach (header : PcapHeader) (packets : List Captured) (out_before out_now : Option (List ℕ)) (copied : Copied) : Type 0 where
   pub fine : copied.fault ≡ None
   pub count : copied.packets ≡ length packets
   pub out : Appends out_before out_now (little_texts (converted header packets))
 
--- a packet's time: its seconds, with those among its nanoseconds, and the nanoseconds that are left
+-- The exact time of a packet: its seconds plus the whole seconds among its nanoseconds, and the remaining nanoseconds.
 abbrev pub exact_time : Captured → Timestamp
 exact_time packet = record { seconds = pos (packet.header.ts_sec + packet.header.ts_nsec / 10 ^ 9); nanoseconds = packet.header.ts_nsec % 10 ^ 9 }
 
--- the bytes are a beginning of the conversion of these bytes' capture: of its header, and of all packets of its front
+-- BeginsConverted: the output is a beginning of the conversion of these bytes' capture: its header and all packets of its front.
 pub record BeginsConverted (bytes gone : List ℕ) : Type 0 where
   pub header : PcapHeader
   pub packets : List Captured

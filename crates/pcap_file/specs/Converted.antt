@@ -1,4 +1,4 @@
--- A classic capture as one of blocks.
+-- The PcapNg blocks that a classic capture becomes.
 use Rattle.std.specs.Prelude.{◌+◌, ◌*◌, ◌^◌, ℕ, List, [], ◌∷◌, ◌++◌, map}
 use Rattle.std.specs.List.{flat_map}
 use Rattle.pcap_core.specs.declared.common.Endianness.TheVariants.{Little}
@@ -11,38 +11,38 @@ use Rattle.pcap_options.specs.Values.{Entry, Integer}
 use Rattle.pcap_written.specs.Bodies.{text_of}
 use Rattle.pcap_written.specs.Plain.{plain_packet, plain_section}
 
--- times are in nanoseconds (if_tsresol)
+-- The option if_tsresol that sets the timestamp resolution to nanoseconds.
 abbrev pub in_nanoseconds : Entry
 in_nanoseconds = record { code = 9; value = Integer 9 }
 
--- the interface of a capture with this header: its link type, its snaplen, and times in nanoseconds
+-- The interface of a capture with this header: its link type, its snapshot length, and times in nanoseconds.
 abbrev pub interface_for : PcapHeader → Interface
 interface_for header = record { linktype = header.datalink; reserved = 0; snaplen = header.snaplen; options = in_nanoseconds ∷ [] }
 
--- a packet's time in nanoseconds since 1970-01-01 00:00:00 UTC
+-- The time of a packet in nanoseconds since 1970-01-01 00:00:00 UTC.
 abbrev pub time_of : Captured → ℕ
 time_of packet = packet.header.ts_sec * 10 ^ 9 + packet.header.ts_nsec
 
--- the block of a packet: enhanced, of the one interface, with its time, its length on the wire and its bytes
+-- The block of a packet: an enhanced packet of the only interface, with its time, its original length and its bytes.
 abbrev pub packet_block : Captured → Body
 packet_block packet = EnhancedBody (plain_packet 0 (time_of packet) packet.header.orig_len packet.bytes)
 
--- the blocks before the packets: a little-endian section, and the interface
+-- The blocks before the packets are a little-endian section header and the interface.
 abbrev pub opening_blocks : PcapHeader → List Body
 opening_blocks header = SectionBody (plain_section Little) ∷ InterfaceBody (interface_for header) ∷ []
 
--- a capture's blocks: the opening, and one a packet
+-- The blocks of a converted capture are the opening blocks and one block for each packet.
 abbrev pub converted : PcapHeader → List Captured → List Body
 converted header packets = opening_blocks header ++ map packet_block packets
 
--- a block, little-endian
+-- The little-endian text of a block.
 abbrev pub little_text : Body → List ℕ
 little_text = text_of (number_bytes Little)
 
--- blocks, little-endian, one behind the other
+-- The little-endian texts of blocks, concatenated.
 abbrev pub little_texts : List Body → List ℕ
 little_texts = flat_map little_text
 
--- the text of the block of a packet
+-- The text of the block of a packet.
 abbrev pub converted_text : Captured → List ℕ
 converted_text packet = little_text (packet_block packet)

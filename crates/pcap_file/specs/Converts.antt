@@ -1,4 +1,4 @@
--- What a conversion takes and writes.
+-- The effects of a conversion from classic to PcapNg on its reader and its writer.
 use Rattle.std.specs.Prelude.{◌≡◌, ◌⊎◌, ℕ, List, Any, All, true, false, Option, Some, Result, Ok, Err}
 use Rattle.std.specs.Option.{IsSomeAnd}
 use Rattle.std.specs.Io.KnownBytes.{Appends, Keeps}
@@ -23,18 +23,18 @@ use Rattle.pcap_written.specs.Writing.{IsFitIn, FlawIn}
 use Rattle.pcap_file.specs.declared.run.converting.PacketBlocks.{PacketBlocks}
 use Rattle.pcap_file.specs.Converted.{converted_text, little_texts, opening_blocks}
 
--- why the blocks before the packets were not written: memory ran out, or something stands against one of them
+-- RefusesBlocks: the blocks before the packets were not written, because memory ran out or one of them has a flaw.
 abbrev pub RefusesBlocks : List Body → PcapError → Type 0
 RefusesBlocks blocks (errors.OutOfMemory e) = Unit {0}
 RefusesBlocks blocks (errors.InvalidField message) = (flaw : Unwritable) × (message.now ≡ flaw_message flaw) × Any (λ block. FlawIn Little block flaw) blocks
 RefusesBlocks blocks _ = ⊥
 
--- The text of blocks, each of them fit, or why there is none.
+-- MakesText: the result is the text of these blocks, which all can be written, or the reason why there is no text.
 abbrev pub MakesText : {X : Type 0} → List Body → (X → List ℕ) → Result X PcapError → Type 0
 MakesText blocks bytes_of (Ok text) = (bytes_of text ≡ little_texts blocks) × All (IsFitIn Little) blocks
 MakesText blocks bytes_of (Err e) = RefusesBlocks blocks e
 
--- The header was taken, and the blocks before the packets have no text: nothing went out.
+-- RefusesOpening: the header was taken, but the blocks before the packets have no text, so nothing was written.
 pub record RefusesOpening (before now out_before out_now : Option (List ℕ)) (copied : Copied) : Type 0 where
   pub header : PcapHeader
   pub read : Takes HeaderSays before now header
@@ -44,7 +44,7 @@ pub record RefusesOpening (before now out_before out_now : Option (List ℕ)) (c
   pub no_write_failed : copied.write_failed ≡ false
   pub out : Keeps out_before out_now
 
--- A write failed in the blocks before the packets.
+-- TearsOpening: a write failed in the blocks before the packets.
 pub record TearsOpening (before now out_before out_now : Option (List ℕ)) (copied : Copied) : Type 0 where
   pub header : PcapHeader
   pub read : Takes HeaderSays before now header
@@ -54,13 +54,13 @@ pub record TearsOpening (before now out_before out_now : Option (List ℕ)) (cop
   pub write_failed : copied.write_failed ≡ true
   pub out : AppendsPart out_before out_now (little_texts (opening_blocks header))
 
--- The header was taken, and the blocks before the packets went out; each has a text that is read as it was.
+-- OpensConversion: the header was taken, and the blocks before the packets were written; each is read back as it was.
 pub record OpensConversion (before now out_before out_now : Option (List ℕ)) (header : PcapHeader) : Type 0 where
   pub read : Takes HeaderSays before now header
   pub fit : All (IsFitIn Little) (opening_blocks header)
   pub out : Appends out_before out_now (little_texts (opening_blocks header))
 
--- The header was taken, its blocks went out, and then packets.
+-- ConvertsPackets: the header was taken, its blocks were written, and then packets were converted.
 pub record ConvertsPackets (before now out_before out_now : Option (List ℕ)) (most : ℕ) (copied : Copied) : Type 0 where
   pub header : PcapHeader
   pub behind : Option (List ℕ)
@@ -68,20 +68,20 @@ pub record ConvertsPackets (before now out_before out_now : Option (List ℕ)) (
   pub opened : OpensConversion before behind out_before out_behind header
   pub packets : CopiesBehind converted_text header behind now out_behind out_now most copied
 
--- a conversion that did not come to the packets
+-- EndsBefore: the conversion ended before it reached the packets.
 abbrev pub EndsBefore : Option (List ℕ) → Option (List ℕ) → Option (List ℕ) → Option (List ℕ) → Copied → Type 0
 EndsBefore before now out_before out_now copied =
     RefusesHeader Same before now out_before out_now copied
     ⊎ RefusesOpening before now out_before out_now copied
     ⊎ TearsOpening before now out_before out_now copied
 
--- One conversion: the reader's header is refused, or the blocks before the packets, or a write failed in them, or packets were
--- converted.
+-- ConvertRun: in one conversion, the header or the blocks before the packets are refused, or a write fails in these blocks, or
+-- packets are converted.
 abbrev pub ConvertRun : Option (List ℕ) → Option (List ℕ) → Option (List ℕ) → Option (List ℕ) → ℕ → Copied → Type 0
 ConvertRun before now out_before out_now most copied =
     EndsBefore before now out_before out_now copied ⊎ ConvertsPackets before now out_before out_now most copied
 
--- The beginning of a conversion: its blocks went out, and this stands ahead of it, or why it ends there.
+-- BeginsConversion: the blocks before the packets were written and packets are ahead, or the conversion ended there with an error.
 abbrev pub BeginsConversion : Option (List ℕ) → Option (List ℕ) → Option (List ℕ) → Option (List ℕ) → Tally → Result (PacketsAhead PacketBlocks) PcapError → Type 0
 BeginsConversion before now out_before out_now tally (Ok ahead) = OpensConversion before now out_before out_now ahead.header × NothingCopied tally
 BeginsConversion before now out_before out_now tally (Err e) = EndsBefore before now out_before out_now (copied_of tally (Some e))

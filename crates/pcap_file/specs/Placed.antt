@@ -1,4 +1,4 @@
--- Packets of blocks, as a classic capture has them.
+-- The packet of a classic capture that a PcapNg block becomes, and the reasons why a packet has no place there.
 use Rattle.std.specs.Prelude.{◌≡◌, ◌≢◌, ◌<◌, ◌+◌, ◌/◌, ◌%◌, ◌^◌, ℕ, List, [], ◌∷◌, length, Bool, true, false, Option, None, Some, Result, Ok, Err, pos, codes}
 use Rattle.std.specs.List.{slice_get, flat_map}
 use Rattle.pcap_core.specs.declared.link.DataLink.{DataLink}
@@ -21,7 +21,7 @@ use Rattle.pcap_ng.specs.Bodies.{SaysOfBody}
 use Rattle.pcap_ng.specs.Frames.{Framed}
 use Rattle.pcap_ng.specs.State.{interfaces_at}
 
--- the message that names a reason
+-- The message of a reason why a packet has no place.
 abbrev pub unplaced_message : Unplaced → List ℕ
 unplaced_message reasons.NoTime = codes "SimplePacketBlock: no time"
 unplaced_message reasons.InterfaceMissing = codes "Block: interface_id is not described"
@@ -30,11 +30,11 @@ unplaced_message reasons.SecondsOutside = codes "Block: seconds of no 32 bits"
 unplaced_message reasons.OriginalTooLong = rule_message OriginalTooLong
 unplaced_message reasons.CapturedPastOriginal = rule_message IncludedPastOriginal
 
--- a packet's time, with all whole seconds among its seconds
+-- The time of a packet as a timestamp: its seconds and its nanoseconds, unchanged.
 abbrev pub time_in : Captured → Timestamp
 time_in packet = record { seconds = pos packet.header.ts_sec; nanoseconds = packet.header.ts_nsec }
 
--- the packet with all whole seconds among its seconds
+-- The packet with the whole seconds among its nanoseconds moved to its seconds.
 abbrev pub carried : Captured → Captured
 carried packet = record {
   header = record {
@@ -46,8 +46,8 @@ carried packet = record {
   bytes = packet.bytes;
 }
 
--- The packet of these bytes and this length on the wire, which came by this interface so many units of its clock after 1970, is
--- this one of a classic capture of this link type ('Packet Record' of pcap, 'Enhanced Packet Block' of pcapng).
+-- Places: this packet of a classic capture ('Packet Record' of pcap) has this link type, and the bytes, the original length and the
+-- time of a block of this interface ('Enhanced Packet Block' of pcapng). The block's time is in units of the interface's clock.
 pub record Places (interface : Option Interface) (link : DataLink) (units original : ℕ) (bytes : List ℕ) (packet : Captured) : Type 0 where
   pub by : Interface
   pub described : interface ≡ Some by
@@ -57,11 +57,11 @@ pub record Places (interface : Option Interface) (link : DataLink) (units origin
   pub bytes_are : packet.bytes ≡ bytes
   pub whole : IsWhole packet
 
--- an interface's clock shows a time whose seconds are no number of 32 bits
+-- The interface's clock shows a time whose seconds do not fit into 32 bits.
 abbrev pub HasSecondsOutside : Interface → ℕ → Type 0
 HasSecondsOutside interface units = (time : Timestamp) × IsTimeAt interface units time × ((s : ℕ) → s < 2 ^ 32 → time.seconds ≢ pos s)
 
--- why such a packet has no place there
+-- HasNoPlace gives the meaning of each reason why such a packet has no place in the classic capture.
 abbrev pub HasNoPlace : Option Interface → DataLink → ℕ → ℕ → List ℕ → Unplaced → Type 0
 HasNoPlace interface link units original bytes reasons.NoTime = ⊥
 HasNoPlace interface link units original bytes reasons.InterfaceMissing = interface ≡ None
@@ -70,16 +70,16 @@ HasNoPlace interface link units original bytes reasons.SecondsOutside = (by : In
 HasNoPlace interface link units original bytes reasons.OriginalTooLong = packet_limit < original
 HasNoPlace interface link units original bytes reasons.CapturedPastOriginal = original < length bytes
 
--- a packet of the code
+-- The specification's view of a packet that the code returns.
 abbrev pub captured_of : PlacedPacket → Captured
 captured_of p = record { header = p.header; bytes = p.bytes.now }
 
--- the packet, or why it has no place
+-- TellsPlaced: the result is the packet, or a true reason why it has no place.
 abbrev pub TellsPlaced : Option Interface → DataLink → ℕ → ℕ → List ℕ → Result PlacedPacket Unplaced → Type 0
 TellsPlaced interface link units original bytes (Ok packet) = Places interface link units original bytes (captured_of packet)
 TellsPlaced interface link units original bytes (Err reason) = HasNoPlace interface link units original bytes reason
 
--- a body is of this packet, where these interfaces are described
+-- The body holds this packet, if these interfaces are described.
 abbrev pub PlacesBody : List Interface → DataLink → Body → Captured → Type 0
 PlacesBody interfaces link (EnhancedBody b) packet =
     Places (slice_get interfaces b.interface_id) link b.packet.timestamp b.packet.original_len b.packet.bytes packet
@@ -87,7 +87,7 @@ PlacesBody interfaces link (OldPacketBody b) packet =
     Places (slice_get interfaces b.interface_id) link b.packet.timestamp b.packet.original_len b.packet.bytes packet
 PlacesBody interfaces link _ packet = ⊥
 
--- why the packet of a body has no place; one without a time has none
+-- HasNoPlaceBody: this is a reason why the packet of a body has no place; a packet without a time has none.
 abbrev pub HasNoPlaceBody : List Interface → DataLink → Body → Unplaced → Type 0
 HasNoPlaceBody interfaces link (EnhancedBody b) reason =
     HasNoPlace (slice_get interfaces b.interface_id) link b.packet.timestamp b.packet.original_len b.packet.bytes reason
@@ -95,25 +95,25 @@ HasNoPlaceBody interfaces link (OldPacketBody b) reason =
     HasNoPlace (slice_get interfaces b.interface_id) link b.packet.timestamp b.packet.original_len b.packet.bytes reason
 HasNoPlaceBody interfaces link _ reason = reason ≡ reasons.NoTime
 
--- the packet of a body, or why it has no place
+-- TellsPlacedBody: the result is the packet of a body, or a true reason why it has no place.
 abbrev pub TellsPlacedBody : List Interface → DataLink → Body → Result PlacedPacket Unplaced → Type 0
 TellsPlacedBody interfaces link body (Ok packet) = PlacesBody interfaces link body (captured_of packet)
 TellsPlacedBody interfaces link body (Err reason) = HasNoPlaceBody interfaces link body reason
 
--- blocks of this type hold a packet
+-- Blocks of this type hold a packet.
 abbrev pub is_packet : BlockType → Bool
 is_packet types.EnhancedPacket = true
 is_packet types.Packet = true
 is_packet types.SimplePacket = true
 is_packet _ = false
 
--- what a block becomes: a packet, or one that has no place, or none
+-- A turn is what a block becomes: a packet with a place, a packet without a place, or no packet.
 pub data Turn : Type 0 where
   placed : Captured → Turn
   unplaced : Unplaced → Turn
   no_packet : Turn
 
--- what a block becomes in a classic capture of this link type, where these interfaces are described
+-- BecomesIn: a block becomes this turn in a classic capture of this link type, if these interfaces are described.
 abbrev pub BecomesIn : List Interface → DataLink → Framed → Turn → Type 0
 BecomesIn interfaces link b (placed packet) =
     (is_packet b.type_ ≡ true) × (body : Body) × (rest : List ℕ) × SaysOfBody b (whole body rest) × PlacesBody interfaces link body packet
@@ -121,26 +121,26 @@ BecomesIn interfaces link b (unplaced reason) =
     (is_packet b.type_ ≡ true) × (body : Body) × (rest : List ℕ) × SaysOfBody b (whole body rest) × HasNoPlaceBody interfaces link body reason
 BecomesIn interfaces link b no_packet = is_packet b.type_ ≡ false
 
--- what a block of a capture becomes
+-- Becomes: a block of a capture becomes this turn, with the interfaces that are in force behind the block.
 abbrev pub Becomes : DataLink → Item → Turn → Type 0
 Becomes link item = BecomesIn (interfaces_at item.after) link item.block
 
--- the packet, where there is one
+-- The packet of a turn, if it has one.
 abbrev pub packet_of_turn : Turn → List Captured
 packet_of_turn (placed packet) = packet ∷ []
 packet_of_turn (unplaced reason) = []
 packet_of_turn no_packet = []
 
--- the reason, where there is one
+-- The reason of a turn, if it has one.
 abbrev pub reason_of_turn : Turn → List Unplaced
 reason_of_turn (placed packet) = []
 reason_of_turn (unplaced reason) = reason ∷ []
 reason_of_turn no_packet = []
 
--- the packets of blocks, in order
+-- The packets of turns, in order.
 abbrev pub packets_of : List Turn → List Captured
 packets_of = flat_map packet_of_turn
 
--- why packets of blocks have no place, in order
+-- The reasons of turns, in order.
 abbrev pub reasons_of : List Turn → List Unplaced
 reasons_of = flat_map reason_of_turn

@@ -1,4 +1,4 @@
--- What a conversion of blocks to packets takes and writes.
+-- The effects of a conversion from PcapNg to a classic capture on its reader and its writer.
 use Rattle.std.specs.Prelude.{◌≡◌, ◌<◌, ◌+◌, ◌⊎◌, ℕ, List, [], length, Bool, true, false, Option, None, Some, Result, Ok, Err}
 use Rattle.std.specs.Option.{IsSomeAnd}
 use Rattle.std.specs.Result.{result_err}
@@ -37,7 +37,7 @@ use Rattle.pcap_ng.specs.State.{interfaces_at}
 use Rattle.pcap_ng.specs.Reader as readers
 use Rattle.pcap_ng.specs.State.{State}
 
--- what a reader shows: what is in force, what is left of its stream, whether a read failed, and whether it has refused something
+-- A source is the state of a reader: what is in force, what is left of its stream, whether a read failed, and whether it refused bytes.
 pub record Source : Type 0 where
   pub state : State
   pub left : Option (List ℕ)
@@ -48,7 +48,7 @@ abbrev pub source_of : {T : Type 0} → (T → Option (List ℕ)) → PcapNgRead
 source_of remaining reader =
     record { state = readers.state_of reader; left = remaining (readers.stream_of reader); failed = readers.has_failed reader; done = readers.is_done reader }
 
--- what a writer shows: what it has written, and whether a write failed
+-- A sink is the state of a writer: what it has written, and whether a write failed.
 pub record Sink : Type 0 where
   pub out : Option (List ℕ)
   pub failed : Bool
@@ -56,12 +56,12 @@ pub record Sink : Type 0 where
 abbrev pub sink_of : {W : Type 0} → (W → Option (List ℕ)) → PcapWriter W → Sink
 sink_of contents writer = record { out = contents (writers.stream_of writer); failed = writers.has_failed writer }
 
--- nothing went out
+-- Nothing was written.
 pub record IsQuiet (c d : Sink) : Type 0 where
   pub out : Keeps c.out d.out
   pub failed : d.failed ≡ c.failed
 
--- the next block was taken, and what it puts in force is in force
+-- The next block was taken, and the reader's state is the one behind that block.
 pub record TakesNext (a b : Source) (item : Item) : Type 0 where
   pub took : Takes (block_format.says a.state) a.left b.left item
   pub leads : item.after ≡ b.state
@@ -69,32 +69,32 @@ pub record TakesNext (a b : Source) (item : Item) : Type 0 where
   pub went_on : a.done ≡ false
   pub goes_on : b.done ≡ false
 
--- the stream is at its end, or the reader has refused something before
+-- No block was taken, since the stream is at its end or the reader has refused something before.
 pub record TakesNone (a b : Source) : Type 0 where
   pub why : IsAtEnd a.left ⊎ (a.done ≡ true)
   pub taken : Keeps a.left b.left
   pub state : b.state ≡ a.state
   pub no_read_failed : b.failed ≡ true → a.failed ≡ true
 
--- the next block is refused: no more was taken than was asked for
+-- The next block is refused, and no more bytes were taken than the reader asked for.
 pub record RefusesNext (a b : Source) (e : PcapError) : Type 0 where
   pub cause : HasCause (block_format.says a.state) a.left b.failed e
   pub part : TakesAsked (block_format.says a.state) a.left b.left
   pub state : b.state ≡ a.state
   pub ended : b.done ≡ true
 
--- an error with this message
+-- The error has this message.
 abbrev pub HasMessage : List ℕ → PcapError → Type 0
 HasMessage text (errors.InvalidField message) = message.now ≡ text
 HasMessage text _ = ⊥
 
--- the body of a block that holds a packet is refused, or its list of options can't grow
+-- RefusesBody: the body of a block that holds a packet is refused, or there is no memory for its list of options.
 pub record RefusesBody (b : Framed) (c d : Sink) (e : PcapError) : Type 0 where
   pub of_packet : is_packet b.type_ ≡ true
   pub refused : Refuses (GrowsInBody b) (λ n. SaysOfBody b (lacks n)) (λ fault. SaysOfBody b (faulty fault)) e
   pub out : IsQuiet c d
 
--- a packet has no place, and such packets are refused
+-- RefusesPacket: a packet has no place, and the caller chose to refuse such packets.
 pub record RefusesPacket (header : PcapHeader) (choice : IfUnplaced) (interfaces : List Interface) (b : Framed) (c d : Sink) (e : PcapError) : Type 0 where
   pub asked : choice ≡ Refuse
   pub reason : Unplaced
@@ -102,7 +102,7 @@ pub record RefusesPacket (header : PcapHeader) (choice : IfUnplaced) (interfaces
   pub message : HasMessage (unplaced_message reason) e
   pub out : IsQuiet c d
 
--- a write failed in a packet
+-- TearsPacket: a write failed while a packet was written.
 pub record TearsPacket (header : PcapHeader) (interfaces : List Interface) (b : Framed) (c d : Sink) (e : PcapError) : Type 0 where
   pub packet : Captured
   pub becomes : BecomesIn interfaces header.datalink b (placed packet)
@@ -110,12 +110,12 @@ pub record TearsPacket (header : PcapHeader) (interfaces : List Interface) (b : 
   pub write_failed : d.failed ≡ true
   pub out : AppendsPart c.out d.out (written_under header packet)
 
--- why a block that was taken ends a conversion
+-- FailsBlock gives the causes why a block that was taken ends a conversion.
 abbrev pub FailsBlock : PcapHeader → IfUnplaced → List Interface → Framed → Sink → Sink → PcapError → Type 0
 FailsBlock header choice interfaces b c d e = RefusesBody b c d e ⊎ RefusesPacket header choice interfaces b c d e ⊎ TearsPacket header interfaces b c d e
 
--- what a block becomes went out, or nothing, where it holds no packet, or one that has no place and may be left out; or that
--- ends a conversion
+-- PlacesBlock: the packet of a block was written, or nothing was written because the block has no packet or one that is left out,
+-- or the block ends the conversion.
 abbrev pub PlacesBlock : PcapHeader → IfUnplaced → List Interface → Framed → Sink → Sink → Result Became PcapError → Type 0
 PlacesBlock header choice interfaces b c d (Ok became.Packet) =
     (packet : Captured) × BecomesIn interfaces header.datalink b (placed packet) × Appends c.out d.out (written_under header packet) × (d.failed ≡ c.failed)
@@ -124,7 +124,7 @@ PlacesBlock header choice interfaces b c d (Ok became.LeftOut) =
 PlacesBlock header choice interfaces b c d (Ok became.NoPacket) = BecomesIn interfaces header.datalink b no_packet × IsQuiet c d
 PlacesBlock header choice interfaces b c d (Err e) = FailsBlock header choice interfaces b c d e
 
--- a packet that has a place went out, or one that has none is refused, or left out
+-- PutsPlaced: a packet that has a place was written, and a packet that has none was refused or left out.
 abbrev pub PutsPlaced : PcapHeader → IfUnplaced → Result PlacedPacket Unplaced → Sink → Sink → Result Became PcapError → Type 0
 PutsPlaced header choice (Ok packet) c d (Ok became.Packet) = Appends c.out d.out (written_under header (captured_of packet)) × (d.failed ≡ c.failed)
 PutsPlaced header choice (Ok packet) c d (Err e) = IsIo e × (d.failed ≡ true) × AppendsPart c.out d.out (written_under header (captured_of packet))
@@ -132,42 +132,42 @@ PutsPlaced header choice (Err reason) c d (Ok became.LeftOut) = (choice ≡ Leav
 PutsPlaced header choice (Err reason) c d (Err e) = (choice ≡ Refuse) × HasMessage (unplaced_message reason) e × IsQuiet c d
 PutsPlaced header choice _ c d _ = ⊥
 
--- why the next block ends it: it is refused, or was taken
+-- FailsNext: the next block ends the conversion, because the reader refuses it or because it fails after it was taken.
 abbrev pub FailsNext : PcapHeader → IfUnplaced → Source → Source → Sink → Sink → PcapError → Type 0
 FailsNext header choice a b c d e =
     (RefusesNext a b e × IsQuiet c d) ⊎ ((item : Item) × TakesNext a b item × FailsBlock header choice (interfaces_at item.after) item.block c d e)
 
--- what a block becomes went out, or nothing, where it may be left out
+-- Goes: the packet that a block becomes was written, or nothing if the block holds none or one that may be left out.
 pub record Goes (header : PcapHeader) (choice : IfUnplaced) (turn : Turn) (c d : Sink) : Type 0 where
   pub allowed : choice ≡ Refuse → reason_of_turn turn ≡ []
   pub out : Appends c.out d.out (flat_map (written_under header) (packet_of_turn turn))
   pub no_write_failed : d.failed ≡ c.failed
 
--- how many packets went out of a block
+-- The number of packets that were written for a block.
 abbrev pub packets_in : Became → ℕ
 packets_in became.Packet = 1
 packets_in became.LeftOut = 0
 packets_in became.NoPacket = 0
 
--- how many packets of it were left out
+-- The number of packets of a block that were left out.
 abbrev pub left_out_in : Became → ℕ
 left_out_in became.Packet = 0
 left_out_in became.LeftOut = 1
 left_out_in became.NoPacket = 0
 
--- one block more is counted, with what it became
+-- CountsTurn: one more block is counted, together with its packet or its packet that was left out.
 pub record CountsTurn (turn : Turn) (old new : NgConverted) : Type 0 where
   pub blocks : new.blocks ≡ old.blocks + 1
   pub packets : new.packets ≡ old.packets + length (packet_of_turn turn)
   pub left_out : new.left_out ≡ old.left_out + length (reason_of_turn turn)
 
--- one block more is counted, with a packet, or with one that was left out
+-- CountsBecame: one more block is counted, together with its packet or its packet that was left out.
 pub record CountsBecame (what : Became) (old new : NgConverted) : Type 0 where
   pub blocks : new.blocks ≡ old.blocks + 1
   pub packets : new.packets ≡ old.packets + packets_in what
   pub left_out : new.left_out ≡ old.left_out + left_out_in what
 
--- one block was taken, and what it becomes went out
+-- PlacesNext: one block was taken, and the packet that it becomes was written.
 pub record PlacesNext (header : PcapHeader) (choice : IfUnplaced) (a b : Source) (c d : Sink) (old new : NgConverted) : Type 0 where
   pub item : Item
   pub turn : Turn
@@ -176,13 +176,13 @@ pub record PlacesNext (header : PcapHeader) (choice : IfUnplaced) (a b : Source)
   pub goes : Goes header choice turn c d
   pub counts : CountsTurn turn old new
 
--- one step of a conversion: a block, or none, or a fault
+-- StepsPlacing: one step of a conversion takes one block, or finds no block, or ends with an error.
 abbrev pub StepsPlacing : PcapHeader → IfUnplaced → Source → Source → Sink → Sink → NgConverted → NgConverted → Result Bool PcapError → Type 0
 StepsPlacing header choice a b c d old new (Ok true) = PlacesNext header choice a b c d old new
 StepsPlacing header choice a b c d old new (Ok false) = TakesNone a b × IsQuiet c d × (new ≡ old)
 StepsPlacing header choice a b c d old new (Err e) = FailsNext header choice a b c d e × (new ≡ old)
 
--- blocks were taken, each became what it is, and exactly the packets that have a place went out; all are counted
+-- PlacesAll: blocks were taken and counted, each became its turn, and exactly the packets with a place were written.
 pub record PlacesAll (header : PcapHeader) (choice : IfUnplaced) (a b : Source) (c d : Sink) (converted : NgConverted) : Type 0 where
   pub items : List Item
   pub turns : List Turn
@@ -197,41 +197,41 @@ pub record PlacesAll (header : PcapHeader) (choice : IfUnplaced) (a b : Source) 
   pub packets : converted.packets ≡ length (packets_of turns)
   pub left_out : converted.left_out ≡ length (reasons_of turns)
 
--- why a conversion ended behind them: at the stream's end, or at the most blocks, or with a fault before these
+-- EndsPlacing: the conversion ended at the end of the stream or at the limit of blocks, or with an error before the limit.
 abbrev pub EndsPlacing : PcapHeader → IfUnplaced → Source → Source → Sink → Sink → ℕ → ℕ → Option PcapError → Type 0
 EndsPlacing header choice a b c d n most None = ((b ≡ a) × (d ≡ c) × (n ≡ most)) ⊎ (TakesNone a b × IsQuiet c d)
 EndsPlacing header choice a b c d n most (Some e) = (n < most) × FailsNext header choice a b c d e
 
--- blocks were converted, until the conversion ended
+-- PlacesBlocks: blocks were converted until the conversion ended.
 pub record PlacesBlocks (header : PcapHeader) (choice : IfUnplaced) (a b : Source) (c d : Sink) (most : ℕ) (converted : NgConverted) : Type 0 where
   pub mid : Source
   pub between : Sink
   pub so_far : PlacesAll header choice a mid c between converted
   pub ends : EndsPlacing header choice mid b between d converted.blocks most converted.fault
 
--- nothing is counted yet
+-- Nothing is counted yet.
 pub record IsNew (converted : NgConverted) : Type 0 where
   pub blocks : converted.blocks ≡ 0
   pub packets : converted.packets ≡ 0
   pub left_out : converted.left_out ≡ 0
 
--- a write of the writer failed before, or its header has none of the four magic numbers
+-- CannotWrite: an earlier write of the writer failed, or its header has none of the four magic numbers.
 abbrev pub CannotWrite : PcapHeader → Sink → Option PcapError → Type 0
 CannotWrite header c fault =
     ((c.failed ≡ true) × (fault ≡ Some errors.WriterFailed))
     ⊎ ((c.failed ≡ false) × (is_magic header.magic_number ≡ false) × IsSomeAnd fault (Names CaptureMagic))
 
--- the writer is of no use: nothing was taken, and nothing went out
+-- RefusesWriter: the writer is refused, nothing was taken, and nothing was written.
 pub record RefusesWriter (header : PcapHeader) (a b : Source) (c d : Sink) (converted : NgConverted) : Type 0 where
   pub why : CannotWrite header c converted.fault
   pub none : IsNew converted
   pub reader : b ≡ a
   pub writer : d ≡ c
 
--- one conversion: the writer is of no use, or blocks were converted
+-- PlacesRun: in one conversion, the writer is refused or blocks are converted.
 abbrev pub PlacesRun : PcapHeader → IfUnplaced → Source → Source → Sink → Sink → ℕ → NgConverted → Type 0
 PlacesRun header choice a b c d most converted = RefusesWriter header a b c d converted ⊎ PlacesBlocks header choice a b c d most converted
 
--- a conversion that ended with this result
+-- The record of a conversion that ended with this result.
 abbrev pub outcome_of : NgConverted → Result (Unit {0}) PcapError → NgConverted
 outcome_of converted result = record converted { fault = result_err result }

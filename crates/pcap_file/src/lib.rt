@@ -1,4 +1,4 @@
-//! Captures in both formats, read and written, and each made into the other.
+//! Reads and writes classic and PcapNg captures, and converts each format to the other.
 #![tactic(auto)]
 
 pub mod laws;

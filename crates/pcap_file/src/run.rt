@@ -1,4 +1,4 @@
-//! Whole runs over a capture, and from one format to the other.
+//! Runs over a whole capture, copies of a capture, and conversions between the formats.
 
 mod converting;
 mod placing;

@@ -7,7 +7,7 @@ use Rattle.pcap_filter.specs.Codes.{kind_of}
 use Rattle.pcap_filter.specs.Effects.{Machine, Effect, Goes, Ends, acts, branches, divides, effect, indexes_header, loads, read}
 use Rattle.pcap_filter.specs.Programs.{IsFine, StaysInside}
 
--- so many steps are passed over by an effect, and fewer than these
+-- PassesBelow: the effect skips fewer than `behind` steps, or ends the program.
 abbrev pub PassesBelow : Effect → ℕ → Type 0
 PassesBelow (Goes machine over) behind = over < behind
 PassesBelow (Ends value) behind = Unit {0}

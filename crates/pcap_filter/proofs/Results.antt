@@ -16,7 +16,7 @@ module _ (packet : List ℕ) (original : ℕ) where
   result_dropped (step ∷ steps) zero machine = refl
   result_dropped (step ∷ steps) (suc over) machine = result_dropped steps over machine
 
-  -- what follows an effect
+  -- The result of a program after an effect.
   abbrev after : List Step → Effect → ℕ
   after behind (Ends value) = value
   after behind (Goes next over) = result_behind packet original behind over next
@@ -30,13 +30,13 @@ module _ (packet : List ℕ) (original : ℕ) where
       result_behind packet original steps 0 machine ≡ after behind e
   result_here steps behind step machine e parts is = ap (λ l. result_behind packet original l 0 machine) parts ∙ result_step step behind machine e is
 
-  -- a run gives the result
+  -- A run ends with the result.
   pub runs_to : (steps : List Step) (machine : Machine) (value : ℕ) → Runs packet original steps machine value → result_behind packet original steps 0 machine ≡ value
   runs_to steps machine value (returns _ behind step _ _ parts ends) = result_here steps behind step machine (Ends value) parts ends
   runs_to steps machine value (goes_on _ behind step _ next over _ parts goes run) =
       result_here steps behind step machine (Goes next over) parts goes ∙ (result_dropped behind over next ∙ runs_to (drop over behind) next value run)
 
-  -- there is a run
+  -- A program that keeps all rules has a run.
   pub has_run : (most : ℕ) (steps : List Step) (machine : Machine) → AllFine steps → 0 < length steps → length steps ≤ most → (value : ℕ) × Runs packet original steps machine value
   has_run zero steps machine fine some few = absurd (omega (arith, some, few))
   has_run (suc most) [] machine fine some few = absurd (omega (arith, some))
@@ -54,7 +54,7 @@ pub run_gives : (packet : List ℕ) (original : ℕ) (steps : List Step) (value 
 unfolding result_of
 run_gives packet original steps value run = sym (runs_to packet original steps start value run)
 
--- a program that keeps all rules runs to its result, and to no other
+-- A program that keeps all rules ends with its result.
 pub runs_to_result : (packet : List ℕ) (original : ℕ) (steps : List Step) → IsProgram steps → Runs packet original steps start (result_of steps packet original)
 runs_to_result packet original steps valid =
     let run = has_run packet original (length steps) steps start valid.fine valid.some (omega arith) in

@@ -1,4 +1,4 @@
--- What holds of valid programs.
+-- Proofs about programs that keep all rules.
 use Rattle.std.proofs.Common.{◌≡◌, ◌<◌, ◌≤◌, ◌+◌, ◌-◌, ◌++◌, ℕ, zero, suc, List, [], ◌∷◌, length, get_or, take, drop, refl, sym, subst, ap, ◌∙◌, arith, length-append, length-drop, take-append-drop, zero-add}
 use Rattle.std.proofs.Common.{drop-cons, length-take-le, take-suc, take_all}
 use Rattle.pcap_filter.specs.declared.errors.Rule.{Rule}
@@ -6,7 +6,7 @@ use Rattle.pcap_filter.specs.declared.program.Instruction.{Instruction}
 use Rattle.pcap_filter.specs.declared.program.Step.{Step}
 use Rattle.pcap_filter.specs.Programs.{AllFine, AllMean, Breaks, BreaksAt, IsFine, IsProgram, IsTaken, Means}
 
--- a rest of valid steps is valid
+-- The rest of steps that keep all rules keeps all rules.
 pub fine_rest : (over : ℕ) (steps : List Step) → AllFine steps → AllFine (drop over steps)
 fine_rest zero steps fine = fine
 fine_rest (suc over) [] fine = tt
@@ -18,7 +18,7 @@ same_count behind [] (step ∷ steps) mean = absurd mean
 same_count behind (instruction ∷ instructions) [] mean = absurd mean
 same_count behind (instruction ∷ instructions) (step ∷ steps) mean = ap suc (same_count behind instructions steps mean.1)
 
--- what instructions mean is valid
+-- The steps that instructions mean keep all rules.
 pub mean_fine : (instructions : List Instruction) (steps : List Step) → AllMean instructions 0 steps → AllFine steps
 mean_fine [] [] mean = tt
 mean_fine [] (step ∷ steps) mean = absurd mean
@@ -34,7 +34,7 @@ taken_is_program program steps taken = record {
   fine = mean_fine program steps taken.mean;
 }
 
--- one more instruction behind others
+-- One more instruction may follow instructions that mean steps.
 pub mean_more : (behind : ℕ) (front : List Instruction) (steps : List Step) (instruction : Instruction) (step : Step) →
     AllMean front (1 + behind) steps → Means instruction behind step → AllMean (front ++ (instruction ∷ [])) behind (steps ++ (step ∷ []))
 mean_more behind [] [] instruction step mean more = (subst (λ n. Means instruction n step) (sym (zero-add behind)) more, tt)
@@ -44,7 +44,7 @@ mean_more behind (first ∷ front) (other ∷ steps) instruction step mean more 
     let same : length front + (1 + behind) ≡ length (front ++ (instruction ∷ [])) + behind = simp length-append (omega arith) in
     (subst (λ n. Means first n other) same mean.0, mean_more behind front steps instruction step mean.1 more)
 
--- all instructions were read
+-- If all instructions were read, the program is accepted.
 pub taken_whole : (program : List Instruction) (steps : List Step) (index : ℕ) → 0 < length program → length program ≤ 4096 → length program ≤ index → index ≤ length program →
     AllMean (take index program) (length program - index) steps → IsTaken program steps
 taken_whole program steps index some most all inside mean =
@@ -55,7 +55,7 @@ taken_whole program steps index some most all inside mean =
       mean = subst (λ l. AllMean l 0 steps) (take_all index program all) (subst (λ n. AllMean (take index program) n steps) none mean);
     }
 
--- the next instruction was read
+-- If the next instruction means a step, one more instruction was read.
 pub mean_next : (program : List Instruction) (index behind : ℕ) (steps now : List Step) (other : Instruction) (step : Step) → index < length program →
     AllMean (take index program) (length program - index) steps → Means (get_or program index other) behind step → behind ≡ length program - (index + 1) →
     now ≡ steps ++ (step ∷ []) → AllMean (take (index + 1) program) (length program - (index + 1)) now
@@ -67,7 +67,7 @@ mean_next program index behind steps now other step inside mean more left pushed
     let there = subst (λ l. AllMean l behind (steps ++ (step ∷ []))) (sym longer) all in
     subst (λ n. AllMean (take (index + 1) program) n now) left (subst (λ l. AllMean (take (index + 1) program) behind l) (sym pushed) there)
 
--- the next instruction breaks a rule
+-- If the next instruction breaks a rule, it is the first that does.
 pub breaks_here : (program : List Instruction) (index place behind : ℕ) (steps : List Step) (other : Instruction) (broken : Rule) → index < length program →
     place ≡ index → behind ≡ length program - (index + 1) → AllMean (take index program) (length program - index) steps →
     Breaks (get_or program index other) behind broken → BreaksAt program place broken

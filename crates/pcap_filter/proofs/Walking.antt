@@ -9,18 +9,18 @@ use Rattle.pcap_filter.specs.Runs.{Runs, returns, goes_on}
 use Rattle.pcap_filter.proofs.Inside.{PassesBelow, acts_inside}
 use Rattle.pcap_filter.proofs.Valid.{fine_rest}
 
--- a run of all steps comes to a place in this machine
+-- Comes: a run from the first step comes to this place in this machine.
 pub record Comes (steps : List Step) (packet : List ℕ) (original place : ℕ) (machine : Machine) : Type 0 where
   pub inside : place < length steps
   pub most : length steps ≤ 4096
   pub fine : AllFine steps
   pub goes : (value : ℕ) → Runs packet original (drop place steps) machine value → Runs packet original steps start value
 
--- it begins at the first step
+-- A run begins at the first step.
 pub comes_first : (steps : List Step) (packet : List ℕ) (original : ℕ) → IsProgram steps → Comes steps packet original 0 start
 comes_first steps packet original valid = record { inside = valid.some; most = valid.most; fine = valid.fine; goes = λ value run. run }
 
--- the step at a place keeps all rules
+-- The step at a place keeps all rules.
 pub fine_here : (steps : List Step) (place : ℕ) (other : Step) → AllFine steps → place < length steps → IsFine (get_or steps place other) (length steps - suc place)
 fine_here steps place other fine inside =
     let here = subst AllFine (drop-cons steps place other inside) (fine_rest place steps fine) in
@@ -30,13 +30,13 @@ pub number_here : (steps : List Step) (place : ℕ) (other : Step) → AllFine s
     HasNumber (kind_of (get_or steps place other).operation) (get_or steps place other).k
 number_here steps place other fine inside = (fine_here steps place other fine inside).0
 
--- a step that ends the program gives the result of the run
+-- A step that ends the program gives the result of the run.
 pub comes_end : (steps : List Step) (packet : List ℕ) (original place : ℕ) (machine : Machine) (other : Step) (value : ℕ) →
     Comes steps packet original place machine → effect (get_or steps place other) packet original machine ≡ Ends value → Runs packet original steps start value
 comes_end steps packet original place machine other value comes ends =
     comes.goes value (returns (drop place steps) (drop (suc place) steps) (get_or steps place other) machine value (drop-cons steps place other comes.inside) ends)
 
--- a step that goes on stays inside
+-- A step that goes on leads to a place inside the program.
 pub stays : (steps : List Step) (packet : List ℕ) (original place : ℕ) (machine next : Machine) (other : Step) (over : ℕ) →
     Comes steps packet original place machine → effect (get_or steps place other) packet original machine ≡ Goes next over → place + (1 + over) < length steps
 stays steps packet original place machine next other over comes goes =

@@ -5,7 +5,7 @@ use Rattle.pcap_filter.specs.declared.operation.Operation.TheVariants as op
 use Rattle.pcap_filter.specs.declared.operation.Kind.{Kind}
 use Rattle.pcap_filter.specs.declared.operation.Kind.TheVariants.{Plain, Cell, Divisor, Shift, Jump, Branch, Return}
 
--- the table: the code of an operation
+-- The table of the codes of operations.
 abbrev pub code_of : Operation → ℕ
 code_of op.LoadWord = 0x20
 code_of op.LoadHalf = 0x28
@@ -57,7 +57,7 @@ code_of op.ReturnAccumulator = 0x16
 code_of op.CopyToIndex = 0x07
 code_of op.CopyToAccumulator = 0x87
 
--- what an operation asks of its number, and where it leads to
+-- The kind of each operation: the condition on its number, and where it leads.
 abbrev pub kind_of : Operation → Kind
 kind_of op.LoadCell = Cell
 kind_of op.LoadIndexCell = Cell

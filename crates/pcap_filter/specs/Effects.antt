@@ -1,30 +1,30 @@
--- What an instruction does to the machine (McCanne and Jacobson, 'The BSD Packet Filter', section 3.3).
+-- The effect of each instruction on the machine (McCanne and Jacobson, 'The BSD Packet Filter', section 3.3).
 use Rattle.std.specs.Prelude.{◌+◌, ◌-◌, ◌*◌, ◌/◌, ◌%◌, ◌^◌, ◌==◌, ◌||◌, ℕ, List, length, drop, replicate, slice_index, slice_set, Bool, if◌then◌else◌, Option, Some, None, nat_lt, nat_le, bit_and, bit_or, bit_xor, not}
 use Rattle.byteorder.specs.Endian.{big_number}
 use Rattle.pcap_filter.specs.declared.operation.Operation.{Operation}
 use Rattle.pcap_filter.specs.declared.operation.Operation.TheVariants as op
 use Rattle.pcap_filter.specs.declared.program.Step.{Step}
 
--- the machine: its two registers, and the cells of its memory
+-- A machine has two registers and the cells of its memory.
 pub record Machine : Type 0 where
   pub accumulator : ℕ
   pub index : ℕ
   pub cells : List ℕ
 
--- the machine before a program runs: everything is 0
+-- The machine before a program runs: everything is 0.
 abbrev pub start : Machine
 start = record { accumulator = 0; index = 0; cells = replicate 16 0 }
 
--- what an instruction leads to: the machine behind it and how many instructions are passed over then, or the end with a result
+-- The effect of an instruction is the next machine and the number of instructions to skip, or the end with a result.
 pub data Effect : Type 0 where
   Goes : (machine : Machine) (over : ℕ) → Effect
   Ends : (value : ℕ) → Effect
 
--- the number in these many bytes at a place of the packet, the highest first, where they lie in it
+-- The big-endian number of `width` bytes at a place of the packet, if all its bytes are in the packet.
 abbrev pub read : ℕ → List ℕ → ℕ → Option ℕ
 read width packet place = if nat_le (place + width) (length packet) then Some (big_number width (drop place packet)) else None
 
--- sums, differences and products modulo 2^32
+-- Sums, differences and products modulo 2^32.
 abbrev pub plus : ℕ → ℕ → ℕ
 plus a b = (a + b) % 2 ^ 32
 
@@ -34,48 +34,48 @@ minus a b = (a + (2 ^ 32 - b)) % 2 ^ 32
 abbrev pub times : ℕ → ℕ → ℕ
 times a b = (a * b) % 2 ^ 32
 
--- a number whose bits are shifted, of which the low 32 stay
+-- A number with its bits shifted, of which the low 32 bits are kept.
 abbrev pub shifted_left : ℕ → ℕ → ℕ
 shifted_left a by = if nat_lt by 32 then (a * 2 ^ by) % 2 ^ 32 else 0
 
 abbrev pub shifted_right : ℕ → ℕ → ℕ
 shifted_right a by = if nat_lt by 32 then a / 2 ^ by else 0
 
--- two numbers have a bit in common
+-- The two numbers have a bit in common.
 abbrev pub shares_bit : ℕ → ℕ → Bool
 shares_bit a b = not (bit_and a b == 0)
 
--- a number goes into the accumulator
+-- A number goes into the accumulator.
 abbrev pub sets : ℕ → Machine → Effect
 sets value machine = Goes (record machine { accumulator = value }) 0
 
--- a number goes into the index register
+-- A number goes into the index register.
 abbrev pub indexes : ℕ → Machine → Effect
 indexes value machine = Goes (record machine { index = value }) 0
 
--- a number goes into a cell
+-- A number goes into a memory cell.
 abbrev pub stores : ℕ → ℕ → Machine → Effect
 stores cell value machine = Goes (record machine { cells = slice_set machine.cells cell value }) 0
 
--- what was read goes into the accumulator, and where nothing could be the packet is rejected
+-- The number that was read goes into the accumulator; if there is none, the packet is rejected.
 abbrev pub loads : Option ℕ → Machine → Effect
 loads (Some value) machine = sets value machine
 loads None machine = Ends 0
 
--- four times the low half of the byte that was read goes into the index register, and where none could be the packet is rejected
+-- Four times the low half of the byte that was read goes into the index register; if there is none, the packet is rejected.
 abbrev pub indexes_header : Option ℕ → Machine → Effect
 indexes_header (Some value) machine = indexes (4 * bit_and value 15) machine
 indexes_header None machine = Ends 0
 
--- what a division by the index register gives goes into the accumulator, and where that is 0 the packet is rejected
+-- The result of a division by the index register goes into the accumulator; if that register is 0, the packet is rejected.
 abbrev pub divides : ℕ → Machine → Effect
 divides value machine = if machine.index == 0 then Ends 0 else sets value machine
 
--- so many instructions are passed over where a test holds, and so many where not
+-- A test skips `jt` instructions if it holds, and `jf` otherwise.
 abbrev pub branches : Bool → Step → Machine → Effect
 branches holds step machine = Goes machine (if holds then step.jt else step.jf)
 
--- the table: what an instruction does, for a packet of these bytes and this original length
+-- The table of what each operation does, for a packet of these bytes and this original length.
 abbrev pub acts : Operation → Step → List ℕ → ℕ → Machine → Effect
 acts op.LoadWord step packet original machine = loads (read 4 packet step.k) machine
 acts op.LoadHalf step packet original machine = loads (read 2 packet step.k) machine
@@ -127,6 +127,6 @@ acts op.ReturnAccumulator step packet original machine = Ends machine.accumulato
 acts op.CopyToIndex step packet original machine = indexes machine.accumulator machine
 acts op.CopyToAccumulator step packet original machine = sets machine.index machine
 
--- what an instruction does
+-- The effect of an instruction.
 abbrev pub effect : Step → List ℕ → ℕ → Machine → Effect
 effect step packet original machine = acts step.operation step packet original machine

@@ -1,4 +1,4 @@
--- What a program has to keep, and which steps its instructions mean.
+-- The rules that a program must keep, and the steps that its instructions mean.
 use Rattle.std.specs.Prelude.{◌≡◌, ◌≢◌, ◌<◌, ◌≤◌, ◌+◌, ◌++◌, ◌⊎◌, ℕ, List, [], ◌∷◌, length}
 use Rattle.pcap_filter.specs.declared.errors.FilterError.{FilterError}
 use Rattle.pcap_filter.specs.declared.errors.FilterError.TheVariants.{Broken, OutOfMemory}
@@ -11,79 +11,79 @@ use Rattle.pcap_filter.specs.declared.program.Instruction.{Instruction}
 use Rattle.pcap_filter.specs.declared.program.Step.{Step}
 use Rattle.pcap_filter.specs.Codes.{code_of, kind_of}
 
--- the number of an operation of this kind is one that it may have
+-- HasNumber: an operation of this kind may have the number k.
 abbrev pub HasNumber : Kind → ℕ → Type 0
 HasNumber Cell k = k < 16
 HasNumber Divisor k = 0 < k
 HasNumber Shift k = k < 32
 HasNumber _ k = Unit {0}
 
--- a step of this kind leads to one of so many steps behind it, or to the end
+-- StaysInside: a step of this kind leads to one of the `behind` steps behind it, or to the end.
 abbrev pub StaysInside : Kind → Step → ℕ → Type 0
 StaysInside Return step behind = Unit {0}
 StaysInside Jump step behind = step.k < behind
 StaysInside Branch step behind = (step.jt < behind) × (step.jf < behind)
 StaysInside _ step behind = 0 < behind
 
--- a step keeps all rules where so many steps are behind it
+-- IsFine: the step keeps all rules if `behind` steps follow it.
 abbrev pub IsFine : Step → ℕ → Type 0
 IsFine step behind = HasNumber (kind_of step.operation) step.k × StaysInside (kind_of step.operation) step behind
 
--- the rule that its number breaks
+-- BreaksNumber: the number of the operation breaks this rule.
 abbrev pub BreaksNumber : Kind → ℕ → Rule → Type 0
 BreaksNumber Cell k broken = (16 ≤ k) × (broken ≡ rule.CellOutOfRange)
 BreaksNumber Divisor k broken = (k ≡ 0) × (broken ≡ rule.DivisionByZero)
 BreaksNumber Shift k broken = (32 ≤ k) × (broken ≡ rule.ShiftOutOfRange)
 BreaksNumber _ k broken = ⊥
 
--- the rule that it breaks by where it leads to
+-- LeadsOut: the step breaks this rule by where it leads.
 abbrev pub LeadsOut : Kind → Step → ℕ → Rule → Type 0
 LeadsOut Return step behind broken = ⊥
 LeadsOut Jump step behind broken = (behind ≤ step.k) × (broken ≡ rule.JumpOutOfRange)
 LeadsOut Branch step behind broken = ((behind ≤ step.jt) ⊎ (behind ≤ step.jf)) × (broken ≡ rule.JumpOutOfRange)
 LeadsOut _ step behind broken = (behind ≡ 0) × (broken ≡ rule.ReturnMissing)
 
--- the first rule that a step breaks where so many steps are behind it
+-- IsFlawed: this is the first rule that a step breaks if `behind` steps follow it.
 abbrev pub IsFlawed : Step → ℕ → Rule → Type 0
 IsFlawed step behind broken =
     BreaksNumber (kind_of step.operation) step.k broken
     ⊎ (HasNumber (kind_of step.operation) step.k × LeadsOut (kind_of step.operation) step behind broken)
 
--- the step of an instruction: its code is that of the operation, and the other numbers are the same
+-- IsStep: the step has the operation with the instruction's code, and the same other numbers.
 pub record IsStep (instruction : Instruction) (step : Step) : Type 0 where
   pub code : code_of step.operation ≡ instruction.code
   pub jt : step.jt ≡ instruction.jt
   pub jf : step.jf ≡ instruction.jf
   pub k : step.k ≡ instruction.k
 
--- an instruction with so many behind it means this step, which keeps all rules
+-- Means: an instruction with `behind` others behind it means this step, which keeps all rules.
 abbrev pub Means : Instruction → ℕ → Step → Type 0
 Means instruction behind step = IsStep instruction step × IsFine step behind
 
--- the first rule that an instruction with so many behind it breaks
+-- Breaks: this is the first rule that an instruction with `behind` others behind it breaks.
 abbrev pub Breaks : Instruction → ℕ → Rule → Type 0
 Breaks instruction behind broken =
     (((operation : Operation) → code_of operation ≢ instruction.code) × (broken ≡ rule.UnknownCode))
     ⊎ ((step : Step) × IsStep instruction step × IsFlawed step behind broken)
 
--- these instructions, behind which there are so many others, mean these steps
+-- AllMean: these instructions, with `behind` others behind them, mean these steps.
 abbrev pub AllMean : List Instruction → ℕ → List Step → Type 0
 AllMean [] behind [] = Unit {0}
 AllMean (instruction ∷ instructions) behind (step ∷ steps) = Means instruction (length instructions + behind) step × AllMean instructions behind steps
 AllMean _ behind _ = ⊥
 
--- steps that keep all rules
+-- AllFine: all steps keep all rules.
 abbrev pub AllFine : List Step → Type 0
 AllFine [] = Unit {0}
 AllFine (step ∷ steps) = IsFine step (length steps) × AllFine steps
 
--- a program that runs: it has a step, and at most 4096, and each keeps all rules
+-- IsProgram: the program has at least one step and at most 4096, and each step keeps all rules.
 pub record IsProgram (steps : List Step) : Type 0 where
   pub some : 0 < length steps
   pub most : length steps ≤ 4096
   pub fine : AllFine steps
 
--- the instruction at this place breaks this rule, and none before it breaks one
+-- BreaksAt: the instruction at this place breaks this rule, and no instruction before it breaks a rule.
 pub record BreaksAt (program : List Instruction) (place : ℕ) (broken : Rule) : Type 0 where
   pub before : List Instruction
   pub instruction : Instruction
@@ -94,7 +94,7 @@ pub record BreaksAt (program : List Instruction) (place : ℕ) (broken : Rule) :
   pub fine_before : AllMean before (length (instruction ∷ behind)) steps
   pub broken_here : Breaks instruction (length behind) broken
 
--- why a program is refused
+-- IsRefused gives the reasons why a program is refused.
 abbrev pub IsRefused : List Instruction → FilterError → Type 0
 IsRefused program (Broken place broken) =
     ((program ≡ []) × (place ≡ 0) × (broken ≡ rule.Empty))
@@ -102,7 +102,7 @@ IsRefused program (Broken place broken) =
     ⊎ ((length program ≤ 4096) × BreaksAt program place broken)
 IsRefused program (OutOfMemory e) = Unit {0}
 
--- the steps of a program that is taken
+-- IsTaken: the program is accepted, and it means these steps.
 pub record IsTaken (program : List Instruction) (steps : List Step) : Type 0 where
   pub some : 0 < length program
   pub most : length program ≤ 4096

@@ -1,4 +1,4 @@
-//! Why a program is refused.
+//! The errors that refuse a program.
 
 ghost use Rattle.std.specs.Prelude.{◌≡◌, alloc_error};
 ghost use Rattle.pcap_filter.specs.declared.errors.FilterError.TheVariants as errors;
@@ -8,16 +8,16 @@ use std::alloc::{AllocError, AllocFailed};
 use std::fmt;
 use thiserror::Error;
 
-/// What a program has to keep.
+/// A rule that a program must keep.
 #[derive(Clone, Copy, Debug, PartialEq, Eq)]
 pub enum Rule {
-    /// A program has an instruction.
+    /// A program has at least one instruction.
     Empty,
     /// A program has at most 4096 instructions.
     TooLong,
-    /// A code is that of an operation.
+    /// The code of an instruction is the code of an operation.
     UnknownCode,
-    /// A cell is one of the 16.
+    /// A memory cell is one of the 16 cells.
     CellOutOfRange,
     /// A constant divisor is not 0.
     DivisionByZero,
@@ -29,17 +29,17 @@ pub enum Rule {
     ReturnMissing,
 }
 
-/// Why a program is refused.
+/// The error that refuses a program.
 #[derive(Debug, Drop, Error)]
 pub enum FilterError {
-    /// The instruction at a place, of which the first is 0, breaks a rule, and none before it does.
+    /// An instruction breaks a rule, and no instruction before it does.
     Broken {
-        /// The place.
+        /// The place of the instruction. The first one has place 0.
         place: usize,
-        /// The rule.
+        /// The rule that the instruction breaks.
         rule: Rule,
     },
-    /// A growth was refused.
+    /// Memory ran out.
     OutOfMemory(AllocError),
 }
 
@@ -83,28 +83,28 @@ impl<T: Drop> From<AllocFailed<T>> for FilterError {
     }
 }
 
-/// What the text of a program has to be.
+/// A rule that the text of a program must keep.
 #[derive(Clone, Copy, Debug, PartialEq, Eq)]
 pub enum TextRule {
     /// The first line is a number.
     NoCount,
-    /// Each further line is four numbers, with a space between each two.
+    /// Each further line is four numbers, separated by single spaces.
     NoInstruction,
-    /// The first line is the number of the others.
+    /// The first line is the number of the lines that follow.
     OtherCount,
 }
 
-/// Why the text of a program is refused.
+/// The error that refuses the text of a program.
 #[derive(Debug, Drop, Error)]
 pub enum TextError {
-    /// A line, of which the first has number 1, breaks a rule.
+    /// A line breaks a rule.
     Broken {
-        /// The line.
+        /// The number of the line. The first line has number 1.
         line: usize,
-        /// The rule.
+        /// The rule that the line breaks.
         rule: TextRule,
     },
-    /// A growth was refused.
+    /// Memory ran out.
     OutOfMemory(AllocError),
 }
 

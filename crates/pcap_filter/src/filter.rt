@@ -1,4 +1,4 @@
-//! Programs that were validated, and their runs.
+//! Validates programs and runs them.
 
 ghost use Rattle.pcap_filter.specs.Programs.{IsProgram, IsRefused, IsTaken};
 ghost use Rattle.std.specs.Prelude.{◌≡◌, MatchResult, List};
@@ -9,10 +9,10 @@ use crate::program::{CELLS, Instruction, Step};
 use std::alloc::Global;
 use std::marker::Model;
 
-/// The most instructions of a program.
+/// The most instructions that a program may have.
 const LONGEST: usize = 4096;
 
-/// A program that was validated, to be run over any number of packets.
+/// A validated program that can be run over any number of packets.
 #[derive(Drop)]
 pub struct Filter {
     steps: Vec<Step>,
@@ -37,9 +37,9 @@ impl Filter {
 
     /// Validates a program.
     ///
-    /// `Broken` names the first instruction that breaks a rule, and that rule: `UnknownCode` before a rule of its number, and that before
-    /// one of where it leads to. `Broken` at 0 with `Empty` where there is none, and at 4096 with `TooLong` where there are more.
-    /// `OutOfMemory` where a growth was refused.
+    /// `Broken` names the first instruction that breaks a rule, and the first rule that it breaks: `UnknownCode`, then a rule of its
+    /// number, then a rule of where it leads. A program without instructions is `Broken` at 0 with `Empty`, and one with more than 4096
+    /// is `Broken` at 4096 with `TooLong`. `OutOfMemory` if there is no memory for the program.
     pub fn new(alloc: Global, program: &[Instruction]) -> Result<Filter, FilterError>
         ensures { MatchResult result (λ filter. IsTaken program.now filter) (λ error. IsRefused program.now error) }
     {
@@ -66,8 +66,9 @@ impl Filter {
         Ok(Filter { steps })
     }
 
-    /// How many bytes of a packet are accepted, and 0 where it is rejected: what the program returns for these bytes and this original
-    /// length. A load of bytes that the packet doesn't have, and a division by the index register where that is 0, reject it.
+    /// Returns how many bytes of a packet the program accepts, or 0 if it rejects the packet. This is the value that the program
+    /// returns for these bytes and this original length. The program rejects the packet if it loads bytes that the packet does not
+    /// have. It also does if it divides by the index register, or computes a remainder by it, while that register is 0.
     pub fn accepts(&self, packet: &[u8], length: u32) -> u32
         ensures run { Runs packet.now length self.now start result }
         ensures value { result ≡ result_of self.now packet.now length }

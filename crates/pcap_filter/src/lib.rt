@@ -1,4 +1,4 @@
-//! Filters of packets: classic BPF programs, as `tcpdump -ddd EXPRESSION` prints them, that run over the bytes of packets.
+//! Packet filters: classic BPF programs, as `tcpdump -ddd EXPRESSION` prints them, that run over the bytes of packets.
 #![tactic(auto)]
 
 mod errors;

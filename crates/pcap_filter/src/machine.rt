@@ -1,4 +1,4 @@
-//! The machine, and what each instruction does to it.
+//! The machine, and the effect of each instruction on it.
 
 ghost use Rattle.std.specs.Prelude.{◌≡◌, ◌/◌, ◌%◌, ◌<◌, ◌==◌, if◌then◌else◌, Some, None, slice_set};
 ghost use Rattle.pcap_filter.specs.Codes.{kind_of};
@@ -10,23 +10,23 @@ use crate::operation::Operation;
 use crate::program::{CELLS, Step};
 use byteorder::{BigEndian, ByteOrder};
 
-/// The registers.
+/// The registers of the machine.
 #[derive(Clone, Copy)]
 pub(crate) struct Registers {
     pub(crate) accumulator: u32,
     pub(crate) index: u32,
 }
 
-/// What follows a step.
+/// The continuation of a program after a step.
 #[derive(Clone, Copy)]
 pub(crate) enum Move {
-    /// The steps behind it, of which so many are passed over.
+    /// The program goes on behind this number of steps, which it skips.
     On(usize),
-    /// The end, with this result.
+    /// The program ends with this result.
     End(u32),
 }
 
-/// How long a number of the packet is.
+/// The length of a number in the packet.
 #[derive(Clone, Copy)]
 pub(crate) enum Width {
     Word,
@@ -34,7 +34,7 @@ pub(crate) enum Width {
     Byte,
 }
 
-// The number of this width at a place of the packet, where it lies in it.
+// Returns the big-endian number of this width at a place of the packet, if all its bytes are in the packet.
 #[inline(always)]
 fn read(packet: &[u8], width: Width, place: usize) -> Option<u32>
     ensures { result ≡ number_at (length_of width) packet.now place }
@@ -86,7 +86,7 @@ fn store(cells: &mut [u32; CELLS], cell: u32, value: u32) -> Move
     Move::On(0)
 }
 
-// The move of a test.
+// Returns the move of a test.
 #[inline(always)]
 fn branch(step: &Step, holds: bool) -> Move
     ensures { result ≡ Move.On (if holds then step.now.jt else step.now.jf) }
@@ -115,7 +115,7 @@ impl Registers {
         Move::On(0)
     }
 
-    // Sets the accumulator, and rejects the packet where there is no value.
+    // Sets the accumulator, or rejects the packet if there is no value.
     #[inline(always)]
     fn load(&mut self, value: Option<u32>) -> Move
         ensures { Loads value self.old self.new result }
@@ -126,7 +126,7 @@ impl Registers {
         }
     }
 
-    // Sets the index register to the length that the low half of a byte says, and rejects the packet where there is no byte.
+    // Sets the index register to four times the low half of a byte, or rejects the packet if there is no byte.
     #[inline(always)]
     fn load_header_length(&mut self, value: Option<u32>) -> Move
         ensures { IndexesHeader value self.old self.new result }
@@ -138,7 +138,7 @@ impl Registers {
     }
 }
 
-// Takes a step, for a packet of these bytes and this original length.
+// Takes a step for a packet of these bytes and this original length.
 #[inline(always)]
 pub(crate) fn act(
     step: &Step,

@@ -4,130 +4,130 @@ ghost use Rattle.std.specs.Prelude.{◌≡◌, ◌≢◌, IfSome, None};
 ghost use Rattle.pcap_filter.specs.Codes.{code_of, kind_of};
 ghost use Rattle.pcap_filter.specs.declared.operation.Operation.{Operation};
 
-/// What an instruction does. Its name in assembly is that of McCanne and Jacobson.
+/// The operation of an instruction. Its name in assembly is that of McCanne and Jacobson.
 #[derive(Clone, Copy, Debug)]
 pub enum Operation {
-    /// `ld [k]`: four bytes of the packet into the accumulator.
+    /// `ld [k]` loads four bytes of the packet into the accumulator.
     LoadWord,
-    /// `ldh [k]`: two bytes of the packet into the accumulator.
+    /// `ldh [k]` loads two bytes of the packet into the accumulator.
     LoadHalf,
-    /// `ldb [k]`: a byte of the packet into the accumulator.
+    /// `ldb [k]` loads a byte of the packet into the accumulator.
     LoadByte,
-    /// `ld [x + k]`: four bytes, the index register added to their place.
+    /// `ld [x + k]` loads four bytes from the place `k` plus the index register.
     LoadWordBehind,
-    /// `ldh [x + k]`: two bytes, the index register added to their place.
+    /// `ldh [x + k]` loads two bytes from the place `k` plus the index register.
     LoadHalfBehind,
-    /// `ldb [x + k]`: a byte, the index register added to its place.
+    /// `ldb [x + k]` loads a byte from the place `k` plus the index register.
     LoadByteBehind,
-    /// `ld #pktlen`: the packet's original length into the accumulator.
+    /// `ld #pktlen` loads the packet's original length into the accumulator.
     LoadLength,
-    /// `ld #k`: the number `k` into the accumulator.
+    /// `ld #k` loads the number `k` into the accumulator.
     LoadConstant,
-    /// `ld M[k]`: a cell of the memory into the accumulator.
+    /// `ld M[k]` loads a cell of the memory into the accumulator.
     LoadCell,
-    /// `ldx #k`: the number `k` into the index register.
+    /// `ldx #k` loads the number `k` into the index register.
     LoadIndexConstant,
-    /// `ldx #pktlen`: the packet's original length into the index register.
+    /// `ldx #pktlen` loads the packet's original length into the index register.
     LoadIndexLength,
-    /// `ldx M[k]`: a cell of the memory into the index register.
+    /// `ldx M[k]` loads a cell of the memory into the index register.
     LoadIndexCell,
-    /// `ldxb 4*([k]&0xf)`: four times the low half of a byte of the packet into the index register, as the length of an IPv4 header.
+    /// `ldxb 4*([k]&0xf)` loads four times the low half of a byte of the packet, as the length of an IPv4 header, into the index register.
     LoadIndexHeaderLength,
-    /// `st M[k]`: the accumulator into a cell of the memory.
+    /// `st M[k]` stores the accumulator in a cell of the memory.
     StoreCell,
-    /// `stx M[k]`: the index register into a cell of the memory.
+    /// `stx M[k]` stores the index register in a cell of the memory.
     StoreIndexCell,
-    /// `add #k`, modulo 2^32.
+    /// `add #k` adds modulo 2^32.
     AddConstant,
-    /// `add x`, modulo 2^32.
+    /// `add x` adds modulo 2^32.
     AddIndex,
-    /// `sub #k`, modulo 2^32.
+    /// `sub #k` subtracts modulo 2^32.
     SubtractConstant,
-    /// `sub x`, modulo 2^32.
+    /// `sub x` subtracts modulo 2^32.
     SubtractIndex,
-    /// `mul #k`, modulo 2^32.
+    /// `mul #k` multiplies modulo 2^32.
     MultiplyConstant,
-    /// `mul x`, modulo 2^32.
+    /// `mul x` multiplies modulo 2^32.
     MultiplyIndex,
-    /// `div #k`, rounded down.
+    /// `div #k` divides and rounds down.
     DivideConstant,
-    /// `div x`, rounded down. Where the index register is 0 the packet is rejected.
+    /// `div x` divides and rounds down. If the index register is 0, it rejects the packet.
     DivideIndex,
-    /// `mod #k`: the remainder.
+    /// `mod #k` computes the remainder.
     RemainderConstant,
-    /// `mod x`: the remainder. Where the index register is 0 the packet is rejected.
+    /// `mod x` computes the remainder. If the index register is 0, it rejects the packet.
     RemainderIndex,
-    /// `and #k`, bit by bit.
+    /// `and #k` computes the bitwise and.
     AndConstant,
-    /// `and x`, bit by bit.
+    /// `and x` computes the bitwise and.
     AndIndex,
-    /// `or #k`, bit by bit.
+    /// `or #k` computes the bitwise or.
     OrConstant,
-    /// `or x`, bit by bit.
+    /// `or x` computes the bitwise or.
     OrIndex,
-    /// `xor #k`, bit by bit.
+    /// `xor #k` computes the bitwise exclusive or.
     XorConstant,
-    /// `xor x`, bit by bit.
+    /// `xor x` computes the bitwise exclusive or.
     XorIndex,
-    /// `lsh #k`, of which the low 32 bits are kept.
+    /// `lsh #k` shifts left and keeps the low 32 bits.
     ShiftLeftConstant,
-    /// `lsh x`, of which the low 32 bits are kept: by 32 or more it gives 0.
+    /// `lsh x` shifts left and keeps the low 32 bits. A shift by 32 or more gives 0.
     ShiftLeftIndex,
-    /// `rsh #k`.
+    /// `rsh #k` shifts right.
     ShiftRightConstant,
-    /// `rsh x`: by 32 or more it gives 0.
+    /// `rsh x` shifts right. A shift by 32 or more gives 0.
     ShiftRightIndex,
-    /// `neg`, modulo 2^32.
+    /// `neg` negates the accumulator modulo 2^32.
     Negate,
-    /// `ja k`: the next `k` instructions are passed over.
+    /// `ja k` skips the next `k` instructions.
     Jump,
-    /// `jeq #k`: `jt` of the next instructions are passed over where the accumulator is `k`, else `jf`.
+    /// `jeq #k` skips the next `jt` instructions if the accumulator is `k`, and the next `jf` otherwise.
     JumpEqualConstant,
-    /// `jeq x`.
+    /// `jeq x` tests whether the accumulator equals the index register.
     JumpEqualIndex,
-    /// `jgt #k`.
+    /// `jgt #k` tests whether the accumulator is greater than `k`.
     JumpAboveConstant,
-    /// `jgt x`.
+    /// `jgt x` tests whether the accumulator is greater than the index register.
     JumpAboveIndex,
-    /// `jge #k`.
+    /// `jge #k` tests whether the accumulator is at least `k`.
     JumpFromConstant,
-    /// `jge x`.
+    /// `jge x` tests whether the accumulator is at least the index register.
     JumpFromIndex,
-    /// `jset #k`: whether the accumulator has a bit of `k`.
+    /// `jset #k` tests whether the accumulator and `k` have a bit in common.
     JumpAnyBitConstant,
-    /// `jset x`.
+    /// `jset x` tests whether the accumulator and the index register have a bit in common.
     JumpAnyBitIndex,
-    /// `ret #k`: `k` bytes of the packet are accepted.
+    /// `ret #k` accepts `k` bytes of the packet.
     ReturnConstant,
-    /// `ret a`: as many bytes are accepted as the accumulator says.
+    /// `ret a` accepts the number of bytes that is in the accumulator.
     ReturnAccumulator,
-    /// `tax`: the accumulator into the index register.
+    /// `tax` copies the accumulator to the index register.
     CopyToIndex,
-    /// `txa`: the index register into the accumulator.
+    /// `txa` copies the index register to the accumulator.
     CopyToAccumulator,
 }
 
-/// What an operation asks of its number `k`, and where it leads to.
+/// The condition on the number `k` of an operation, and the instruction to which the operation leads.
 #[derive(Clone, Copy, Debug)]
 pub enum Kind {
-    /// Nothing, and to the next instruction.
+    /// There is no condition. The next instruction follows.
     Plain,
-    /// That it is the number of a cell, and to the next instruction.
+    /// `k` is the number of a memory cell. The next instruction follows.
     Cell,
-    /// That it is no zero, and to the next instruction.
+    /// `k` is not 0. The next instruction follows.
     Divisor,
-    /// That it is below the number of bits, and to the next instruction.
+    /// `k` is below the number of bits of a register. The next instruction follows.
     Shift,
-    /// To an instruction behind the next `k` ones.
+    /// The operation leads to the instruction behind the next `k` instructions.
     Jump,
-    /// To an instruction behind the next `jt` or `jf` ones.
+    /// The operation leads to the instruction behind the next `jt` or `jf` instructions.
     Branch,
-    /// To the end.
+    /// The operation ends the program.
     Return,
 }
 
 impl Operation {
-    /// The operation of a code, where it has one.
+    /// Returns the operation of a code, if there is one.
     pub fn from_code(code: u16) -> Option<Operation>
         ensures named { IfSome result (λ operation. code_of operation ≡ code) }
         ensures unknown { result ≡ None → (operation : Operation) → code_of operation ≢ code }
@@ -187,7 +187,7 @@ impl Operation {
         Some(operation)
     }
 
-    // What it asks of its number, and where it leads to.
+    // Returns the condition on the operation's number, and where the operation leads.
     pub(crate) fn kind(self) -> Kind
         ensures { result ≡ kind_of self }
     {

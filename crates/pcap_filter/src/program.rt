@@ -1,4 +1,4 @@
-//! Instructions, as programs have them and as they are kept.
+//! Instructions as programs have them, and steps as filters keep them.
 
 ghost use Rattle.std.specs.Prelude.{MatchResult};
 ghost use Rattle.pcap_filter.specs.Programs.{Breaks, Means};
@@ -6,40 +6,40 @@ ghost use Rattle.pcap_filter.specs.Programs.{Breaks, Means};
 use crate::errors::Rule;
 use crate::operation::{Kind, Operation};
 
-/// How many cells the memory has.
+/// The number of cells of the memory.
 pub(crate) const CELLS: usize = 16;
 
-/// The most bits that a constant shift may have, and one more.
+/// The number of bits of a register. A constant shift must be below it.
 const BITS: u32 = 32;
 
-/// An instruction as a program has it: `struct bpf_insn` of libpcap, and a line of what `tcpdump -ddd` prints.
+/// An instruction of a program: `struct bpf_insn` of libpcap, or a line of what `tcpdump -ddd` prints.
 #[derive(Clone, Copy, Debug, PartialEq, Eq)]
 pub struct Instruction {
     /// The code, which names the operation.
     pub code: u16,
-    /// How many instructions a test passes over where it holds.
+    /// The number of instructions that a test skips if it holds.
     pub jt: u8,
-    /// How many it passes over where it doesn't.
+    /// The number of instructions that a test skips if it does not hold.
     pub jf: u8,
-    /// The operation's number.
+    /// The number of the operation.
     pub k: u32,
 }
 
-/// An instruction whose code is known.
+/// An instruction whose operation is known.
 #[derive(Clone, Copy, Debug)]
 pub struct Step {
-    /// What it does.
+    /// The operation of the step.
     pub operation: Operation,
-    /// How many instructions a test passes over where it holds.
+    /// The number of instructions that a test skips if it holds.
     pub jt: u8,
-    /// How many it passes over where it doesn't.
+    /// The number of instructions that a test skips if it does not hold.
     pub jf: u8,
-    /// The operation's number.
+    /// The number of the operation.
     pub k: u32,
 }
 
 impl Instruction {
-    // The step that it means where so many instructions are behind it, or the rule that it breaks there.
+    // Returns the step that the instruction means if `behind` instructions follow it, or the rule that it breaks there.
     pub(crate) fn step(self, behind: usize) -> Result<Step, Rule>
         ensures { MatchResult result (λ step. Means self behind step) (λ rule. Breaks self behind rule) }
     {
@@ -64,7 +64,7 @@ impl Step {
     ghost use Rattle.std.specs.Prelude.{MatchOption};
     ghost use Rattle.pcap_filter.specs.Programs.{IsFine, IsFlawed};
 
-    // The first rule that it breaks where so many instructions are behind it.
+    // Returns the first rule that the step breaks if `behind` instructions follow it.
     fn flaw(self, behind: usize) -> Option<Rule>
         ensures { MatchOption result (IsFine self behind) (λ rule. IsFlawed self behind rule) }
     {

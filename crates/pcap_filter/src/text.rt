@@ -1,4 +1,4 @@
-//! Programs as text.
+//! Reads programs from text.
 
 ghost use Rattle.std.specs.Prelude.{◌≡◌, ◌<◌, ◌==◌, ℕ, [], MatchOption, MatchResult};
 ghost use Rattle.std.specs.List.{before_first, after_first};
@@ -8,11 +8,11 @@ use crate::errors::{TextError, TextRule};
 use crate::program::Instruction;
 use std::alloc::Global;
 
-/// Reads a program as `tcpdump -ddd` prints it: a line with the number of instructions, and then for each instruction a line with its
-/// code, its `jt`, its `jf` and its `k`, in decimal, with a space between each two.
+/// Reads a program as `tcpdump -ddd` prints it. The first line is the number of instructions. Each instruction has a further line with
+/// its code, its `jt`, its `jf` and its `k`, in decimal, separated by single spaces.
 ///
-/// `Broken` names the first line that isn't such a line, of which the first has number 1; and the first line, with `OtherCount`, where
-/// another number of lines follows. `OutOfMemory` where a growth was refused.
+/// Lines are numbered from 1. `Broken` names the first line that does not have this form. It names line 1 with `OtherCount` if another
+/// number of lines follows. `OutOfMemory` if there is no memory for the instructions.
 pub fn parse(alloc: Global, text: &str) -> Result<Vec<Instruction>, TextError>
     ensures { MatchResult result (λ program. IsText text.now program.items) (λ error. IsRefusedText text.now error) }
 {
@@ -33,28 +33,28 @@ fn broken(line: usize, rule: TextRule) -> TextError
     TextError::Broken { line, rule }
 }
 
-// The number of 32 bits that a word is.
+// Reads a word as a decimal number of at most 32 bits.
 fn number(word: &str) -> Option<u32>
     ensures { MatchOption result ((n : ℕ) → ¬ (Reads 32 word.now n)) (λ n. Reads 32 word.now n) }
 {
     word.parse::<u32>().ok()
 }
 
-// The number of 16 bits that a word is.
+// Reads a word as a decimal number of at most 16 bits.
 fn short(word: &str) -> Option<u16>
     ensures { MatchOption result ((n : ℕ) → ¬ (Reads 16 word.now n)) (λ n. Reads 16 word.now n) }
 {
     word.parse::<u16>().ok()
 }
 
-// The number of 8 bits that a word is.
+// Reads a word as a decimal number of at most 8 bits.
 fn byte(word: &str) -> Option<u8>
     ensures { MatchOption result ((n : ℕ) → ¬ (Reads 8 word.now n)) (λ n. Reads 8 word.now n) }
 {
     word.parse::<u8>().ok()
 }
 
-// The instructions of the lines behind the first one.
+// Reads the instructions from the lines behind the first one.
 fn instructions(alloc: Global, text: &str) -> Result<Vec<Instruction>, TextError>
     ensures { MatchResult result (λ program. AreLines text.now program.items []) (λ error. IsOtherLine text.now error) }
 {
@@ -73,7 +73,7 @@ fn instructions(alloc: Global, text: &str) -> Result<Vec<Instruction>, TextError
     Ok(program)
 }
 
-// What is before the first of these characters, and what is behind it.
+// Returns the text before the first of these characters, and the text behind it.
 fn cut(text: &str, end: char) -> (&str, &str)
     requires { end < 128 }
     ensures before { result.0.now ≡ before_first (λ b. b == end) text.now }
@@ -85,7 +85,7 @@ fn cut(text: &str, end: char) -> (&str, &str)
     }
 }
 
-// The instruction of a line.
+// Reads the instruction of a line.
 fn instruction(line: &str) -> Option<Instruction>
     ensures { ReadsLine result line.now }
 {
@@ -95,7 +95,7 @@ fn instruction(line: &str) -> Option<Instruction>
     instruction_of(code, jt, jf, k)
 }
 
-// The instruction of four words.
+// Reads an instruction from four words.
 fn instruction_of(code: &str, jt: &str, jf: &str, k: &str) -> Option<Instruction>
     ensures { ReadsWords result code.now jt.now jf.now k.now }
 {

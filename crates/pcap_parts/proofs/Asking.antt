@@ -15,13 +15,13 @@ use Rattle.pcap_ng.proofs.BlockFormat.{blocks_lawful}
 use Rattle.pcap_ng.proofs.FirstBlock.{opening_one}
 use Rattle.pcap_parts.specs.Resume.{Fed, IsFed, RefusesOne}
 
--- bytes of which a text is said are refused only for want of memory
+-- Bytes that hold a whole item are refused only if memory runs out.
 memory_alone : {V : Type 0} (IsSaid : Verdict V → Type 0) → ExactlyOne IsSaid → (Grows : Type 0) (v : V) (rest : List ℕ) → IsSaid (whole v rest)
     → (e : PcapError) → Refuses Grows (λ n. IsSaid (lacks n)) (λ fault. IsSaid (faulty fault)) e → IsMemory e
 memory_alone IsSaid one Grows v rest text (errors.OutOfMemory x) h = tt
 memory_alone IsSaid one Grows v rest text e h = absurd (said_not_refused IsSaid one v rest text e h)
 
--- of slices that were fed up to one, that one begins with an item
+-- If slices were fed up to one of them, that slice begins with an item.
 next_fed : {S V : Type 0} (f : Format S V) → IsLawful f → (q : S) (vs ws : List V) (given others : List (List ℕ)) (s : List ℕ) → Fed f q vs (given ++ s ∷ others) → Fed f q ws given
     → (v : V) × (rest : List ℕ) × f.says (state_after f q ws) s (whole v rest)
 next_fed f laws q (v ∷ vs) [] [] others s all some = (v, all.0, all.1)
@@ -33,7 +33,7 @@ next_fed f laws q [] ws [] others s all some = absurd all
 next_fed f laws q [] ws (g ∷ given) others s all some = absurd all
 next_fed f laws q (v ∷ vs) _ _ others s all some = absurd some
 
--- slices from which a parser was fed are refused only for want of memory
+-- Slices from which a parser was fed are refused only if memory runs out.
 pub fed_not_refused : (s : List ℕ) (slices : List (List ℕ)) (q : State) (e : PcapError) → IsFed s slices q → RefusesOne s slices e → IsMemory e
 unfolding block_format
 fed_not_refused s slices q e fed (inl header) =

@@ -1,4 +1,4 @@
--- A run over a capture, in parts.
+-- The run over a classic capture is the runs over its parts.
 use Rattle.std.proofs.Common.{◌≡◌, ℕ, List, ◌++◌, length, map, sym, ap, subst, arith, length-append}
 use Rattle.pcap_classic.specs.declared.pcap.header.PcapHeader.{PcapHeader}
 use Rattle.pcap_classic.specs.declared.run.PcapRun.{PcapRun}
@@ -16,7 +16,7 @@ use Rattle.pcap_parts.specs.Captures.{IsCut, IsRunInParts}
 use Rattle.pcap_parts.specs.Parts.{AreCuts, InParts}
 use Rattle.pcap_parts.proofs.InParts.{in_parts}
 
--- The bytes behind the header of a run's capture, which is cut there: their packets, and what is left.
+-- CutRun: the bytes behind the header of a run's capture, which is cut there, with their packets and what is left.
 pub record CutRun (run : PcapRun) (header : PcapHeader) (cuts : List Cut) (bytes : List ℕ) : Type 0 where
   pub same : run.header ≡ header
   pub opening : List ℕ

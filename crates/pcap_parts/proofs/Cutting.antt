@@ -1,4 +1,4 @@
--- Cuts that are made one by one.
+-- Proofs about cuts that are made one by one.
 use Rattle.std.proofs.Common.{◌≡◌, ◌<◌, ◌≤◌, ◌+◌, ◌-◌, ℕ, List, [], ◌∷◌, ◌++◌, length, refl, sym, ◌∙◌, arith, length-append}
 use Rattle.std.specs.Prelude.{None}
 use Rattle.pcap_items.specs.Format.{Format, Texts, state_after}
@@ -28,7 +28,7 @@ all_less [] m n le a = tt
 all_less (c ∷ cs) m n le a = (omega (arith, le, a.0), all_less cs m n le a.1)
 
 module _ {S V : Type 0} (f : Format S V) where
-  -- cuts so far, the last of which has left behind it
+  -- Cutting: the cuts so far, with the items before `left`, the bytes behind them.
   pub record Cutting (q : S) (s : List ℕ) (front total : ℕ) (left : List ℕ) (before : ℕ) (cuts : List Cut) : Type 0 where
     pub items : List V
     pub texts : Texts f q items s left
@@ -48,7 +48,7 @@ module _ {S V : Type 0} (f : Format S V) (q : S) (s : List ℕ) (total : ℕ) wh
         cuts_are = record { bounds = (bound, tt); rising = (tt, tt); starts = (place, none) };
       }
 
-  -- what is passed behind a bound ends at a bound
+  -- Skipping from a boundary ends at a boundary.
   pub bound_next : (us : List V) (left after : List ℕ) (before at_least n : ℕ) (x : Cut) → Texts f q us s left → length us ≡ before
       → Passes f (state_after f q us) left after at_least n None → x.offset + length after ≡ total → x.before ≡ before + n → (b : Bound f q s total x) × (length b.rest ≡ length after)
   bound_next us left after before at_least n x texts count p place counts = (

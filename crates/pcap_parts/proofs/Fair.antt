@@ -1,4 +1,4 @@
--- Parts that begin where shares end.
+-- Proofs that parts begin where shares end.
 use Rattle.std.proofs.Common.{◌≡◌, ◌<◌, ◌≤◌, ◌+◌, ◌-◌, ◌*◌, ◌⊎◌, ℕ, suc, List, [], ◌∷◌, ◌++◌, length, refl, sym, ap, subst, arith, length-append, inl, inr}
 use Rattle.std.specs.Prelude.{Some, None}
 use Rattle.std.specs.List.{AllByRecursion, Contains}
@@ -26,7 +26,7 @@ cut_same a b place count =
     e
 
 module _ {S V : Type 0} (f : Format S V) (q : S) (s : List ℕ) (total front parts : ℕ) where
-  -- Cuts that are fair as far as bytes were passed.
+  -- FairSoFar: the cuts are fair up to the bytes that were skipped.
   pub record FairSoFar (passed : ℕ) (cuts : List Cut) : Type 0 where
     pub wanted : AllByRecursion (EndsShares f q s total front parts) cuts
     pub followed : AllByRecursion (λ (cut : Cut). (cut.offset ≡ front) ⊎ (cut.offset < total)) cuts
@@ -44,7 +44,7 @@ module _ {S V : Type 0} (f : Format S V) (laws : IsLawful f) (q : S) (s : List �
       let one = text_same f laws p w v mid texts.0 after texts.1 text in
       omega (arith, texts_long f laws (f.goes p w) more texts.0 rest texts.2, ap length one.1)
 
-  -- a bound behind the beginning of an item is behind the whole item
+  -- A boundary behind the beginning of an item is behind the whole item.
   behind_item : (us : List V) (mid after : List ℕ) (v : V) → Texts f q us s mid → f.says (state_after f q us) mid (whole v after)
       → (d : Cut) (y : Bound f q s total d) → length y.rest < length mid → length y.rest ≤ length after
   behind_item us mid after v texts text d y less =
@@ -55,14 +55,14 @@ module _ {S V : Type 0} (f : Format S V) (laws : IsLawful f) (q : S) (s : List �
   no_item p [] mid rest texts none less = absurd (omega (arith, less, ap length texts))
   no_item p (w ∷ more) mid rest texts none less = none w texts.0 texts.1
 
-  -- no bound is behind a place where no item begins
+  -- No boundary is behind a place where no item begins.
   none_behind : (us : List V) (mid : List ℕ) → Texts f q us s mid → ((v : V) (after : List ℕ) → f.says (state_after f q us) mid (whole v after) → ⊥)
       → (d : Cut) (y : Bound f q s total d) → length y.rest < length mid → ⊥
   none_behind us mid texts none d y less =
       let on = beyond f laws q us y.items s mid y.rest texts y.texts (omega (arith, less)) in
       no_item (state_after f q us) on.0 mid y.rest on.2 none less
 
-  -- two bounds at one place are the same
+  -- Two boundaries at one place are the same.
   bound_same : (a b : Cut) → Bound f q s total a → Bound f q s total b → a.offset ≡ b.offset → a ≡ b
   bound_same a b x y e =
       let on = beyond f laws q x.items y.items s x.rest y.rest x.texts y.texts (omega (arith, x.place, y.place, e)) in
@@ -76,12 +76,12 @@ module _ {S V : Type 0} (f : Format S V) (laws : IsLawful f) (q : S) (s : List �
       let e : a.offset ≡ b.offset = omega (arith, x.first b y.bound y.behind, y.first a x.bound x.behind) in
       bound_same a b x.bound y.bound e
 
-  -- the first bound behind a place is that behind each place up to it
+  -- The first boundary at or behind a place is also the first for each later place up to the boundary.
   first_further : (place further : ℕ) (a : Cut) → place ≤ further → further ≤ a.offset → FirstBound f q s total place a → FirstBound f q s total further a
   first_further place further a le there x =
       record { bound = x.bound; behind = there; first = λ other y less. x.first other y (omega (arith, le, less)) }
 
-  -- a bound behind the place up to which is to be passed is behind all that is passed
+  -- A boundary at or behind the place that the skip must reach is not before the end of the skip.
   passed_last : (us items : List V) (left after : List ℕ) (at_least : ℕ) (d : Cut) (y : Bound f q s total d) → Texts f q us s left
       → Texts f (state_after f q us) items left after → LastIsNeeded f (state_after f q us) items left after at_least → 0 < at_least
       → at_least + length after ≤ length left → length y.rest + at_least ≤ length left → length y.rest ≤ length after
@@ -96,7 +96,7 @@ module _ {S V : Type 0} (f : Format S V) (laws : IsLawful f) (q : S) (s : List �
       let text : f.says (state_after f q (us ++ before)) mid (whole last after) = subst (λ (p : S). f.says p mid (whole last after)) (sym state) needed.5 in
       behind_item (us ++ before) mid after last (texts_all f q us before s left mid texts needed.4) text d y (omega (arith, there, needed.6))
 
-  -- what is passed ends at the first bound behind the place up to which is to be passed
+  -- A skip ends at the first boundary at or behind the place that it must reach.
   pub passed_first : (us : List V) (left after : List ℕ) (at_least n place : ℕ) (x : Cut) → Texts f q us s left → Passes f (state_after f q us) left after at_least n None
       → 0 < at_least → place + length left ≡ total + at_least → (b : Bound f q s total x) → length b.rest ≡ length after → FirstBound f q s total place x
   passed_first us left after at_least n place x texts p some at b same = record {
@@ -105,7 +105,7 @@ module _ {S V : Type 0} (f : Format S V) (laws : IsLawful f) (q : S) (s : List �
     first = λ other y less. omega (arith, b.place, y.place, same, passed_last us p.items left after at_least other y texts p.texts p.needed some p.stops (omega (arith, less, at, y.place)));
   }
 
-  -- the items end before as many bytes are passed
+  -- If the items end before enough bytes are skipped, no boundary is that far.
   pub none_further : (us : List V) (left after : List ℕ) (n count : ℕ) (said : Rest) → Texts f q us s left → Passes f (state_after f q us) left after n count (Some said)
       → (cut : Cut) (y : Bound f q s total cut) → length y.rest + n ≤ length left → ⊥
   none_further us left after n count said texts p cut y there =
@@ -114,7 +114,7 @@ module _ {S V : Type 0} (f : Format S V) (laws : IsLawful f) (q : S) (s : List �
       (λ v more text. rest_no_text f laws (state_after f (state_after f q us) p.items) after said p.stops.1 v more (subst (λ (z : S). f.says z after (whole v more)) state text))
       cut y (omega (arith, p.stops.0, there))
 
-  -- nothing follows what is passed
+  -- If no bytes follow what is skipped, no boundary that has bytes behind it is that far.
   pub all_passed : (us : List V) (left after : List ℕ) (n count : ℕ) → Texts f q us s left → Passes f (state_after f q us) left after n count None → 0 < n → length after ≡ 0
       → (cut : Cut) (y : Bound f q s total cut) → length y.rest + n ≤ length left → cut.offset < total → ⊥
   all_passed us left after n count texts p some empty cut y there less =
@@ -143,7 +143,7 @@ module _ {S V : Type 0} (f : Format S V) (laws : IsLawful f) (q : S) (s : List �
     further : (k j passed n : ℕ) → k < j → passed + n ≡ suc k * share → passed + n ≤ j * share
     further k j passed n less e = omega (arith, e, mul-le-mul_right {m = suc k} {n = j} share (omega (arith, less)))
 
-    -- so many shares end behind what was passed
+    -- Shares that ended at or before what was skipped are not after the share that ends next.
     up_to : (k done passed n : ℕ) → done * share ≤ passed → passed + n ≡ suc k * share → 0 < n → done ≤ k
     up_to k done passed n le e some = up_to_by (cases_lt k done)
       where
@@ -180,7 +180,7 @@ module _ {S V : Type 0} (f : Format S V) (laws : IsLawful f) (q : S) (s : List �
         served_by j cut (inr earlier) place here so_far most j_le y le b same at =
             Contains-append_left cuts (x ∷ []) cut (so_far.served j cut most (omega (arith, le, mul-le-mul_right {m = j} {n = k} share earlier)) y)
 
-    -- cuts are fair once each bound with bytes behind it is served
+    -- Cuts are fair if what was skipped covers each share whose first boundary has bytes behind it.
     fair_all : (passed : ℕ) (cuts : List Cut) → FairSoFar f q s total front parts passed cuts
         → ((k : ℕ) (cut : Cut) → k ≤ parts - 1 → FirstBound f q s total (front + k * share) cut → cut.offset < total → k * share ≤ passed) → AreFair f q s total front parts cuts
     fair_all passed cuts so_far none = record {
@@ -190,11 +190,11 @@ module _ {S V : Type 0} (f : Format S V) (laws : IsLawful f) (q : S) (s : List �
       few = omega (arith, so_far.few, so_far.not_all);
     }
 
-    -- all shares but the last have ended
+    -- Cuts are fair if all shares but the last have ended.
     pub fair_enough : (passed : ℕ) (cuts : List Cut) → FairSoFar f q s total front parts passed cuts → ((k : ℕ) → k ≤ parts - 1 → k * share ≤ passed) → AreFair f q s total front parts cuts
     fair_enough passed cuts so_far ended = fair_all passed cuts so_far (λ k cut most x less. ended k most)
 
-    -- no bound with bytes behind it is behind the next end of a share
+    -- Cuts are fair if no boundary with bytes behind it is at or behind the next end of a share.
     pub fair_at_last : (left : List ℕ) (n k : ℕ) (cuts : List Cut) → FairSoFar f q s total front parts (length s - length left) cuts → k * share ≤ length s - length left
         → length s - length left + n ≡ suc k * share → front + length s ≡ total → length left ≤ length s
         → ((cut : Cut) (y : Bound f q s total cut) → length y.rest + n ≤ length left → cut.offset < total → ⊥) → AreFair f q s total front parts cuts

@@ -1,4 +1,4 @@
--- The front of bytes that are cut at bounds.
+-- The front of bytes that are cut at boundaries is the fronts of the parts.
 use Rattle.std.proofs.Common.{◌≡◌, ◌<◌, ◌≤◌, ◌+◌, ◌-◌, ℕ, List, [], ◌∷◌, ◌++◌, length, take, drop, refl, sym, ap, subst, ◌∙◌, arith, length-append, append_assoc, append-nil}
 use Rattle.std.proofs.lemmas.List.{nil_from_length}
 use Rattle.pcap_items.specs.Format.{Format, Texts, state_after, Front, IsLawful}
@@ -11,7 +11,7 @@ use Rattle.pcap_parts.specs.declared.cut.Cut.{Cut}
 use Rattle.pcap_parts.specs.Parts.{Bound, Rising, AreCuts, PartFronts, InParts, part_bytes, joined, CountsBefore}
 
 module _ {S V : Type 0} (f : Format S V) (laws : IsLawful f) where
-  -- of two rows of items at the front of the same bytes, that which leaves no more goes on from the other
+  -- If two rows of items begin the same bytes, the row that leaves no more bytes continues the other row.
   pub beyond : (q : S) (us bs : List V) (s mid rest : List ℕ) → Texts f q us s mid → Texts f q bs s rest → length rest ≤ length mid
       → (more : List V) × (bs ≡ us ++ more) × Texts f (state_after f q us) more mid rest
   beyond q [] bs s mid rest x y le = (bs, refl, subst (λ (t : List ℕ). Texts f q bs t rest) x y)
@@ -24,18 +24,18 @@ module _ {S V : Type 0} (f : Format S V) (laws : IsLawful f) where
       let e : b ∷ bs ≡ a ∷ us ++ more.0 = cons_same b a bs (us ++ more.0) one.0 more.1 in
       (more.0, e, more.2)
 
-  -- two rows of items between the same bytes are one
+  -- Two rows of items between the same bytes are equal.
   pub texts_one : (q : S) (us vs : List V) (s rest : List ℕ) → Texts f q us s rest → Texts f q vs s rest → vs ≡ us
   texts_one q us vs s rest x y =
       let on = beyond q us vs s rest rest x y (omega arith) in
       let none : on.0 ≡ [] = nil_from_length on.0 (omega (arith, texts_long f laws (state_after f q us) on.0 rest rest on.2)) in
       on.1 ∙ ap (λ (l : List V). us ++ l) none ∙ append-nil us
 
-  -- the texts of items and no more are a front
+  -- If the bytes are the texts of items and nothing more, these items are their front.
   pub texts_front : (q : S) (vs : List V) (s : List ℕ) → Texts f q vs s [] → Front f q vs s []
   texts_front q vs s texts = record { texts = texts; longest = λ v after x. nothing_no_text f laws (state_after f q vs) v after x }
 
-  -- one part more in front
+  -- One more part before the others keeps the fronts.
   one_more : (p : S) (more : List V) (b bytes : List ℕ) (c d : Cut) (cs : List Cut) (parts : List (List V)) (rest : List ℕ) → take (d.offset - c.offset) (drop c.offset bytes) ≡ b → Texts f p more b []
       → PartFronts f (state_after f p more) parts (part_bytes bytes (d ∷ cs)) rest → PartFronts f p (more ∷ parts) (part_bytes bytes (c ∷ d ∷ cs)) rest
   one_more p more b bytes c d [] [] rest part texts fronts = absurd fronts
@@ -44,14 +44,14 @@ module _ {S V : Type 0} (f : Format S V) (laws : IsLawful f) where
   one_more p more b bytes c d (e ∷ es) (ws ∷ parts) rest part texts fronts = (subst (λ (t : List ℕ). Front f p more t []) (sym part) (texts_front p more b texts), fronts)
 
   module _ (q : S) (h s : List ℕ) where
-    -- what stands behind a bound
+    -- The bytes behind a cut are the bytes behind its boundary.
     pub behind : (c : Cut) (b : Bound f q s (length (h ++ s)) c) → drop c.offset (h ++ s) ≡ b.rest
     behind c b =
         let own = texts_own f laws q b.items s b.rest b.texts in
         let split : h ++ s ≡ (h ++ own.0) ++ b.rest = ap (λ (t : List ℕ). h ++ t) own.1 ∙ sym (append_assoc h own.0 b.rest) in
         rest_of (h ++ s) (h ++ own.0) b.rest c.offset split b.place
 
-    -- from a bound on
+    -- From: the items behind a boundary are those of the parts from its cut on.
     record From (c : Cut) (b : Bound f q s (length (h ++ s)) c) (cs : List Cut) (vs : List V) (rest : List ℕ) : Type 0 where
       parts : List (List V)
       all : vs ≡ b.items ++ joined parts

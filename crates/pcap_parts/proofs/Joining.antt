@@ -1,4 +1,4 @@
--- Runs over parts that are cut at bounds, one behind the other.
+-- Runs over parts that are cut at boundaries join to the run over the whole.
 use Rattle.std.proofs.Common.{◌≡◌, ◌<◌, ◌+◌, ◌-◌, ℕ, List, [], ◌∷◌, ◌++◌, length, take, drop, refl, sym, ap, subst, ◌∙◌, arith, append_assoc, append-nil}
 use Rattle.std.proofs.lemmas.List.{nil_from_length}
 use Rattle.std.specs.List.{AllByRecursion, AllZip}
@@ -17,7 +17,7 @@ use Rattle.pcap_parts.specs.PartRuns.{RunsOver, TakeParts}
 use Rattle.pcap_parts.specs.Parts.{AreCuts, Bound, Rising, joined, part_bytes}
 use Rattle.pcap_parts.proofs.InParts.{behind, beyond, texts_front}
 
--- where nothing is left, that is said
+-- If no bytes are left, the rest is clean.
 nothing_left : {S V : Type 0} (f : Format S V) → IsLawful f → (q : S) (left : List ℕ) (said : Rest) → left ≡ [] → IsRest (f.says q) left said → said ≡ Clean
 nothing_left f laws q left Clean none is = refl
 nothing_left f laws q left (Needs n) none is = absurd (omega (arith, is.1, ap length none))
@@ -25,29 +25,29 @@ nothing_left f laws q left (Refused error) none is =
     let stands : (fault : Fault) × f.says q left (faulty fault) = shown_fault (λ (fault : Fault). f.says q left (faulty fault)) error is in
     absurd (omega (arith, fault_some f laws q left stands.0 stands.1, ap length none))
 
--- one part more in front
+-- One more part before the others, which its run takes whole, keeps TakeParts.
 takes_next : {X : Type 0} (used_of : X → ℕ) (rest_of : X → Rest) (Last : X → Type 0) (part : List ℕ) (run : X) (parts : List (List ℕ)) (runs : List X) → used_of run ≡ length part → rest_of run ≡ Clean
     → TakeParts used_of rest_of Last parts runs → TakeParts used_of rest_of Last (part ∷ parts) (run ∷ runs)
 takes_next used_of rest_of Last part run (b ∷ bs) (r ∷ rs) used clean takes = (used, clean, takes)
 takes_next used_of rest_of Last part run (b ∷ c ∷ bs) [] used clean takes = absurd takes
 takes_next used_of rest_of Last part run _ _ used clean takes = absurd takes
 
--- something else of the last one
+-- The property of the last run may be replaced by one that follows from it.
 pub last_is : {X : Type 0} (used_of : X → ℕ) (rest_of : X → Rest) (Last Now : X → Type 0) (parts : List (List ℕ)) (runs : List X) → TakeParts used_of rest_of Last parts runs
     → ((run : X) → Last run → Now run) → TakeParts used_of rest_of Now parts runs
 last_is used_of rest_of Last Now (b ∷ []) (r ∷ []) takes now = now r takes
 last_is used_of rest_of Last Now (b ∷ c ∷ bs) (r ∷ k ∷ rs) takes now = (takes.0, takes.1, last_is used_of rest_of Last Now (c ∷ bs) (k ∷ rs) takes.2 now)
 last_is used_of rest_of Last Now _ _ takes now = absurd takes
 
--- Runs of a format, with what each says of its items.
+-- Runs of a format, where `Has` relates a run to its items.
 module _ {S V X : Type 0} (f : Format S V) (laws : IsLawful f) (used_of : X → ℕ) (rest_of : X → Rest) (Has : S → X → List V → Type 0) where
-  -- a run over a part from this state
+  -- RunFrom: a run over a part from this state.
   pub record RunFrom (p : S) (part : List ℕ) (run : X) : Type 0 where
     pub items : List V
     pub over : RunsOver f p items part (used_of run) (rest_of run)
     pub has : Has p run items
 
-  -- such a run leads to this state, and this is said of what it leaves
+  -- EndsAs: the run leads to the state `end`, and its rest describes the bytes that it leaves.
   pub record EndsAs (end : S) (rest : List ℕ) (run : X) : Type 0 where
     pub from : S
     pub items : List V
@@ -56,13 +56,13 @@ module _ {S V X : Type 0} (f : Format S V) (laws : IsLawful f) (used_of : X → 
     pub said : IsRest (f.says end) rest (rest_of run)
 
   module _ (q : S) (h s : List ℕ) where
-    -- a run over each part, from the state at the bound where it begins
+    -- AreRuns: each run is over its part, from the state at the boundary where the part begins.
     abbrev pub AreRuns : (cuts : List Cut) → AllByRecursion (Bound f q s (length (h ++ s))) cuts → List (List ℕ) → List X → Type 0
     AreRuns [] bounds [] [] = Unit {0}
     AreRuns (c ∷ cs) bounds (b ∷ bs) (r ∷ rs) = RunFrom (state_after f q bounds.0.items) b r × AreRuns cs bounds.1 bs rs
     AreRuns cuts bounds parts runs = ⊥
 
-    -- behind these items the runs have the others of all, and the last one ends as all do
+    -- RunsAre: the runs have all items behind `before`, and the last run ends as the whole does.
     pub record RunsAre (before all : List V) (rest : List ℕ) (parts : List (List ℕ)) (runs : List X) : Type 0 where
       pub found : List (List V)
       pub all_are : all ≡ before ++ joined found
@@ -117,7 +117,7 @@ module _ {S V X : Type 0} (f : Format S V) (laws : IsLawful f) (used_of : X → 
     runs_from c b [] bounds rising all rest front [] are = absurd are
     runs_from c b (d ∷ cs) bounds rising all rest front [] are = absurd are
 
-    -- The runs over all parts have all items, and the last one ends as all do.
+    -- The runs over all parts have all items, and the last run ends as the whole does.
     pub runs_join : (cuts : List Cut) (are : AreCuts f q s (length h) (length (h ++ s)) cuts) (all : List V) (rest : List ℕ) → Front f q all s rest → (bounds : AllByRecursion (Bound f q s (length (h ++ s))) cuts)
         → (runs : List X) → AreRuns cuts bounds (part_bytes (h ++ s) cuts) runs → RunsAre [] all rest (part_bytes (h ++ s) cuts) runs
     runs_join [] are all rest front bounds runs runs_are = absurd are.starts

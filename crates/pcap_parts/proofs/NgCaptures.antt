@@ -1,4 +1,4 @@
--- A run over a PcapNg capture, in parts.
+-- The run over a PcapNg capture is the runs over its parts.
 use Rattle.std.proofs.Common.{◌≡◌, ◌-◌, ℕ, List, ◌++◌, length, map, refl, sym, ap, subst, ◌∙◌, arith, length-append}
 use Rattle.pcap_core.specs.Answer.{whole}
 use Rattle.pcap_items.specs.Format.{state_after, Front}
@@ -22,7 +22,7 @@ use Rattle.pcap_parts.specs.Partings.{AreAskedFor}
 use Rattle.pcap_parts.specs.Parts.{AreCuts, InParts}
 use Rattle.pcap_parts.proofs.InParts.{in_parts}
 
--- what opens a capture is one
+-- Bytes open a capture in only one way.
 pub opening_same : (bytes : List ℕ) (p q : State) (after other : List ℕ) → OpeningSays bytes (whole p after) → OpeningSays bytes (whole q other) → (p ≡ q) × (after ≡ other)
 unfolding block_format
 opening_same bytes p q after other x y =
@@ -31,7 +31,7 @@ opening_same bytes p q after other x y =
     let one = text_same block_format blocks_lawful opening mine its bytes after other x.1 y.1 in
     (ap (λ (item : Item). item.after) one.0, one.1)
 
--- The bytes behind the first section header of a run's capture, which is cut there: their blocks, and what is left.
+-- NgCutRun: the bytes behind the first section header of a run's capture, which is cut there, with their blocks and what is left.
 pub record NgCutRun (run : NgRun) (cuts : NgCuts) (bytes : List ℕ) (first : State) (after : List ℕ) : Type 0 where
   pub before : List ℕ
   pub split : bytes ≡ before ++ after
@@ -87,7 +87,7 @@ ng_run_parts run cuts bytes x y =
       parts = subst (λ (t : List ℕ). InParts block_format y.first r.items r.left t bounds) (sym r.split) parts;
     }
 
--- cuts are as it is asked for
+-- The cuts are the requested ones.
 pub ng_cut_by : (how : Parting) (first : State) (after bytes : List ℕ) (cuts : List NgCut) → OpeningSays bytes (whole first after) → AreAskedFor block_format first after (length bytes) how (bounds_of cuts) → IsNgCutBy how cuts bytes
 ng_cut_by (Equal parts) first after bytes cuts opens asked = record { first = first; after = after; opens = opens; fair = asked }
 ng_cut_by (AtLeast n) first after bytes cuts opens asked = record { first = first; after = after; opens = opens; steps = asked }

@@ -1,4 +1,4 @@
--- Runs over the parts of a PcapNg capture, one behind the other.
+-- The runs over the parts of a PcapNg capture join to the run over the whole.
 use Rattle.std.proofs.Common.{◌≡◌, ℕ, List, [], ◌∷◌, ◌++◌, length, map, take, drop, ◌-◌, refl, sym, ap, subst, ◌∙◌}
 use Rattle.std.specs.List.{AllByRecursion, AllZip}
 use Rattle.std.proofs.lemmas.List.{map-append}
@@ -22,7 +22,7 @@ use Rattle.pcap_parts.specs.Resume.{Fed, IsFed, from_places}
 use Rattle.pcap_parts.proofs.Joining.{AreRuns, EndsAs, RunFrom, last_is, runs_join}
 use Rattle.pcap_parts.proofs.NgCaptures.{ng_cut_run}
 
--- the blocks of a run, and where they lead
+-- HasBlocks: the run has the blocks of these items, and they lead to the state of its parser.
 pub record HasBlocks (q : State) (run : NgRun) (items : List Item) : Type 0 where
   pub blocks : map (λ (item : Item). item.block) items ≡ blocks_of run
   pub leads : state_after block_format q items ≡ state_of run.parser
@@ -33,7 +33,7 @@ used run = run.used
 abbrev said : NgRun → Rest
 said run = run.rest
 
--- what is fed is one
+-- Items that are fed from the same slices lead to the same state.
 fed_same : (q : State) (items others : List Item) (slices : List (List ℕ)) → Fed block_format q items slices → Fed block_format q others slices → state_after block_format q items ≡ state_after block_format q others
 fed_same q [] [] [] x y = refl
 fed_same q (i ∷ items) (k ∷ others) (s ∷ ss) x y =
@@ -47,7 +47,7 @@ fed_same q _ _ _ x y = absurd y
 state_fed : (s : List ℕ) (slices : List (List ℕ)) (p q : State) → IsFed s slices p → IsFed s slices q → p ≡ q
 state_fed s slices p q x y = sym x.state_is ∙ fed_same opening (x.header ∷ x.others) (y.header ∷ y.others) (s ∷ slices) x.fed y.fed ∙ y.state_is
 
--- the blocks of all lists are those of the runs
+-- The blocks of all lists of items are those of the runs.
 blocks_are : (found : List (List Item)) (runs : List NgRun) → AllZip (λ items run. (p : State) × HasBlocks p run items) found runs → map (λ (item : Item). item.block) (joined found) ≡ joined (map blocks_of runs)
 blocks_are [] [] have = refl
 blocks_are (is ∷ iss) (r ∷ rs) have =
@@ -55,16 +55,16 @@ blocks_are (is ∷ iss) (r ∷ rs) have =
 blocks_are _ _ have = absurd have
 
 module _ (bytes places : List ℕ) (q : State) (h s : List ℕ) (split : bytes ≡ h ++ s) where
-  -- a bound in the same bytes
+  -- A boundary in the same bytes, split into h and s.
   abbrev here : (c : NgCut) → Bound block_format q s (length bytes) c.at → Bound block_format q s (length (h ++ s)) c.at
   here c b = record { items = b.items; rest = b.rest; texts = b.texts; count = b.count; place = b.place ∙ ap length split }
 
-  -- the bounds of cuts where a parser can be made again
+  -- The boundaries of cuts at which a parser can be made again.
   abbrev bounds : (cuts : List NgCut) → AllByRecursion (ResumesAt bytes places q s) cuts → AllByRecursion (Bound block_format q s (length (h ++ s))) (bounds_of cuts)
   bounds [] all = tt
   bounds (c ∷ cs) all = (here c all.0.bound, bounds cs all.1)
 
-  -- a run over a part, from the state at its bound
+  -- A run over a part at a cut is a run from the state at its boundary.
   run_from : (c : NgCut) (x : ResumesAt bytes places q s c) (part : List ℕ) (run : NgRun) → IsResumedRun bytes places c part run
       → RunFrom block_format blocks_lawful used said HasBlocks (state_after block_format q x.bound.items) part run
   run_from c x part run resumed =

@@ -1,4 +1,4 @@
--- Runs over the parts of a classic capture, one behind the other.
+-- The runs over the parts of a classic capture join to the run over the whole.
 use Rattle.std.proofs.Common.{◌≡◌, ℕ, List, [], ◌∷◌, ◌++◌, length, map, refl, sym, ap, subst, ◌∙◌}
 use Rattle.std.specs.List.{AllByRecursion, AllZip}
 use Rattle.pcap_items.specs.declared.rest.Rest.{Rest}

@@ -1,4 +1,4 @@
--- Cuts of any format, from one to the next, however they are asked for.
+-- Proofs about the next cut of any format and any request for parts.
 use Rattle.std.proofs.Common.{◌≡◌, ◌<◌, ◌≤◌, ◌+◌, ◌-◌, ℕ, List, [], ◌∷◌, ◌++◌, length, refl, arith}
 use Rattle.std.proofs.lemmas.Option.{same_Some}
 use Rattle.std.specs.Prelude.{Option, None, Some}
@@ -14,7 +14,7 @@ use Rattle.pcap_parts.proofs.Fair.{FairSoFar, all_passed, fair_at_last, fair_eno
 use Rattle.pcap_parts.proofs.Stepping.{StandsBefore, step_ends, step_push}
 
 module _ {S V : Type 0} (f : Format S V) (q : S) (s : List ℕ) (total : ℕ) where
-  -- what is known of cuts so far, the last of which has left behind it
+  -- MadeSoFar: the requested property of the cuts so far, with the bytes behind the last cut.
   abbrev pub MadeSoFar : Parting → List ℕ → List Cut → Type 0
   MadeSoFar (Equal parts) left cuts = FairSoFar f q s total (total - length s) parts (length s - length left) cuts
   MadeSoFar (AtLeast n) left cuts = AreSteps f q s total n (StandsBefore f q s total n left) cuts
@@ -24,7 +24,7 @@ module _ {S V : Type 0} (f : Format S V) (q : S) (s : List ℕ) (total : ℕ) wh
     pub made : MadeSoFar how left cuts
     pub few : before + length left ≤ length s
 
-  -- the next cut is wanted so many bytes behind what is left
+  -- IsWantedBehind: the next cut is wanted this many bytes behind the last cut.
   abbrev pub IsWantedBehind : Parting → List ℕ → Option ℕ → Type 0
   IsWantedBehind how left wanted = WantsNext how (length s - length left) (length s) wanted
 
@@ -67,7 +67,7 @@ module _ {S V : Type 0} (f : Format S V) (laws : IsLawful f) (q : S) (s : List �
         few = omega (arith, so_far.few, few);
       }
 
-  -- no bound with bytes behind it follows that is as far as wanted
+  -- The cuts are the requested ones if no boundary with bytes behind it is as far as wanted.
   parted_last : (how : Parting) (left : List ℕ) (before n : ℕ) (cuts : List Cut) → PartedSoFar f q s total how left before cuts → IsWantedBehind f q s total how left (Some n)
       → ((cut : Cut) (y : Bound f q s total cut) → length y.rest + n ≤ length left → cut.offset < total → ⊥) → AreAskedFor f q s total how cuts
   parted_last (Equal parts) left before n cuts so_far wanted none =
@@ -76,25 +76,25 @@ module _ {S V : Type 0} (f : Format S V) (laws : IsLawful f) (q : S) (s : List �
       step_ends f q s total least (StandsBefore f q s total least left) (NoneFollows f q s total least) cuts so_far.made
       (λ c stands other y there less. none other y (omega (arith, stands, there, y.place, same_Some n least wanted)) less)
 
-  -- no item follows that ends as far
+  -- The cuts are the requested ones if the items end before the wanted place.
   pub parted_end : (how : Parting) → AsksSome how → (left after : List ℕ) (before n count : ℕ) (cuts : List Cut) (said : Rest) (so_far : PartedSoFar f q s total how left before cuts)
       → IsWantedBehind f q s total how left (Some n) → Passes f (state_after f q so_far.cutting.items) left after n count (Some said) → AreAskedFor f q s total how cuts
   parted_end how some left after before n count cuts said so_far wanted p =
       parted_last how left before n cuts so_far wanted (λ cut y there less. none_further f laws q s total so_far.cutting.items left after n count said so_far.cutting.texts p cut y there)
 
-  -- no byte follows
+  -- The cuts are the requested ones if no bytes follow what is skipped.
   pub parted_end_with_bytes : (how : Parting) → AsksSome how → (left after : List ℕ) (before n count : ℕ) (cuts : List Cut) (so_far : PartedSoFar f q s total how left before cuts)
       → IsWantedBehind f q s total how left (Some n) → Passes f (state_after f q so_far.cutting.items) left after n count None → length after ≡ 0 → AreAskedFor f q s total how cuts
   parted_end_with_bytes how some left after before n count cuts so_far wanted p empty =
       parted_last how left before n cuts so_far wanted (all_passed f laws q s total so_far.cutting.items left after n count so_far.cutting.texts p (wants_some how some left n wanted) empty)
 
-  -- no item follows that ends as far, or no byte does
+  -- The cuts are the requested ones if the items end before the wanted place or no bytes follow.
   pub parted_stops : (how : Parting) → AsksSome how → (left after : List ℕ) (before n count : ℕ) (cuts : List Cut) (said : Option Rest) (so_far : PartedSoFar f q s total how left before cuts)
       → IsWantedBehind f q s total how left (Some n) → Passes f (state_after f q so_far.cutting.items) left after n count said → (said ≡ None → length after ≡ 0) → AreAskedFor f q s total how cuts
   parted_stops how some left after before n count cuts (Some said) so_far wanted p empty = parted_end how some left after before n count cuts said so_far wanted p
   parted_stops how some left after before n count cuts None so_far wanted p empty = parted_end_with_bytes how some left after before n count cuts so_far wanted p (empty refl)
 
-  -- no cut more is wanted
+  -- The cuts are the requested ones if no further cut is wanted.
   pub parted_enough : (how : Parting) (left : List ℕ) (before : ℕ) (cuts : List Cut) → PartedSoFar f q s total how left before cuts → IsWantedBehind f q s total how left None → AreAskedFor f q s total how cuts
   parted_enough (Equal parts) left before cuts so_far ended = fair_enough f laws q s total (total - length s) parts (length s - length left) cuts so_far.made ended
   parted_enough (AtLeast n) left before cuts so_far ended = absurd cc

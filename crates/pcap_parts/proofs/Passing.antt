@@ -1,4 +1,4 @@
--- Items that are passed over one by one.
+-- Proofs about items that are skipped one by one.
 use Rattle.std.proofs.Common.{◌≡◌, ◌<◌, ◌≤◌, ◌+◌, ◌-◌, ℕ, List, [], ◌∷◌, ◌++◌, length, refl, sym, ap, subst, ◌∙◌, arith, length-append, inl, inr}
 use Rattle.std.proofs.lemmas.List.{nil_from_length}
 use Rattle.std.specs.Prelude.{Option, Some, None, Result, Ok, Err, ◌⊎◌}
@@ -15,7 +15,7 @@ use Rattle.pcap_items.proofs.Formats.{state_push, texts_push, shorter}
 use Rattle.pcap_parts.specs.Parts.{EndsPassing, LastIsNeeded, PassesTo, StopsPassing}
 
 module _ {S V : Type 0} (f : Format S V) where
-  -- items were passed that lead to this state
+  -- Passing: items were skipped, and they lead to the state `reached`.
   pub record Passing (q reached : S) (s rest : List ℕ) (at_least n : ℕ) : Type 0 where
     pub taken : List V
     pub leads : state_after f q taken ≡ reached
@@ -54,7 +54,7 @@ module _ {S V : Type 0} (f : Format S V) (laws : IsLawful f) (q : S) (s : List �
     leads = so_far.leads;
   }
 
-  -- what is said of the rest is said where fewer bytes are passed than wanted
+  -- A rest is reported if fewer bytes than wanted are skipped.
   pub passing_rest : (p : S) (rest : List ℕ) (n : ℕ) (said : Rest) → Passing f q p s rest at_least n → length s - at_least < length rest → IsRest (f.says p) rest said
       → PassesTo f q p s rest at_least n (Some said)
   passing_rest p rest n said so_far less is = passing_stops p rest n (Some said) so_far (omega (arith, less), is)
@@ -63,7 +63,7 @@ module _ {S V : Type 0} (f : Format S V) (laws : IsLawful f) (q : S) (s : List �
   ends_stops p rest None enough ends = omega (arith, enough, ends)
   ends_stops p rest (Some said) enough ends = (omega (arith, ends.0), subst (λ (r : Rest). IsRest (f.says p) rest r) (sym ends.1) (nil_from_length rest (omega (arith, enough, ends.0))))
 
-  -- all that was wanted is passed, or all that stands there
+  -- Enough bytes are skipped, or all bytes are.
   pub passing_ends : (p : S) (rest : List ℕ) (n : ℕ) (said : Option Rest) → Passing f q p s rest at_least n → length rest ≤ length s - at_least → EndsPassing (length s) at_least said
       → PassesTo f q p s rest at_least n said
   passing_ends p rest n said so_far enough ends = passing_stops p rest n said so_far (ends_stops p rest said enough ends)
@@ -84,14 +84,14 @@ no_ok : (x : AllocError) (a : Rest) → not_told x ≡ told a → ⊥
 no_ok x a e = absurd cc
 
 module _ {S V : Type 0} (f : Format S V) (q : S) (left : List ℕ) (Grows : Type 0) where
-  -- an error that isn't want of memory tells the rest
+  -- An error other than out of memory describes the rest.
   pub rest_is : (e : PcapError) (said : Rest) → 0 < length left → Refuses Grows (λ n. f.says q left (lacks n)) (λ fault. f.says q left (faulty fault)) e → rest_or_memory_of e ≡ Ok said
       → IsRest (f.says q) left said
   rest_is (errors.IncompleteBuffer n) said some refuses e = subst (λ (r : Rest). IsRest (f.says q) left r) (ok_same (Needs n) said e) (refuses, some)
   rest_is (errors.OutOfMemory x) said some refuses e = absurd (no_ok x said e)
   rest_is error said some refuses e = subst (λ (r : Rest). IsRest (f.says q) left r) (ok_same (Refused error) said e) refuses
 
--- what holds where it isn't memory that is wanted holds where the rest is told
+-- If a rest is reported, memory did not run out.
 pub but_for_memory : (P : Type 0) (e : PcapError) (said : Rest) → IsMemory e ⊎ P → rest_or_memory_of e ≡ Ok said → P
 but_for_memory P e said (inr p) is = p
 but_for_memory P (errors.OutOfMemory x) said (inl m) is = absurd (no_ok x said is)

@@ -1,4 +1,4 @@
--- Where the blocks of a walk stand.
+-- Proofs about the places of the blocks of a walk.
 use Rattle.std.proofs.Common.{◌≡◌, ◌≤◌, ◌+◌, ◌-◌, ℕ, List, [], ◌∷◌, ◌++◌, length, map, take, drop, Bool, true, false}
 use Rattle.std.proofs.Common.{refl, sym, ap, subst, ◌∙◌, arith, length-append, append-nil, append_assoc, length-drop}
 use Rattle.std.specs.Prelude.{if◌then◌else◌}
@@ -28,7 +28,7 @@ block_in item = item.block
 abbrev one_at : Bool → ℕ → List ℕ
 one_at is place = if is then place ∷ [] else []
 
--- a block takes as many bytes as its length says
+-- A block takes as many bytes as its length says.
 block_bytes : (e : Endianness) (b : Framed) (s rest : List ℕ) → FrameText e b s rest → length s ≡ b.initial_len + length rest
 block_bytes e b s rest t =
     let tail = t.tail in
@@ -37,7 +37,7 @@ block_bytes e b s rest t =
     let last : length tail.after_body ≡ 4 + length rest = number_long (number_in b.endianness) 4 b.trailer_len tail.after_body rest tail.trailer_is in
     omega (arith, head, sum, tail.length_is, last)
 
--- blocks take the bytes before what is left
+-- Blocks take the bytes before what is left.
 blocks_bytes : (q : State) (items : List Item) (s rest : List ℕ) → Texts block_format q items s rest → length s ≡ bytes_of (map block_in items) + length rest
 unfolding block_format
 blocks_bytes q [] s rest texts = omega (arith, ap length {x = s} {y = rest} texts)
@@ -48,7 +48,7 @@ bytes_all : (bs cs : List Framed) → bytes_of (bs ++ cs) ≡ bytes_of bs + byte
 bytes_all [] cs = omega arith
 bytes_all (b ∷ bs) cs = omega (arith, bytes_all bs cs)
 
--- one more block is an interface description behind those before it, or none
+-- One more block adds its place to the places of interface descriptions if it is one.
 interfaces_push : (place : ℕ) (bs : List Framed) (b : Framed)
     → interfaces_from place (bs ++ b ∷ []) ≡ interfaces_from place bs ++ one_at (is_interface b.type_) (place + bytes_of bs)
 interfaces_push place [] b =
@@ -61,13 +61,13 @@ interfaces_push place (x ∷ xs) b =
     ap (λ (l : List ℕ). one ++ l) (interfaces_push next xs b ∙ ap (λ (n : ℕ). interfaces_from next xs ++ one_at (is_interface b.type_) n) there)
     ∙ sym (append_assoc one (interfaces_from next xs) (one_at (is_interface b.type_) (place + (x.initial_len + bytes_of xs))))
 
--- the places of all interface descriptions, with one more block
+-- One more block adds its place to the places of all interface descriptions if it is one.
 all_push : (bs : List Framed) (b : Framed) → interfaces_from 0 (bs ++ b ∷ []) ≡ interfaces_from 0 bs ++ one_at (is_interface b.type_) (bytes_of bs)
 all_push bs b =
     let none : 0 + bytes_of bs ≡ bytes_of bs = omega arith in
     interfaces_push 0 bs b ∙ ap (λ (n : ℕ). interfaces_from 0 bs ++ one_at (is_interface b.type_) n) none
 
--- one more block that is no section header leaves the last one in force
+-- One more block that is not a section header leaves the last section header in force.
 stands_push : (blocks : List Framed) (b : Framed) (header first : ℕ) (places : List ℕ) → StandsInForce blocks header first places → is_section b.type_ ≡ false
     → StandsInForce (blocks ++ b ∷ []) header first (places ++ one_at (is_interface b.type_) (bytes_of blocks))
 stands_push blocks b header first places x none =
@@ -87,7 +87,7 @@ stands_push blocks b header first places x none =
           ∙ ap (λ (n : ℕ). interfaces_from behind x.after ++ one_at (is_interface b.type_) n) here ∙ sym (interfaces_push behind x.after b);
     }
 
--- a section header alone is in force
+-- A section header at the end of the blocks is in force, without interfaces.
 stands_alone : (blocks : List Framed) (b : Framed) (header first : ℕ) (places : List ℕ) → is_section b.type_ ≡ true → header ≡ bytes_of blocks
     → first ≡ length (interfaces_from 0 blocks) → places ≡ []
     → StandsInForce (blocks ++ b ∷ []) header first places
@@ -140,7 +140,7 @@ module _ (bytes left after : List ℕ) (q : State) (header first : ℕ) (places 
         all = is ∙ known ∙ sym (all_push blocks item.block) ∙ ap (λ (l : List Framed). interfaces_from 0 l) (sym more);
       }
 
-  -- a section header is in force at its place
+  -- A section header is in force at its place.
   pub placed_section : item.block.type_ ≡ types.SectionHeader → IsPlaced bytes after item.after (length bytes - length left) (length places) places
   placed_section is =
       let section : is_section item.block.type_ ≡ true = ap is_section is in
@@ -152,7 +152,7 @@ module _ (bytes left after : List ℕ) (q : State) (header first : ℕ) (places 
       (stands_alone blocks item.block place count (drop count places) section here (ap length placed.all) (drop_all count places (omega arith)))
       (sym (ap (λ (l : List ℕ). places ++ l) nothing ∙ append-nil places))
 
-  -- an interface is in force at its place
+  -- An interface is in force at its place.
   pub placed_interface : first ≤ length places → item.block.type_ ≡ types.InterfaceDescription
       → IsPlaced bytes after item.after header first (places ++ (length bytes - length left) ∷ [])
   placed_interface inside is =
@@ -167,7 +167,7 @@ module _ (bytes left after : List ℕ) (q : State) (header first : ℕ) (places 
       (stands_push blocks item.block header first (drop first places) placed.in_force section))
       (ap (λ (l : List ℕ). places ++ l) (sym one))
 
-  -- any other block leaves what is in force
+  -- Any other block leaves the places in force unchanged.
   pub placed_other : is_section item.block.type_ ≡ false → is_interface item.block.type_ ≡ false → IsPlaced bytes after item.after header first places
   placed_other section none =
       let nothing : one_at (is_interface item.block.type_) (bytes_of blocks) ≡ [] = ap (λ (b : Bool). one_at b (bytes_of blocks)) none in
@@ -178,7 +178,7 @@ module _ (bytes left after : List ℕ) (q : State) (header first : ℕ) (places 
       (stands_push blocks item.block header first (drop first places) placed.in_force section))
       (sym (ap (λ (l : List ℕ). places ++ l) nothing ∙ append-nil places))
 
--- a list of one block has its section header there
+-- If a list of one block has a section header, the block is that header.
 one_block : (b h : Framed) (us vs : List Framed) → b ∷ [] ≡ us ++ h ∷ vs → is_section h.type_ ≡ true → is_section b.type_ ≡ true
 one_block b h [] vs e is = let same : b ≡ h = cc in ap (λ (x : Framed). is_section x.type_) same ∙ is
 one_block b h (u ∷ us) vs e is = absurd (omega (arith, ap length {x = b ∷ []} {y = u ∷ us ++ h ∷ vs} e, length-append us (h ∷ vs)))
@@ -187,7 +187,7 @@ opens_section : (b : Framed) (q : State) → Leaves (b ∷ []) q → is_section 
 opens_section b opening x = absurd x
 opens_section b (within section interfaces) x = one_block b x.header x.before x.after x.split x.is_header
 
--- the first section header alone
+-- Behind the first section header, only this header is in force.
 pub placed_first : (bytes after : List ℕ) (q : State) → OpeningSays bytes (whole q after) → IsPlaced bytes after q 0 0 []
 unfolding block_format
 placed_first bytes after q x =
@@ -203,7 +203,7 @@ placed_first bytes after q x =
     }
 
 module _ (bytes : List ℕ) where
-  -- where a walk stands, its places are those of the cut
+  -- At the position of a walk, its places are those of the cut.
   pub tells_here : (left places : List ℕ) (p : State) (cut : NgCut) → IsPlaced bytes left p cut.header cut.first places
       → cut.at.offset + length left ≡ length bytes → cut.interfaces ≡ length places - cut.first
       → TellsPlaces bytes places cut
@@ -234,7 +234,7 @@ module _ (bytes : List ℕ) where
         in_force = subst (λ (l : List ℕ). StandsInForce (map block_in x.items) cut.header cut.first l) (sym these) x.in_force;
       }
 
-  -- the places of cuts stay where a list of places goes on
+  -- The places of cuts stay valid if the list of places grows.
   pub all_tell_further : (q : State) (s places now : List ℕ) (cuts : List NgCut) → GoesOn places now → AllByRecursion (ResumesAt bytes places q s) cuts
       → AllByRecursion (TellsPlaces bytes places) cuts
       → AllByRecursion (TellsPlaces bytes now) cuts
@@ -242,14 +242,14 @@ module _ (bytes : List ℕ) where
   all_tell_further q s places now (c ∷ cs) on resume all =
       (tells_further places now c on resume.0.within all.0, all_tell_further q s places now cs on resume.1 all.1)
 
-  -- cuts stand before what is left, and before less
+  -- Cuts that are not behind the beginning of `left` are not behind the beginning of `after`.
   pub stand_before : (left after : List ℕ) (cuts : List NgCut) → length after ≤ length left
       → AllByRecursion (λ (cut : NgCut). cut.at.offset + length left ≤ length bytes) cuts
       → AllByRecursion (λ (cut : NgCut). cut.at.offset + length after ≤ length bytes) cuts
   stand_before left after [] less all = tt
   stand_before left after (c ∷ cs) less all = (omega (arith, less, all.0), stand_before left after cs less all.1)
 
-  -- where a walk ends, all places are told
+  -- At the end of a walk, its places are the places of all cuts.
   pub tell_all : (left : List ℕ) (p : State) (header first : ℕ) (places : List ℕ) (cuts : List NgCut) → IsPlaced bytes left p header first places
       → AllByRecursion (λ (cut : NgCut). cut.at.offset + length left ≤ length bytes) cuts → AllByRecursion (TellsPlaces bytes places) cuts
       → TellAllPlaces bytes places cuts

@@ -33,7 +33,7 @@ mid_of P (b ∷ bs) h xs a = mid_of P bs h xs (All-tail P b (bs ++ h ∷ xs) a)
 both : (b : Framed) → is_section b.type_ ≡ true → NoSection b → ⊥
 both b is isnt = let e : true ≡ false = sym is ∙ isnt in absurd cc
 
--- the last section header of a list of blocks is one
+-- A list of blocks has only one last section header.
 last_same : (us ws : List Framed) (h k : Framed) (xs ys : List Framed) → us ++ h ∷ xs ≡ ws ++ k ∷ ys → is_section h.type_ ≡ true → is_section k.type_ ≡ true
     → All NoSection xs → All NoSection ys → (h ≡ k) × (xs ≡ ys)
 last_same [] [] h k xs ys e hs ks nx ny = (cc, cc)
@@ -61,7 +61,7 @@ interfaces_same [] (i ∷ is) js x y = absurd x
 interfaces_same (b ∷ bs) [] js x y = absurd x
 interfaces_same _ _ _ x y = absurd y
 
--- blocks with the same last header, and the same interfaces after it, leave the same in force
+-- Blocks with the same last section header, and the same interfaces after it, leave the same state in force.
 pub force_same : (bs cs : List Framed) (s t : Section) (is js : List Interface) (x : LeavesInForce bs s is) (y : LeavesInForce cs t js) → x.header ≡ y.header
     → interfaces_of x.after ≡ interfaces_of y.after → within s is ≡ within t js
 force_same bs cs s t is js x y h i =
@@ -79,7 +79,7 @@ filter_twice : {X : Type 0} (p : X → Bool) (xs : List X) → filter p (filter 
 filter_twice p [] = refl
 filter_twice p (x ∷ xs) = filter_step p x xs (p x) refl (filter_twice p xs)
 
--- the blocks in force, by themselves, leave the same in force
+-- The blocks in force, by themselves, leave the same state in force.
 pub force_alone : (bs : List Framed) (s : Section) (is : List Interface) (x : LeavesInForce bs s is) → LeavesInForce (blocks_in_force bs s is x) s is
 force_alone bs s is x = record {
   before = [];
@@ -93,7 +93,7 @@ force_alone bs s is x = record {
   interfaces_are = subst (λ (l : List Framed). AllZip IsInterfaceIn l is) (sym (filter_twice (λ (b : Framed). is_interface b.type_) x.after)) x.interfaces_are;
 }
 
--- what blocks leave in force is one
+-- Blocks leave only one state in force.
 pub leaves_one : (bs : List Framed) (p q : State) → Leaves bs p → Leaves bs q → p ≡ q
 leaves_one bs opening q x y = absurd x
 leaves_one bs (within s is) opening x y = absurd y
@@ -101,7 +101,7 @@ leaves_one bs (within s is) (within t js) x y =
     let same = last_same x.before y.before x.header y.header x.after y.after (sym x.split ∙ y.split) x.is_header y.is_header x.is_last y.is_last in
     force_same bs bs s t is js x y same.0 (ap interfaces_of same.1)
 
--- slices that are given to a parser one by one are texts one behind the other
+-- Items that are fed to a parser slice by slice are the items of one text.
 pub fed_texts : {S V : Type 0} (f : Format S V) → IsLawful f → (q : S) (vs : List V) (ss : List (List ℕ)) → Fed f q vs ss → (t : List ℕ) × Texts f q vs t []
 fed_texts f laws q [] [] fed = ([], refl)
 fed_texts f laws q (v ∷ vs) (s ∷ ss) fed =
@@ -110,7 +110,7 @@ fed_texts f laws q (v ∷ vs) (s ∷ ss) fed =
     (one.0 ++ more.0, (more.0, (laws.stable q).text one.0 more.0 [] v one.2, more.1))
 fed_texts f laws q _ _ fed = absurd fed
 
--- A parser that is fed with the blocks in force at a bound has the state that the blocks before it lead to.
+-- A parser that is fed with the blocks in force at a boundary has the state to which the blocks before the boundary lead.
 pub resumed : (first : Item) (items : List Item) (s rest : List ℕ) → Texts block_format opening (first ∷ items) s rest
     → (section : Section) (interfaces : List Interface) (x : LeavesInForce (map (λ (item : Item). item.block) (first ∷ items)) section interfaces)
     → (header : Item) (others : List Item) (slices : List (List ℕ)) → Fed block_format opening (header ∷ others) slices

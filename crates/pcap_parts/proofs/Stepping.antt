@@ -1,4 +1,4 @@
--- Cuts that stand at least so many bytes apart.
+-- Proofs about cuts that are at least n bytes apart.
 use Rattle.std.proofs.Common.{◌≡◌, ◌<◌, ◌≤◌, ◌+◌, ◌*◌, ◌⊎◌, ℕ, List, [], ◌∷◌, ◌++◌, length, arith, inl, inr}
 use Rattle.std.specs.List.{AllByRecursion}
 use Rattle.std.proofs.Math.Nat.{mul-le-mul_right, suc-mul}
@@ -8,24 +8,24 @@ use Rattle.pcap_parts.specs.declared.cut.Cut.{Cut}
 use Rattle.pcap_parts.specs.Parts.{AreSteps, Bound, FirstBound}
 
 module _ {S V : Type 0} (f : Format S V) (q : S) (s : List ℕ) (total n : ℕ) where
-  -- a cut with these bytes behind it
+  -- StandsBefore: the cut has these bytes behind it.
   abbrev pub StandsBefore : List ℕ → Cut → Type 0
   StandsBefore left cut = cut.offset + length left ≡ total
 
-  -- a cut more, where it follows the last one
+  -- One more cut may follow the last one.
   pub step_push : (Ends Now : Cut → Type 0) (cuts : List Cut) (x : Cut) → AreSteps f q s total n Ends cuts → ((c : Cut) → Ends c → FirstBound f q s total (c.offset + n) x × (x.offset < total)) → Now x
       → AreSteps f q s total n Now (cuts ++ x ∷ [])
   step_push Ends Now [] x steps follows now = absurd steps
   step_push Ends Now (c ∷ []) x steps follows now = let here = follows c steps in (here.0, here.1, now)
   step_push Ends Now (c ∷ d ∷ cs) x steps follows now = (steps.0, steps.1, step_push Ends Now (d ∷ cs) x steps.2 follows now)
 
-  -- something else of the last cut
+  -- The property of the last cut may be replaced by one that follows from it.
   pub step_ends : (Ends Now : Cut → Type 0) (cuts : List Cut) → AreSteps f q s total n Ends cuts → ((c : Cut) → Ends c → Now c) → AreSteps f q s total n Now cuts
   step_ends Ends Now [] steps now = absurd steps
   step_ends Ends Now (c ∷ []) steps now = now c steps
   step_ends Ends Now (c ∷ d ∷ cs) steps now = (steps.0, steps.1, step_ends Ends Now (d ∷ cs) steps.2 now)
 
--- cuts that stand so far apart are no more than have room
+-- The number of cuts that are n bytes apart is limited by the number of bytes.
 module _ {S V : Type 0} (f : Format S V) (q : S) (s : List ℕ) (total n : ℕ) (Ends : Cut → Type 0) where
   steps_far : (c : Cut) (cs : List Cut) → AreSteps f q s total n Ends (c ∷ cs) → AllByRecursion (Bound f q s total) (c ∷ cs) → c.offset + length cs * n ≤ total
   steps_far c [] steps bounds = omega (arith, bounds.0.place)

@@ -1,4 +1,4 @@
--- A walk over blocks that keeps the places of what is in force.
+-- Proofs about a walk over blocks that keeps the places of what is in force.
 use Rattle.std.proofs.Common.{◌≡◌, ◌≤◌, ◌+◌, ◌-◌, ℕ, List, [], ◌∷◌, ◌++◌, length, take, drop, ◌<◌, refl, sym, ap, subst, ◌∙◌, arith, length-append, append-nil, append_assoc, length-drop, get_or, Bool, false}
 use Rattle.std.specs.Prelude.{Option, None, Some, IfNone}
 use Rattle.std.specs.List.{AllByRecursion}
@@ -28,7 +28,7 @@ use Rattle.pcap_parts.proofs.Anywhere.{header_anywhere}
 use Rattle.pcap_parts.proofs.InParts.{texts_one}
 use Rattle.pcap_parts.proofs.Resumed.{fed_first, fed_more}
 
--- what is left of bytes behind whole blocks stands behind the rest of them
+-- The place behind whole blocks is the place where the rest of the bytes begins.
 pub place_of : (bytes left : List ℕ) (items : List Item) → Texts block_format opening items bytes left → (drop (length bytes - length left) bytes ≡ left) × (length left ≤ length bytes)
 place_of bytes left items texts =
     let own = texts_own block_format blocks_lawful opening items bytes left texts in
@@ -36,7 +36,7 @@ place_of bytes left items texts =
     (rest_of bytes own.0 left (length bytes - length left) own.1 (omega (arith, long)), omega (arith, long))
 
 module _ (bytes left after : List ℕ) (q : State) (header : ℕ) (places : List ℕ) (item : Item) (walked : IsWalked bytes left q header places) (text : BlockSays q left (whole item after)) where
-  -- a block more, where a parser that is fed so has the state behind it
+  -- One more block is walked over, if a parser that is fed at these places has the state behind it.
   walked_to : (here : ℕ) (now : List ℕ) → IsFed (drop here bytes) (from_places bytes now) item.after → IsWalked bytes after item.after here now
   unfolding block_format
   walked_to here now fed = record {
@@ -46,14 +46,14 @@ module _ (bytes left after : List ℕ) (q : State) (header : ℕ) (places : List
     fed = fed;
   }
 
-  -- a section header opens a capture at its place
+  -- A section header opens a capture at its place.
   pub walked_section : IsBytes left → item.block.type_ ≡ types.SectionHeader → IsWalked bytes after item.after (length bytes - length left) []
   walked_section fits is =
       let place = place_of bytes left walked.items walked.texts in
       let fed : IsFed left [] item.after = fed_first left after item.after (item.block, header_anywhere q item left after fits is text) in
       walked_to (length bytes - length left) [] (subst (λ (s : List ℕ). IsFed s [] item.after) (sym place.0) fed)
 
-  -- an interface is fed at its place
+  -- An interface description is fed at its place.
   pub walked_interface : IsWalked bytes after item.after header (places ++ (length bytes - length left) ∷ [])
   walked_interface =
       let place = place_of bytes left walked.items walked.texts in
@@ -63,24 +63,24 @@ module _ (bytes left after : List ℕ) (q : State) (header : ℕ) (places : List
       walked_to header (places ++ (length bytes - length left) ∷ [])
       (subst (λ (l : List (List ℕ)). IsFed (drop header bytes) l item.after) (sym (map-append (λ (k : ℕ). drop k bytes) places ((length bytes - length left) ∷ []))) here)
 
-  -- any other block leaves what is in force
+  -- Any other block leaves the state unchanged.
   pub walked_other : item.after ≡ q → IsWalked bytes after item.after header places
   walked_other same = walked_to header places (subst (λ (p : State). IsFed (drop header bytes) (from_places bytes places) p) (sym same) walked.fed)
 
--- a block whose body isn't kept leaves the state
+-- A block whose body is not kept leaves the state unchanged.
 pub other_stays : (section : Section) (interfaces : List Interface) (item : Item) (s rest : List ℕ) → is_kept item.block.type_ ≡ false → BlockSays (within section interfaces) s (whole item rest)
     → item.after ≡ within section interfaces
 other_stays section interfaces item s rest is text =
     let m : MeansIf false (within section interfaces) item.block (good item.after) = subst (λ (kept : Bool). MeansIf kept (within section interfaces) item.block (good item.after)) is text.means in
     m
 
--- a block that is neither a section header nor an interface description isn't kept
+-- A block that is neither a section header nor an interface description is not kept.
 pub not_kept : (type : BlockType) → (type ≡ types.SectionHeader → ⊥) → (type ≡ types.InterfaceDescription → ⊥) → is_kept type ≡ false
 not_kept types.SectionHeader no_section no_interface = absurd (no_section refl)
 not_kept types.InterfaceDescription no_section no_interface = absurd (no_interface refl)
 not_kept _ no_section no_interface = refl
 
--- bytes of a slice fit
+-- The elements of a slice are bytes.
 pub slice_bytes : (s : List ℕ) → ((i : ℕ) → get_or s i 0 < 256) → IsBytes s
 slice_bytes s fits = All-from_get_or (λ (byte : ℕ). byte < 256) s 0 (λ i lt. fits i)
 
@@ -94,12 +94,12 @@ pub on_none : {X : Type 0} (P : Type 0) → P → (r : Option X) → IfNone r P
 on_none P p None = p
 on_none P p (Some x) = tt
 
--- the first section header alone
+-- Behind the first section header, a walk has only its place.
 pub walked_first : (bytes after : List ℕ) (q : State) → OpeningSays bytes (whole q after) → IsWalked bytes after q 0 []
 unfolding block_format
 walked_first bytes after q x = record { items = record { block = x.0; after = q } ∷ []; texts = (after, x.1, refl); leads = refl; fed = fed_first bytes after q x }
 
--- what blocks lead to is what a walk over them holds
+-- The state to which blocks lead is the state that a walk over them has.
 pub walked_state : (bytes s left : List ℕ) (q p : State) (first header : ℕ) (before places : List ℕ) (items : List Item) → IsWalked bytes s q first before → Texts block_format q items s left
     → IsWalked bytes left p header places → state_after block_format q items ≡ p
 walked_state bytes s left q p first header before places items x texts y =
@@ -109,14 +109,14 @@ walked_state bytes s left q p first header before places items x texts y =
     let here : state_after block_format q items ≡ state_after block_format (state_after block_format opening x.items) items = ap (λ (z : State). state_after block_format z items) (sym x.leads) in
     here ∙ sym (state_all block_format opening x.items items) ∙ ap (λ (l : List Item). state_after block_format opening l) (sym one) ∙ y.leads
 
--- what a walk passes is passed behind the blocks that were walked over
+-- A walk skips blocks that follow those that it walked over.
 pub passes_behind : (bytes s left after : List ℕ) (q p : State) (first header : ℕ) (before places : List ℕ) (items : List Item) (n count : ℕ) (said : Option Rest) → IsWalked bytes s q first before
     → Texts block_format q items s left → IsWalked bytes left p header places → Passes block_format p left after n count said → Passes block_format (state_after block_format q items) left after n count said
 passes_behind bytes s left after q p first header before places items n count said x texts y passes =
     subst (λ (z : State). Passes block_format z left after n count said) (sym (walked_state bytes s left q p first header before places items x texts y)) passes
 
 module _ (bytes : List ℕ) (q : State) (s : List ℕ) where
-  -- at a cut where a walk stands a parser can be made again
+  -- A parser can be made again at a cut that is at the position of a walk.
   pub resumes_here : (left : List ℕ) (p : State) (places : List ℕ) (blocks : List Item) (first : ℕ) (before : List ℕ) (cut : NgCut) → IsWalked bytes s q first before
       → IsWalked bytes left p cut.header (drop cut.first places) → Texts block_format q blocks s left → length blocks ≡ cut.at.before → cut.at.offset + length left ≡ length bytes
       → cut.first ≤ length places → cut.interfaces ≡ length places - cut.first → ResumesAt bytes places q s cut

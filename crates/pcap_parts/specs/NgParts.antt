@@ -1,4 +1,4 @@
--- A PcapNg capture cut into parts: where its blocks are walked over, and what is in force at each cut.
+-- Cuts of a PcapNg capture into parts, walks over its blocks, and what is in force at each cut.
 use Rattle.std.specs.Prelude.{◌≡◌, ◌≤◌, ◌+◌, ◌-◌, ℕ, List, ◌++◌, length, map, take, drop}
 use Rattle.std.specs.List.{AllByRecursion}
 use Rattle.pcap_core.specs.Answer.{whole}
@@ -18,36 +18,36 @@ use Rattle.pcap_parts.specs.declared.parting.Parting.TheVariants.{Equal, AtLeast
 use Rattle.pcap_parts.specs.Parts.{Bound, AreCuts, AreFair, HaveAtLeast, InParts}
 use Rattle.pcap_parts.specs.Resume.{IsFed, from_places}
 
--- a capture's first block stands whole at the front, and brings a section
+-- HasOpening: the first block of a capture is whole at the front, and it is a section header.
 abbrev pub HasOpening : List ℕ → Type 0
 HasOpening bytes = (first : State) × (after : List ℕ) × OpeningSays bytes (whole first after)
 
--- blocks before what is left lead to this state, and so do those alone that stand at the place of a header and at these places
+-- IsWalked: blocks before what is left lead to this state, and so do the blocks at the header's place and at these places alone.
 pub record IsWalked (bytes left : List ℕ) (q : State) (header : ℕ) (places : List ℕ) : Type 0 where
   pub items : List Item
   pub texts : Texts block_format opening items bytes left
   pub leads : state_after block_format opening items ≡ q
   pub fed : IsFed (drop header bytes) (from_places bytes places) q
 
--- a list goes on behind another
+-- GoesOn: the second list begins with the first.
 abbrev pub GoesOn : List ℕ → List ℕ → Type 0
 GoesOn before now = (more : List ℕ) × (now ≡ before ++ more)
 
--- of the places of all interfaces, those that are in force at a cut
+-- The places of the interface descriptions in force at a cut, among those of all interface descriptions.
 abbrev pub places_at : List ℕ → NgCut → List ℕ
 places_at places cut = take cut.interfaces (drop cut.first places)
 
--- the cut is a bound of the blocks of s, and a parser that is fed at its places has the state to which the blocks before it lead
+-- ResumesAt: the cut is a boundary of the blocks of s; a parser fed at its places has the state to which the blocks before it lead.
 pub record ResumesAt (bytes places : List ℕ) (q : State) (s : List ℕ) (cut : NgCut) : Type 0 where
   pub bound : Bound block_format q s (length bytes) cut.at
   pub within : cut.first + cut.interfaces ≤ length places
   pub fed : IsFed (drop cut.header bytes) (from_places bytes (places_at places cut)) (state_after block_format q bound.items)
 
--- where parts of a PcapNg capture begin
+-- The beginnings of the parts of a PcapNg capture.
 abbrev pub bounds_of : List NgCut → List Cut
 bounds_of cuts = map (λ (c : NgCut). c.at) cuts
 
--- these cuts are bounds of the blocks behind the first section header, and a parser can be made again at each
+-- IsNgCut: the cuts are boundaries of the blocks behind the first section header, and a parser can be made again at each.
 pub record IsNgCut (cuts : NgCuts) (bytes : List ℕ) : Type 0 where
   pub first : State
   pub after : List ℕ
@@ -55,27 +55,27 @@ pub record IsNgCut (cuts : NgCuts) (bytes : List ℕ) : Type 0 where
   pub cuts_are : AreCuts block_format first after (length bytes - length after) (length bytes) (bounds_of cuts.cuts.items)
   pub resume : AllByRecursion (ResumesAt bytes cuts.interfaces.items first after) cuts.cuts.items
 
--- the blocks behind the first section header are cut into so many fair parts, the first of which begins behind that header
+-- IsNgCutFairly: the blocks behind the first section header are cut into fair parts, the first of which begins behind that header.
 pub record IsNgCutFairly (parts : ℕ) (cuts : List NgCut) (bytes : List ℕ) : Type 0 where
   pub first : State
   pub after : List ℕ
   pub opens : OpeningSays bytes (whole first after)
   pub fair : AreFair block_format first after (length bytes) (length bytes - length after) parts (bounds_of cuts)
 
--- the blocks behind the first section header are cut into parts of at least n bytes
+-- IsNgCutAtLeast: the blocks behind the first section header are cut into parts of at least n bytes.
 pub record IsNgCutAtLeast (n : ℕ) (cuts : List NgCut) (bytes : List ℕ) : Type 0 where
   pub first : State
   pub after : List ℕ
   pub opens : OpeningSays bytes (whole first after)
   pub steps : HaveAtLeast block_format first after (length bytes) n (bounds_of cuts)
 
--- the blocks behind the first section header are cut as it is asked for
+-- IsNgCutBy: the blocks behind the first section header are cut into the requested parts.
 abbrev pub IsNgCutBy : Parting → List NgCut → List ℕ → Type 0
 IsNgCutBy (Equal parts) cuts bytes = IsNgCutFairly parts cuts bytes
 IsNgCutBy (AtLeast n) cuts bytes = IsNgCutAtLeast n cuts bytes
 
--- the blocks of a run are those of the parts joined, the last part leads to its state, and what is said of its rest is said of the
--- last part's
+-- IsNgRunInParts: the blocks of a run are those of the parts, joined in order. The last part leads to the run's state, and it has
+-- the run's rest.
 pub record IsNgRunInParts (run : NgRun) (cuts : List NgCut) (bytes : List ℕ) : Type 0 where
   pub first : State
   pub items : List Item

@@ -1,4 +1,4 @@
--- Where what is in force at a cut of blocks stands in a capture.
+-- The places of the section header and the interface descriptions that are in force at a cut of blocks.
 use Rattle.std.specs.Prelude.{◌≡◌, ◌≤◌, ◌+◌, ℕ, List, [], ◌∷◌, ◌++◌, All, length, map, drop, true, false, if◌then◌else◌}
 use Rattle.std.specs.List.{AllByRecursion}
 use Rattle.pcap_items.specs.Format.{Texts, state_after}
@@ -9,17 +9,17 @@ use Rattle.pcap_ng.specs.State.{State, opening}
 use Rattle.pcap_parts.specs.declared.cut_ng.NgCut.{NgCut}
 use Rattle.pcap_parts.specs.NgParts.{places_at}
 
--- how many bytes these blocks take
+-- The number of bytes that these blocks take.
 abbrev pub bytes_of : List Framed → ℕ
 bytes_of [] = 0
 bytes_of (b ∷ bs) = b.initial_len + bytes_of bs
 
--- the places of the interface descriptions among these blocks, the first of which has this place
+-- The places of the interface descriptions among these blocks, if the first block is at this place.
 abbrev pub interfaces_from : ℕ → List Framed → List ℕ
 interfaces_from place [] = []
 interfaces_from place (b ∷ bs) = (if is_interface b.type_ then place ∷ [] else []) ++ interfaces_from (place + b.initial_len) bs
 
--- the last section header among these blocks has this place, behind so many interface descriptions, and those after it have these places
+-- StandsInForce: the last section header is at this place, behind `first` interface descriptions; those after it have these places.
 pub record StandsInForce (blocks : List Framed) (header first : ℕ) (places : List ℕ) : Type 0 where
   pub before : List Framed
   pub block : Framed
@@ -31,7 +31,7 @@ pub record StandsInForce (blocks : List Framed) (header first : ℕ) (places : L
   pub first_is : first ≡ length (interfaces_from 0 before)
   pub places_are : places ≡ interfaces_from (header + block.initial_len) after
 
--- blocks before what is left lead to this state, which stands in force at these places, of those of all their interface descriptions
+-- IsPlaced: blocks before what is left lead to this state; it is in force at these places, among those of all interface descriptions.
 pub record IsPlaced (bytes left : List ℕ) (q : State) (header first : ℕ) (places : List ℕ) : Type 0 where
   pub items : List Item
   pub texts : Texts block_format opening items bytes left
@@ -39,7 +39,7 @@ pub record IsPlaced (bytes left : List ℕ) (q : State) (header first : ℕ) (pl
   pub in_force : StandsInForce (map (λ (item : Item). item.block) items) header first (drop first places)
   pub all : places ≡ interfaces_from 0 (map (λ (item : Item). item.block) items)
 
--- the places of a cut are those of what the blocks before it leave in force
+-- TellsPlaces: the places of a cut are the places of what the blocks before it leave in force.
 pub record TellsPlaces (bytes places : List ℕ) (cut : NgCut) : Type 0 where
   pub items : List Item
   pub rest : List ℕ
@@ -47,7 +47,7 @@ pub record TellsPlaces (bytes places : List ℕ) (cut : NgCut) : Type 0 where
   pub place : cut.at.offset + length rest ≡ length bytes
   pub in_force : StandsInForce (map (λ (item : Item). item.block) items) cut.header cut.first (places_at places cut)
 
--- these are the places of all interface descriptions up to the last of these cuts at least, and each cut's are those in force there
+-- TellAllPlaces: these are the places of all interface descriptions, at least up to the last cut; each cut has those in force there.
 pub record TellAllPlaces (bytes places : List ℕ) (cuts : List NgCut) : Type 0 where
   pub items : List Item
   pub rest : List ℕ

@@ -1,4 +1,4 @@
-//! A parser of blocks from a cut on.
+//! Makes a PcapNg parser again for the blocks behind a cut.
 
 ghost use Rattle.pcap_ng.specs.Parser.{state_of};
 ghost use Rattle.pcap_parts.specs.Resume.{IsFed, RefusesOne, from_places};
@@ -8,20 +8,20 @@ use pcap_core::ResultParsing;
 use pcap_ng::pcapng::PcapNgParser;
 use std::alloc::Global;
 
-// The bytes from a place on, none behind their end.
+// Returns the bytes from a place on, or no bytes if the place is behind the end.
 fn from_place(bytes: &[u8], place: usize) -> &[u8]
     ensures { result.now ≡ drop place bytes.now }
 {
     &bytes[place.min(bytes.len())..]
 }
 
-/// A parser for the blocks behind a bound, made again from places in the capture: that of the section header in force at the
-/// bound, and those of its interface descriptions before the bound, in order. Places are in bytes from the capture's
-/// beginning, and no other byte is looked at. `laws::resumed_parser_has_the_same_state` says that the parser then has the
-/// state to which all blocks before the bound lead.
+/// Makes a parser for the blocks behind a boundary again, from the place of the section header in force there and the places of its
+/// interface descriptions before the boundary, in order. Places are in bytes from the capture's beginning. The call reads only the
+/// blocks at these places. `laws::resumed_parser_has_the_same_state` says that the parser has the state to which all blocks before the
+/// boundary lead.
 ///
-/// The errors are those of `PcapNgParser::new` at the header's place, and then of `next_block` at each other place in turn:
-/// 12 bytes are missing behind the end.
+/// The errors are those of `PcapNgParser::new` at the header's place, and then of `next_block` at each other place in turn. At or behind
+/// the end of the bytes, 12 bytes are missing.
 pub fn resume(
     alloc: Global,
     bytes: &[u8],

@@ -1,4 +1,4 @@
-//! Places at which a capture can be cut into parts of at least so many bytes.
+//! Finds the places at which a capture can be cut into parts of a least number of bytes.
 
 ghost use Rattle.pcap_classic.specs.HeaderText.{LacksHeader, HasHeaderFault};
 ghost use Rattle.pcap_core.specs.Answer.{Refuses, lacks, faulty};
@@ -18,13 +18,14 @@ use pcap_classic::pcap::PcapParser;
 use pcap_core::ResultParsing;
 use std::alloc::Global;
 
-/// Where a capture can be cut into parts of at least so many bytes, so that no packet is torn. No byte is asked for as one is.
+/// Returns the places at which a capture can be cut into parts of at least `at_least` bytes, so that no packet is torn. 0 bytes count
+/// as one.
 ///
-/// A part begins at the first bound of packets at least so many bytes behind the beginning of the part before it, where bytes
-/// follow, and nowhere else: so each part but the last has at least so many bytes of packets, would have fewer without its last
-/// packet, and the last one is as long as what is left. Each packet is passed over once.
+/// A part begins at the first packet boundary that is at least this many bytes behind the beginning of the part before it and has
+/// bytes behind it, and nowhere else. So each part but the last has at least this many bytes of packets, and would have fewer without
+/// its last packet. The last part is as long as what is left. Each packet is skipped once.
 ///
-/// The errors are those of `PcapParser::new`, and `OutOfMemory` where the list of cuts can't grow.
+/// The errors are those of `PcapParser::new`, and `OutOfMemory` if the list of cuts cannot grow.
 pub fn cut_pcap_at_least(alloc: Global, bytes: &[u8], at_least: usize) -> ResultParsing<Cuts>
     ensures cut { IfOk result (λ x. IsCut x.header x.cuts.items bytes.now) }
     ensures steps { IfOk result (λ x. IsCutAtLeast (max at_least 1) x.header x.cuts.items bytes.now) }
@@ -45,14 +46,14 @@ pub fn cut_pcap_at_least(alloc: Global, bytes: &[u8], at_least: usize) -> Result
     })
 }
 
-/// Where a PcapNg capture can be cut into parts of at least so many bytes, so that no block is torn, and where what is in force at
-/// each cut stands. No byte is asked for as one is.
+/// Returns the places at which a PcapNg capture can be cut into parts of at least `at_least` bytes, so that no block is torn, and the
+/// places of what is in force at each cut. 0 bytes count as one.
 ///
-/// The parts stand behind the first section header, as long as those of `cut_pcap_at_least` behind a capture's header. `resume`
-/// makes the parser of each part again, from the places that the cut has. Each block is passed over once, and only the bodies of
-/// section headers and interface descriptions are read.
+/// The parts begin behind the first section header, and are as long as those of `cut_pcap_at_least` behind a capture's header. `resume`
+/// makes the parser of each part again, from the places of its cut. Each block is skipped once, and only the bodies of section
+/// headers and interface descriptions are read.
 ///
-/// The errors are those of `PcapNgParser::new`, and `OutOfMemory` where the cuts, the places, or what is in force can't be kept.
+/// The errors are those of `PcapNgParser::new`, and `OutOfMemory` if there is no memory for the cuts, the places or what is in force.
 pub fn cut_pcapng_at_least(alloc: Global, bytes: &[u8], at_least: usize) -> ResultParsing<NgCuts>
     ensures cut { IfOk result (λ cuts. IsNgCut cuts bytes.now) }
     ensures steps { IfOk result (λ cuts. IsNgCutAtLeast (max at_least 1) cuts.cuts.items bytes.now) }

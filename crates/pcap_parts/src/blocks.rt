@@ -1,4 +1,4 @@
-//! Whole blocks that are passed over.
+//! Skips whole blocks of a PcapNg capture.
 
 ghost use Rattle.pcap_ng.specs.Blocks.{MayGrow, block_format};
 ghost use Rattle.pcap_ng.specs.Parser.{state_of};
@@ -10,11 +10,11 @@ use pcap_items::rest_or_memory;
 use pcap_ng::pcapng::PcapNgParser;
 use std::alloc::AllocError;
 
-/// Passes over whole blocks at the front of a slice, up to the first bound of blocks at which at least so many bytes are passed,
-/// or over all that stand there where these are fewer bytes. The parser follows them: only the bodies of section headers and
-/// interface descriptions are read. `rest` says why no block follows, in the words of `run::parse_pcapng`.
+/// Skips whole blocks at the front of a slice, up to the first block boundary at which at least `at_least` bytes are skipped. If the
+/// whole blocks have fewer bytes, all of them are skipped. The parser follows the blocks: it reads only the bodies of section headers
+/// and interface descriptions. `rest` says why no block follows, as the rest of `run::parse_pcapng` does.
 ///
-/// The error comes where a section or an interface can't be kept. The parser then stands before that block.
+/// Returns an error if there is no memory for a section or an interface. The parser then has the state before that block.
 pub fn skip_blocks<'a>(
     parser: &mut PcapNgParser,
     slice: &'a [u8],

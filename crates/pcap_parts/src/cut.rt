@@ -1,4 +1,4 @@
-//! Places at which a capture can be cut into parts.
+//! Finds the places at which a classic capture can be cut into parts.
 
 ghost use Rattle.pcap_classic.specs.HeaderText.{LacksHeader, HasHeaderFault};
 ghost use Rattle.pcap_classic.specs.PacketText.{packet_limit};
@@ -17,28 +17,28 @@ use pcap_classic::pcap::{PcapHeader, PcapParser};
 use pcap_core::ResultParsing;
 use std::alloc::{AllocError, Global};
 
-/// Where a part of a capture begins.
+/// The beginning of a part of a capture.
 #[repr(C)]
 #[derive(Clone, Copy, Debug)]
 pub struct Cut {
-    /// How many bytes of the capture stand before it.
+    /// The number of bytes of the capture before this part.
     pub offset: usize,
-    /// How many items of the capture stand before it: packets, without the header.
+    /// The number of items of the capture before this part: packets, without the header.
     pub before: usize,
 }
 
-/// A capture's header, and where its parts begin.
+/// The header of a capture, and the beginnings of its parts.
 #[derive(Debug, Drop)]
 pub struct Cuts {
     /// The header of the capture.
     pub header: PcapHeader,
-    /// Where each part begins, the first one behind the header. A part ends where the next one begins, and the last one with
-    /// the bytes.
+    /// The beginning of each part. The first part begins behind the header. A part ends where the next one begins, and the last one
+    /// ends with the bytes.
     pub cuts: Vec<Cut>,
 }
 
-/// How many bytes stand between those that are passed and the end of the next share, where so many parts share the bytes equally,
-/// in whole bytes, rounded up. None behind the ends of all shares but the last.
+/// Returns the number of bytes from the `passed` bytes to the end of the next share, if `parts` parts share the bytes equally. A share
+/// is a whole number of bytes, rounded up. Returns `None` behind the ends of all shares but the last.
 pub fn to_next_end(passed: usize, bytes: usize, parts: usize) -> Option<usize>
     ensures { IsToNextEnd (share_of bytes parts) parts passed result }
 {
@@ -52,7 +52,7 @@ pub fn to_next_end(passed: usize, bytes: usize, parts: usize) -> Option<usize>
     Some(share - passed % share)
 }
 
-// Where the parts of the packets behind a header begin. Their last byte has this place.
+// Returns the beginnings of the parts of the packets behind a header. The bytes end at the place `total`.
 pub(crate) fn cut_packets(
     alloc: Global,
     parser: &PcapParser,
@@ -87,16 +87,16 @@ pub(crate) fn cut_packets(
     Ok(cuts)
 }
 
-/// Where a capture can be cut into so many parts of equal length, but for the last one and less than a packet each, so that no
-/// packet is torn.
+/// Returns the places at which a capture can be cut into `parts` parts of equal length, so that no packet is torn. The last part may
+/// be shorter or longer, and each other part differs by less than a packet.
 ///
-/// The bytes behind the header are shared equally, in whole bytes, and a part begins at the first bound of packets at or
-/// behind the end of each share but the last, where bytes follow. So there are fewer parts than asked for only where a packet
-/// is longer than a share, the packets end before the bytes, or, as shares are rounded up, no bytes follow the end of one. The
-/// bytes from one cut to the next hold whole packets, and those from the last one on what is left. No part or one part are asked
-/// for alike. Each packet but those of the last part is passed over once.
+/// The bytes behind the header are shared equally, in whole bytes, rounded up. A part begins at the first packet boundary at or behind
+/// the end of each share but the last, if bytes follow it. There are fewer parts than requested only if a packet is longer than a
+/// share, the packets end before the bytes, or no bytes follow the end of a share because shares are rounded up. The bytes from one
+/// cut to the next are whole packets, and those from the last cut on are what is left. 0 parts count as one. Each packet before the
+/// last part is skipped once.
 ///
-/// The errors are those of `PcapParser::new`, and `OutOfMemory` where the list of cuts can't grow.
+/// The errors are those of `PcapParser::new`, and `OutOfMemory` if the list of cuts cannot grow.
 pub fn cut_pcap(alloc: Global, bytes: &[u8], parts: usize) -> ResultParsing<Cuts>
     ensures cut { IfOk result (λ x. IsCut x.header x.cuts.items bytes.now) }
     ensures fair { IfOk result (λ x. IsCutFairly parts x.header x.cuts.items bytes.now) }

@@ -1,4 +1,4 @@
-//! Places at which a PcapNg capture can be cut into parts.
+//! Finds the places at which a PcapNg capture can be cut into parts.
 
 ghost use Rattle.pcap_core.specs.Answer.{Refuses, lacks, faulty};
 ghost use Rattle.pcap_core.specs.Errors.{IsMemory};
@@ -21,32 +21,32 @@ use pcap_core::ResultParsing;
 use pcap_ng::pcapng::PcapNgParser;
 use std::alloc::{AllocError, Global};
 
-/// Where a part of a PcapNg capture begins, and what is in force there.
+/// The beginning of a part of a PcapNg capture, and what is in force there.
 #[repr(C)]
 #[derive(Clone, Copy, Debug)]
 pub struct NgCut {
-    /// Where it begins. Blocks are counted from behind the first section header.
+    /// The beginning of the part. Blocks are counted from behind the first section header.
     pub at: Cut,
-    /// How many bytes of the capture stand before the section header in force.
+    /// The number of bytes of the capture before the section header in force.
     pub header: usize,
-    /// How many places of interfaces, of those of the whole capture, stand before those that are in force.
+    /// The number of interface descriptions of the whole capture before those in force.
     pub first: usize,
-    /// How many interfaces are in force.
+    /// The number of interfaces in force.
     pub interfaces: usize,
 }
 
-/// Where the parts of a PcapNg capture begin, and the places of its interfaces.
+/// The beginnings of the parts of a PcapNg capture, and the places of its interfaces.
 #[derive(Debug, Drop)]
 pub struct NgCuts {
-    /// Where each part begins, the first one behind the first section header. A part ends where the next one begins, and the
-    /// last one with the bytes.
+    /// The beginning of each part. The first part begins behind the first section header. A part ends where the next one begins, and
+    /// the last one ends with the bytes.
     pub cuts: Vec<NgCut>,
-    /// How many bytes of the capture stand before each interface description, in order, up to the last cut at least.
+    /// The number of bytes of the capture before each interface description, in order, at least up to the last cut.
     pub interfaces: Vec<usize>,
 }
 
 impl NgCuts {
-    /// The places of the interface descriptions in force at a cut, in order, as `resume` takes them.
+    /// Returns the places of the interface descriptions in force at a cut, in order, as `resume` takes them.
     pub fn interfaces_at(&self, cut: &NgCut) -> &[usize]
         ensures { result.now ≡ places_at self.now.interfaces.items cut.now }
     {
@@ -56,7 +56,7 @@ impl NgCuts {
     }
 }
 
-// A cut where a walk stands.
+// Returns a cut at the position of a walk.
 pub(crate) fn cut_at(walk: &Walk, offset: usize, before: usize) -> NgCut
     requires { walk.now.first ≤ length walk.now.interfaces.items }
     ensures at { (result.at.offset ≡ offset) × (result.at.before ≡ before) }
@@ -71,7 +71,7 @@ pub(crate) fn cut_at(walk: &Walk, offset: usize, before: usize) -> NgCut
     }
 }
 
-// Where the parts of the blocks behind the first section header begin.
+// Returns the beginnings of the parts of the blocks behind the first section header.
 pub(crate) fn cut_blocks(
     alloc: Global,
     bytes: &[u8],
@@ -105,7 +105,7 @@ pub(crate) fn cut_blocks(
     Ok(cuts)
 }
 
-// Where a PcapNg capture can be cut into parts that are asked for so.
+// Returns the places at which a PcapNg capture can be cut into the requested parts.
 pub(crate) fn cut_ng_by(alloc: Global, bytes: &[u8], parting: Parting) -> ResultParsing<NgCuts>
     requires some { AsksSome parting }
     ensures cut { IfOk result (λ cuts. IsNgCut cuts bytes.now) }
@@ -128,14 +128,14 @@ pub(crate) fn cut_ng_by(alloc: Global, bytes: &[u8], parting: Parting) -> Result
     })
 }
 
-/// Where a PcapNg capture can be cut into so many parts of equal length, but for the last one and less than a block each, so that
-/// no block is torn, and where what is in force at each cut stands.
+/// Returns the places at which a PcapNg capture can be cut into `parts` parts of equal length, so that no block is torn, and the places
+/// of what is in force at each cut. The last part may be shorter or longer, and each other part differs by less than a block.
 ///
-/// The bytes behind the first section header are shared as `cut_pcap` shares those behind a capture's header. `resume` makes
-/// the parser of each part again, from the places that the cut has. Each block but those of the last part is passed over
-/// once, and only the bodies of section headers and interface descriptions are read.
+/// The bytes behind the first section header are shared as `cut_pcap` shares those behind a capture's header. `resume` makes the parser
+/// of each part again, from the places of its cut. Each block before the last part is skipped once, and only the bodies of section
+/// headers and interface descriptions are read.
 ///
-/// The errors are those of `PcapNgParser::new`, and `OutOfMemory` where the cuts, the places, or what is in force can't be kept.
+/// The errors are those of `PcapNgParser::new`, and `OutOfMemory` if there is no memory for the cuts, the places or what is in force.
 pub fn cut_pcapng(alloc: Global, bytes: &[u8], parts: usize) -> ResultParsing<NgCuts>
     ensures cut { IfOk result (λ cuts. IsNgCut cuts bytes.now) }
     ensures fair { IfOk result (λ cuts. IsNgCutFairly parts cuts.cuts.items bytes.now) }

@@ -1,5 +1,5 @@
-//! Captures in parts, which can be read one beside the other: where to cut one so that no item is torn, items that are passed
-//! over, and a parser of blocks from any bound on. Places and lengths are in bytes.
+//! Captures in parts, which can be read in parallel. The crate finds cuts that tear no item, skips items, and makes a parser of blocks
+//! for any boundary. Places and lengths are in bytes.
 #![tactic(auto)]
 
 mod again;

@@ -1,4 +1,4 @@
-//! Runs over one part of a capture.
+//! Parses one part of a capture.
 
 ghost use Rattle.pcap_classic.specs.Writing.{IsWritable};
 ghost use Rattle.pcap_core.specs.Bytes.{IsBorrowed};
@@ -17,10 +17,10 @@ use pcap_ng::pcapng::PcapNgParser;
 use pcap_ng::run::NgRun;
 use std::alloc::{AllocError, Global};
 
-/// The run over one part of a classic capture, which are the bytes from its cut to the next one or to the end: its packets
-/// alone, how many bytes they take, and what is said of what follows them. Nothing follows them in a part but the last.
+/// Parses one part of a classic capture: the bytes from its cut to the next cut or to the end. The result has the packets of this part,
+/// the number of bytes that they take, and the rest behind them. In every part but the last, nothing follows the packets.
 ///
-/// `InvalidField` where the header's magic number is none of the four. `OutOfMemory` where the list of packets can't grow.
+/// `InvalidField` if the header's magic number is none of the four. `OutOfMemory` if the list of packets cannot grow.
 pub fn parse_part<'a>(
     alloc: Global,
     header: PcapHeader,
@@ -41,11 +41,11 @@ pub fn parse_part<'a>(
     })
 }
 
-/// The run over one part of a PcapNg capture, which are the bytes from its cut to the next one or to the end, with the parser
-/// that `resume` makes for that cut: its blocks alone, the parser behind them, how many bytes they take, and what is said of
-/// what follows them. Nothing follows them in a part but the last.
+/// Parses one part of a PcapNg capture: the bytes from its cut to the next cut or to the end. The caller supplies the parser that
+/// `resume` makes for that cut. The result has the blocks of this part, the parser behind them, the number of bytes that they take, and
+/// the rest behind them. In every part but the last, nothing follows the blocks.
 ///
-/// The error comes where the list of blocks can't grow, or a section or an interface can't be kept.
+/// Returns an error if the list of blocks cannot grow, or if there is no memory for a section or an interface.
 pub fn parse_ng_part<'a>(
     alloc: Global,
     parser: PcapNgParser,

@@ -1,20 +1,20 @@
-//! How the parts of a capture are asked for.
+//! The ways in which a caller can request the parts of a capture.
 
 ghost use Rattle.pcap_parts.specs.Partings.{WantsNext};
 
 use crate::cut::to_next_end;
 
-/// How the parts of a capture are asked for.
+/// The parts of a capture that a caller requests.
 #[derive(Clone, Copy, Debug, PartialEq, Eq)]
 pub enum Parting {
-    /// So many, of equal length but for the last one and less than an item each.
+    /// This many parts of equal length. The last one may be shorter or longer, and each other one differs by less than an item.
     Equal(usize),
-    /// Of at least so many bytes each, with no item more than it needs for them.
+    /// Parts of at least this many bytes each. No part has an item more than it needs for them.
     AtLeast(usize),
 }
 
 impl Parting {
-    /// How many bytes stand at least between those that are passed, of so many, and the next cut. None where no cut follows.
+    /// Returns the least number of bytes from the `passed` bytes, of `bytes` in all, to the next cut. Returns `None` if no cut follows.
     pub fn wanted(self, passed: usize, bytes: usize) -> Option<usize>
         ensures { WantsNext self passed bytes result }
     {

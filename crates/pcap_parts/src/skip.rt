@@ -1,4 +1,4 @@
-//! Whole packets that are passed over.
+//! Skips whole packets of a classic capture.
 
 ghost use Rattle.pcap_classic.specs.PacketText.{packet_limit, PacketSays};
 ghost use Rattle.pcap_classic.specs.Packets.{format_under, packet_format};
@@ -13,18 +13,18 @@ use pcap_classic::pcap::{PacketHeader, PcapParser};
 use pcap_core::{Endianness, PcapError, ResultParsing};
 use pcap_items::Rest;
 
-/// Items that were passed over, and why there were no more.
+/// The items that a call skipped, and why it skipped no more.
 #[derive(Debug, Drop)]
 pub struct Passed<'a> {
-    /// How many items.
+    /// The number of items.
     pub items: usize,
-    /// What follows them.
+    /// The bytes behind them.
     pub after: &'a [u8],
-    /// What is said of what follows them, where fewer bytes than wanted are passed. None where enough are.
+    /// The reason why no item follows, if fewer bytes than wanted were skipped. `None` if enough bytes were skipped.
     pub rest: Option<Rest>,
 }
 
-// The rest at which the parser gave this error.
+// Returns the rest at which the parser returned this error.
 fn rest_at(error: PcapError) -> Rest
     ensures { result ≡ rest_after error }
 {
@@ -34,7 +34,7 @@ fn rest_at(error: PcapError) -> Rest
     }
 }
 
-// What is said of what follows, where all that was wanted of so many bytes is passed, or all that stands there.
+// Returns the rest after `at_least` of these bytes were skipped, or all of them if there are fewer.
 pub(crate) fn rest_of_all(bytes: usize, at_least: usize) -> Option<Rest>
     ensures { EndsPassing bytes at_least result }
 {
@@ -45,7 +45,7 @@ pub(crate) fn rest_of_all(bytes: usize, at_least: usize) -> Option<Rest>
     }
 }
 
-// What follows the packet at the front of a slice.
+// Returns the bytes behind the packet at the front of a slice.
 #[inline(always)]
 fn after_packet<'a, B: ByteOrder>(slice: &'a [u8], r: TsResolution) -> ResultParsing<&'a [u8]>
     ensures { PassesOne (PacketSays packet_limit B.number_of r slice.now) result }
@@ -59,7 +59,7 @@ fn after_packet<'a, B: ByteOrder>(slice: &'a [u8], r: TsResolution) -> ResultPar
     Ok(after)
 }
 
-// Passes over whole packets in this order, until at least so many bytes are passed.
+// Skips whole packets in this byte order, until at least `at_least` bytes are skipped.
 fn skip_in<'a, B: ByteOrder>(r: TsResolution, slice: &'a [u8], at_least: usize) -> Passed<'a>
     ensures passes { Passes (packet_format packet_limit B.number_of r) tt slice.now result.after.now at_least result.items result.rest }
     ensures few { result.items + length result.after.now ≤ length slice.now }
@@ -89,9 +89,9 @@ fn skip_in<'a, B: ByteOrder>(r: TsResolution, slice: &'a [u8], at_least: usize) 
     }
 }
 
-/// Passes over whole packets at the front of a slice, up to the first bound of packets at which at least so many bytes are
-/// passed, or over all that stand there where these are fewer bytes. Nothing is kept, and there is no error: `rest` says why no
-/// packet follows, in the words of `run::parse_pcap`.
+/// Skips whole packets at the front of a slice, up to the first packet boundary at which at least `at_least` bytes are skipped. If
+/// the whole packets have fewer bytes, all of them are skipped. The call keeps nothing and returns no error: `rest` says why no packet
+/// follows, as the rest of `run::parse_pcap` does.
 pub fn skip_packets<'a>(parser: &PcapParser, slice: &'a [u8], at_least: usize) -> Passed<'a>
     ensures passes { Passes (format_under packet_limit (header_of parser.now)) tt slice.now result.after.now at_least result.items result.rest }
     ensures few { result.items + length result.after.now ≤ length slice.now }

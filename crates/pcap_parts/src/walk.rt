@@ -16,20 +16,20 @@ use pcap_items::rest_or_memory;
 use pcap_ng::pcapng::PcapNgParser;
 use std::alloc::AllocError;
 
-// The parser of a walk, and the places of the blocks that put in force what it holds.
+// The parser of a walk, and the places of the blocks that put its state in force.
 #[derive(Drop)]
 pub(crate) struct Walk {
     pub(crate) parser: PcapNgParser,
-    // Where the section header in force stands.
+    // The place of the section header in force.
     pub(crate) header: usize,
-    // Where each interface description stands that was walked over.
+    // The places of the interface descriptions that the walk has skipped.
     pub(crate) interfaces: Vec<usize>,
-    // How many of these stand before the section in force.
+    // The number of these interface descriptions before the section in force.
     pub(crate) first: usize,
 }
 
 impl Walk {
-    // Passes over the block that begins what is left of a capture, and keeps its place where it puts something in force.
+    // Skips the first block of what is left of a capture, and keeps its place if it puts something in force.
     fn pass<'a>(&mut self, bytes: &[u8], left: &'a [u8]) -> ResultParsing<&'a [u8]>
         requires walked { IsWalked bytes.now left.now (state_of self.old.parser) self.old.header (drop self.old.first self.old.interfaces.items) }
         requires within { self.old.first ≤ length self.old.interfaces.items }
@@ -63,7 +63,7 @@ impl Walk {
         }
     }
 
-    // Passes over whole blocks, up to the first bound at which at least so many bytes are passed, or over all that stand there.
+    // Skips whole blocks, up to the first boundary at which at least `at_least` bytes are skipped, or all whole blocks.
     pub(crate) fn skip<'a>(
         &mut self,
         bytes: &[u8],

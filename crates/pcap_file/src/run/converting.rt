@@ -1,4 +1,4 @@
-//! Classic captures that become PcapNg captures, from a reader to a writer.
+//! Converts classic captures to PcapNg captures, from a reader to a writer.
 
 ghost use Rattle.std.specs.Prelude.{◌≤◌};
 ghost use Rattle.pcap_items.specs.Copying.{NothingCopied};
@@ -15,16 +15,16 @@ use pcap_written::{encode, put_packet};
 use std::alloc::Global;
 use std::io::{Read, Write};
 
-/// Converts a classic capture from a reader to a PcapNg capture in a writer: one little-endian section without options, one
-/// interface with the link type and the snaplen of the capture's header and times in nanoseconds, and then an enhanced packet
-/// for each of at most `most` packets, with its time, its length on the wire in bytes and its bytes. Each packet goes out
-/// before the next one is read. Where there is no fault exactly what was converted was taken from the reader.
+/// Converts a classic capture from a reader to a PcapNg capture in a writer. The output is one little-endian section without options,
+/// one interface and an enhanced packet for each of at most `most` packets. The interface has the link type and the snapshot length
+/// of the capture's header, and times in nanoseconds. Each enhanced packet has its packet's time, original length in bytes, and
+/// bytes. Each packet is written before the next one is read. Without a fault, exactly what was converted was taken from the reader.
 ///
-/// A header that is refused gives what `PcapHeader::from_reader` gives, and nothing is written. `InvalidField` for a link type
-/// whose number is 65536 or more, for which an interface has no room (see `Unwritable`): nothing is written then. A rest that
-/// is refused gives what `PcapReader` gives there, all packets before it have gone out, and no more of it was taken than was
-/// missing. `IoError` also where a write failed: a beginning of the blocks that come next has gone out then, and that packet
-/// was taken. `OutOfMemory` where the first two blocks or a packet can't be held.
+/// If the header is refused, the fault is what `PcapHeader::from_reader` returns, and nothing is written. `InvalidField` for a link
+/// type whose number is 65536 or more, which does not fit into an interface (see `Unwritable`): nothing is written then. If the rest
+/// is refused, the fault is what `PcapReader` returns there: all packets before it were written, and no more of the rest was taken
+/// than was missing. `IoError` also if a write failed: a beginning of the next blocks was written then, and that packet was taken.
+/// `OutOfMemory` if there is no memory for the first two blocks or for a packet.
 pub fn convert_to_pcapng<R: Read, W: Write>(
     alloc: Global,
     reader: &mut R,
@@ -42,7 +42,7 @@ pub fn convert_to_pcapng<R: Read, W: Write>(
     end_copy(tally, result.err())
 }
 
-// Reads the header, writes the blocks before the packets, and gives these.
+// Reads the header, writes the blocks before the packets, and returns the packets that are ahead.
 fn begin_conversion<R: Read, W: Write>(
     alloc: Global,
     reader: &mut R,
@@ -59,7 +59,7 @@ fn begin_conversion<R: Read, W: Write>(
     Ok(PacketsAhead { header, puts })
 }
 
-// The text of the section and of the interface.
+// Returns the text of the section and the interface.
 fn opening_text(alloc: Global, header: &PcapHeader) -> ResultParsing<Vec<u8>>
     ensures { MakesText (opening_blocks header.now) (λ text. text.items) result }
 {
@@ -85,7 +85,7 @@ fn opening_text(alloc: Global, header: &PcapHeader) -> ResultParsing<Vec<u8>>
     Ok(text)
 }
 
-// Packets that become blocks: enhanced, of the one interface.
+// Writes each packet as an enhanced packet block of the only interface.
 #[derive(Drop)]
 struct PacketBlocks;
 

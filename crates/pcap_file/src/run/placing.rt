@@ -1,4 +1,4 @@
-//! Captures of blocks that become classic captures, from a reader to a writer.
+//! Converts PcapNg captures to classic captures, from a reader to a writer.
 
 ghost use Rattle.std.specs.Prelude.{◌≡◌, ◌≤◌, ◌<◌, ◌+◌, ◌^◌, false, true, map, IsTrue};
 ghost use Rattle.pcap_blocks.specs.InterfaceDescription.{interface_of};
@@ -18,30 +18,30 @@ use pcap_ng::pcapng::{Block, BlockHeader, PcapNgReader};
 use std::alloc::Global;
 use std::io::{Read, Write};
 
-/// What a conversion does with a packet that has no place in a classic capture (see `Unplaced`).
+/// The choice of what a conversion does with a packet that has no place in a classic capture (see `Unplaced`).
 #[derive(Clone, Copy, Debug, PartialEq, Eq)]
 pub enum IfUnplaced {
-    /// It ends with that.
+    /// The conversion ends with an error.
     Refuse,
-    /// It leaves the packet out, and counts it.
+    /// The conversion leaves the packet out and counts it.
     LeaveOut,
 }
 
-/// How a conversion of blocks ended.
+/// The counts of a conversion from PcapNg, and the error that ended it, if any.
 #[derive(Debug, Drop)]
 pub struct NgConverted {
-    /// How many blocks were taken, those among them that hold no packet too.
+    /// The number of blocks that were taken, including those that hold no packet.
     pub blocks: u64,
-    /// How many packets went out.
+    /// The number of packets that were written.
     pub packets: u64,
-    /// How many packets were left out.
+    /// The number of packets that were left out.
     pub left_out: u64,
-    /// Why the conversion ended before the end of the capture and before the most blocks that were asked for.
+    /// The error that ended the conversion before the end of the capture and before the limit of blocks.
     pub fault: Option<PcapError>,
 }
 
 impl NgConverted {
-    // Counts a block that became this.
+    // Counts one block that became this.
     fn count(&mut self, became: Became)
         requires countable { self.old.blocks + 1 < 2 ^ 64 }
         requires packets { self.old.packets ≤ self.old.blocks }
@@ -57,7 +57,7 @@ impl NgConverted {
     }
 }
 
-// What a block became.
+// The outcome of one block: a packet, a packet that was left out, or no packet.
 #[derive(Clone, Copy)]
 enum Became {
     Packet,
@@ -65,21 +65,21 @@ enum Became {
     NoPacket,
 }
 
-/// Converts at most `most` blocks of a PcapNg capture, from where its reader stands, to packets of a classic capture, behind
-/// what its writer has written: each enhanced packet and each obsolete packet block becomes one packet, with the time that its
-/// interface's clock shows, its length on the wire and its bytes; all other blocks become none. The writer's header says in
-/// which order and resolution packets are written, and which link type they all have. Each packet goes out before the next
-/// block is read. Where there is no fault exactly these blocks were taken from the reader; from one that has refused something
-/// before there are none.
+/// Converts at most `most` blocks of a PcapNg capture, from the reader's position, to packets of a classic capture. It appends them
+/// to what the writer has written. Each enhanced packet and each obsolete packet block becomes one packet, with the time that its
+/// interface's clock shows, its original length and its bytes. A block that holds no packet becomes nothing. The writer's header
+/// determines the byte order, the timestamp resolution and the link type of all packets. Each packet is written before the next
+/// block is read. Without a fault, exactly these blocks were taken from the reader. A reader that has refused something before has
+/// no more blocks.
 ///
-/// A packet that has no place in a classic capture is refused before a byte of it goes out, by `InvalidField` with the message
-/// of an `Unplaced`, or is left out and counted, as `unplaced` says.
+/// If a packet has no place in a classic capture, as a simple packet without a time, `unplaced` decides. The packet is left out and
+/// counted, or it is refused before a byte of it is written, by `InvalidField` with the message of an `Unplaced`.
 ///
-/// A rest that is refused gives what `PcapNgReader` gives there, and no more of it was taken than was missing. What `parsed` of
-/// `Block` gives where the body of a packet's block is refused: that block was taken, and nothing of it has gone out.
-/// `WriterFailed` where an earlier write failed, and `InvalidField` where the magic number of the writer's header is none of the
-/// four: nothing is read or written then. `IoError` also where a write failed: a beginning of the packet that comes next has gone
-/// out then, and its block was taken.
+/// If the rest is refused, the fault is what `PcapNgReader` returns there, and no more bytes were taken than were missing. If the body
+/// of a packet's block is refused, the fault is what `parsed` of `Block` returns: the block was taken, and nothing of it was written.
+/// `WriterFailed` if an earlier write failed, and `InvalidField` if the magic number of the writer's header is none of the four:
+/// nothing is read or written then. `IoError` also if a write failed: a beginning of the next packet was written then, and its block
+/// was taken.
 pub fn convert_to_pcap<R: Read + Drop, W: Write>(
     alloc: Global,
     reader: &mut PcapNgReader<R>,
@@ -102,7 +102,7 @@ pub fn convert_to_pcap<R: Read + Drop, W: Write>(
     converted
 }
 
-// Converts blocks, and counts them.
+// Converts blocks and counts them.
 fn convert_blocks<R: Read + Drop, W: Write>(
     alloc: Global,
     reader: &mut PcapNgReader<R>,
@@ -131,7 +131,7 @@ fn convert_blocks<R: Read + Drop, W: Write>(
     Ok(())
 }
 
-// Converts the next block, and says whether there was one.
+// Converts the next block, and returns whether there was one.
 fn convert_next<R: Read + Drop, W: Write>(
     alloc: Global,
     reader: &mut PcapNgReader<R>,
@@ -158,7 +158,7 @@ fn convert_next<R: Read + Drop, W: Write>(
     Ok(true)
 }
 
-// Writes what the block of this header, which the reader lends, becomes.
+// Writes what the block with this header becomes. The reader lends the body of the block.
 fn convert_block<R: Read + Drop, W: Write>(
     alloc: Global,
     reader: &PcapNgReader<R>,
@@ -204,7 +204,7 @@ fn convert_packet<W: Write>(
     put_placed(placed, writer, unplaced)
 }
 
-// Writes a packet that has a place.
+// Writes a packet that has a place. A packet without a place is refused or left out.
 fn put_placed<W: Write>(
     placed: Result<PlacedPacket<'_>, Unplaced>,
     writer: &mut PcapWriter<W>,

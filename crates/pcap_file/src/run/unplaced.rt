@@ -1,4 +1,4 @@
-//! Packets of blocks, as a classic capture has them.
+//! Turns packets of PcapNg blocks into packets of a classic capture.
 
 ghost use Rattle.std.specs.Prelude.{◌≡◌, ◌≢◌, ◌<◌, ◌^◌, ℕ, pos, map, option_map, slice_get, MatchOption};
 ghost use Rattle.pcap_blocks.specs.InterfaceDescription.{interface_of};
@@ -10,28 +10,28 @@ use pcap_classic::pcap::PacketHeader;
 use pcap_core::DataLink;
 use pcap_core::rules::Rule;
 
-/// The most bytes that a classic capture's packet may have.
+/// The most bytes that a packet of a classic capture may have.
 const PACKET_LIMIT: u32 = 262144;
 
-/// Why a packet of a block has no place in a classic capture.
+/// A reason why a packet of a block has no place in a classic capture.
 #[derive(Clone, Copy, Debug, PartialEq, Eq)]
 pub enum Unplaced {
-    /// A simple packet has no time.
+    /// The packet is in a simple packet block, which has no time.
     NoTime,
-    /// Its interface is not described before it.
+    /// The packet's interface is not described before it.
     InterfaceMissing,
-    /// Its interface has another link type than the classic capture.
+    /// The packet's interface has another link type than the classic capture.
     OtherLink,
-    /// Its time is before 1970, or has seconds that are no number of 32 bits.
+    /// The packet's time is before 1970, or its seconds do not fit into 32 bits.
     SecondsOutside,
-    /// It had more than 262144 bytes.
+    /// The packet's original length is more than 262144 bytes.
     OriginalTooLong,
-    /// More bytes are stored of it than it had.
+    /// The block stores more bytes than the packet's original length.
     CapturedPastOriginal,
 }
 
 impl Unplaced {
-    /// The message that names it.
+    /// Returns the message of this reason.
     pub fn message(self) -> &'static str
         ensures { result.now ≡ unplaced_message self }
     {
@@ -46,14 +46,14 @@ impl Unplaced {
     }
 }
 
-/// A packet of a classic capture: its header, and its bytes.
+/// A packet for a classic capture: its header and its bytes.
 #[derive(Clone, Copy)]
 pub(crate) struct PlacedPacket<'a> {
     pub(crate) header: PacketHeader,
     pub(crate) bytes: &'a [u8],
 }
 
-// Whether blocks of this type hold a packet.
+// Returns whether blocks of this type hold a packet.
 pub(crate) fn holds_packet(type_: BlockType) -> bool
     ensures { result ≡ is_packet type_ }
 {
@@ -63,7 +63,7 @@ pub(crate) fn holds_packet(type_: BlockType) -> bool
     )
 }
 
-// The packet of a body, where it has a place in a capture of this link type.
+// Returns the packet of a body, if it has a place in a capture of this link type.
 pub(crate) fn place<'a>(
     parsed: &'a ParsedBlock<'_>,
     interfaces: &[InterfaceDescriptionBlock<'static>],
@@ -95,7 +95,7 @@ fn interface_at<'a>(
     interfaces.get(number as usize)
 }
 
-// The packet of these bytes that came by this interface so many units of its clock after 1970.
+// Returns the packet of these bytes, which was captured on this interface. `units` is its time in units of the interface's clock.
 fn placed<'a>(
     interface: Option<&InterfaceDescriptionBlock<'static>>,
     link: DataLink,
@@ -126,7 +126,7 @@ fn placed<'a>(
     Ok(PlacedPacket { header, bytes })
 }
 
-// The seconds of a time, where they are a number of 32 bits.
+// Returns the seconds of a time, if they fit into 32 bits.
 fn seconds_of(time: Timestamp) -> Option<u32>
     ensures { MatchOption result ((s : ℕ) → s < 2 ^ 32 → time.seconds ≢ pos s) (λ s. (s < 2 ^ 32) × (time.seconds ≡ pos s)) }
 {
