@@ -1,4 +1,4 @@
--- What the head of a packet read leniently states.
+-- The facts that the head of a packet read leniently states.
 use Rattle.std.proofs.Common.{◌≡◌, ◌<◌, ℕ, List, [], ◌++◌, length, drop, Bool, refl, sym, ap, subst, ◌∙◌, arith, append-nil, inl, inr, Option, Result, Ok, Err, Some, None}
 use Rattle.std.proofs.lemmas.List.{drop_at}
 use Rattle.pcap_core.specs.declared.errors.PcapError.{PcapError}
@@ -55,7 +55,7 @@ module _ (limit : ℕ) (header : PcapHeader) where
   long_refused s e long refuses =
       refuses_shows (λ n. LacksHead s n) (HasLongHead (raised limit) (number_in (order_of header.magic_number)) s) e (λ n lack. omega (arith, long, lack.some, lack.missing)) refuses
 
-  -- What a known head states about the bytes that follow it.
+  -- A known head states how many bytes follow it.
   pub head_states : (head : HeadAsIs) (s : List ℕ) → KnowsAsIs limit header head head.incl_len s → StatesRest ((as_is_under limit header).says tt) (KnowsAsIs limit header) s (Ok (head, head.incl_len))
   head_states head s knows = (
     knows,

@@ -51,7 +51,7 @@ pub record AsIs : Type 0 where
   pub flaws : Flaws
   pub bytes : List ℕ
 
--- What a lenient packet contains, wherever its bytes are stored.
+-- The contents of a packet of the code, wherever its bytes are stored.
 abbrev pub as_it_is : PacketAsIs → AsIs
 as_it_is p = record { head = record { seconds = p.ts_sec; fraction = p.fraction; included = p.incl_len; original = p.orig_len }; flaws = p.flaws; bytes = p.data.now }
 

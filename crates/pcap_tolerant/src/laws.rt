@@ -54,8 +54,8 @@ pub fn packets_as_they_stand_are_asked_for_twice()
         (length (n ∷ ns) ≤ 2) × ((packet : AsIs) (rest : List ℕ) → AsIsText limit order r packet t rest → rest ≡ []) }
 {}
 
-/// The requests for a packet read leniently are one for its head and then one for its data. If the caller meets them exactly,
-/// the bytes are the packet's text and no more.
+/// The requests for a packet read leniently are for its head and then for its data. If the caller meets them exactly, the bytes
+/// are the packet's text and no more.
 pub fn requests_of_packets_as_they_stand_are_asked()
     ensures { (limit : ℕ) (order : Order) (r : TsResolution) (packet : AsIs) (s rest ns : List ℕ) →
         AsIsText limit order r packet s rest → RequestsAt (as_is_format limit order r) tt s ns →

@@ -24,7 +24,7 @@ pub struct OwnedRunAsIs {
     pub packets: Vec<OwnedAsIs>,
     /// The number of bytes of the header and the packets.
     pub used: usize,
-    /// The state of the bytes after the last packet.
+    /// The rest after the last packet: nothing, a truncated packet or a malformed one.
     pub rest: Rest,
 }
 

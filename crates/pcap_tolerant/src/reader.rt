@@ -149,7 +149,7 @@ impl<T> ReaderAsIs<T> {
         self.fill.held()
     }
 
-    /// Returns the data of the last packet whose head `next_header` returned. They are empty after the end of the stream.
+    /// Returns the data of the last packet whose head `next_header` returned. It is empty after the end of the stream.
     pub fn data(&self) -> &[u8]
         ensures { result.now ≡ data_of self.now }
     {
@@ -161,7 +161,7 @@ impl<T> ReaderAsIs<T> {
         data
     }
 
-    /// Returns the packet of the head that `next_header` returned last. The reader lends its data.
+    /// Returns the packet with this head, which `next_header` returned last. The reader lends the packet's data.
     pub fn packet(&self, head: HeadAsIs) -> PacketAsIs<'_>
         ensures { as_it_is result ≡ lent_packet self.now head }
     {

@@ -22,7 +22,7 @@ pub struct PcapRunAsIs<'a> {
     pub packets: Vec<PacketAsIs<'a>>,
     /// The number of bytes of the header and the packets.
     pub used: usize,
-    /// The state of the bytes after the last packet.
+    /// The rest after the last packet: nothing, a truncated packet or a malformed one.
     pub rest: Rest,
 }
 

@@ -105,7 +105,7 @@ pub record RawText (order : Order) (r : UnknownRecord) (s rest : List ℕ) : Typ
   pub length_is : r.length ≡ length (cow_bytes r.value)
   pub borrowed : IsBorrowed r.value
 
--- What the code found is at the front of `s`: a record, the end, or that there is none.
+-- The code found at the front of `s` a record, the end of the records, or that there is neither.
 abbrev pub IsFound : Order → List ℕ → RecordAsIs → Type 0
 IsFound order s (found.Kept r flaw after) = KeptAsIs order (judged_record (name_record_of r) flaw) s after.now
 IsFound order s (found.End flaw after) = (end : NameRecord) × TypedText order 0 (judged_record end flaw) s after.now

@@ -25,7 +25,7 @@ pub record SectionText (section : Section) (flaws : List Said) (s rest : List �
   pub names : magic_order section.magic ≡ Some endianness
   pub after : AfterMagic (number_in endianness) section flaws after_magic rest
 
--- What follows the magic number is not a section without flaws and options, so a list grows.
+-- The bytes after the magic number are not a section without flaws and options, so a list grows.
 abbrev pub VersionGrows : Order → List ℕ → Type 0
 VersionGrows order = KeepsSome (AfterMagic order) (λ x. x.options ≡ [])
 

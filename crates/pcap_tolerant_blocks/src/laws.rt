@@ -36,8 +36,8 @@ pub fn strict_interface_is()
         InterfaceText order interface flaws s rest → InterfaceSays order s v → StrictIsWhere flaws interface rest v }
 {}
 
-/// Strict reading of the same section gives that section if it has no flaw, and otherwise the error for its first flaw. If the
-/// section names no byte order, strict reading has the same error.
+/// Strict reading of the same section gives that section if it has no flaw, and otherwise the error for its first flaw. If no
+/// byte order is known, strict reading has the same error.
 pub fn strict_section_is()
     ensures read { (section : Section) (flaws : List Said) (s rest : List ℕ) (v : Verdict Section) →
         SectionText section flaws s rest → SectionSays s v → StrictIs flaws section rest v }

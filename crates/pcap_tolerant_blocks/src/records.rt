@@ -13,7 +13,7 @@ use pcap_core::fields::{split_padded, split_u16};
 use pcap_core::{CowBytes, PcapError};
 use std::alloc::{AllocError, Global};
 
-// What lenient reading finds where a record of names should begin.
+// The result of lenient reading where a record of names should begin.
 #[derive(Drop)]
 pub(crate) enum RecordAsIs<'a> {
     // A record, the flaw of its value, and what follows it.

@@ -21,7 +21,7 @@ use Rattle.pcap_tolerant_captures.specs.Blocks.{Item, AsIsSays, MayGrow, as_is_f
 use Rattle.pcap_tolerant_captures.proofs.Format.{as_is_lawful, means_one}
 
 module _ (q : State) (s : List ℕ) where
-  -- A frame without a rest is a block or is refused.
+  -- A frame with nothing behind it is a block or is refused.
   frame_settled : (b : Framed) → FrameText (order_at q) b s [] → (r : HeadReading Led) → Means q b r → IsSettled (AsIsSays q s)
   frame_settled b frame (good led) means = inl (record { block = b; led = led }, record { frame = frame; means = means })
   frame_settled b frame (bad fault) means = inr (fault, inr (record { block = b; rest = []; frame = frame; means = means }))

@@ -31,7 +31,7 @@ abbrev pub order_at : State → Endianness
 order_at opening = strict.order_at strict.opening
 order_at (within section interfaces) = strict.order_at (strict.within section [])
 
--- What a block does to the state of the blocks behind it.
+-- The effect of a block on the state of the blocks behind it.
 pub data Role : Type 0 where
   begins_section : Role
   adds_interface : Role

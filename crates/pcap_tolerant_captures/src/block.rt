@@ -23,7 +23,7 @@ use pcap_tolerant_blocks::{
 };
 use std::alloc::{AllocError, Global};
 
-// What is read from a body and what follows it if the block has this type, and None if it has another.
+// Reads the body of a block of this type and drops what follows it, or returns None if the block has another type.
 macro_rules! of_type {
     ($type:expr => $kind:ident, $read:expr) => {{
         if !matches!($type, BlockType::$kind) {
@@ -36,7 +36,7 @@ macro_rules! of_type {
 
 pub(crate) use of_type;
 
-// What a body is, read leniently in this byte order, and what follows it.
+// Reads a body leniently in this byte order, and returns what follows it and the body.
 macro_rules! in_order {
     ($order:ident $body:ident $alloc:ident $slice:ident) => {
         match $order {
@@ -61,7 +61,7 @@ impl<'a> BlockAsIs<'a> {
     ghost use Rattle.pcap_core.specs.Errors.{IsMemory};
     ghost use Rattle.pcap_tolerant_captures.specs.Run.{is_flawed, seen_of};
 
-    /// Returns whether the body of a section or an interface has a flaw. For any other block the answer is false.
+    /// Returns whether the block has a flaw. Only the body of a section or an interface is read.
     pub fn is_flawed(&self) -> bool
         ensures { result ≡ is_flawed self.now }
     {

@@ -24,7 +24,7 @@ use pcap_tolerant_blocks::{
 use std::alloc::{AllocError, Global};
 use std::io::Read;
 
-/// What surrounds the body of a block that a reader lends, and the flaws of that body.
+/// The header of a block whose body a reader lends, and the flaws of that body.
 #[derive(Debug, Drop)]
 pub struct LentAsIs {
     /// The block's type, its length and its byte order.
@@ -33,9 +33,9 @@ pub struct LentAsIs {
     pub flaws: Vec<Flaw>,
 }
 
-/// A reader that reads the blocks of a stream leniently, one for each call of `next_header`, from the first section header on.
-/// It leaves no block out for the flaws of its body. The reader lends the block's bytes until the next call, so a block needs
-/// no memory of its own. Only a section header or an interface description, which stays in force, is copied.
+/// A reader that reads the blocks of a stream leniently, one for each call of `next_header`, from the first section header on. It
+/// leaves no block out for the flaws of its body. The reader lends the block's bytes until the next call, so a block needs no
+/// memory of its own, except a section header or an interface description, which stays in force.
 ///
 /// `next_header` returns None if the stream ends between blocks, and the next call reads the stream again. After its first
 /// error it always returns None. Between blocks the reader has taken exactly the bytes of the blocks. A call that returns an

@@ -35,7 +35,7 @@ pub struct NgRunAsIs<'a> {
     pub parser: PcapNgParserAsIs,
     /// The number of bytes of the first section header and the blocks.
     pub used: usize,
-    /// The state of the bytes after the last block.
+    /// The rest after the last block: nothing, a truncated block or a malformed one.
     pub rest: Rest,
     /// The place of the first block with a flaw, or None if no block has one. Strict reading ends before this block.
     pub first_flawed: Option<FlawedAt>,
