@@ -1,4 +1,4 @@
--- Any bytes are exactly one list of options, one interface or one section in lenient reading.
+-- Lenient reading of options, of an interface or of a section gives exactly one answer for any bytes.
 use Rattle.std.proofs.Common.{◌≡◌, ◌<◌, ◌≤◌, ℕ, List, [], ◌∷◌, length, map, Option, Some, None, Result, Ok, refl, sym, ap, subst, ◌∙◌, arith, inl, inr}
 use Rattle.std.specs.Prelude.{ℤ}
 use Rattle.std.specs.Int.{w64, cast_signed}

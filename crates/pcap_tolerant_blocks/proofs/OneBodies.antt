@@ -1,4 +1,4 @@
--- Any bytes are exactly one packet or one body of statistics in lenient reading.
+-- Lenient reading of a packet or of statistics gives exactly one answer for any bytes.
 use Rattle.std.proofs.Common.{◌≡◌, ◌<◌, ℕ, ◌+◌, ◌*◌, ◌^◌, List, [], ◌∷◌, length, take, drop, refl, sym, ap, subst, arith, inl, inr}
 use Rattle.std.specs.Prelude.{◌⊎◌}
 use Rattle.std.proofs.lemmas.Bool.{cases_lt}

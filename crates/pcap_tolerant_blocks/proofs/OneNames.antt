@@ -1,4 +1,4 @@
--- Any bytes are exactly one body of names in lenient reading, and the conditions under which a list grows there.
+-- Lenient reading of names gives exactly one answer for any bytes, and a list grows there under known conditions.
 use Rattle.std.proofs.Common.{◌≡◌, ◌≢◌, ◌<◌, ℕ, zero, suc, List, [], ◌∷◌, ◌++◌, length, map, true, false, refl, sym, ap, subst, ◌∙◌, arith, append_assoc, inl, inr}
 use Rattle.std.specs.Prelude.{◌⊎◌}
 use Rattle.std.specs.List.{flat_map}

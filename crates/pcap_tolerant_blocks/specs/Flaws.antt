@@ -13,7 +13,7 @@ fault_of (broken.Rule rule) = Invalid rule
 fault_of broken.TooShort = Io
 fault_of broken.NotUtf8 = Utf8
 
--- A fault, with the code of the option whose value has it, or no code if the fault is in a body or a list.
+-- A fault, with the code of the option whose value has it, or no code if the fault is in a body, a list or a record of names.
 pub record Said : Type 0 where
   pub code : Option ℕ
   pub fault : Fault

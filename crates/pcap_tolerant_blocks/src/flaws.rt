@@ -22,7 +22,8 @@ pub enum Broken {
 /// A flaw of a body, for which strict reading refuses the body.
 #[derive(Clone, Copy, Debug)]
 pub struct Flaw {
-    /// The code of the option whose value has the flaw. It is None if the flaw is in the whole body or in the list of options.
+    /// The code of the option whose value has the flaw. It is None if the flaw is in the whole body, in the list of options, or
+    /// in a record of names.
     pub code: Option<u16>,
     /// The fault.
     pub broken: Broken,

@@ -77,7 +77,7 @@ pub fn strict_names_are()
         NamesText order names flaws s rest → ResolutionSays order s v → StrictIs flaws names rest v }
 {}
 
-/// Any bytes are exactly one list of options in lenient reading: which options, with which flaws, and what follows them.
+/// Lenient reading of options gives exactly one answer for any bytes: the options, their flaws, and what follows them.
 pub fn options_as_they_stand_are_one()
     ensures { (order : Order) (kind : Kind) (s : List ℕ) → ExactlyOne (OptionsAsIsSay order kind s) }
 {}
@@ -87,37 +87,42 @@ pub fn sound_options_are_one()
     ensures { (order : Order) (kind : Kind) (s : List ℕ) → ExactlyOne (SoundOptions order kind s) }
 {}
 
-/// Any bytes are exactly one interface in lenient reading, with its flaws and what follows it, or none with a flaw.
+/// Lenient reading of an interface gives exactly one answer for any bytes: the interface with its flaws and what follows it, or
+/// none and a flaw.
 pub fn interface_as_it_stands_is_one()
     ensures { (order : Order) (s : List ℕ) → ExactlyOne (InterfaceAsIsSays order s) }
 {}
 
-/// Any bytes are exactly one section in lenient reading, or have exactly one reason why no byte order is known.
+/// Lenient reading of a section gives exactly one answer for any bytes: the section with its flaws and what follows it, or the
+/// reason why no byte order is known.
 pub fn section_as_it_stands_is_one()
     ensures { (s : List ℕ) → ExactlyOne (SectionAsIsSays s) }
 {}
 
-/// Any bytes are exactly one enhanced packet in lenient reading, with its flaws and what follows it, or none with a flaw.
+/// Lenient reading of an enhanced packet gives exactly one answer for any bytes: the packet with its flaws and what follows it,
+/// or none and a flaw.
 pub fn enhanced_as_it_stands_is_one()
     ensures { (order : Order) (s : List ℕ) → ExactlyOne (EnhancedAsIsSays order s) }
 {}
 
-/// Any bytes are exactly one obsolete packet in lenient reading, with its flaws and what follows it, or none with a flaw.
+/// Lenient reading of an obsolete packet gives exactly one answer for any bytes: the packet with its flaws and what follows it,
+/// or none and a flaw.
 pub fn packet_block_as_it_stands_is_one()
     ensures { (order : Order) (s : List ℕ) → ExactlyOne (PacketBlockAsIsSays order s) }
 {}
 
-/// Any bytes are exactly one simple packet in lenient reading, or none with a flaw.
+/// Lenient reading of a simple packet gives exactly one answer for any bytes: the packet, or none and a flaw.
 pub fn simple_as_it_stands_is_one()
     ensures { (order : Order) (s : List ℕ) → ExactlyOne (SimpleAsIsSays order s) }
 {}
 
-/// Any bytes are exactly one body of statistics in lenient reading, with its flaws and what follows it, or none with a flaw.
+/// Lenient reading of statistics gives exactly one answer for any bytes: the statistics with their flaws and what follows them,
+/// or none and a flaw.
 pub fn statistics_as_they_stand_are_one()
     ensures { (order : Order) (s : List ℕ) → ExactlyOne (StatisticsAsIsSay order s) }
 {}
 
-/// Any bytes are exactly one body of names in lenient reading, with its flaws and what follows it.
+/// Lenient reading of names gives exactly one answer for any bytes: the names, their flaws, and what follows them.
 pub fn names_as_they_stand_are_one()
     ensures { (order : Order) (s : List ℕ) → ExactlyOne (NamesAsIsSay order s) }
 {}
