@@ -1,4 +1,4 @@
--- Packets as they stand are a lawful format, and what the strict reading says where they stand.
+-- The format of packets read leniently is lawful, and strict reading of the same bytes has a known answer.
 use Rattle.std.proofs.Common.{◌≡◌, ◌<◌, ◌≤◌, ℕ, List, [], ◌++◌, length, refl, sym, ap, subst, ◌∙◌, arith, inl, inr}
 use Rattle.std.proofs.lemmas.Bool.{cases_lt}
 use Rattle.std.proofs.lemmas.List.{nil_from_length}
@@ -18,7 +18,7 @@ use Rattle.pcap_classic.proofs.HeadedPackets.{head_again, head_piece}
 use Rattle.pcap_tolerant.specs.declared.as_is.Flaws.{Flaws}
 use Rattle.pcap_tolerant.specs.AsIs.{flaws_of, AsIs, HasLongHead, AsIsSays, as_is_format, HeadReads, DataReads, headed_as_is}
 
--- ---- of a head's sixteen bytes, and of the data, one thing is said
+-- ---- a head's sixteen bytes, and the data, have exactly one answer
 
 head_there : (order : Order) (b : List ℕ) → length b ≡ 16 → (head : Head) × RecordHeadText order head b []
 head_there order b count =
@@ -79,7 +79,7 @@ headed_as_is_lawful limit order r =
     } in
     headed_lawful (headed_as_is limit order r) is
 
--- ---- the readable words say the same as a head and a body
+-- ---- the readable definitions agree with those by a head and a body
 
 module _ (limit : ℕ) (order : Order) (r : TsResolution) where
   good_piece : (h : Head) (s after : List ℕ) → RecordHeadText order h s after → h.included ≤ limit → Piece 16 (λ b. HeadReads limit order b (good h)) s after

@@ -1,4 +1,4 @@
--- Captures of packets as they stand that are copied.
+-- Lenient copies of captures.
 use Rattle.std.proofs.Common.{◌≡◌, ℕ, List, [], length, subst, arith, refl, Ok, Some, None, Bool}
 use Rattle.std.specs.Prelude.{Option}
 use Rattle.std.specs.Option.{is_some}
@@ -16,13 +16,13 @@ use Rattle.pcap_tolerant.specs.KnownHeads.{KnowsAsIs, held_as_is}
 use Rattle.pcap_tolerant.specs.Run.{as_is_under}
 use Rattle.pcap_tolerant.proofs.KnownPackets.{held_stands}
 
--- twenty-four bytes at whose front a header stands are its text
+-- Twenty-four bytes that begin with a header's text are that text.
 pub held_header : (parser : PcapParser) (bytes rest : List ℕ) → length bytes ≡ 24 → HeaderText (header_of parser) bytes rest → HeaderText (header_of parser) bytes []
 held_header parser bytes rest long text =
     let none : rest ≡ [] = nil_from_length rest (omega (arith, long, header_length (header_of parser) bytes rest text)) in
     subst (λ (l : List ℕ). HeaderText (header_of parser) bytes l) none text
 
--- what was filled with is the next packet, or there is none
+-- A filled buffer holds the next packet, or there is none.
 pub packet_held : (limit : ℕ) (header : PcapHeader) (before after : Option (List ℕ)) (held : List ℕ) (failed : Bool) (found : Option HeadAsIs)
     → FillsHeaded ((as_is_under limit header).says tt) (KnowsAsIs limit header) ((as_is_under limit header).head tt) before after held failed (Ok found)
     → HoldsNext (as_is_under limit header) tt tt before after held failed (Ok (is_some found))

@@ -1,4 +1,4 @@
--- Packets as they stand of a capture that comes in pieces.
+-- Packets read leniently from a capture that comes in pieces.
 use Rattle.std.proofs.Common.{◌≡◌, ℕ, List, length, map, refl, sym, ap, subst, ◌∙◌, inl, inr}
 use Rattle.pcap_items.specs.Format.{Front}
 use Rattle.pcap_items.specs.Pieces.{HoldsItems, IsFedUpTo, IsOpening}
@@ -27,7 +27,7 @@ holds_as_is limit s n (inl x) =
     inl (header, x.2, x.3, record { after = x.1; header_text = x.4.2; front = front }, x.6)
 holds_as_is limit s n (inr x) = inr (λ header after text. x.0 (set_to limit header) after (header, refl, text), x.1)
 
--- a run over all pieces
+-- The result of feeding all pieces is the run over the joined bytes.
 pub fed_run : (limit : ℕ) (s : List ℕ) (parser : ParserAsIs) (run : OwnedRunAsIs)
     → IsFedUpTo (OpensUnder limit) any_as_is (λ packet. packet) (setting_of parser) s run.rest run.used (map owned_as_is run.packets.items) → run.header ≡ header_of parser.parser → IsOwnedRunAsIs limit run s
 fed_run limit s parser run x same =
@@ -45,7 +45,7 @@ fed_run limit s parser run x same =
       rest = rw (← header) rest;
     }
 
--- the number of packets as they stand that bytes hold is one
+-- The number of packets that lenient reading finds in given bytes is unique.
 pub held_same : (limit : ℕ) (s : List ℕ) (n m : ℕ) → HoldsAsIs limit s n → HoldsAsIs limit s m → n ≡ m
 held_same limit s n m (inl x) (inl y) =
     let is = header_same x.0 y.0 s x.3.after y.3.after x.3.header_text y.3.header_text in

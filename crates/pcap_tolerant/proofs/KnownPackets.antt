@@ -1,4 +1,4 @@
--- What the head of a packet as it stands states.
+-- The facts that the head of a packet read leniently states.
 use Rattle.std.proofs.Common.{◌≡◌, ◌<◌, ℕ, List, [], ◌++◌, length, drop, Bool, refl, sym, ap, subst, ◌∙◌, arith, append-nil, inl, inr, Option, Result, Ok, Err, Some, None}
 use Rattle.std.proofs.lemmas.List.{drop_at}
 use Rattle.pcap_core.specs.declared.errors.PcapError.{PcapError}
@@ -27,7 +27,7 @@ module _ (limit : ℕ) (header : PcapHeader) where
   unfolding as_is_format
   under_head = refl
 
-  -- a head that is known, and the data behind it, are a packet
+  -- A known head and the data behind it are a packet.
   as_is_stands : (head : HeadAsIs) (n : ℕ) (front body s : List ℕ) → KnowsAsIs limit header head n front → s ≡ front ++ body → length body ≡ n
       → (as_is_under limit header).says tt s (whole (packet_with head body) [])
   unfolding as_is_format
@@ -43,19 +43,19 @@ module _ (limit : ℕ) (header : PcapHeader) where
         whole = count ∙ sym k.follows;
       }
 
-  -- a head that is known lacks its data
+  -- A known head alone lacks its data.
   as_is_lacks : (head : HeadAsIs) (n : ℕ) (s : List ℕ) → KnowsAsIs limit header head n s → 0 < n → (as_is_under limit header).says tt s (lacks n)
   unfolding as_is_format
   as_is_lacks head n s k some = inr (record { head = numbers_of head; after = []; text = k.text.text; below = k.text.below; some = some; missing = omega (arith, k.follows) })
 
-  -- sixteen bytes that are no head of a length below the limit are refused
+  -- Sixteen bytes that are no head with a stored length of at most the limit are refused.
   pub long_refused : (s : List ℕ) (e : PcapError) → length s ≡ 16 → Refuses ⊥ (λ n. LacksHead s n) (HasLongHead (raised limit) (number_in (order_of header.magic_number)) s) e
       → Shows (λ fault. (as_is_under limit header).says tt s (faulty fault)) e
   unfolding as_is_format
   long_refused s e long refuses =
       refuses_shows (λ n. LacksHead s n) (HasLongHead (raised limit) (number_in (order_of header.magic_number)) s) e (λ n lack. omega (arith, long, lack.some, lack.missing)) refuses
 
-  -- what a head that is known states
+  -- A known head states how many bytes follow it.
   pub head_states : (head : HeadAsIs) (s : List ℕ) → KnowsAsIs limit header head head.incl_len s → StatesRest ((as_is_under limit header).says tt) (KnowsAsIs limit header) s (Ok (head, head.incl_len))
   head_states head s knows = (
     knows,
@@ -63,14 +63,14 @@ module _ (limit : ℕ) (header : PcapHeader) where
     λ some. as_is_lacks head head.incl_len s knows some,
   )
 
-  -- the packet that held bytes show
+  -- Held bytes are the packet of their head.
   pub held_stands : (head : HeadAsIs) (s : List ℕ) → Stated (KnowsAsIs limit header) ((as_is_under limit header).head tt) head s → (as_is_under limit header).says tt s (whole (held_as_is s head) [])
   held_stands head s t =
       let long : length t.front ≡ 16 = t.length_is ∙ under_head in
       let back : drop 16 s ≡ t.body = ap (drop 16) t.split ∙ drop_at t.front t.body 16 long in
       subst (λ (l : List ℕ). (as_is_under limit header).says tt s (whole (packet_with head l) [])) (sym back) (as_is_stands head (length t.body) t.front t.body s t.knows t.split refl)
 
-  -- what was filled with was taken
+  -- A filled buffer holds the packet that was taken.
   pub as_is_held : (before after : Option (List ℕ)) (held : List ℕ) (failed : Bool) (result : Result (Option HeadAsIs) PcapError)
       → FillsHeaded ((as_is_under limit header).says tt) (KnowsAsIs limit header) ((as_is_under limit header).head tt) before after held failed result
       → Pulls ((as_is_under limit header).says tt) (held_as_is held) before after failed result
@@ -78,7 +78,7 @@ module _ (limit : ℕ) (header : PcapHeader) where
   as_is_held before after held failed (Ok None) x = (x.0, x.2, x.3)
   as_is_held before after held failed (Err e) x = x
 
-  -- and it is what is held
+  -- The held bytes are the text of that packet.
   pub as_is_text : (before after : Option (List ℕ)) (held : List ℕ) (failed : Bool) (result : Result (Option HeadAsIs) PcapError)
       → FillsHeaded ((as_is_under limit header).says tt) (KnowsAsIs limit header) ((as_is_under limit header).head tt) before after held failed result
       → HoldsText ((as_is_under limit header).says tt) (held_as_is held) before after held result

@@ -1,4 +1,4 @@
--- Where items stand again.
+-- Rows of items, as resynchronization finds them.
 use Rattle.std.proofs.Common.{◌≡◌, ◌<◌, ◌-◌, ℕ, zero, suc, List, [], length, sym, ap, subst, arith, inl, inr}
 use Rattle.std.specs.Prelude.{◌⊎◌}
 use Rattle.pcap_core.specs.declared.errors.PcapError.{PcapError}
@@ -16,7 +16,7 @@ use Rattle.pcap_classic.proofs.Packets.{packets_say, packets_refuse}
 use Rattle.pcap_tolerant.specs.Resync.{Row, HasData, PacketRow}
 
 module _ {S V : Type 0} (f : Format S V) (P : V → Type 0) (laws : IsLawful f) where
-  -- a row goes on behind the item that stands there
+  -- Behind the first item of a row, the row goes on.
   pub row_down : (q : S) (k : ℕ) (s after : List ℕ) (v : V) → f.says q s (whole v after) → Row f P q (suc k) s → (after ≡ []) ⊎ Row f P (f.goes q v) k after
   row_down q k s after v x row =
       let e = text_same f laws q row.0 v s row.1 after row.2 x in
@@ -28,7 +28,7 @@ module _ {S V : Type 0} (f : Format S V) (P : V → Type 0) (laws : IsLawful f) 
       let e = text_same f laws q row.0 v s row.1 after row.2 x in
       subst P e.0 row.3
 
-  -- ---- the same of a count that goes down by one an item
+  -- ---- the same for a count that goes down by one for each item
 
   pub goes_down : (q : S) (more : ℕ) (s rest : List ℕ) (v : V) → f.says q s (whole v rest) → 0 < more → (length rest ≡ 0 → ⊥) → Row f P q more s → Row f P (f.goes q v) (more - 1) rest
   goes_down q zero s rest v x some on row = absurd (omega (arith, some))

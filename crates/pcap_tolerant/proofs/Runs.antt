@@ -1,4 +1,4 @@
--- Packets as they stand behind a header, which is the state of their format with the limit.
+-- Packets read leniently behind a header: the state of their format is the header and the limit.
 use Rattle.std.proofs.Common.{◌≡◌, ℕ, List, [], ◌∷◌, refl, sym, subst, ◌∙◌, arith}
 use Rattle.std.proofs.lemmas.List.{map-id}
 use Rattle.pcap_items.specs.declared.rest.Rest.{Rest}
@@ -33,14 +33,14 @@ texts_under : (q : Setting) (packets : List AsIs) (s rest : List ℕ) → Texts 
 texts_under q [] s rest texts = texts
 texts_under q (packet ∷ packets) s rest texts = (texts.0, texts.1, texts_under q packets texts.0 rest texts.2)
 
--- the front of a capture, by its header and the limit as a state
+-- The front of a capture, with its header and the limit as the state.
 pub front_under : (q : Setting) (packets : List AsIs) (s rest : List ℕ) → Front any_as_is q packets s rest → Front (as_is_under q.limit q.header) tt packets s rest
 front_under q packets s rest front = record {
   texts = texts_under q packets s rest front.texts;
   longest = λ packet after x. front.longest packet after (subst (λ (p : Setting). any_as_is.says p rest (whole packet after)) (sym (state_stays q packets)) x);
 }
 
--- the packets of a run, and what is said of its rest
+-- The packets of a run, and the state of its rest.
 pub record RunUnder (q next : Setting) (packets : List AsIs) (s left : List ℕ) (rest : Rest) : Type 0 where
   pub same : q ≡ next
   pub front : Front (as_is_under q.limit q.header) tt packets s left

@@ -1,4 +1,4 @@
--- What the strict reading says where a packet as it stands is read.
+-- The answers of strict reading for bytes that are also read leniently.
 use Rattle.std.proofs.Common.{◌≡◌, ◌≤◌, ℕ, Bool, true, false, cond, List, [], ◌∷◌, Option, Some, None, refl, sym, ap, subst, ◌∙◌, arith, inl, inr}
 use Rattle.std.specs.Prelude.{◌⊎◌, nat_lt}
 use Rattle.std.proofs.lemmas.Bool.{ltb-false, lt-ltb}
@@ -31,7 +31,7 @@ first_is false false false false = refl
 head_first : (r : TsResolution) (head : Head) → head_fault packet_limit r head ≡ first_fault (rules_of (flaws_of r head))
 head_first r head = first_is (nat_lt 4294967295 (nanoseconds r head.fraction)) (nat_lt packet_limit head.included) (nat_lt packet_limit head.original) (nat_lt head.original head.included)
 
--- nothing is broken: each of the four tests fails
+-- No rule is broken: each of the four tests fails.
 none_broken : (a b d e : Bool) → where_broken a FractionTooLarge (where_broken b IncludedTooLong (where_broken d OriginalTooLong (where_broken e IncludedPastOriginal []))) ≡ []
     → (a ≡ false) × (b ≡ false) × (d ≡ false) × (e ≡ false)
 none_broken false false false false x = (refl, refl, refl, refl)
@@ -50,7 +50,7 @@ flawed_fault : (order : Order) (r : TsResolution) (head : Head) (s after : List 
 unfolding first_fault
 flawed_fault order r head s after rule rules text x = record { head = head; after = after; text = text; first = head_first r head ∙ ap first_fault x }
 
--- ---- the strict verdict
+-- ---- the strict answer
 
 abbrev There : Order → TsResolution → List ℕ → Verdict AsIs → Type 0
 There order r s a = (v : Verdict Captured) × PacketSays packet_limit order r s v × StrictIs order r s a v

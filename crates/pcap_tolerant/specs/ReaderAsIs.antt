@@ -1,4 +1,4 @@
--- What a reader of packets as they stand shows.
+-- The observable state of a lenient reader of packets.
 use Rattle.std.specs.Prelude.{◌≡◌, ◌⊎◌, ℕ, List, [], drop, Bool, false, Option, None, Some, Result, Ok, Err}
 use Rattle.std.specs.Io.KnownBytes.{Consumes}
 use Rattle.pcap_core.specs.declared.errors.PcapError.{PcapError}
@@ -15,48 +15,48 @@ use Rattle.pcap_tolerant.specs.declared.as_is.HeadAsIs.{HeadAsIs}
 use Rattle.pcap_tolerant.specs.declared.reader.ReaderAsIs.{ReaderAsIs}
 use Rattle.pcap_tolerant.specs.AsIs.{AsIs, packet_with}
 
--- the stream behind a reader
+-- The stream that a reader wraps.
 abbrev pub stream_of : {T : Type 0} → ReaderAsIs T → T
 stream_of reader = source_of reader.fill
 
--- the header of its capture
+-- The header of the reader's capture.
 abbrev pub header_read : {T : Type 0} → ReaderAsIs T → PcapHeader
 header_read reader = header_of reader.parser
 
--- the caller's limit
+-- The caller's limit.
 abbrev pub limit_of : {T : Type 0} → ReaderAsIs T → ℕ
 limit_of reader = reader.limit
 
--- a read of the stream failed
+-- A read of the stream failed.
 abbrev pub has_failed : {T : Type 0} → ReaderAsIs T → Bool
 has_failed reader = source_failed reader.fill
 
--- the reader has refused something
+-- The reader has returned an error.
 abbrev pub is_done : {T : Type 0} → ReaderAsIs T → Bool
 is_done reader = reader.is_done
 
--- the bytes that it holds
+-- The bytes that the reader holds.
 abbrev pub held_of : {T : Type 0} → ReaderAsIs T → List ℕ
 held_of reader = held_in reader.fill
 
--- the data that it lends: what follows the head of the packet that it holds
+-- The data that the reader lends: the held bytes after the head of the packet.
 abbrev pub data_of : {T : Type 0} → ReaderAsIs T → List ℕ
 data_of reader = drop 16 (held_of reader)
 
--- the packet of this head and the data that a reader lends
+-- The packet with this head and the data that a reader lends.
 abbrev pub lent_packet : {T : Type 0} → ReaderAsIs T → HeadAsIs → AsIs
 lent_packet reader head = packet_with head (data_of reader)
 
--- where a call gave a packet, these bytes are its text, head and data, and exactly they were taken; behind a refusal they are what
--- was taken; where the stream ended, there are none
+-- The held bytes after a call: exactly the packet's text, head and data, which was taken; after an error, all bytes that the call took;
+-- or none, if the stream ended.
 abbrev pub HoldsGiven : {X V : Type 0} → (List ℕ → Verdict V → Type 0)
     → (X → V) → Option (List ℕ) → Option (List ℕ) → List ℕ → Option (Result X PcapError) → Type 0
 HoldsGiven IsSaid view before after text (Some (Ok x)) = TakesText IsSaid before after text (view x)
 HoldsGiven IsSaid view before after text (Some (Err e)) = Consumes before after text
 HoldsGiven IsSaid view before after text None = text ≡ []
 
--- one call that makes a reader: the header's text was taken and no more, and nothing failed; or a read failed or the stream
--- ended early, or the header is refused
+-- The result of opening a reader: exactly the header's text was taken and nothing failed; or a read failed, the stream ended early, or
+-- the header is refused.
 abbrev pub OpensAsIs : {T : Type 0} → (T → Option (List ℕ)) → ℕ → T → Result (ReaderAsIs T) PcapError → Type 0
 OpensAsIs remaining limit stream (Ok reader) =
     (is_done reader ≡ false) × (has_failed reader ≡ false) × (limit_of reader ≡ limit) × Takes HeaderSays (remaining stream) (remaining (stream_of reader)) (header_read reader) × (held_of reader ≡ [])

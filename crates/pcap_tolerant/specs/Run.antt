@@ -1,4 +1,4 @@
--- What a run over a whole slice tells, with packets as they stand.
+-- The results of a lenient run over a whole slice of a classic capture.
 use Rattle.std.specs.Prelude.{◌≡◌, ◌+◌, ℕ, List, ◌∷◌, length, map, Bool}
 use Rattle.pcap_items.specs.declared.rest.Rest.{Rest}
 use Rattle.pcap_core.specs.Answer.{number_in}
@@ -13,44 +13,44 @@ use Rattle.pcap_tolerant.specs.declared.run.ParserAsIs.{ParserAsIs}
 use Rattle.pcap_tolerant.specs.declared.run.PcapRunAsIs.{PcapRunAsIs}
 use Rattle.pcap_tolerant.specs.AsIs.{AsIs, raised, breaks_one, as_it_is, as_is_format}
 
--- the packet breaks a rule
+-- The packet breaks a rule.
 abbrev pub is_flawed : PacketAsIs → Bool
 is_flawed packet = breaks_one packet.flaws
 
--- packets of at most limit bytes as they stand, behind this header
+-- The format of packets of at most `limit` bytes behind this header, read leniently.
 abbrev pub as_is_under : ℕ → PcapHeader → Format (Unit {0}) AsIs
 as_is_under limit header = as_is_format (raised limit) (number_in (order_of header.magic_number)) (resolution_of header.magic_number)
 
--- a header, and the caller's limit
+-- A header, and the caller's limit.
 pub record Setting : Type 0 where
   pub header : PcapHeader
   pub limit : ℕ
 
--- packets as they stand behind any header and under any limit, which are the state
+-- The format of packets read leniently, with any header and any limit as its state.
 abbrev pub any_as_is : Format Setting AsIs
 any_as_is = record { says = λ setting. (as_is_under setting.limit setting.header).says tt; goes = λ setting packet. setting; head = λ setting. 16 }
 
--- what a parser is set to
+-- The header and the limit of a parser.
 abbrev pub setting_of : ParserAsIs → Setting
 setting_of p = record { header = header_of p.parser; limit = p.limit }
 
--- s is the header's text, the texts of these packets as they stand and rest, and no packet's text begins rest
+-- `s` is the header's text, the texts of these packets read leniently and `rest`, and no packet's text begins `rest`.
 pub record FrontAsIs (limit : ℕ) (header : PcapHeader) (packets : List AsIs) (s rest : List ℕ) : Type 0 where
   pub after : List ℕ
   pub header_text : HeaderText header s after
   pub front : Front (as_is_under limit header) tt packets after rest
 
--- s begins with this header and these packets as they stand and no more, which take so many bytes, and this is said of the rest
+-- `s` is this header, these packets read leniently and a rest: the first two take `count` bytes, and `said` is the state of the rest.
 pub record RunsAsIs (limit : ℕ) (header : PcapHeader) (packets : List AsIs) (count : ℕ) (said : Rest) (s : List ℕ) : Type 0 where
   pub left : List ℕ
   pub front : FrontAsIs limit header packets s left
   pub used : count + length left ≡ length s
   pub rest : IsRest ((as_is_under limit header).says tt) left said
 
--- The run is the front of s: its header and packets as they stand, its length, and what is said of its rest.
+-- The run is the front of `s`: its header and packets, their length, and the state of its rest.
 abbrev pub IsRunAsIs : ℕ → PcapRunAsIs → List ℕ → Type 0
 IsRunAsIs limit run = RunsAsIs limit run.header (map as_it_is run.packets.items) run.used run.rest
 
--- a header and at least one packet as it stands are in front of s
+-- A header and at least one packet read leniently are in the front of `s`.
 abbrev pub HasPacketAsIs : ℕ → List ℕ → Type 0
 HasPacketAsIs limit s = (header : PcapHeader) × (first : AsIs) × (packets : List AsIs) × (rest : List ℕ) × FrontAsIs limit header (first ∷ packets) s rest

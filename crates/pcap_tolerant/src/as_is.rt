@@ -1,4 +1,4 @@
-//! Packets as they stand: nothing is left out, and what is wrong is said.
+//! Lenient reading of packet records: no packet is left out, and each one comes with its flaws.
 
 ghost use Rattle.std.specs.Prelude.{◌≡◌, ◌≤◌, ◌<◌, ◌*◌, ◌+◌, IsTrue, MatchResult};
 ghost use Rattle.std.specs.Duration.{as_nanos};
@@ -17,24 +17,24 @@ use pcap_core::rules::Rule;
 use pcap_core::{Endianness, PcapError, ResultParsing};
 use std::time::Duration;
 
-/// The longest packet that breaks no rule, in bytes. No limit is below it.
+/// The longest packet that breaks no rule, in bytes. A lower limit of the caller is raised to it.
 const PACKET_LIMIT: u32 = 262144;
 
-/// Which of the rules for packets a packet breaks: each is told for itself, whatever the others say.
+/// The flaws of a packet: which of the four rules for packets it breaks. Each field is independent of the others.
 #[derive(Clone, Copy, Debug, PartialEq, Eq)]
 pub struct Flaws {
-    /// V2: its fraction of a second is more than 32 bits of nanoseconds.
+    /// V2: the fraction of the second is more than 32 bits of nanoseconds.
     pub fraction_too_large: bool,
-    /// V3: its stored length is above 262144 bytes.
+    /// V3: the stored length is above 262144 bytes.
     pub included_too_long: bool,
-    /// V4: its original length is above 262144 bytes.
+    /// V4: the original length is above 262144 bytes.
     pub original_too_long: bool,
-    /// V5: its stored length is above its original length.
+    /// V5: the stored length is above the original length.
     pub included_past_original: bool,
 }
 
 impl Flaws {
-    /// Whether the packet breaks a rule.
+    /// Returns whether the packet breaks a rule.
     pub fn is_broken(&self) -> bool
         ensures { result ≡ breaks_one self.now }
     {
@@ -44,8 +44,8 @@ impl Flaws {
             || self.included_past_original
     }
 
-    /// The first rule that the packet breaks, in the rules' order: the one that the strict reading refuses it by. None where
-    /// it breaks none.
+    /// Returns the first rule that the packet breaks, in the rules' order: the rule by which strict reading refuses it. Returns
+    /// None if the packet breaks no rule.
     pub fn first(&self) -> Option<Rule>
         ensures { result ≡ first_rule (rules_of self.now) }
     {
@@ -65,7 +65,7 @@ impl Flaws {
     }
 }
 
-// The rules that a head of these numbers breaks. V3 where the stored length is above the limit.
+// Returns the flaws of a head with these numbers, or V3 if the stored length is above the limit.
 #[inline(always)]
 fn flaws_in(
     ts_resolution: TsResolution,
@@ -84,7 +84,7 @@ fn flaws_in(
         TsResolution::NanoSecond => u64::from(fraction),
         TsResolution::MicroSecond => 1000 * u64::from(fraction),
     };
-    // nearly all packets break none, and are below every limit: a branch of its own tells that in fewer instructions
+    // Nearly all packets break no rule and are below every limit. This branch decides that in fewer instructions.
     if nanos <= 4294967295 && orig_len <= PACKET_LIMIT && incl_len <= orig_len {
         return Ok(Flaws {
             fraction_too_large: false,
@@ -104,26 +104,27 @@ fn flaws_in(
     })
 }
 
-/// The head of a packet as it stands: its four numbers as they were written, and which rules they break.
+/// The head of a packet read leniently: its four numbers as written, and the rules that they break.
 #[derive(Clone, Copy, Debug, PartialEq, Eq)]
 pub struct HeadAsIs {
-    /// Time in seconds since 1970.
+    /// The time in seconds since 1970.
     pub ts_sec: u32,
-    /// The fraction of the second, in the capture's resolution: microseconds or nanoseconds. It may pass one second.
+    /// The fraction of the second, in the capture's resolution: microseconds or nanoseconds. It may be more than one second.
     pub fraction: u32,
-    /// How many bytes of the packet are stored.
+    /// The number of stored bytes of the packet.
     pub incl_len: u32,
-    /// How many bytes the packet had on the wire, as it says. It may be less than is stored.
+    /// The number of bytes that the packet had on the wire, as its head states. It may be less than the stored length.
     pub orig_len: u32,
-    /// Which rules it breaks.
+    /// The rules that the packet breaks.
     pub flaws: Flaws,
 }
 
 impl HeadAsIs {
-    /// The head at the front of a slice, and what follows it.
+    /// Reads the packet head at the front of a slice, and returns what follows it and the head.
     ///
-    /// `IncompleteBuffer` under 16 bytes. `InvalidField` by V3 where the stored length is above the limit, in bytes, since where
-    /// such a packet ends can't be trusted; a limit below 262144 is taken for 262144. No other rule is a refusal.
+    /// Returns `IncompleteBuffer` for fewer than 16 bytes. Returns `InvalidField` by V3 if the stored length is above the
+    /// limit, in bytes, since the end of such a packet can't be trusted. A limit below 262144 counts as 262144. No other rule
+    /// causes an error.
     #[inline(always)]
     pub fn from_slice<B: ByteOrder>(
         slice: &[u8],
@@ -150,7 +151,7 @@ impl HeadAsIs {
         Ok((rest, head))
     }
 
-    /// The packet of this head and these bytes.
+    /// Returns the packet with this head and these bytes.
     #[inline(always)]
     pub fn packet<'a>(&self, bytes: &'a [u8]) -> PacketAsIs<'a>
         ensures { as_it_is result ≡ packet_with self.now bytes.now }
@@ -166,29 +167,30 @@ impl HeadAsIs {
     }
 }
 
-/// A packet as it stands: the four numbers of its head as they were written, which rules they break, and its bytes.
+/// A packet read leniently: the four numbers of its head as written, the rules that they break, and its bytes.
 #[derive(Clone, Copy, Debug)]
 pub struct PacketAsIs<'a> {
-    /// Time in seconds since 1970.
+    /// The time in seconds since 1970.
     pub ts_sec: u32,
-    /// The fraction of the second, in the capture's resolution: microseconds or nanoseconds. It may pass one second.
+    /// The fraction of the second, in the capture's resolution: microseconds or nanoseconds. It may be more than one second.
     pub fraction: u32,
-    /// How many bytes of the packet are stored.
+    /// The number of stored bytes of the packet.
     pub incl_len: u32,
-    /// How many bytes the packet had on the wire, as it says. It may be less than is stored.
+    /// The number of bytes that the packet had on the wire, as its head states. It may be less than the stored length.
     pub orig_len: u32,
-    /// Which rules it breaks.
+    /// The rules that the packet breaks.
     pub flaws: Flaws,
-    /// The bytes that are stored, `incl_len` of them.
+    /// The stored bytes of the packet, `incl_len` of them.
     pub data: &'a [u8],
 }
 
 impl<'a> PacketAsIs<'a> {
-    /// The packet at the front of a slice, and what follows it. Its bytes are lent from the slice.
+    /// Reads the packet at the front of a slice leniently, and returns what follows it and the packet. The slice lends the
+    /// packet's bytes.
     ///
-    /// `IncompleteBuffer` where bytes of the head, or then of the data, are missing: so many. `InvalidField` by V3 where the
-    /// stored length is above the limit, in bytes, since where such a packet ends can't be trusted; a limit below 262144 is
-    /// taken for 262144. No other rule is a refusal.
+    /// Returns `IncompleteBuffer` with the number of missing bytes, first of the head and then of the data. Returns
+    /// `InvalidField` by V3 if the stored length is above the limit, in bytes, since the end of such a packet can't be trusted.
+    /// A limit below 262144 counts as 262144. No other rule causes an error.
     pub fn from_slice<B: ByteOrder>(
         slice: &'a [u8],
         ts_resolution: TsResolution,
@@ -205,8 +207,8 @@ impl<'a> PacketAsIs<'a> {
         Ok((rest, head.packet(data)))
     }
 
-    /// The time of the packet under its capture's resolution: the seconds, and the fraction carried into them. It is exact
-    /// for each fraction, also for one that is a flaw.
+    /// Returns the packet's time by the capture's resolution: the seconds, and the fraction carried into them. The time is
+    /// exact for every fraction, even for a fraction that is a flaw.
     pub fn timestamp(&self, ts_resolution: TsResolution) -> Duration
         ensures { as_nanos result ≡ self.now.ts_sec * 1_000_000_000 + nanoseconds ts_resolution self.now.fraction }
     {
@@ -220,7 +222,7 @@ impl<'a> PacketAsIs<'a> {
     }
 }
 
-// The packet as it stands at the front of a slice under this header, and what follows it.
+// Reads the packet at the front of a slice leniently under this header, and returns what follows it and the packet.
 #[inline(always)]
 fn as_is_under<'a>(
     header: &PcapHeader,
@@ -238,13 +240,14 @@ fn as_is_under<'a>(
     }
 }
 
-/// The packet as it stands at the front of a slice of the parser's capture, and what follows it. Its bytes are lent from the
-/// slice.
+/// Reads the next packet of the parser's capture from the front of a slice leniently, and returns what follows it and the
+/// packet. The slice lends the packet's bytes.
 ///
-/// `IncompleteBuffer` where bytes of the head, or then of the data, are missing: so many, 16 for the empty slice.
-/// `InvalidField` by V3 where the stored length is above the limit, in bytes; a limit below 262144 is taken for 262144. Where
-/// `next_packet` of the parser gives a packet, this is that packet without a flaw; where it refuses one by a rule, this is
-/// that packet with the rule for its first flaw, unless the stored length is above the limit or data are missing.
+/// Returns `IncompleteBuffer` with the number of missing bytes, first of the head (16 for an empty slice) and then of the data.
+/// Returns `InvalidField` by V3 if the stored length is above the limit, in bytes. A limit below 262144 counts as 262144. Where
+/// `next_packet` of the parser returns a packet, this returns the same packet without a flaw. Where `next_packet` refuses a
+/// packet by a rule, this returns that packet and the rule is its first flaw, unless the stored length is above the limit or
+/// data are missing.
 #[inline(always)]
 pub fn next_packet_as_is<'a>(
     parser: &PcapParser,

@@ -1,4 +1,4 @@
-//! Copies of captures whose packets may break rules, from a reader to a writer.
+//! Lenient copies of captures from a reader to a writer.
 
 ghost use Rattle.std.specs.Prelude.{◌≤◌};
 ghost use Rattle.pcap_items.specs.Copying.{NothingCopied};
@@ -55,14 +55,14 @@ impl Holding for PacketsAsIs<'_> {
     }
 }
 
-/// Copies a capture from a reader to a writer, byte by byte: its header, and then at most `most` of its packets, each of them
-/// before the next one is read, whatever rules they break. Where there is no fault exactly what was copied was taken from the
+/// Copies a capture from a reader to a writer byte by byte: its header and then at most `most` packets, whatever rules they
+/// break. It writes each packet before it reads the next one. Without a fault, it has taken exactly the copied bytes from the
 /// reader.
 ///
-/// A header that is refused gives what `PcapHeader::from_reader` gives, and nothing is written; a rest that is refused gives
-/// what `ReaderAsIs` gives there under this limit, the header and all packets before it have gone out, and no more of it was
-/// taken than was missing. `IoError` also where a write failed: a beginning of the header or packet that comes next has gone
-/// out then, and it was taken. `OutOfMemory` where a packet can't be held.
+/// If the header is refused, the fault is that of `PcapHeader::from_reader` and nothing is written. If the rest is refused, the
+/// fault is that of `ReaderAsIs` under this limit. The header and all packets before it are then written, and the call has
+/// taken no more than was missing. A failed write is also an `IoError`: a beginning of the header or packet that comes next is
+/// then written, and that item was taken. The fault is `OutOfMemory` if there is no memory to hold a packet.
 pub fn copy_pcap_as_is<R: Read, W: Write>(
     alloc: Global,
     reader: &mut R,
@@ -87,11 +87,11 @@ pub fn copy_pcap_as_is<R: Read, W: Write>(
     end_copy(tally, result.err())
 }
 
-/// Copies a capture as `copy_pcap_as_is` does, from a reader that shows its buffer: packets that lie whole in it are written from
-/// there and never copied. The packet that ends outside of it is held, as all are by `copy_pcap_as_is`. A reader that shows no
-/// byte is at its end; what its buffer holds and no packet took stays in it.
+/// Copies a capture as `copy_pcap_as_is` does, from a reader that shows its buffer, and writes packets that are whole in the
+/// buffer without a copy. A packet that ends outside the buffer is held, as `copy_pcap_as_is` holds every packet. A reader that
+/// shows no bytes is at its end. Bytes in its buffer that no packet took stay there.
 ///
-/// It is refused as `copy_pcap_as_is` is.
+/// Its faults are those of `copy_pcap_as_is`.
 pub fn copy_pcap_as_is_buffered<R: BufRead, W: Write>(
     alloc: Global,
     reader: &mut R,
@@ -116,7 +116,7 @@ pub fn copy_pcap_as_is_buffered<R: BufRead, W: Write>(
     end_copy(tally, result.err())
 }
 
-// Copies the header, and gives the parser of the packets behind it.
+// Copies the header, and returns the parser of the packets behind it.
 fn copy_header<R: Read, W: Write>(
     reader: &mut R,
     writer: &mut W,

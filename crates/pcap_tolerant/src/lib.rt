@@ -1,6 +1,7 @@
-//! Captures as strangers write them: packets with what is wrong with them, and where packets stand again behind garbage.
+//! Lenient reading of classic captures: packets with their flaws, and resynchronization after corrupt bytes.
 //!
-//! The strict calls of `pcap_classic` end at the first rule that a packet breaks. These go on, and say which rules those are.
+//! The strict calls of `pcap_classic` stop at the first rule that a packet breaks. The calls here go on, and report which rules
+//! each packet breaks.
 #![tactic(auto)]
 
 pub mod as_is;

@@ -1,4 +1,4 @@
-//! Packets as they stand that own their bytes.
+//! Packets read leniently that own their bytes.
 
 ghost use Rattle.std.specs.Prelude.{◌≡◌, IfOk, IfErr};
 ghost use Rattle.pcap_core.specs.Errors.{IsMemory};
@@ -9,17 +9,17 @@ use crate::as_is::{HeadAsIs, PacketAsIs};
 use pcap_core::ResultParsing;
 use std::alloc::Global;
 
-/// A packet as it stands that owns its bytes.
+/// A packet read leniently that owns its bytes.
 #[derive(Debug, Drop)]
 pub struct OwnedAsIs {
-    /// Its head: the four numbers as they were written, and which rules they break.
+    /// The head of the packet: its four numbers as written, and the rules that they break.
     pub head: HeadAsIs,
-    /// The bytes that are stored, as many as the head says.
+    /// The stored bytes of the packet, as many as the head states.
     pub data: Vec<u8>,
 }
 
 impl OwnedAsIs {
-    /// The same packet, with its bytes lent.
+    /// Returns the same packet, and lends its bytes.
     pub fn packet(&self) -> PacketAsIs<'_>
         ensures { as_it_is result ≡ owned_as_is self.now }
     {
@@ -28,7 +28,7 @@ impl OwnedAsIs {
 }
 
 impl PacketAsIs<'_> {
-    /// The same packet with a copy of its bytes. `OutOfMemory` where they can't be copied.
+    /// Returns the same packet with a copy of its bytes, or `OutOfMemory` if they can't be copied.
     pub fn to_owned(&self, alloc: Global) -> ResultParsing<OwnedAsIs>
         ensures packet { IfOk result (λ own. owned_as_is own ≡ as_it_is self.now) }
         ensures memory { IfErr result IsMemory }

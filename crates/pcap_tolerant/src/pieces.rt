@@ -1,4 +1,4 @@
-//! A run over a capture that comes in pieces, which leaves no packet out for what is wrong with it.
+//! Lenient runs over captures that come in pieces.
 
 ghost use Rattle.std.specs.Prelude.{◌<◌, ◌^◌, [], ⊤, length, IfOk, IfErr};
 ghost use Rattle.pcap_core.specs.Answer.{Refuses};
@@ -15,16 +15,16 @@ use pcap_items::Rest;
 use pcap_items::run::{PieceParser, feed_pieces};
 use std::alloc::Global;
 
-/// A capture's header and its packets as they stand, how many bytes they take, and what stands behind them.
+/// The result of a lenient run over pieces: the header, the packets, their length, and how the run ended.
 #[derive(Debug, Drop)]
 pub struct OwnedRunAsIs {
-    /// The capture's header.
+    /// The header of the capture.
     pub header: PcapHeader,
-    /// Its packets as they stand, in order. They own their bytes.
+    /// The packets of the capture in order, with their flaws. They own their bytes.
     pub packets: Vec<OwnedAsIs>,
-    /// How many bytes the header and the packets take.
+    /// The number of bytes of the header and the packets.
     pub used: usize,
-    /// What stands behind them.
+    /// The rest after the last packet: nothing, a truncated packet or a malformed one.
     pub rest: Rest,
 }
 
@@ -70,15 +70,17 @@ impl PieceParser for ParserAsIs {
     }
 }
 
-/// The whole run over a capture that comes in pieces, with the packets as they stand that `parse_pcap_as_is` gives of the joined
-/// bytes under this limit; and for each piece, how many packets it and those before it hold, 0 while the capture's header isn't
-/// whole. Empty pieces are pieces too.
+/// Parses a classic capture in pieces leniently. It returns the run, and the number of packets up to the end of each piece.
 ///
-/// The pieces' lengths together fit `usize`, which `pieces_fit` of `pcap_classic` tests. Only bytes that no packet has taken are
-/// kept, and the parser is asked about each packet three times at most, so the cost is linear in the bytes and the pieces.
+/// The packets are those of `parse_pcap_as_is` over the joined bytes under this limit. The number of packets is 0 while the
+/// header isn't whole. Empty pieces count as pieces.
 ///
-/// Where the header is refused, that refusal, and `IncompleteBuffer` where it isn't whole. `OutOfMemory` where something
-/// can't grow.
+/// The lengths of the pieces together must fit `usize`, which `pieces_fit` of `pcap_classic` tests. The call keeps only bytes
+/// that no packet has taken. It calls the parser at most three times for each packet, so the cost is linear in the bytes and
+/// the pieces.
+///
+/// Returns the header's error if the header is refused, and `IncompleteBuffer` if it isn't whole. Returns `OutOfMemory` if a
+/// list or a buffer can't grow.
 pub fn pieces_pcap_as_is(
     alloc: Global,
     pieces: &[&[u8]],

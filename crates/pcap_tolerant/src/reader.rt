@@ -1,4 +1,4 @@
-//! Packets of a stream, as they stand.
+//! A lenient reader of the packets of a stream.
 
 ghost use Rattle.std.specs.Io.KnownBytes.{Consumes};
 ghost use Rattle.std.specs.Prelude.{◌≡◌, false, [], IfOk, IfNone, OnErr};
@@ -20,13 +20,15 @@ use pcap_items::stream::{Fill, Told};
 use std::alloc::Global;
 use std::io::Read;
 
-/// Reads the packets of a capture off a stream as they stand, one for each call of `next_header`: none is left out for what is
-/// wrong with it. The reader lends the packet's data until it is called again, so a packet costs no memory of its own.
+/// A reader that reads the packets of a stream leniently, one for each call of `next_header`, and leaves none out for its
+/// flaws. It lends the packet's data until the next call, so a packet needs no memory of its own.
 ///
-/// Only a packet whose stored length is above the limit, in bytes, is refused, since where it ends can't be trusted; a limit
-/// below 262144 is taken for 262144. `next_header` is None where the stream ends between packets; the next call asks the stream
-/// again. After its first refusal it is None for good. Between packets exactly the bytes of the header and of the packets were
-/// taken; a refused call has taken no more than was missing.
+/// The reader refuses only a packet whose stored length is above the limit, in bytes, since the end of such a packet can't be
+/// trusted. A limit below 262144 counts as 262144.
+///
+/// `next_header` returns None if the stream ends between packets, and the next call reads the stream again. After its first
+/// error it always returns None. Between packets the reader has taken exactly the bytes of the header and of the packets. A
+/// call that returns an error has taken no more than was missing.
 #[derive(Debug, Drop)]
 pub struct ReaderAsIs<T> {
     parser: PcapParser,
@@ -36,7 +38,7 @@ pub struct ReaderAsIs<T> {
     ghost unfailed: { is_done ≡ false → source_failed fill ≡ false },
 }
 
-// Holds the next packet, its head too. Nothing is held before it, nor after a `None`.
+// Holds the next packet with its head. Nothing is held before the call, nor after a `None`.
 #[inline(always)]
 fn hold<T: Read>(
     parser: &PcapParser,
@@ -59,9 +61,11 @@ impl<T: Read + Drop> ReaderAsIs<T> {
     ghost use Rattle.pcap_tolerant.specs.ReaderAsIs.{stream_of, header_read, limit_of, has_failed, is_done, held_of};
     ghost use Rattle.pcap_tolerant.specs.ReaderAsIs.{data_of, lent_packet, HoldsGiven, OpensAsIs};
 
-    /// Reads the header of a capture off a stream, and makes a reader of the packets behind it. A refused call drops the stream.
+    /// Reads the header of a capture from a stream, and returns a reader of the packets behind it. A call that fails drops the
+    /// stream.
     ///
-    /// `InvalidField` where the magic number is none of the four. `IoError` where a read failed, or the stream ended early.
+    /// Returns `InvalidField` if the magic number is none of the four. Returns `IoError` if a read fails, or if the stream ends
+    /// early.
     pub fn new(alloc: Global, mut stream: T, limit: u32) -> ResultParsing<ReaderAsIs<T>>
         ensures { OpensAsIs T.remaining limit stream result }
     {
@@ -70,10 +74,11 @@ impl<T: Read + Drop> ReaderAsIs<T> {
         Ok(ReaderAsIs::with_parser(alloc, parser, stream, limit))
     }
 
-    /// The head of the next packet, whose data the reader lends from then on (`data`, `packet`), until it is called again.
+    /// Reads the next packet and returns its head. The reader lends the packet's data (`data`, `packet`) until the next call.
     ///
-    /// `InvalidField` by V3 where the stored length is above the limit. `IoError` where a read failed, or the stream ended
-    /// inside the packet. `OutOfMemory` where its bytes can't be held: room grows with the bytes that come, and stays.
+    /// Returns `InvalidField` by V3 if the stored length is above the limit. Returns `IoError` if a read fails, or if the
+    /// stream ends inside the packet. Returns `OutOfMemory` if the packet can't be held. The buffer grows with the bytes that
+    /// come, and keeps its size.
     pub fn next_header(&mut self) -> Option<ResultParsing<HeadAsIs>>
         ensures header { header_read self.new ≡ header_read self.old }
         ensures limit { limit_of self.new ≡ limit_of self.old }
@@ -97,7 +102,8 @@ impl<T: Read + Drop> ReaderAsIs<T> {
 impl<T> ReaderAsIs<T> {
     ghost use Rattle.pcap_tolerant.specs.ReaderAsIs.{stream_of, header_read, limit_of, has_failed, is_done, held_of, data_of, lent_packet};
 
-    /// A reader of the packets of a parser's capture: the stream stands after the header's 24 bytes, or where else packets begin.
+    /// Returns a reader of the packets of a parser's capture. The stream must be after the 24 bytes of the header, or elsewhere
+    /// at the start of a packet.
     pub fn with_parser(alloc: Global, parser: PcapParser, stream: T, limit: u32) -> ReaderAsIs<T>
         ensures header { header_read result ≡ header_of parser }
         ensures limit { limit_of result ≡ limit }
@@ -114,36 +120,36 @@ impl<T> ReaderAsIs<T> {
         }
     }
 
-    /// The header of the capture.
+    /// Returns the header of the capture.
     pub fn header(&self) -> &PcapHeader
         ensures { result.now ≡ header_read self.now }
     {
         self.parser.header()
     }
 
-    /// The order of the capture's numbers.
+    /// Returns the byte order of the capture.
     pub fn endianness(&self) -> Endianness
         ensures { result ≡ order_of (header_read self.now).magic_number }
     {
         self.parser.header().endianness()
     }
 
-    /// The resolution of the capture's times.
+    /// Returns the timestamp resolution of the capture.
     pub fn ts_resolution(&self) -> TsResolution
         ensures { result ≡ resolution_of (header_read self.now).magic_number }
     {
         self.parser.header().ts_resolution()
     }
 
-    /// The bytes that are held: those of the packet whose head `next_header` gave last, its head among them, and behind a
-    /// refusal what came of the packet that was refused.
+    /// Returns the held bytes: the head and data of the last packet that `next_header` returned. After an error they are the
+    /// bytes of the refused packet that were read.
     pub fn held(&self) -> &[u8]
         ensures { result.now ≡ held_of self.now }
     {
         self.fill.held()
     }
 
-    /// The data of the packet whose head `next_header` gave last. Empty where the stream ended.
+    /// Returns the data of the last packet whose head `next_header` returned. It is empty after the end of the stream.
     pub fn data(&self) -> &[u8]
         ensures { result.now ≡ data_of self.now }
     {
@@ -155,28 +161,28 @@ impl<T> ReaderAsIs<T> {
         data
     }
 
-    /// The packet whose head `next_header` gave last, its data lent by the reader.
+    /// Returns the packet with this head, which `next_header` returned last. The reader lends the packet's data.
     pub fn packet(&self, head: HeadAsIs) -> PacketAsIs<'_>
         ensures { as_it_is result ≡ lent_packet self.now head }
     {
         head.packet(self.data())
     }
 
-    /// Whether a read of the wrapped stream failed.
+    /// Returns whether a read of the wrapped stream failed.
     pub fn failed(&self) -> bool
         ensures { result ≡ has_failed self.now }
     {
         self.fill.failed()
     }
 
-    /// The wrapped stream.
+    /// Returns the wrapped stream by reference.
     pub fn get_ref(&self) -> &T
         ensures { result.now ≡ stream_of self.now }
     {
         self.fill.get_ref()
     }
 
-    /// Gives the wrapped stream back. Held bytes are dropped.
+    /// Returns the wrapped stream, and drops the held bytes.
     pub fn into_reader(self) -> T
         ensures { result ≡ stream_of self }
     {

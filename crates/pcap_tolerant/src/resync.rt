@@ -1,4 +1,4 @@
-//! Where packets stand again.
+//! Resynchronization after corrupt bytes in a classic capture.
 
 ghost use Rattle.std.specs.Prelude.{◌↔◌, IsTrue};
 ghost use Rattle.pcap_classic.specs.Parser.{header_of};
@@ -6,7 +6,7 @@ ghost use Rattle.pcap_tolerant.specs.Resync.{PacketRow, PacketsResync};
 
 use pcap_classic::pcap::PcapParser;
 
-// At the front of the slice so many packets with data stand in a row, or fewer, at least one, to its end.
+// Returns whether `k` packets with data follow each other from the front of the slice, or fewer, at least one, to its end.
 fn stands(parser: &PcapParser, slice: &[u8], k: usize) -> bool
     ensures { IsTrue result ↔ PacketRow (header_of parser.now) k slice.now }
 {
@@ -30,8 +30,8 @@ fn stands(parser: &PcapParser, slice: &[u8], k: usize) -> bool
     true
 }
 
-/// The first place from which so many packets with data stand in a row that break no rule, or fewer, at least one, to the end of
-/// the slice. None where there is none. It is a guess: garbage may look like packets.
+/// Returns the first place from which `k` packets with data follow each other and break no rule, or None. Fewer packets, at
+/// least one, are enough if they reach the end of the slice. The result is a guess, since corrupt bytes may look like packets.
 pub fn resync(parser: &PcapParser, slice: &[u8], k: usize) -> Option<usize>
     ensures { PacketsResync (header_of parser.now) k slice.now result }
 {

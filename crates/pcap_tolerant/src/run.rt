@@ -1,4 +1,4 @@
-//! A whole run over a capture, which leaves no packet out for what is wrong with it.
+//! Lenient runs over whole captures.
 
 ghost use Rattle.std.specs.Prelude.{◌≡◌, ⊤, count_by, position, IfOk, IfErr};
 ghost use Rattle.pcap_core.specs.Answer.{Refuses};
@@ -13,21 +13,21 @@ use pcap_items::Rest;
 use pcap_items::run::{Found, Items, found_in, parse_items};
 use std::alloc::{AllocError, Global};
 
-/// A capture's header and its packets as they stand, how many bytes they take, and what stands behind them.
+/// The result of a lenient run over a slice: the header, the packets, their length, and how the run ended.
 #[derive(Debug, Drop)]
 pub struct PcapRunAsIs<'a> {
-    /// The capture's header.
+    /// The header of the capture.
     pub header: PcapHeader,
-    /// Its packets as they stand, in order. Their bytes are lent.
+    /// The packets of the capture in order, with their flaws. The slice lends their bytes.
     pub packets: Vec<PacketAsIs<'a>>,
-    /// How many bytes the header and the packets take.
+    /// The number of bytes of the header and the packets.
     pub used: usize,
-    /// What stands behind them.
+    /// The rest after the last packet: nothing, a truncated packet or a malformed one.
     pub rest: Rest,
 }
 
 impl PcapRunAsIs<'_> {
-    /// How many of the packets break a rule.
+    /// Returns the number of packets that break a rule.
     pub fn flawed(&self) -> usize
         ensures { result ≡ count_by is_flawed self.now.packets.items }
     {
@@ -37,7 +37,8 @@ impl PcapRunAsIs<'_> {
             .count()
     }
 
-    /// The place of the first packet that breaks a rule, counted from 0: the strict reading ends before it. None where none does.
+    /// Returns the index of the first packet that breaks a rule, counted from 0, or None if no packet does. Strict reading ends
+    /// before this packet.
     pub fn first_flawed(&self) -> Option<usize>
         ensures { result ≡ position is_flawed self.now.packets.items }
     {
@@ -47,7 +48,7 @@ impl PcapRunAsIs<'_> {
     }
 }
 
-// A parser that gives packets as they stand, of at most so many bytes.
+// A parser that reads packets of at most `limit` bytes leniently.
 #[derive(Drop)]
 pub(crate) struct ParserAsIs {
     pub(crate) parser: PcapParser,
@@ -91,10 +92,11 @@ impl<'a> Items<'a> for ParserAsIs {
     }
 }
 
-/// The whole run over one slice: its header, all packets of its longest front as they stand, and what is said of the rest. Only a
-/// packet whose stored length is above the limit, in bytes, ends it as a refusal; a limit below 262144 is taken for 262144.
+/// Parses a whole classic capture from a slice leniently: the header, all packets of the longest front, and the state of the
+/// rest. Only a packet whose stored length is above the limit, in bytes, ends the run with a refusal. A limit below 262144
+/// counts as 262144.
 ///
-/// Where the header is refused, that refusal. `OutOfMemory` where the list of packets can't grow.
+/// Returns the header's error if the header is refused. Returns `OutOfMemory` if the list of packets can't grow.
 pub fn parse_pcap_as_is<'a>(
     alloc: Global,
     bytes: &'a [u8],

@@ -1,4 +1,4 @@
-//! Packets as they stand as items with a head.
+//! Packets read leniently, as items with a head.
 
 ghost use Rattle.std.specs.Prelude.{IsTrue};
 ghost use Rattle.pcap_core.specs.Answer.{Tells, number_in};
@@ -11,14 +11,14 @@ use pcap_classic::pcap::{PcapHeader, PcapParser};
 use pcap_core::{Endianness, ResultParsing};
 use pcap_items::stream::HasHead;
 
-/// The packets as they stand of a parser's capture, of a stored length of at most so many bytes.
+/// The packets of a parser's capture with a stored length of at most `limit` bytes, read leniently.
 #[derive(Clone, Copy)]
 pub(crate) struct PacketsAsIs<'a> {
     pub(crate) parser: &'a PcapParser,
     pub(crate) limit: u32,
 }
 
-// The head at the front of a slice under this header, and what follows it.
+// Reads the packet head at the front of a slice under this header, and returns what follows it and the head.
 #[inline(always)]
 fn head_under<'a>(
     header: &PcapHeader,

@@ -1,4 +1,4 @@
--- Where a list grows when bodies are read as they stand.
+-- The conditions under which a list grows when bodies are read leniently.
 use Rattle.std.proofs.Common.{◌≡◌, ◌≢◌, ◌≤◌, ℕ, List, [], ◌∷◌, length, map, Option, Some, None, refl, sym, ap, subst, ◌∙◌, arith}
 use Rattle.byteorder.specs.Endian.{big_number}
 use Rattle.pcap_core.specs.declared.common.Endianness.{Endianness}
@@ -24,7 +24,7 @@ use Rattle.pcap_core.proofs.Verdicts.{whole_same}
 -- ---- lists
 
 module _ (order : Order) (kind : Kind) where
-  -- nothing of a list is kept that ends where it begins
+  -- A list that ends where it begins keeps nothing.
   bare_ends : (each : List Judged) (cut : Option Fault) (s stop rest : List ℕ) → [] ≡ map entry_in each → [] ≡ flaws_in each (cut_by cut) → Chain (JudgedText order kind) each s stop
       → StopsAt may_end_with_body order no_kind [] cut stop rest → Ends may_end_with_body order [] s rest
   bare_ends [] None s stop rest o f are stops = subst (λ (t : List ℕ). Ends may_end_with_body order [] t rest) (sym are) stops
@@ -38,7 +38,7 @@ module _ (order : Order) (kind : Kind) where
   ends_here [] s left rest are ends = subst (λ (t : List ℕ). Ends may_end_with_body order [] t rest) are ends
   ends_here (option ∷ each) s left rest are ends = absurd (ends_no_option option s are.0 rest ends are.1)
 
-  -- a list grows where behind what was read it doesn't end
+  -- A list grows if it doesn't end after what was read.
   grows_at : (options : List Entry) (flaws : List Said) (s left : List ℕ) → ReadSoFar order kind options flaws s left → ((rest : List ℕ) → Ends may_end_with_body order [] left rest → ⊥) → OptionsGrow order kind s
   grows_at options flaws s left so_far goes_on value rest text bare =
       let stops : StopsAt may_end_with_body order no_kind [] text.cut text.stop rest = subst (λ (l : List Entry). StopsAt may_end_with_body order no_kind l text.cut text.stop rest) bare text.stops in
@@ -63,7 +63,7 @@ module _ {V : Type 0} (IsBody : Option V → List Said → List ℕ → List ℕ
   unfolding body
   grows_without_room IsBare rule none value rest text bare = let same : None ≡ Some value = ap (λ (z : Flawed (Option V)). z.value) (body_same (body None (alone rule)) (body (Some value) []) s rest none text) in absurd cc
 
-  -- where its options grow, behind which no more stands
+  -- A list grows if the options grow with which the body ends.
   module _ (order : Order) (kind : Kind) (after : List ℕ) (options_in : V → List Entry) (made : List Entry → V) (made_of : (options : List Entry) → options_in (made options) ≡ options)
       (behind : (options : List Entry) (flaws : List Said) (rest : List ℕ) → OptionsAsIs order kind options flaws after rest → IsBody (Some (made options)) flaws s rest) where
     bare_options : (v : Verdict (Flawed (List Entry))) → OptionsAsIsSay order kind after v → (value : V) (rest : List ℕ) → IsBody (Some value) [] s rest → options_in value ≡ [] → (left : List ℕ) × OptionsAsIs order kind [] [] after left
@@ -85,7 +85,7 @@ module _ {V : Type 0} (IsBody : Option V → List Said → List ℕ → List ℕ
 
 -- ---- sections
 
--- a list grows behind a version
+-- A list grows behind a version.
 pub grows_behind_version : (order : Order) (section : Section) (s after : List ℕ) → VersionText order section s after → OptionsGrow order section_header after → VersionGrows order s
 grows_behind_version order section s after version grows = λ value rest text bare.
     let v = text.version in
@@ -94,7 +94,7 @@ grows_behind_version order section s after version grows = λ value rest text ba
     let length = number_same order 8 _ _ version.after_minor text.after_version after (subst (λ (t : List ℕ). Number order 8 v.length_bits t text.after_version) minor.1 v.length_number) version.length_number in
     grows value.options rest (subst (λ (t : List ℕ). OptionsAsIs order section_header value.options [] t rest) length.1 text.options_are) bare
 
--- what begins with the magic number of an order is a section
+-- Bytes that begin with the magic number of a byte order are a section.
 named_is_one : (magic : ℕ) (s after : List ℕ) (e : Endianness) → 16 ≤ length s → Number big_number 4 magic s after → magic_order magic ≡ Some e
     → (fault : Fault) → NoSection s fault → ⊥
 named_is_one magic s after e long number names fault (short_section lt) = omega (arith, long, lt)
@@ -103,7 +103,7 @@ named_is_one magic s after e long number names fault (unnamed other behind _ the
     let no : None ≡ Some e = sym none ∙ ap magic_order same.0 ∙ names in
     absurd cc
 
--- a list grows behind a magic number
+-- A list grows behind a magic number.
 keeps_behind_magic : (magic : ℕ) (s after : List ℕ) (e : Endianness) → Number big_number 4 magic s after → magic_order magic ≡ Some e → VersionGrows (number_in e) after → KeepsSome SectionText (λ x. x.options ≡ []) s
 keeps_behind_magic magic s after e number names grows = λ value rest text bare.
     let same = number_same big_number 4 _ _ s text.after_magic after text.magic_is number in

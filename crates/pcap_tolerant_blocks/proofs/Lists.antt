@@ -1,4 +1,4 @@
--- Options that are read one behind the other, as they stand.
+-- Lists of options read leniently, one option after the other.
 use Rattle.std.proofs.Common.{◌≡◌, ◌≢◌, ℕ, List, [], ◌∷◌, ◌++◌, length, map, Option, Some, None, Err, refl, sym, ap, subst, ◌∙◌, append_assoc}
 use Rattle.std.proofs.lemmas.List.{append-nil, map-append}
 use Rattle.pcap_core.specs.Answer.{Order}
@@ -20,12 +20,12 @@ flaws_last : (each : List Judged) (last : List Said) → flaws_in each last ≡ 
 flaws_last [] last = refl
 flaws_last (first ∷ each) last = ap (λ (l : List Said). first.flaws ++ l) (flaws_last each last) ∙ sym (append_assoc first.flaws (flaws_in each []) last)
 
--- an option that is only its bytes, for the fault of its value
+-- An option that has only its bytes, by the fault of its value.
 pub only_bytes : (code len : ℕ) (v : List ℕ) (entry : Entry) (fault : Fault) → entry ≡ record { code = code; value = Unknown len v } → len ≡ length v
     → record { entry = entry; flaws = record { code = Some code; fault = fault } ∷ [] } ≡ judged code v (Err fault)
 only_bytes code len v entry fault is long = rw (is, long) refl
 
--- these options were read of s, and left is to be read
+-- These options were read from `s`, and `left` remains to be read.
 pub record ReadSoFar (order : Order) (kind : Kind) (options : List Entry) (flaws : List Said) (s left : List ℕ) : Type 0 where
   pub each : List Judged
   pub are : Chain (JudgedText order kind) each s left
@@ -54,7 +54,7 @@ module _ (order : Order) (kind : Kind) where
     flaws_are = ap (λ (l : List Said). l ++ cut_by cut) so_far.flaws_are ∙ sym (flaws_last so_far.each (cut_by cut));
   }
 
-  -- a flaw that ends the list
+  -- A flaw that ends the list.
   pub read_cut : (options : List Entry) (flaws : List Flaw) (flaw : Flaw) (s left : List ℕ) (fault : Fault) → said_of flaw ≡ record { code = None; fault = fault } → ReadSoFar order kind options (map said_of flaws) s left → left ≢ []
       → OptionFault order no_kind left fault → OptionsAsIs order kind options (map said_of (flaws ++ flaw ∷ [])) s left
   read_cut options flaws flaw s left fault is so_far some stands =

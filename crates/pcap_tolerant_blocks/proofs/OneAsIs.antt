@@ -1,4 +1,4 @@
--- Of all bytes one thing is said as options, an interface or a section as they stand.
+-- Lenient reading of options, of an interface or of a section gives exactly one answer for any bytes.
 use Rattle.std.proofs.Common.{◌≡◌, ◌<◌, ◌≤◌, ℕ, List, [], ◌∷◌, length, map, Option, Some, None, Result, Ok, refl, sym, ap, subst, ◌∙◌, arith, inl, inr}
 use Rattle.std.specs.Prelude.{ℤ}
 use Rattle.std.specs.Int.{w64, cast_signed}
@@ -29,7 +29,7 @@ use Rattle.pcap_tolerant_blocks.specs.OptionsAsIs.{Judged, judged, JudgedText, e
 use Rattle.pcap_tolerant_blocks.specs.InterfaceAsIs.{WithHead, InterfaceText, InterfaceAsIsSays}
 use Rattle.pcap_tolerant_blocks.specs.SectionAsIs.{AfterMagic, SectionText, NoSection, short_section, unnamed, SectionAsIsSays}
 
--- what is made of the one of which something is said is the one of which something else is
+-- If exactly one value has a property, and a second property holds exactly for its image, then exactly one value has the second.
 pub one_image : {X Y : Type 0} (P : X → Type 0) (Q : Y → Type 0) (make : X → Y) → ((x : X) → P x → Q (make x)) → ((y : Y) → Q y → (x : X) × P x × (y ≡ make x)) → ExactlyOne P → ExactlyOne Q
 one_image P Q make to from one =
     record { value = make one.value; holds = to one.value one.holds; only = λ y h. let t = from y h in t.2 ∙ ap make (one.only t.0 t.1) }
@@ -44,7 +44,7 @@ placed s (whole x rest) = whole (record { value = Some x.value; flaws = x.flaws 
 placed s (lacks n) = lacks n
 placed s (faulty fault) = whole (record { value = None; flaws = said fault }) s
 
--- what is said of bytes where a body as it stands is asked for
+-- The answers of lenient reading where the bytes should be a body.
 abbrev pub BodySays : {V : Type 0} → (Option V → List Said → List ℕ → List ℕ → Type 0) → List ℕ → Verdict (Flawed (Option V)) → Type 0
 BodySays IsBody s = Says (λ x rest. IsBody x.value x.flaws s rest) (λ n. ⊥) (λ fault. ⊥)
 

@@ -1,4 +1,4 @@
--- Of all bytes one thing is said as a packet or as statistics as they stand.
+-- Lenient reading of a packet or of statistics gives exactly one answer for any bytes.
 use Rattle.std.proofs.Common.{◌≡◌, ◌<◌, ℕ, ◌+◌, ◌*◌, ◌^◌, List, [], ◌∷◌, length, take, drop, refl, sym, ap, subst, arith, inl, inr}
 use Rattle.std.specs.Prelude.{◌⊎◌}
 use Rattle.std.proofs.lemmas.Bool.{cases_lt}
@@ -53,7 +53,7 @@ stored_with ns v x = record { value = stored (ns.0 * 2 ^ 32 + ns.1.0) ns.1.1.0 n
 at_time : Flawed Stored → ℕ → Flawed Stored
 at_time x t = record { value = stored t x.value.captured_len x.value.original_len x.value.bytes x.value.options; flaws = x.flaws }
 
--- what stands against a stored packet: no room for its head, or for its bytes
+-- The fault of a stored packet: there is no room for its head, or for its bytes.
 abbrev NoStored : Order → List ℕ → Fault → Type 0
 NoStored order s fault = ((fault ≡ Invalid EnhancedTooShort) × (length s < 16)) ⊎ ((fault ≡ Invalid EnhancedCut) × NoBytes order s)
 
@@ -129,7 +129,7 @@ module _ (order : Order) (kind : Kind) where
       one_moved (StoredSays s) (StoredThen s) (stored_to s) (stored_from s)
       (one_then (NumbersSay order (Invalid EnhancedTooShort) widths s) (λ ns after. DataThen ns after) (numbers_one order (Invalid EnhancedTooShort) widths s) (λ ns after k. data_one ns after))
 
-  -- what stands against four bytes and a stored packet
+  -- The fault of four bytes and a stored packet.
   abbrev NoBody : List ℕ → Fault → Type 0
   NoBody s fault = ((fault ≡ Invalid EnhancedTooShort) × (length s < 4)) ⊎ ((after : List ℕ) × Behind 4 s after × NoStored order after fault)
 

@@ -1,4 +1,4 @@
--- Of all bytes one thing is said as names as they stand, and where a list grows there.
+-- Lenient reading of names gives exactly one answer for any bytes, and a list grows there under known conditions.
 use Rattle.std.proofs.Common.{◌≡◌, ◌≢◌, ◌<◌, ℕ, zero, suc, List, [], ◌∷◌, ◌++◌, length, map, true, false, refl, sym, ap, subst, ◌∙◌, arith, append_assoc, inl, inr}
 use Rattle.std.specs.Prelude.{◌⊎◌}
 use Rattle.std.specs.List.{flat_map}
@@ -25,7 +25,7 @@ use Rattle.pcap_tolerant_blocks.specs.NamesAsIs.{only, broken, Delimited, NoExte
 use Rattle.pcap_tolerant_blocks.proofs.OneAsIs.{one_image, list_one}
 use Rattle.pcap_tolerant_blocks.proofs.RecordsAsIs.{no_extent_delimited, delimited_same, typed_same, end_no_kept, as_it_is, as_bytes, strict_typed, value_fault}
 
--- the records, and what stands behind them
+-- The records, and the options behind them.
 abbrev Reading : Type 0
 Reading = List (Flawed NameRecord) × Flawed (List Entry)
 
@@ -85,7 +85,7 @@ module _ (order : Order) where
   stop_no_item good s (lacks n) r a h k = h
   stop_no_item good s (faulty f) r a h k = h
 
-  -- ---- of all bytes something is said
+  -- ---- any bytes have an answer
 
   padded_there : (type len : ℕ) (s after : List ℕ) → CodeLengthText order type len s after → (w : Verdict (List ℕ)) → PaddedSays Io len after w → NoExtent order s ⊎ ((v : List ℕ) × (rest : List ℕ) × Delimited order type v s rest)
   padded_there type len s after head (whole v rest) h = inr (v, rest, record { after_head = after; head = head_with order type len v s after head h.1; padded = h.0 })
@@ -201,7 +201,7 @@ module _ (order : Order) where
   both_empty [] b e = (refl, sym e)
   both_empty (x ∷ a) b e = absurd cc
 
-  -- where nothing is kept there is only the end, and options of which nothing is kept
+  -- If nothing is kept, there is only the end, and options of which nothing is kept.
   record BareAt (s : List ℕ) : Type 0 where
     end : Flawed NameRecord
     after : List ℕ
@@ -239,7 +239,7 @@ module _ (order : Order) where
       let here : OptionsAsIs order name_resolution [] [] left b.rest = subst (λ (l : List ℕ). OptionsAsIs order name_resolution [] [] l b.rest) (sym (behind_end each end b.end s stop left b.after are typed b.typed)) b.bare in
       grows [] b.rest here refl
 
-  -- options with a flaw grow
+  -- A list grows for options with a flaw.
   pub flaws_grow : (options : List Entry) (flaws : List Said) (s rest : List ℕ) → OptionsAsIs order name_resolution options flaws s rest → flaws ≢ [] → OptionsGrow order name_resolution s
   unfolding flawed
   flaws_grow options flaws s rest list some value left text bare =

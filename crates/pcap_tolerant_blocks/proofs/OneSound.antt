@@ -1,4 +1,4 @@
--- Of all bytes one list of bytes is that of their sound options.
+-- Any bytes have exactly one list of the bytes of their sound options.
 use Rattle.std.proofs.Common.{◌≡◌, ℕ, List, [], ◌∷◌, ◌++◌, Bool, true, false, Option, refl, sym, ap, subst, ◌∙◌, append_assoc}
 use Rattle.std.specs.Prelude.{All, filter}
 use Rattle.std.specs.List.{flat_map}
@@ -18,7 +18,7 @@ use Rattle.pcap_tolerant_blocks.proofs.OneAsIs.{judge_raw, list_one, raw_text}
 use Rattle.pcap_tolerant_blocks.proofs.Pieces.{pieces_all}
 
 module _ (order : Order) (kind : Kind) where
-  -- what stands at the front of bytes as an option is one
+  -- The front of any bytes is at most one option.
   option_same : (option other : Judged) (s a b : List ℕ) → JudgedText order kind option s a → JudgedText order kind other s b → (option ≡ other) × (a ≡ b)
   option_same option other s a b x y =
       let first = raw_text order kind option s a x in
@@ -26,7 +26,7 @@ module _ (order : Order) (kind : Kind) where
       let same = item_same order no_kind first.0 second.0 s a b first.1 second.1 in
       (first.2 ∙ ap (judge_raw order kind) same.0 ∙ sym second.2, same.1)
 
-  -- no option stands there
+  -- The bytes begin with no option.
   NoOption : List ℕ → Type 0
   NoOption s = (option : Judged) (after : List ℕ) → JudgedText order kind option s after → ⊥
 
@@ -39,7 +39,7 @@ module _ (order : Order) (kind : Kind) where
   AllPieces : List Piece → Type 0
   AllPieces = All (IsPiece order kind)
 
-  -- the first of pieces stands at the front
+  -- The first of the options is at the front.
   first_there : (p : Piece) (ps : List Piece) (s a : List ℕ) → AllPieces (p ∷ ps) → s ≡ flat_map text_in (p ∷ ps) ++ a
       → (s ≡ p.text ++ (flat_map text_in ps ++ a)) × JudgedText order kind p.option s (flat_map text_in ps ++ a)
   unfolding AllPieces

@@ -1,4 +1,4 @@
--- Options whose values break no rule, as their bytes stand.
+-- Sound options, whose values break no rule, with their unchanged bytes.
 use Rattle.std.proofs.Common.{◌≡◌, ◌<◌, ◌-◌, ℕ, List, [], ◌∷◌, ◌++◌, length, take, Bool, true, false, Option, refl, sym, ap, subst, ◌∙◌, arith, append_assoc, append-nil, length-append}
 use Rattle.std.specs.Prelude.{filter}
 use Rattle.std.specs.List.{flat_map}
@@ -26,7 +26,7 @@ module _ (order : Order) (kind : Kind) where
   number_behind : (w n : ℕ) (s rest other : List ℕ) (number : Number order w n s rest) → Number order w n (number.bytes ++ other) other
   number_behind w n s rest other number = record { bytes = number.bytes; text = refl; length_is = number.length_is; value = number.value }
 
-  -- the bytes of an option are it, whatever follows them
+  -- The bytes of an option are that option, whatever follows them.
   pub piece_there : (option : Judged) (s after : List ℕ) → JudgedText order kind option s after → (piece : Piece) × (piece.option ≡ option) × IsPiece order kind piece × (s ≡ piece.text ++ after)
   piece_there option s after t =
       let code = t.head.code_is in
@@ -69,7 +69,7 @@ module _ (order : Order) (kind : Kind) where
   front_of : (n : ℕ) (left text after : List ℕ) → n ≡ length text → left ≡ text ++ after → take n left ≡ text
   front_of n left text after count is = ap (λ (k : ℕ). take k left) count ∙ ap (take (length text)) is ∙ take-append_seam text after
 
-  -- one option more, of which so many bytes of what was left are put
+  -- One more option of what is left is read. Its bytes are appended if it has no flaw.
   pub option_more : (s left after kept : List ℕ) (option : Judged) → PiecesSoFar order kind s left kept → JudgedText order kind option left after
       → PiecesSoFar order kind s after (kept ++ text_if (are_none option.flaws) (take (length left - length after) left))
   option_more s left after kept option so_far is =
@@ -86,7 +86,7 @@ module _ (order : Order) (kind : Kind) where
       → StopsAt may_end_with_body order no_kind [] cut left rest → SoundOptions order kind s kept
   pieces_end s left rest kept cut so_far stops = record { pieces = so_far.pieces; stop = left; cut = cut; rest = rest; are = so_far.are; text = so_far.text; stops = stops; kept_are = so_far.kept_are }
 
-  -- the options that stand in what is left
+  -- The options of what is left are added to those so far.
   pieces_on : (each : List Judged) (s left stop kept : List ℕ) → PiecesSoFar order kind s left kept → Chain (JudgedText order kind) each left stop
       → (more : List ℕ) × PiecesSoFar order kind s stop (kept ++ more)
   pieces_on [] s left stop kept so_far are = ([], subst (λ (l : List ℕ). PiecesSoFar order kind s l (kept ++ [])) are (subst (PiecesSoFar order kind s left) (sym (append-nil kept)) so_far))
@@ -102,7 +102,7 @@ module _ (order : Order) (kind : Kind) where
       (on.0, pieces_end s h.stop rest (kept ++ on.0) h.cut on.1 (stops_any order kind x.value [] h.cut h.stop rest h.stops))
   pieces_all s left kept so_far _ h = absurd h
 
-  -- an option without a flaw is put
+  -- An option without a flaw is appended.
   pub puts_some : (s left after kept : List ℕ) (option : Judged) → PiecesSoFar order kind s left kept → JudgedText order kind option left after
       → option.flaws ≡ [] → PutsSome order kind s
   puts_some s left after kept option so_far text none =
@@ -114,7 +114,7 @@ module _ (order : Order) (kind : Kind) where
       let less : length after < length left = omega (arith, head_length order text.code (length text.v) left text.after_head text.head, padded_length text.v text.after_head after text.padded) in
       record { kept = (kept ++ put) ++ all.0; are_put = all.1; some = λ e. omega (arith, less, ap length e, length-append (kept ++ put) all.0, length-append kept put, length-take (length left - length after) left) }
 
-  -- where nothing more can be put, the options so far are
+  -- If nothing more can be appended, the options so far are.
   pub puts_first : (s left kept before now after : List ℕ) → PiecesSoFar order kind s left kept → now ≡ before ++ kept → after ≡ now
       → PutsFirst order kind s before after
   puts_first s left kept before now after so_far put stays = record { left = left; kept = kept; are_put = so_far; behind = stays ∙ put }

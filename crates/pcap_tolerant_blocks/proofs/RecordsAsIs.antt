@@ -1,4 +1,4 @@
--- Records of names that are read one behind the other, as they stand.
+-- Lists of name records read leniently, one record after the other.
 use Rattle.std.proofs.Common.{◌≡◌, ◌≢◌, ℕ, List, [], ◌∷◌, ◌++◌, length, map, Bool, true, false, Some, None, if◌then◌else◌, refl, sym, ap, subst, ◌∙◌, arith}
 use Rattle.std.specs.Prelude.{◌==◌}
 use Rattle.std.specs.List.{flat_map}
@@ -28,7 +28,7 @@ use Rattle.pcap_tolerant_blocks.specs.declared.flaws.Flaw.{Flaw}
 use Rattle.pcap_tolerant_blocks.specs.Flaws.{Said, Flawed, said_of}
 use Rattle.pcap_tolerant_blocks.specs.NamesAsIs.{only, IsJudged, sound, broken, Delimited, NoExtent, no_head, no_bytes, TypedText, KeptAsIs, record_in, flaws_of, judged_record, RawText, RecordsGrow, RecordsText, with_end, without_end}
 
--- ---- by the error of the strict reading
+-- ---- by the error of strict reading
 
 pub io_stands : (MayGrow : Type 0) (HasFault : Fault → Type 0) (error : PcapError) → ((rule : Rule) → Names rule error → ⊥) → ((e : _) → error ≡ Utf8Error e → ⊥) → ((e : _) → error ≡ OutOfMemory e → ⊥) → Refuses MayGrow (λ n. ⊥) HasFault error → HasFault Io
 io_stands MayGrow HasFault (InvalidField message) named utf8 memory t = absurd (named t.0 t.1)
@@ -37,9 +37,9 @@ io_stands MayGrow HasFault (Utf8Error e) named utf8 memory t = absurd (utf8 e re
 io_stands MayGrow HasFault (OutOfMemory e) named utf8 memory t = absurd (memory e refl)
 io_stands MayGrow HasFault _ named utf8 memory t = absurd t
 
--- ---- what stands at the front of bytes is one
+-- ---- the front of any bytes is at most one record
 
--- a record without a flaw, and one of an unknown type with one
+-- A record without a flaw, and a record of an unknown type with a flaw.
 abbrev pub as_it_is : NameRecord → Flawed NameRecord
 as_it_is r = record { value = r; flaws = [] }
 
@@ -86,7 +86,7 @@ module _ (order : Order) where
   pub end_no_kept : (end r : Flawed NameRecord) (s a b : List ℕ) → TypedText order 0 end s a → KeptAsIs order r s b → ⊥
   end_no_kept end r s a b h k = k.no_end (sym (typed_same 0 k.type end r s a b h k.typed).0)
 
-  -- ---- from the strict reading
+  -- ---- from strict reading
 
   form_end : (type : ℕ) (v : List ℕ) (a b c : Bool)
       → RecordValueSays (if a then no_value else if b then address 4 Ipv4RecordTooShort Ipv4 else if c then address 16 Ipv6RecordTooShort Ipv6 else any_value type) v (whole End []) → a ≡ true
@@ -110,7 +110,7 @@ module _ (order : Order) where
   pub strict_kept : (r : NameRecord) (s rest : List ℕ) → r ≢ End → RecordText order r s rest → KeptAsIs order (judged_record r None) s rest
   strict_kept r s rest apart h = record { type = h.type; no_end = λ zero. apart (zero_is_end r h.type h.v zero h.value_is); typed = strict_typed r s rest h }
 
-  -- the fault of a record whose extent is there is its value's
+  -- If a record has its extent, its fault is that of its value.
   pub value_fault : (type : ℕ) (v s rest : List ℕ) (fault : Fault) → Delimited order type v s rest → RecordFault order s fault → RecordValueSays (form_of type) v (faulty fault)
   value_fault type v s rest fault d (short lt) = absurd (no_extent_delimited type v s rest (no_head lt) d)
   value_fault type v s rest fault d (cut t len after head lt) = absurd (no_extent_delimited type v s rest (no_bytes t len after head (omega (arith, lt))) d)
@@ -143,7 +143,7 @@ module _ (order : Order) where
 
   -- ---- records so far
 
-  -- these records were read of s, and left is to be read
+  -- These records were read from `s`, and `left` remains to be read.
   pub record RecordsSoFar (records : List NameRecord) (flaws : List Said) (s left : List ℕ) : Type 0 where
     pub each : List (Flawed NameRecord)
     pub are : Chain (KeptAsIs order) each s left
@@ -169,7 +169,7 @@ module _ (order : Order) where
       without_end so_far.each fault so_far.are none stands so_far.records_are
       (map-append said_of flaws (flaw ∷ []) ∙ ap (λ (x : Said). map said_of flaws ++ x ∷ []) said ∙ ap (λ (l : List Said). l ++ only fault) so_far.flaws_are)
 
-  -- ---- where a list grows
+  -- ---- the conditions under which a list grows
 
   grows_in : (each : List (Flawed NameRecord)) (s left : List ℕ) → Chain (KeptAsIs order) each s left → RecordsGrow order left → RecordsGrow order s
   grows_in [] s left are grows end rest typed none = grows end rest (subst (λ (l : List ℕ). TypedText order 0 end l rest) are typed) none

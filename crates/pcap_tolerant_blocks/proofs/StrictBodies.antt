@@ -1,4 +1,4 @@
--- What the strict reading says where bodies stand as they are.
+-- The answers of strict reading for bodies that are also read leniently.
 use Rattle.std.proofs.Common.{ℕ, List, [], ◌∷◌, Option, Some, None, refl, sym, subst, ◌∙◌}
 use Rattle.pcap_core.specs.Answer.{Order, number_in, Verdict, whole, faulty}
 use Rattle.pcap_core.specs.Faults.{Fault, Invalid}
@@ -47,15 +47,15 @@ use Rattle.pcap_tolerant_blocks.proofs.StrictLists.{list_there}
 
 -- ---- what bodies share
 
--- a strict verdict, and that it is the one that the law says
+-- An answer of strict reading that is the one of the law.
 abbrev Meant : {V : Type 0} → (Verdict V → Type 0) → List Said → Option V → List ℕ → Type 0
 Meant {V} IsSaid flaws value rest = (v : Verdict V) × IsSaid v × StrictIsWhere flaws value rest v
 
--- it is the only one
+-- It is the only one.
 meant : {V : Type 0} (IsSaid : Verdict V → Type 0) (flaws : List Said) (value : Option V) (rest : List ℕ) (v : Verdict V) → ExactlyOne IsSaid → Meant IsSaid flaws value rest → IsSaid v → StrictIsWhere flaws value rest v
 meant {V} IsSaid flaws value rest v one t y = subst (λ (w : Verdict V). StrictIsWhere flaws value rest w) (one.only t.0 t.1 ∙ sym (one.only v y)) t.2
 
--- where there is no room for a body its rule is the strict fault
+-- If there is no room for a body, its rule is the strict fault.
 if_room : {V : Type 0} (IsText : V → List Said → List ℕ → List ℕ → Type 0) (NoRoom : List ℕ → Rule → Type 0) (s : List ℕ) (IsSaid : Verdict V → Type 0)
     → ((value : V) (flaws : List Said) (rest : List ℕ) → IsText value flaws s rest → Meant IsSaid flaws (Some value) rest) → ((rule : Rule) → NoRoom s rule → IsSaid (faulty (Invalid rule)))
     → (value : Option V) (flaws : List Said) (rest : List ℕ) → IfRoom IsText NoRoom value flaws s rest → Meant IsSaid flaws value rest
@@ -70,7 +70,7 @@ module _ (order : Order) (kind : Kind) where
   by_flaws IsSaid value options (first ∷ others) s rest t sound wrong =
       (faulty first.fault, wrong first.fault (subst (λ (v : Verdict (List Entry)). ListSays may_end_with_body order kind s v) t.2 t.1), refl)
 
-  -- a body that ends in options is whole where they have no flaw, and else has their first
+  -- A body that ends in options is whole if they have no flaw, and otherwise has their first flaw.
   options_behind : {V : Type 0} (IsSaid : Verdict V → Type 0) (value : V) (options : List Entry) (flaws : List Said) (s rest : List ℕ) → OptionsAsIs order kind options flaws s rest
       → (OptionList may_end_with_body order kind options s rest → IsSaid (whole value rest)) → ((fault : Fault) → ListFault may_end_with_body order kind s fault → IsSaid (faulty fault)) → Meant IsSaid flaws (Some value) rest
   options_behind IsSaid value options flaws s rest x sound wrong = by_flaws IsSaid value options flaws s rest (list_there order kind options flaws s rest x) sound wrong
@@ -110,9 +110,9 @@ pub section_refused : (s : List ℕ) (fault : Fault) → NoSection s fault → S
 section_refused s fault (short_section lt) = strict_section.short lt
 section_refused s fault (unnamed magic after long number none) = strict_section.no_magic magic after long number none
 
--- ---- packets with a time, whatever stands before it
+-- ---- packets with a time, whatever precedes it
 
--- a body that ends in a stored packet is whole where the packet has no flaw, and else has its first
+-- A body that ends in a stored packet is whole if the packet has no flaw, and otherwise has its first flaw.
 stored_behind : (order : Order) (kind : Kind) {V : Type 0} (IsSaid : Verdict V → Type 0) (value : V) (packet : Stored) (flaws : List Said) (s rest : List ℕ) → WithBytes order kind packet flaws s rest
     → (StoredText order kind packet s rest → IsSaid (whole value rest)) → ((fault : Fault) → StoredFault order kind s fault → IsSaid (faulty fault)) → Meant IsSaid flaws (Some value) rest
 stored_behind order kind IsSaid value packet flaws s rest x sound wrong =

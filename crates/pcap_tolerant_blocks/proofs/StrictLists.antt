@@ -1,4 +1,4 @@
--- What the strict reading says where options stand as they are.
+-- The answers of strict reading for options that are also read leniently.
 use Rattle.std.proofs.Common.{◌≡◌, ◌≢◌, ℕ, List, [], ◌∷◌, ◌++◌, length, map, Option, Some, None, Result, Ok, Err, refl, sym, ap, subst, ◌∙◌, arith}
 use Rattle.pcap_core.specs.Answer.{Order, Verdict, whole, faulty}
 use Rattle.pcap_core.specs.Faults.{Fault}
@@ -11,11 +11,11 @@ use Rattle.pcap_tolerant_blocks.specs.Flaws.{Said, StrictIs}
 use Rattle.pcap_tolerant_blocks.specs.OptionsAsIs.{Judged, judged, JudgedText, entry_in, cut_by, flaws_in, OptionsAsIs}
 
 module _ (order : Order) (kind : Kind) where
-  -- the strict verdict, and that it is the one that the law says
+  -- An answer of strict reading that is the one of the law.
   There : List Entry → List Said → List ℕ → List ℕ → Type 0
   There options flaws s rest = (v : Verdict (List Entry)) × ListSays may_end_with_body order kind s v × StrictIs flaws options rest v
 
-  -- a list that no option can be found of is cut for each kind alike
+  -- A list from which no next option can be read is cut in the same way for every kind.
   cut_of_kind : (s : List ℕ) (f : Fault) → OptionFault order no_kind s f → OptionFault order kind s f
   cut_of_kind s f (short lt) = short lt
   cut_of_kind s f (cut code len after head mark lack) = cut code len after head mark lack

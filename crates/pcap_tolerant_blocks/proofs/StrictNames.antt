@@ -1,4 +1,4 @@
--- What the strict reading says where names stand as they are.
+-- The answers of strict reading for names that are also read leniently.
 use Rattle.std.proofs.Common.{◌≡◌, ◌≢◌, ℕ, List, [], ◌∷◌, ◌++◌, map, refl, sym, ap, subst, ◌∙◌, append_assoc}
 use Rattle.std.specs.List.{flat_map}
 use Rattle.std.proofs.lemmas.List.Concat.{flat_map-cons}
@@ -22,7 +22,7 @@ module _ (order : Order) where
   names_at : List NameRecord → List Entry → Resolution
   names_at records options = record { records = records; options = options }
 
-  -- the strict verdict, and that it is the one that the law says
+  -- An answer of strict reading that is the one of the law.
   There : List NameRecord → List Entry → List Said → List ℕ → List ℕ → Type 0
   There records options flaws s rest = (v : Verdict Resolution) × ResolutionSays order s v × StrictIs flaws (names_at records options) rest v
 
@@ -50,7 +50,7 @@ module _ (order : Order) where
   delimited_fault : (type : ℕ) (v s rest : List ℕ) (f : Fault) → Delimited order type v s rest → RecordValueSays (form_of type) v (faulty f) → RecordFault order s f
   delimited_fault type v s rest f d says = wrong f type v d.after_head (d.padded.padding ++ rest) d.head (d.padded.text ∙ append_assoc v d.padded.padding rest) says
 
-  -- a record in front, whatever its value says
+  -- One more record in front, whatever its value is.
   judged_more : (r : Flawed NameRecord) (type : ℕ) (v : List ℕ) (records : List NameRecord) (options : List Entry) (others : List Said) (s after rest : List ℕ) → type ≢ 0 → Delimited order type v s after → IsJudged type v r
       → There records options others after rest → There (r.value ∷ records) options (r.flaws ++ others) s rest
   judged_more r type v records options others s after rest apart d (sound q says) t =

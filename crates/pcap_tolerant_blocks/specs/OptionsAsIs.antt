@@ -1,4 +1,4 @@
--- Options as they stand: each with its value, or, where that breaks its rule, with its bytes ('Options').
+-- Options read leniently: each with its value, or with its bytes if the value breaks its rule ('Options').
 use Rattle.std.specs.Prelude.{◌≡◌, ◌≢◌, ℕ, List, [], ◌∷◌, ◌++◌, length, map, Option, Some, None, Result, Ok, Err}
 use Rattle.pcap_core.specs.Answer.{Order, Verdict, Says}
 use Rattle.pcap_core.specs.Faults.{Fault}
@@ -11,17 +11,17 @@ use Rattle.pcap_tolerant_blocks.specs.declared.flaws.Flaw.{Flaw}
 use Rattle.pcap_tolerant_blocks.specs.declared.list.OptionAsIs.{OptionAsIs}
 use Rattle.pcap_tolerant_blocks.specs.declared.list.ListAsIs.{ListAsIs}
 
--- an option as it stands, and its flaw, if it has one
+-- An option read leniently, with its flaw if it has one.
 pub record Judged : Type 0 where
   pub entry : Entry
   pub flaws : List Said
 
--- the option of this code and bytes, by what they are read as: its value, or its bytes and the fault
+-- The option with this code and these bytes, by the result of reading them: its value, or its bytes and the fault.
 abbrev pub judged : ℕ → List ℕ → Result Value Fault → Judged
 judged code v (Ok value) = record { entry = record { code = code; value = value }; flaws = [] }
 judged code v (Err fault) = record { entry = record { code = code; value = Unknown (length v) v }; flaws = record { code = Some code; fault = fault } ∷ [] }
 
--- s is the text of an option, whatever its value says, and then rest
+-- `s` is the text of an option, whatever its value is, followed by `rest`.
 pub record JudgedText (order : Order) (kind : Kind) (option : Judged) (s rest : List ℕ) : Type 0 where
   pub code : ℕ
   pub v : List ℕ
@@ -31,21 +31,22 @@ pub record JudgedText (order : Order) (kind : Kind) (option : Judged) (s rest : 
   pub padded : Padded v after_head rest
   pub is : option ≡ judged code v (value_of order (shape_at kind code) v)
 
--- the option alone
+-- The option without its flaw.
 abbrev pub entry_in : Judged → Entry
 entry_in option = option.entry
 
--- the flaw of a list that ends before its mark and its bytes do
+-- The flaw of a list that ends before its mark and before its bytes do.
 abbrev pub cut_by : Option Fault → List Said
 cut_by None = []
 cut_by (Some fault) = record { code = None; fault = fault } ∷ []
 
--- the flaws of options, in their order, and then the list's
+-- The flaws of options in their order, and then the flaw of the list.
 abbrev pub flaws_in : List Judged → List Said → List Said
 flaws_in [] last = last
 flaws_in (option ∷ options) last = option.flaws ++ flaws_in options last
 
--- s is these options as they stand, with these flaws, and then rest: up to the mark, to the end, or to where no next one is found
+-- `s` is these options read leniently, with these flaws, followed by `rest`: up to the mark, to the end, or to where no next option is
+-- found.
 pub record OptionsAsIs (order : Order) (kind : Kind) (options : List Entry) (flaws : List Said) (s rest : List ℕ) : Type 0 where
   pub each : List Judged
   pub cut : Option Fault
@@ -55,25 +56,25 @@ pub record OptionsAsIs (order : Order) (kind : Kind) (options : List Entry) (fla
   pub options_are : options ≡ map entry_in each
   pub flaws_are : flaws ≡ flaws_in each (cut_by cut)
 
--- what is said of bytes where options as they stand are asked for: they are there, however wrong
+-- The only answer of lenient reading where the bytes should be options is the options, whatever their flaws.
 abbrev pub OptionsAsIsSay : Order → Kind → List ℕ → Verdict (Flawed (List Entry)) → Type 0
 OptionsAsIsSay order kind s = Says (λ x rest. OptionsAsIs order kind x.value x.flaws s rest) (λ n. ⊥) (λ fault. ⊥)
 
--- s has an option or a flaw, so that a list grows
+-- `s` has an option or a flaw, so a list grows.
 abbrev pub OptionsGrow : Order → Kind → List ℕ → Type 0
 OptionsGrow order kind = KeepsSome (OptionsAsIs order kind) (λ options. options ≡ [])
 
--- ---- what the code holds
+-- ---- the state of the code
 
--- what may be wrong, as a list
+-- A possible flaw as a list.
 abbrev pub flaws_or_none : Option Flaw → List Said
 flaws_or_none None = []
 flaws_or_none (Some flaw) = said_of flaw ∷ []
 
--- an option of the code, and its flaw
+-- An option of the code, and its flaw.
 abbrev pub judged_of : {O : Type 0} → (O → Entry) → OptionAsIs O → Judged
 judged_of view x = record { entry = view x.option; flaws = flaws_or_none x.flaw }
 
--- the options at the front of s as they stand, as the code holds them
+-- The options at the front of `s`, read leniently, as the code holds them.
 abbrev pub ListsAsIs : {O : Type 0} → Order → Kind → (O → Entry) → List ℕ → ListAsIs O → Type 0
 ListsAsIs order kind view s x = OptionsAsIs order kind (map view x.options.items) (map said_of x.flaws.items) s x.left.now

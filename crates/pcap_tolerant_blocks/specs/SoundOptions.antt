@@ -1,4 +1,4 @@
--- Options whose values break no rule, as their bytes stand ('Options').
+-- Sound options, whose values break no rule, with their unchanged bytes ('Options').
 use Rattle.std.specs.Prelude.{◌≡◌, ◌≢◌, ℕ, List, [], ◌∷◌, ◌++◌, filter, All, Bool, true, false, Option}
 use Rattle.std.specs.List.{flat_map}
 use Rattle.pcap_core.specs.Answer.{Order}
@@ -16,7 +16,7 @@ use Rattle.pcap_tolerant_blocks.specs.declared.sound.OptionsOf.TheVariants as of
 use Rattle.pcap_tolerant_blocks.specs.Flaws.{Said}
 use Rattle.pcap_tolerant_blocks.specs.OptionsAsIs.{Judged, JudgedText}
 
--- the shapes of the values of these options, by their codes
+-- The shapes of the values of these options, by their codes.
 abbrev pub kind_of : OptionsOf → Kind
 kind_of of.Section = section_header
 kind_of of.Interface = interface_description
@@ -24,42 +24,42 @@ kind_of of.EnhancedPacket = enhanced_packet
 kind_of of.Packet = packet_kind
 kind_of of.InterfaceStatistics = interface_statistics
 
--- an option as it stands, and its bytes
+-- An option read leniently, and its bytes.
 pub record Piece : Type 0 where
   pub option : Judged
   pub text : List ℕ
 
--- they are the option, whatever follows them
+-- These bytes are the option, whatever follows them.
 abbrev pub IsPiece : Order → Kind → Piece → Type 0
 IsPiece order kind piece = (rest : List ℕ) → JudgedText order kind piece.option (piece.text ++ rest) rest
 
--- its bytes
+-- The bytes of the option.
 abbrev pub text_in : Piece → List ℕ
 text_in piece = piece.text
 
--- nothing is wrong
+-- There is no flaw.
 abbrev pub are_none : List Said → Bool
 are_none [] = true
 are_none (first ∷ others) = false
 
--- its value breaks no rule
+-- The option's value breaks no rule.
 abbrev pub is_sound : Piece → Bool
 is_sound piece = are_none piece.option.flaws
 
--- these bytes, where nothing is wrong with what they are
+-- These bytes if the option has no flaw, and otherwise none.
 abbrev pub text_if : Bool → List ℕ → List ℕ
 text_if true text = text
 text_if false text = []
 
--- s begins with options as they stand, and left is what follows them; kept is the bytes of those whose values break no rule
+-- `s` begins with options read leniently, and `left` follows them. `kept` is the bytes of those whose values break no rule.
 pub record PiecesSoFar (order : Order) (kind : Kind) (s left kept : List ℕ) : Type 0 where
   pub pieces : List Piece
   pub are : All (IsPiece order kind) pieces
   pub text : s ≡ flat_map text_in pieces ++ left
   pub kept_are : kept ≡ flat_map text_in (filter is_sound pieces)
 
--- s is options as they stand, up to their mark, to the end, or to where no next one is found, and kept is the bytes of those whose
--- values break no rule
+-- `s` is options read leniently, up to their mark, to the end, or to where no next one is found. `kept` is the bytes of those whose
+-- values break no rule.
 pub record SoundOptions (order : Order) (kind : Kind) (s kept : List ℕ) : Type 0 where
   pub pieces : List Piece
   pub stop : List ℕ
@@ -70,14 +70,14 @@ pub record SoundOptions (order : Order) (kind : Kind) (s kept : List ℕ) : Type
   pub stops : StopsAt may_end_with_body order no_kind [] cut stop rest
   pub kept_are : kept ≡ flat_map text_in (filter is_sound pieces)
 
--- behind what was there stand the bytes of some first options of s whose values break no rule, each whole
+-- The bytes after the call are those before it, and then the whole bytes of some first options of `s` whose values break no rule.
 pub record PutsFirst (order : Order) (kind : Kind) (s before after : List ℕ) : Type 0 where
   pub left : List ℕ
   pub kept : List ℕ
   pub are_put : PiecesSoFar order kind s left kept
   pub behind : after ≡ before ++ kept
 
--- some of s is put: it has an option whose value breaks no rule
+-- Something of `s` is appended: it has an option whose value breaks no rule.
 pub record PutsSome (order : Order) (kind : Kind) (s : List ℕ) : Type 0 where
   pub kept : List ℕ
   pub are_put : SoundOptions order kind s kept

@@ -1,4 +1,4 @@
--- Interface statistics as they stand ('Interface Statistics Block').
+-- Interface statistics read leniently ('Interface Statistics Block').
 use Rattle.std.specs.Prelude.{◌≡◌, ◌<◌, ℕ, List, [], length, map, Option}
 use Rattle.std.specs.Option.{option_map}
 use Rattle.pcap_core.specs.declared.rules.Rule.{Rule}
@@ -11,7 +11,7 @@ use Rattle.pcap_tolerant_blocks.specs.Flaws.{Said, Flawed, said_of, IfRoom, IfRo
 use Rattle.pcap_tolerant_blocks.specs.OptionsAsIs.{OptionsAsIs}
 use Rattle.pcap_tolerant_blocks.specs.declared.statistics.StatisticsAsIs.{StatisticsAsIs}
 
--- s is an interface, a time and options as they stand, with these flaws, and then rest
+-- `s` is an interface, a time and options read leniently, with these flaws, followed by `rest`.
 pub record AtTime (order : Order) (statistics : Statistics) (flaws : List Said) (s rest : List ℕ) : Type 0 where
   pub after_interface : List ℕ
   pub after_time : List ℕ
@@ -19,26 +19,26 @@ pub record AtTime (order : Order) (statistics : Statistics) (flaws : List Said) 
   pub time_is : TimeText order statistics.timestamp after_interface after_time
   pub options_are : OptionsAsIs order interface_statistics statistics.options flaws after_time rest
 
--- the rule for which s is none: it has no room for the interface and the time
+-- The rule for which `s` is no statistics: it has no room for the interface and the time.
 abbrev pub NoTime : List ℕ → Rule → Type 0
 NoTime s rule = (rule ≡ StatisticsTooShort) × (length s < 12)
 
--- s is statistics as they stand, with these flaws, and then rest; or there are none, and all is left
+-- `s` is statistics read leniently, with these flaws, followed by `rest`; or there are no statistics, and all of `s` is left.
 abbrev pub StatisticsAsIsText : Order → Option Statistics → List Said → List ℕ → List ℕ → Type 0
 StatisticsAsIsText order = IfRoom (AtTime order) NoTime
 
--- s is no statistics without flaws and options, so that a list grows
+-- `s` is not statistics without flaws and options, so a list grows.
 abbrev pub StatisticsGrow : Order → List ℕ → Type 0
 StatisticsGrow order = KeepsSome (AtTime order) (λ x. x.options ≡ [])
 
--- what is said of bytes where statistics as they stand are asked for
+-- The answers of lenient reading where the bytes should be statistics.
 abbrev pub StatisticsAsIsSay : Order → List ℕ → Verdict (Flawed (Option Statistics)) → Type 0
 StatisticsAsIsSay order = IfRoomSays (AtTime order) NoTime
 
--- the statistics of the code, where there are some
+-- The statistics that the code returned, if there are any.
 abbrev pub statistics_in : StatisticsAsIs → Option Statistics
 statistics_in x = option_map statistics_of x.statistics
 
--- what is wrong with them
+-- The flaws of the statistics.
 abbrev pub flaws_said : StatisticsAsIs → List Said
 flaws_said x = map said_of x.flaws.items

@@ -1,4 +1,4 @@
-//! Enhanced packets as they stand.
+//! Enhanced packets read leniently.
 
 ghost use Rattle.std.specs.Prelude.{◌≡◌, None, All, IfOk, IfErr, IfSome};
 ghost use Rattle.pcap_core.specs.Bytes.{IsBorrowed};
@@ -16,21 +16,23 @@ use pcap_core::fields::split_u32;
 use pcap_core::rules::Rule;
 use std::alloc::{AllocError, Global};
 
-/// An enhanced packet as it stands, and what is wrong with it.
+/// An enhanced packet read leniently, with its flaws.
 #[derive(Debug, Drop)]
 pub struct EnhancedAsIs<'a> {
-    /// The packet. An option whose value breaks its rule is one of an unknown code, with its bytes. None where the body has no
-    /// room for the packet's head, or for the bytes that this states.
+    /// The packet, or None if the body has no room for the packet's head or for the bytes that the head states. An option whose
+    /// value breaks its rule becomes an option of an unknown code, with its bytes.
     pub packet: Option<EnhancedPacketBlock<'a>>,
-    /// What is wrong, in the order of the text: the strict reading refuses the packet for the first of these.
+    /// The flaws in the order of the text. Strict reading refuses the packet for the first of them.
     pub flaws: Vec<Flaw>,
 }
 
 impl<'a> EnhancedAsIs<'a> {
-    /// The packet that a block's body is as it stands, and what follows its options: these end at their mark, with the slice, or
-    /// where no next one can be found. All is left where there is no packet. Strings and bytes are borrowed from the slice.
+    /// Reads a block's body as an enhanced packet leniently, and returns what follows its options and the packet.
     ///
-    /// `AllocError` where a list can't grow, and only where there is a flaw or an option.
+    /// The options end at their mark, at the end of the slice, or where no next option can be found. If there is no packet, the
+    /// whole slice is left. Strings and bytes are borrowed from the slice.
+    ///
+    /// Returns `AllocError` if a list can't grow. This can happen only if there is a flaw or an option.
     pub fn from_slice<B: ByteOrder>(
         alloc: Global,
         slice: &'a [u8],
@@ -65,7 +67,7 @@ impl<'a> EnhancedAsIs<'a> {
         ))
     }
 
-    // No packet, by this rule.
+    // Returns no packet, with a flaw by this rule.
     fn none(alloc: Global, slice: &'a [u8], rule: Rule) -> Result<(&'a [u8], Self), AllocError>
         ensures { IfOk result (λ x. (x.0.now ≡ slice.now) × (enhanced_in x.1 ≡ None) × (flaws_said x.1 ≡ alone rule)) }
     {

@@ -1,4 +1,4 @@
-//! The interfaces of a section, as they stand.
+//! The interfaces of a section, read leniently.
 
 ghost use Rattle.std.specs.Prelude.{◌≡◌, [], map, option_map, length, IfOk, IfErr, OnErr};
 ghost use Rattle.pcap_core.specs.Errors.{IsMemory};
@@ -13,15 +13,15 @@ use pcap_blocks::{InterfaceDescriptionBlock, Timestamp};
 use pcap_core::ResultParsing;
 use std::alloc::Global;
 
-/// The interfaces of a section as they stand, by the numbers that packets name them with. One whose body has no room for its head
-/// keeps its number, so that those behind it have theirs.
+/// The interfaces of a section read leniently, by the numbers that packets use for them. An interface whose body has no room
+/// for its head keeps its number, so that later interfaces keep theirs.
 #[derive(Drop)]
 pub struct InterfacesAsIs {
     interfaces: Vec<Option<InterfaceDescriptionBlock<'static>>>,
 }
 
 impl InterfacesAsIs {
-    /// Those of a section that has none yet.
+    /// Returns the interfaces of a section that has none yet.
     pub fn new(alloc: Global) -> InterfacesAsIs
         ensures { in_force result ≡ [] }
     {
@@ -30,9 +30,9 @@ impl InterfacesAsIs {
         }
     }
 
-    /// Puts the interface that a body is in force as it stands, under the next number, and tells what is wrong with it.
+    /// Reads a body as an interface leniently, adds the interface under the next number, and returns its flaws.
     ///
-    /// `OutOfMemory` where it can't be kept; the interfaces stay as they were.
+    /// Returns `OutOfMemory` if the interface can't be kept. The interfaces are then unchanged.
     pub fn add<B: ByteOrder>(&mut self, alloc: Global, body: &[u8]) -> ResultParsing<Vec<Flaw>>
         ensures added { IfOk result (λ flaws. Adds B.number_of body.now (map said_of flaws.items) (in_force self.old) (in_force self.new)) }
         ensures memory { IfErr result IsMemory }
@@ -48,14 +48,15 @@ impl InterfacesAsIs {
         Ok(flaws)
     }
 
-    /// How many interfaces are in force, with those that have no room for their head.
+    /// Returns the number of interfaces in force, including those whose body has no room for their head.
     pub fn len(&self) -> usize
         ensures { result ≡ length (in_force self.now) }
     {
         self.interfaces.len()
     }
 
-    /// The interface of this number. None past their end, and for one whose body has no room for its head.
+    /// Returns the interface with this number. Returns None past the last interface, and for one whose body has no room for its
+    /// head.
     pub fn get(&self, number: u32) -> Option<&InterfaceDescriptionBlock<'static>>
         ensures { option_map (λ interface. interface_of interface.now) result ≡ known number (in_force self.now) }
     {
@@ -65,8 +66,8 @@ impl InterfacesAsIs {
         }
     }
 
-    /// The time of so many units of a packet that names this interface, by its clock, rounded down to whole nanoseconds. None
-    /// where no interface is known by that number.
+    /// Returns the time of `units` units by the clock of the interface with this number, rounded down to whole nanoseconds.
+    /// Returns None if there is no known interface with that number.
     pub fn timestamp(&self, number: u32, units: u64) -> Option<Timestamp>
         ensures { IsTimeBy (known number (in_force self.now)) units result }
     {

@@ -1,4 +1,4 @@
-//! Interfaces as they stand.
+//! Interfaces read leniently.
 
 ghost use Rattle.std.specs.Prelude.{IfOk, IfErr, IfSome};
 ghost use Rattle.pcap_blocks.specs.InterfaceDescription.{InterfaceIsBorrowed};
@@ -13,21 +13,23 @@ use pcap_core::fields::{split_u16, split_u32};
 use pcap_core::rules::Rule;
 use std::alloc::{AllocError, Global};
 
-/// An interface as it stands, and what is wrong with it.
+/// An interface read leniently, with its flaws.
 #[derive(Debug, Drop)]
 pub struct InterfaceAsIs<'a> {
-    /// The interface. An option whose value breaks its rule is one of an unknown code, with its bytes. None where the body has no
-    /// room for the interface's head.
+    /// The interface, or None if the body has no room for the interface's head. An option whose value breaks its rule becomes
+    /// an option of an unknown code, with its bytes.
     pub interface: Option<InterfaceDescriptionBlock<'a>>,
-    /// What is wrong, in the order of the text: the strict reading refuses the interface for the first of these.
+    /// The flaws in the order of the text. Strict reading refuses the interface for the first of them.
     pub flaws: Vec<Flaw>,
 }
 
 impl<'a> InterfaceAsIs<'a> {
-    /// The interface that a block's body is as it stands, and what follows its options: these end at their mark, with the slice,
-    /// or where no next one can be found. Strings and bytes are borrowed from the slice.
+    /// Reads a block's body as an interface leniently, and returns what follows its options and the interface.
     ///
-    /// `AllocError` where a list can't grow, and only where there is a flaw or an option.
+    /// The options end at their mark, at the end of the slice, or where no next option can be found. Strings and bytes are
+    /// borrowed from the slice.
+    ///
+    /// Returns `AllocError` if a list can't grow. This can happen only if there is a flaw or an option.
     pub fn from_slice<B: ByteOrder>(
         alloc: Global,
         slice: &'a [u8],

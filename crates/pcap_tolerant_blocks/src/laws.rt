@@ -1,4 +1,4 @@
-//! Laws of bodies as they stand. Each contract is the law.
+//! Laws of lenient reading of bodies. Each contract is the law.
 
 ghost use Rattle.std.specs.Prelude.{List, ℕ, Option};
 ghost use Rattle.pcap_core.specs.Answer.{Order, Verdict};
@@ -24,97 +24,105 @@ ghost use Rattle.pcap_tolerant_blocks.specs.InterfaceAsIs.{InterfaceText, Interf
 ghost use Rattle.pcap_tolerant_blocks.specs.OptionsAsIs.{OptionsAsIs, OptionsAsIsSay};
 ghost use Rattle.pcap_tolerant_blocks.specs.SoundOptions.{SoundOptions};
 
-/// What the strict reading says of the same options: the same list where it has no flaw, and else its first flaw.
+/// Strict reading of the same options gives the same list if it has no flaw, and otherwise the error for its first flaw.
 pub fn strict_options_are()
     ensures { (order : Order) (kind : Kind) (options : List Entry) (flaws : List Said) (s rest : List ℕ) (v : Verdict (List Entry)) →
         OptionsAsIs order kind options flaws s rest → ListSays may_end_with_body order kind s v → StrictIs flaws options rest v }
 {}
 
-/// What the strict reading says of the same interface: that interface where it has no flaw, and else its first flaw.
+/// Strict reading of the same interface gives that interface if it has no flaw, and otherwise the error for its first flaw.
 pub fn strict_interface_is()
     ensures { (order : Order) (interface : Option Interface) (flaws : List Said) (s rest : List ℕ) (v : Verdict Interface) →
         InterfaceText order interface flaws s rest → InterfaceSays order s v → StrictIsWhere flaws interface rest v }
 {}
 
-/// What the strict reading says of the same section: that section where it has no flaw, and else its first flaw; and where no order
-/// of bytes is known, the same refusal.
+/// Strict reading of the same section gives that section if it has no flaw, and otherwise the error for its first flaw. If no
+/// byte order is known, strict reading has the same error.
 pub fn strict_section_is()
     ensures read { (section : Section) (flaws : List Said) (s rest : List ℕ) (v : Verdict Section) →
         SectionText section flaws s rest → SectionSays s v → StrictIs flaws section rest v }
     ensures refused { (s : List ℕ) (fault : Fault) → NoSection s fault → SectionFault s fault }
 {}
 
-/// What the strict reading says of the same enhanced packet: that packet where it has no flaw, and else its first flaw.
+/// Strict reading of the same enhanced packet gives that packet if it has no flaw, and otherwise the error for its first flaw.
 pub fn strict_enhanced_is()
     ensures { (order : Order) (enhanced : Option Enhanced) (flaws : List Said) (s rest : List ℕ) (v : Verdict Enhanced) →
         EnhancedText order enhanced flaws s rest → EnhancedSays order s v → StrictIsWhere flaws enhanced rest v }
 {}
 
-/// The same of an obsolete packet block.
+/// Strict reading of the same obsolete packet gives that packet if it has no flaw, and otherwise the error for its first flaw.
 pub fn strict_packet_block_is()
     ensures { (order : Order) (body : Option PacketBody) (flaws : List Said) (s rest : List ℕ) (v : Verdict PacketBody) →
         PacketBlockText order body flaws s rest → PacketBodySays order s v → StrictIsWhere flaws body rest v }
 {}
 
-/// The same of a simple packet, which has no flaw where there is one.
+/// Strict reading of the same simple packet gives that packet, which has no flaw, or the error for the flaw that there is no
+/// packet.
 pub fn strict_simple_is()
     ensures { (order : Order) (simple : Option Simple) (flaws : List Said) (s rest : List ℕ) (v : Verdict Simple) →
         SimpleAsIsText order simple flaws s rest → SimpleSays order s v → StrictIsWhere flaws simple rest v }
 {}
 
-/// The same of interface statistics.
+/// Strict reading of the same interface statistics gives those statistics if they have no flaw, and otherwise the error for
+/// their first flaw.
 pub fn strict_statistics_are()
     ensures { (order : Order) (statistics : Option Statistics) (flaws : List Said) (s rest : List ℕ) (v : Verdict Statistics) →
         StatisticsAsIsText order statistics flaws s rest → StatisticsSays order s v → StrictIsWhere flaws statistics rest v }
 {}
 
-/// The same of names, which are always there.
+/// Strict reading of the same names gives those names if they have no flaw, and otherwise the error for their first flaw.
+/// Lenient reading always gives names.
 pub fn strict_names_are()
     ensures { (order : Order) (names : Resolution) (flaws : List Said) (s rest : List ℕ) (v : Verdict Resolution) →
         NamesText order names flaws s rest → ResolutionSays order s v → StrictIs flaws names rest v }
 {}
 
-/// Of all bytes exactly one thing is said as options as they stand: which options, with which flaws, and what follows them.
+/// Lenient reading of options gives exactly one answer for any bytes: the options, their flaws, and what follows them.
 pub fn options_as_they_stand_are_one()
     ensures { (order : Order) (kind : Kind) (s : List ℕ) → ExactlyOne (OptionsAsIsSay order kind s) }
 {}
 
-/// The bytes of the options whose values break no rule are one list of bytes, whatever stands there.
+/// Any bytes have exactly one list of the bytes of their sound options, whose values break no rule.
 pub fn sound_options_are_one()
     ensures { (order : Order) (kind : Kind) (s : List ℕ) → ExactlyOne (SoundOptions order kind s) }
 {}
 
-/// The same as an interface as it stands.
+/// Lenient reading of an interface gives exactly one answer for any bytes: the interface with its flaws and what follows it, or
+/// none and a flaw.
 pub fn interface_as_it_stands_is_one()
     ensures { (order : Order) (s : List ℕ) → ExactlyOne (InterfaceAsIsSays order s) }
 {}
 
-/// The same as a section as it stands, or why no order of bytes is known.
+/// Lenient reading of a section gives exactly one answer for any bytes: the section with its flaws and what follows it, or the
+/// reason why no byte order is known.
 pub fn section_as_it_stands_is_one()
     ensures { (s : List ℕ) → ExactlyOne (SectionAsIsSays s) }
 {}
 
-/// The same as an enhanced packet as it stands.
+/// Lenient reading of an enhanced packet gives exactly one answer for any bytes: the packet with its flaws and what follows it,
+/// or none and a flaw.
 pub fn enhanced_as_it_stands_is_one()
     ensures { (order : Order) (s : List ℕ) → ExactlyOne (EnhancedAsIsSays order s) }
 {}
 
-/// The same as an obsolete packet block as it stands.
+/// Lenient reading of an obsolete packet gives exactly one answer for any bytes: the packet with its flaws and what follows it,
+/// or none and a flaw.
 pub fn packet_block_as_it_stands_is_one()
     ensures { (order : Order) (s : List ℕ) → ExactlyOne (PacketBlockAsIsSays order s) }
 {}
 
-/// The same as a simple packet as it stands.
+/// Lenient reading of a simple packet gives exactly one answer for any bytes: the packet, or none and a flaw.
 pub fn simple_as_it_stands_is_one()
     ensures { (order : Order) (s : List ℕ) → ExactlyOne (SimpleAsIsSays order s) }
 {}
 
-/// The same as interface statistics as they stand.
+/// Lenient reading of statistics gives exactly one answer for any bytes: the statistics with their flaws and what follows them,
+/// or none and a flaw.
 pub fn statistics_as_they_stand_are_one()
     ensures { (order : Order) (s : List ℕ) → ExactlyOne (StatisticsAsIsSay order s) }
 {}
 
-/// The same as names as they stand.
+/// Lenient reading of names gives exactly one answer for any bytes: the names, their flaws, and what follows them.
 pub fn names_as_they_stand_are_one()
     ensures { (order : Order) (s : List ℕ) → ExactlyOne (NamesAsIsSay order s) }
 {}

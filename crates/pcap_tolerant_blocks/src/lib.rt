@@ -1,4 +1,4 @@
-//! PcapNg blocks as strangers write them: bodies with what is wrong with them, where the strict calls end at the first fault.
+//! Lenient reading of the bodies of PcapNg blocks: bodies with their flaws, where the strict calls stop at the first fault.
 #![tactic(auto)]
 
 mod enhanced;

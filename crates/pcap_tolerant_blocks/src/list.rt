@@ -1,4 +1,4 @@
-//! Lists of options as they stand.
+//! Lists of options read leniently.
 
 ghost use Rattle.std.specs.Prelude.{◌≡◌, ◌≢◌, [], ◌∷◌, ◌++◌, length, map, All, Result, Err, IfOk, IfErr, IfSome, OnOk, MatchResult, MatchOption};
 ghost use Rattle.pcap_core.specs.Faults.{Fault, Invalid};
@@ -18,22 +18,22 @@ use pcap_core::rules::Rule;
 use pcap_options::{PcapNgOption, Refusal};
 use std::alloc::{AllocError, Global};
 
-// The options of one kind of block, also where their values aren't read.
+// The options of one kind of block, including options whose values aren't read.
 pub(crate) trait Unread<'a>: PcapNgOption<'a> {
-    // An option that is only its bytes.
+    // Returns an option that has only its bytes.
     fn unread(option: UnknownOption<'a>) -> Self
         ensures same { Self.entry result ≡ unknown_entry option.entry }
         ensures borrowed { UnknownIsBorrowed option.entry → Self.is_borrowed result };
 }
 
-// An option, and what is wrong with its value.
+// An option, and the flaw of its value if it has one.
 #[derive(Drop)]
 pub(crate) struct OptionAsIs<O> {
     pub(crate) option: O,
     pub(crate) flaw: Option<Flaw>,
 }
 
-// Options as they stand, what is wrong with them, and what is left.
+// Options read leniently, their flaws, and what is left after them.
 #[derive(Drop)]
 pub(crate) struct ListAsIs<'a, O> {
     pub(crate) options: Vec<O>,
@@ -41,7 +41,7 @@ pub(crate) struct ListAsIs<'a, O> {
     pub(crate) left: &'a [u8],
 }
 
-// What stands against a value, by the refusal of a reading that takes no memory.
+// Returns the fault of a value, by the refusal of a reading that needs no memory.
 fn broken_by(refusal: Refusal) -> Broken
     ensures { (read : Result Value Fault) → Denies ⊥ (λ fault. read ≡ Err fault) refusal → read ≡ Err (fault_of result) }
 {
@@ -52,7 +52,7 @@ fn broken_by(refusal: Refusal) -> Broken
     }
 }
 
-// The option of this code and bytes as it stands.
+// Reads the option with this code and these bytes leniently.
 fn judge<'a, O: Unread<'a>, B: ByteOrder>(code: u16, len: u16, value: &'a [u8]) -> OptionAsIs<O>
     requires { len ≡ length value.now }
     ensures judged { judged_of O.entry result ≡ judged code value.now (value_of B.number_of (shape_at O.kind code) value.now) }
@@ -70,8 +70,8 @@ fn judge<'a, O: Unread<'a>, B: ByteOrder>(code: u16, len: u16, value: &'a [u8]) 
     }
 }
 
-// The option at the front of a slice as it stands, or none at the mark that ends a list, and what follows it; else why there
-// is none.
+// Reads the option at the front of a slice leniently, and returns what follows it and the option, or None at the mark that ends
+// a list. Returns the broken rule if there is no option.
 pub(crate) fn option_as_is<'a, O: Unread<'a>, B: ByteOrder>(
     slice: &'a [u8],
 ) -> Result<(&'a [u8], Option<OptionAsIs<O>>), Rule>
@@ -94,7 +94,7 @@ pub(crate) fn option_as_is<'a, O: Unread<'a>, B: ByteOrder>(
     Ok((rest, Some(judge::<O, B>(code, len, value))))
 }
 
-// Puts a flaw behind the others, where there is one.
+// Appends a flaw to the others, if there is one.
 pub(crate) fn note(flaws: &mut Vec<Flaw>, flaw: Option<Flaw>) -> Result<(), AllocError>
     ensures items { OnOk result (map said_of flaws.new.items ≡ map said_of flaws.old.items ++ flaws_or_none flaw) }
     ensures memory { IfErr result (λ _. flaws_or_none flaw ≢ []) }
@@ -105,7 +105,7 @@ pub(crate) fn note(flaws: &mut Vec<Flaw>, flaw: Option<Flaw>) -> Result<(), Allo
     Ok(())
 }
 
-// Puts an option behind the others, and what is wrong with it behind theirs.
+// Appends an option to the others, and its flaw to theirs.
 fn keep<O: Drop>(
     options: &mut Vec<O>,
     flaws: &mut Vec<Flaw>,
@@ -120,7 +120,8 @@ fn keep<O: Drop>(
     Ok(())
 }
 
-// The options at the front of a slice as they stand: to the mark, to the end of the slice, or to where no option can be found.
+// Reads the options at the front of a slice leniently: up to the mark, to the end of the slice, or to where no option can be
+// found.
 pub(crate) fn list_as_is<'a, O: Unread<'a> + Drop, B: ByteOrder>(
     alloc: Global,
     slice: &'a [u8],

@@ -1,4 +1,4 @@
-//! Name resolution as it stands.
+//! Name resolution blocks read leniently.
 
 ghost use Rattle.std.specs.Prelude.{◌≡◌, ◌≢◌, [], ◌++◌, map, All, IfOk, IfErr, OnOk};
 ghost use Rattle.pcap_options.specs.Record.{RecordIsBorrowed};
@@ -13,18 +13,18 @@ use byteorder::ByteOrder;
 use pcap_blocks::{NameResolutionBlock, NameResolutionOption, Record, UnknownOption};
 use std::alloc::{AllocError, Global};
 
-/// Names of addresses as they stand, and what is wrong with them.
+/// Names of addresses read leniently, with their flaws.
 #[derive(Debug, Drop)]
 pub struct NamesAsIs<'a> {
-    /// The names. A record whose value breaks its rule is one of an unknown type, with its bytes, and such an option one of an
-    /// unknown code.
+    /// The names. A record whose value breaks its rule becomes a record of an unknown type, with its bytes. Such an option
+    /// becomes an option of an unknown code.
     pub names: NameResolutionBlock<'a>,
-    /// What is wrong, in the order of the text: the strict reading refuses the names for the first of these. What is wrong with a
-    /// record has no code.
+    /// The flaws in the order of the text. Strict reading refuses the names for the first of them. The flaw of a record has no
+    /// code.
     pub flaws: Vec<Flaw>,
 }
 
-// Records as they stand, what is wrong with them, what is left, and whether their end stands before that.
+// Records read leniently, their flaws, what is left after them, and whether the record that ends them was found.
 #[derive(Drop)]
 struct RecordsAsIs<'a> {
     records: Vec<Record<'a>>,
@@ -34,12 +34,13 @@ struct RecordsAsIs<'a> {
 }
 
 impl<'a> NamesAsIs<'a> {
-    /// The names that a block's body is as they stand, and what follows their options. The records end at one of the end's type,
-    /// also where this has a value, and the options follow it: these end at their mark, with the slice, or where no next one can be
-    /// found. Where no next record can be found there are no options, and all from there on is left. Strings and bytes are borrowed
-    /// from the slice.
+    /// Reads a block's body as names of addresses leniently, and returns what follows their options and the names.
     ///
-    /// `AllocError` where a list can't grow, and only where there is a flaw, a record or an option.
+    /// The records end at one of the end's type, even if this record has a value, and the options follow it. The options end at
+    /// their mark, at the end of the slice, or where no next option can be found. If no next record can be found, there are no
+    /// options, and everything from there on is left. Strings and bytes are borrowed from the slice.
+    ///
+    /// Returns `AllocError` if a list can't grow. This can happen only if there is a flaw, a record or an option.
     pub fn from_slice<B: ByteOrder>(
         alloc: Global,
         slice: &'a [u8],
@@ -72,7 +73,7 @@ impl<'a> NamesAsIs<'a> {
     }
 }
 
-// Puts flaws behind others.
+// Appends flaws to others.
 fn note_all(flaws: &mut Vec<Flaw>, mut more: Vec<Flaw>) -> Result<(), AllocError>
     ensures items { OnOk result (map said_of flaws.new.items ≡ map said_of flaws.old.items ++ map said_of more.items) }
     ensures memory { IfErr result (λ _. map said_of more.items ≢ []) }
@@ -84,7 +85,7 @@ fn note_all(flaws: &mut Vec<Flaw>, mut more: Vec<Flaw>) -> Result<(), AllocError
     Ok(())
 }
 
-// The records at the front of a slice as they stand: to their end, or to where no next one can be found.
+// Reads the records at the front of a slice leniently: up to their end, or to where no next record can be found.
 fn records_as_is<'a, B: ByteOrder>(
     alloc: Global,
     slice: &'a [u8],

@@ -1,4 +1,4 @@
-//! Records of name resolution as they stand.
+//! Records of name resolution blocks read leniently.
 
 ghost use Rattle.std.specs.Prelude.{IfOk, IfErr, MatchOption};
 ghost use Rattle.pcap_core.specs.Answer.{Refuses};
@@ -13,19 +13,19 @@ use pcap_core::fields::{split_padded, split_u16};
 use pcap_core::{CowBytes, PcapError};
 use std::alloc::{AllocError, Global};
 
-// What stands where a record of names is to begin.
+// The result of lenient reading where a record of names should begin.
 #[derive(Drop)]
 pub(crate) enum RecordAsIs<'a> {
-    // A record, what is wrong with its value, and what follows it.
+    // A record, the flaw of its value, and what follows it.
     Kept(Record<'a>, Option<Flaw>, &'a [u8]),
-    // The end of the records, what is wrong with it, and what follows it.
+    // The end of the records, its flaw, and what follows it.
     End(Option<Flaw>, &'a [u8]),
-    // No record: there is no room for one, or for what it states.
+    // No record: there is no room for one, or for the bytes that it states.
     Cut(Flaw),
 }
 
-// The record at the front of a slice, whatever it says, as one of an unknown type whose bytes are borrowed, and what follows its
-// padding. None where there is no room for it.
+// Splits off the record at the front of a slice, whatever its value is, as a record of an unknown type with borrowed bytes, and
+// returns it with what follows its padding. Returns None if there is no room for it.
 fn split_record<'a, B: ByteOrder>(slice: &'a [u8]) -> Option<(UnknownRecord<'a>, &'a [u8])>
     ensures { MatchOption result (NoExtent B.number_of slice.now) (λ x. RawText B.number_of x.0 slice.now x.1.now) }
 {
@@ -45,7 +45,7 @@ fn split_record<'a, B: ByteOrder>(slice: &'a [u8]) -> Option<(UnknownRecord<'a>,
     Some((record, rest))
 }
 
-// What stands against the record at the front of a slice, by the error of the strict reading.
+// Returns the fault of the record at the front of a slice, by the error of strict reading.
 fn broken_by<B: ByteOrder>(slice: &[u8], error: PcapError) -> Result<Broken, AllocError>
     requires { Refuses (RecordMayGrow B.number_of slice.now) (λ _. ⊥) (RecordFault B.number_of slice.now) error }
     ensures read { IfOk result (λ broken. RecordFault B.number_of slice.now (fault_of broken)) }
@@ -61,7 +61,7 @@ fn broken_by<B: ByteOrder>(slice: &[u8], error: PcapError) -> Result<Broken, All
     }
 }
 
-// The record or the end at the front of a slice as it stands, or that there is none.
+// Reads the record or the end at the front of a slice leniently, or returns that there is none.
 pub(crate) fn record_as_is<'a, B: ByteOrder>(
     alloc: Global,
     slice: &'a [u8],

@@ -1,4 +1,4 @@
-//! Sections as they stand.
+//! Section headers read leniently.
 
 ghost use Rattle.std.specs.Prelude.{◌≡◌, ◌≤◌, length, map, IfOk, IfErr};
 ghost use Rattle.pcap_core.specs.Answer.{Refuses};
@@ -15,21 +15,23 @@ use pcap_core::rules::Rule;
 use pcap_core::{PcapError, ResultParsing};
 use std::alloc::{AllocError, Global};
 
-/// A section as it stands, and what is wrong with it.
+/// A section read leniently, with its flaws.
 #[derive(Debug, Drop)]
 pub struct SectionAsIs<'a> {
-    /// The section. An option whose value breaks its rule is one of an unknown code, with its bytes.
+    /// The section. An option whose value breaks its rule becomes an option of an unknown code, with its bytes.
     pub section: SectionHeaderBlock<'a>,
-    /// What is wrong, in the order of the text: the strict reading refuses the section for the first of these.
+    /// The flaws in the order of the text. Strict reading refuses the section for the first of them.
     pub flaws: Vec<Flaw>,
 }
 
 impl<'a> SectionAsIs<'a> {
-    /// The section that a block's body is as it stands, and what follows its options: these end at their mark, with the slice, or
-    /// where no next one can be found. Strings and bytes are borrowed from the slice.
+    /// Reads a block's body as a section leniently, and returns what follows its options and the section.
     ///
-    /// `InvalidField` under 16 bytes, and then where the magic number is neither of the two, so that no order of bytes is known.
-    /// `OutOfMemory` where a list can't grow, and only where there is a flaw or an option.
+    /// The options end at their mark, at the end of the slice, or where no next option can be found. Strings and bytes are
+    /// borrowed from the slice.
+    ///
+    /// Returns `InvalidField` for fewer than 16 bytes, and if the magic number is neither of the two, so that the byte order is
+    /// unknown. Returns `OutOfMemory` if a list can't grow. This can happen only if there is a flaw or an option.
     pub fn from_slice(alloc: Global, slice: &'a [u8]) -> ResultParsing<(&'a [u8], Self)>
         ensures read { IfOk result (λ x. SectionText (section_of x.1.section) (map said_of x.1.flaws.items) slice.now x.0.now) }
         ensures refused { IfErr result (Refuses (SectionGrows slice.now) (λ _. ⊥) (NoSection slice.now)) }
@@ -47,7 +49,7 @@ impl<'a> SectionAsIs<'a> {
     }
 }
 
-// The section of this magic number as it stands, from what follows that, and what follows its options.
+// Reads what follows the magic number of a section leniently, and returns what follows its options and the section.
 fn behind_magic<'a, B: ByteOrder>(
     alloc: Global,
     magic: u32,

@@ -1,4 +1,4 @@
-//! Simple packets as they stand.
+//! Simple packets read leniently.
 
 ghost use Rattle.std.specs.Prelude.{◌<◌, length, IfOk, IfErr, IfSome};
 ghost use Rattle.pcap_blocks.specs.SimplePacket.{SimpleIsBorrowed};
@@ -12,20 +12,22 @@ use pcap_core::fields::split_u32;
 use pcap_core::rules::Rule;
 use std::alloc::{AllocError, Global};
 
-/// A simple packet as it stands, and what is wrong with it.
+/// A simple packet read leniently, with its flaws.
 #[derive(Debug, Drop)]
 pub struct SimpleAsIs<'a> {
-    /// The packet. None where the body has no room for its original length.
+    /// The packet, or None if the body has no room for its original length.
     pub packet: Option<SimplePacketBlock<'a>>,
-    /// What is wrong: that there is no packet, for which the strict reading refuses it. Nothing can be wrong with one.
+    /// The one flaw that there is no packet, for which strict reading refuses the body. A packet that is there has no flaw.
     pub flaws: Vec<Flaw>,
 }
 
 impl<'a> SimpleAsIs<'a> {
-    /// The packet that a block's body is as it stands; nothing is left of it. All is left where there is no packet. Its bytes are
-    /// borrowed from the slice.
+    /// Reads a block's body as a simple packet leniently, and returns what is left and the packet.
     ///
-    /// `AllocError` where the list of what is wrong can't grow, and only where there is no packet.
+    /// Nothing is left behind a packet. If there is no packet, the whole slice is left. The packet's bytes are borrowed from
+    /// the slice.
+    ///
+    /// Returns `AllocError` if the list of flaws can't grow. This can happen only if there is no packet.
     pub fn from_slice<B: ByteOrder>(
         alloc: Global,
         slice: &'a [u8],

@@ -1,4 +1,4 @@
-//! Options whose values break no rule, as their bytes stand.
+//! Sound options, whose values break no rule, copied byte by byte.
 
 ghost use Rattle.std.specs.Prelude.{◌≡◌, ◌≤◌, ◌-◌, ◌++◌, ℕ, List, length, take, None, IfErr, OnOk, OnErr};
 ghost use Rattle.pcap_core.specs.Answer.{number_in};
@@ -15,25 +15,27 @@ use pcap_blocks::{
 use pcap_core::Endianness;
 use std::alloc::AllocError;
 
-/// Whose options are meant.
+/// The kind of block that options belong to.
 #[derive(Clone, Copy, Debug, PartialEq, Eq)]
 pub enum OptionsOf {
-    /// Those of a section header.
+    /// The options of a section header.
     Section,
-    /// Those of an interface description.
+    /// The options of an interface description.
     Interface,
-    /// Those of an enhanced packet.
+    /// The options of an enhanced packet.
     EnhancedPacket,
-    /// Those of an obsolete packet block.
+    /// The options of an obsolete packet block.
     Packet,
-    /// Those of interface statistics.
+    /// The options of interface statistics.
     InterfaceStatistics,
 }
 
-/// Puts the options at the front of a slice whose values break no rule behind other bytes, each with its bytes as they stand. The
-/// options end at their mark, which isn't put, with the slice, or where no next one can be found.
+/// Appends to `out` the unchanged bytes of each option at the front of a slice whose value breaks no rule.
 ///
-/// `AllocError` where the bytes can't grow, and only where there is such an option; those before it are then put.
+/// The options end at their mark, which isn't appended, at the end of the slice, or where no next option can be found.
+///
+/// Returns `AllocError` if `out` can't grow. This can happen only if there is such an option. The options before it are then
+/// appended.
 pub fn put_sound_options(
     of: OptionsOf,
     order: Endianness,
@@ -53,7 +55,7 @@ pub fn put_sound_options(
     }
 }
 
-// Puts those of one kind.
+// Appends the sound options of one kind of block.
 fn put_in<'a, O: Unread<'a> + Drop>(
     order: Endianness,
     slice: &'a [u8],
@@ -69,7 +71,7 @@ fn put_in<'a, O: Unread<'a> + Drop>(
     }
 }
 
-// Puts the bytes of an option, behind which others follow, if nothing is wrong with it.
+// Appends the bytes of the first option of `left`, which ends where `after` begins, if the option has no flaw.
 fn put_if_sound(
     left: &[u8],
     after: &[u8],
@@ -87,7 +89,7 @@ fn put_if_sound(
     }
 }
 
-// Puts those of one kind in one order.
+// Appends the sound options of one kind of block in one byte order.
 fn put_sound<'a, O: Unread<'a> + Drop, B: ByteOrder>(
     slice: &'a [u8],
     out: &mut Vec<u8>,

@@ -1,4 +1,4 @@
-//! Interface statistics as they stand.
+//! Interface statistics read leniently.
 
 ghost use Rattle.std.specs.Prelude.{IfOk, IfErr, IfSome};
 ghost use Rattle.pcap_blocks.specs.InterfaceStatistics.{StatisticsIsBorrowed};
@@ -12,21 +12,23 @@ use pcap_core::fields::split_u32;
 use pcap_core::rules::Rule;
 use std::alloc::{AllocError, Global};
 
-/// Interface statistics as they stand, and what is wrong with them.
+/// Interface statistics read leniently, with their flaws.
 #[derive(Debug, Drop)]
 pub struct StatisticsAsIs<'a> {
-    /// The statistics. An option whose value breaks its rule is one of an unknown code, with its bytes. None where the body has no
-    /// room for the interface and the time.
+    /// The statistics, or None if the body has no room for the interface and the time. An option whose value breaks its rule
+    /// becomes an option of an unknown code, with its bytes.
     pub statistics: Option<InterfaceStatisticsBlock<'a>>,
-    /// What is wrong, in the order of the text: the strict reading refuses the statistics for the first of these.
+    /// The flaws in the order of the text. Strict reading refuses the statistics for the first of them.
     pub flaws: Vec<Flaw>,
 }
 
 impl<'a> StatisticsAsIs<'a> {
-    /// The statistics that a block's body is as it stands, and what follows their options: these end at their mark, with the slice,
-    /// or where no next one can be found. All is left where there are none. Strings and bytes are borrowed from the slice.
+    /// Reads a block's body as interface statistics leniently, and returns what follows their options and the statistics.
     ///
-    /// `AllocError` where a list can't grow, and only where there is a flaw or an option.
+    /// The options end at their mark, at the end of the slice, or where no next option can be found. If there are no
+    /// statistics, the whole slice is left. Strings and bytes are borrowed from the slice.
+    ///
+    /// Returns `AllocError` if a list can't grow. This can happen only if there is a flaw or an option.
     pub fn from_slice<B: ByteOrder>(
         alloc: Global,
         slice: &'a [u8],

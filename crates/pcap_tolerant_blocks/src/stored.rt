@@ -1,4 +1,4 @@
-//! What both kinds of packets with a time hold after their interface.
+//! The part after the interface that both kinds of packets with a time share.
 
 ghost use Rattle.std.specs.Prelude.{◌≤◌, length, MatchOption};
 ghost use Rattle.pcap_tolerant_blocks.specs.StoredAsIs.{NoBytes, HasBytes};
@@ -16,8 +16,8 @@ pub(crate) struct StoredBytes<'a> {
     pub(crate) bytes: &'a [u8],
 }
 
-// The packet at the front of a slice, and what follows the padding of its bytes. None where the bytes that its head states aren't
-// there.
+// Splits the packet at the front of a slice from what follows the padding of its bytes. Returns None if the slice lacks bytes
+// that the packet's head states.
 #[inline(always)]
 pub(crate) fn split_stored<'a, B: ByteOrder>(slice: &'a [u8]) -> Option<(StoredBytes<'a>, &'a [u8])>
     requires { 16 ≤ length slice.now }

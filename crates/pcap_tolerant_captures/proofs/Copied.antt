@@ -1,4 +1,4 @@
--- Blocks as they stand that are copied, or passed over.
+-- Blocks read leniently that are copied or skipped.
 use Rattle.std.proofs.Common.{◌≡◌, ℕ, List, [], Bool, refl, sym, subst, Ok, Some, None}
 use Rattle.std.specs.Prelude.{Option}
 use Rattle.std.specs.Option.{is_some}
@@ -22,7 +22,7 @@ use Rattle.pcap_tolerant_captures.specs.Copies.{LeavesInForce}
 use Rattle.pcap_tolerant_captures.specs.HeldAsIs.{held_item, state_in}
 use Rattle.pcap_tolerant_captures.specs.State.{State, opening, within, order_at, Led, Role, leaves_all, role_of, MeansFor}
 
--- what was held is the next block, or there is none
+-- The held bytes are the next block, or there is none.
 pub block_held : (q next : State) (before after : Option (List ℕ)) (held : List ℕ) (failed : Bool) (found : Option LentAsIs)
     → Pulls (as_is_format.says q) (held_item next held) before after failed (Ok found) → HoldsText (as_is_format.says q) (held_item next held) before after held (Ok found)
     → HoldsNext as_is_format q next before after held failed (Ok (is_some found))
@@ -30,9 +30,9 @@ unfolding as_is_format
 block_held q next before after held failed (Some lent) pulls text = (pulls.0, record { item = held_item next held lent; text = text.0; leads = refl }, text.1)
 block_held q next before after held failed None pulls text = (pulls.0, text, pulls.1, pulls.2)
 
--- ---- a block that leaves what is in force
+-- ---- a block that leaves the state in force unchanged
 
--- before the first section header none stands
+-- Before the first section header there is no such block.
 pub none_opens : (place : Option PcapNgParserAsIs) → ((parser : PcapNgParserAsIs) → place ≡ Some parser → ⊥)
     → (s : List ℕ) (item : Item) (after : List ℕ) → as_is_format.says (state_in place) s (whole item after) → LeavesInForce item → ⊥
 unfolding as_is_format
@@ -40,7 +40,7 @@ none_opens None none s item after text leaves = subst (λ (role : Role). MeansFo
 none_opens (Some parser) none s item after text leaves = absurd (none parser refl)
 
 module _ (section : Section) (interfaces : List (Option Interface)) (e : Endianness) (same : e ≡ order_at (within section interfaces)) (s : List ℕ) where
-  -- a block of such a type
+  -- A block of such a type.
   pub passes_block : (b : Framed) (after : List ℕ) → FrameText e b s after → role_of b.type_ ≡ leaves_all → PassesBytes as_is_format LeavesInForce (within section interfaces) s after
   unfolding as_is_format
   passes_block b after frame role =
@@ -53,7 +53,7 @@ module _ (section : Section) (interfaces : List (Option Interface)) (e : Endiann
         stays = refl;
       }
 
-  -- where a block of another type stands, none does
+  -- If `s` begins with a block of another type, there is no such block.
   pub other_stands : (b : Framed) (rest : List ℕ) → FrameText e b s rest → (role_of b.type_ ≡ leaves_all → ⊥)
       → (item : Item) (after : List ℕ) → as_is_format.says (within section interfaces) s (whole item after) → LeavesInForce item → ⊥
   unfolding as_is_format frame_format
@@ -62,7 +62,7 @@ module _ (section : Section) (interfaces : List (Option Interface)) (e : Endiann
       let is = text_same frame_format frames_lawful (order_at (within section interfaces)) item.block b s after rest text.frame there in
       other (subst (λ (x : Framed). role_of x.type_ ≡ leaves_all) is.0 leaves)
 
-  -- where a frame is refused, none does
+  -- If a frame is refused, there is no such block.
   pub refused_stands : (error : PcapError) → Refuses ⊥ (λ n. FrameSays e s (lacks n)) (λ fault. FrameSays e s (faulty fault)) error
       → (item : Item) (after : List ℕ) → as_is_format.says (within section interfaces) s (whole item after) → LeavesInForce item → ⊥
   unfolding as_is_format frame_format

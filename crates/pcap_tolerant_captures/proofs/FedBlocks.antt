@@ -1,4 +1,4 @@
--- Blocks as they stand of a capture that comes in pieces.
+-- Blocks read leniently from a capture that comes in pieces.
 use Rattle.std.proofs.Common.{◌≡◌, ◌≤◌, ℕ, List, [], ◌∷◌, length, map, refl, sym, ap, subst, ◌∙◌, arith, inl, inr, true}
 use Rattle.std.specs.Prelude.{sum_by}
 use Rattle.std.proofs.lemmas.List.{length-map}
@@ -40,7 +40,7 @@ block_opening = record { one = as_is_one opening; stable = as_is_stable opening;
 pub first_opening : IsOpening FirstSays
 first_opening = made_opening kept_by (AsIsSays opening) block_opening
 
--- ---- the first block stays, and the others are as without it
+-- ---- the first block stays, and the others are the same with it as without it
 
 state_kept : (q : Kept) (items : List Item) → (state_after kept_format q items).state ≡ state_after as_is_format q.state items
 state_kept q [] = refl
@@ -66,7 +66,7 @@ texts_kept : (q : Kept) (items : List Item) (s rest : List ℕ) → Texts kept_f
 texts_kept q [] s rest texts = texts
 texts_kept q (item ∷ items) s rest texts = (texts.0, texts.1, texts_kept (kept_format.goes q item) items texts.0 rest texts.2)
 
--- what opens the capture, and the blocks behind it that lead to what no block begins, are the front
+-- The front is the first block and the blocks behind it, up to a rest that no block begins.
 kept_front : (item : Item) (q next : Kept) (blocks : List Seen) (s after left : List ℕ) → q ≡ kept_by item → AsIsSays opening s (whole item after) → LeadsTo kept_format seen_in q next blocks after left
     → ((v : Item) (t : List ℕ) → as_is_format.says next.state left (whole v t) → ⊥) → NgFrontAsIs next.state (next.first ∷ blocks) s left
 kept_front item q next blocks s after left set text leads longest =
@@ -86,13 +86,13 @@ holds_as_is s n (inl x) =
     inl (last.state, last.first, blocks, x.3, kept_front x.4.0 x.0 last blocks s x.1 x.3 x.4.1 x.4.2 leads x.5.longest, x.6 ∙ sym (length-map x.2 seen_in))
 holds_as_is s n (inr x) = inr (λ item after text. x.0 (kept_by item) after (item, refl, text), x.1)
 
--- what has a front has a first block
+-- A capture that has a front has a first block.
 front_opens : (first : Seen) (blocks : List Seen) (items : List Item) (s rest : List ℕ) → map seen_in items ≡ first ∷ blocks → Texts as_is_format opening items s rest → OpensNone (AsIsSays opening) s → ⊥
 unfolding as_is_format
 front_opens first blocks [] s rest seen texts none = absurd (omega (arith, ap length seen))
 front_opens first blocks (item ∷ items) s rest seen texts none = none item texts.0 texts.1
 
--- the number of blocks as they stand that bytes hold is one
+-- The number of blocks that lenient reading finds in given bytes is unique.
 pub held_same : (s : List ℕ) (n m : ℕ) → HoldsBlocksAsIs s n → HoldsBlocksAsIs s m → n ≡ m
 held_same s n m (inl x) (inl y) =
     let same = front_same as_is_format as_is_lawful opening x.4.items y.4.items s x.3 y.3 x.4.front y.4.front in

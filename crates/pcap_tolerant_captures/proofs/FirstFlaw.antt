@@ -1,4 +1,4 @@
--- The first flawed block of a list, and how many bytes blocks take.
+-- The first flawed block of a list, and the number of bytes that blocks take.
 use Rattle.std.proofs.Common.{◌≡◌, ◌<◌, ◌≤◌, ◌-◌, ℕ, suc, ◌+◌, Bool, true, false, cond, List, [], ◌∷◌, length, map, take, Option, Some, None, refl, sym, ap, ◌∙◌, arith, length-append, subst}
 use Rattle.std.specs.Prelude.{position, sum_by}
 use Rattle.std.specs.List.{position_from}
@@ -16,7 +16,7 @@ use Rattle.pcap_tolerant_captures.specs.Blocks.{Item, AsIsSays, as_is_format, it
 use Rattle.pcap_tolerant_captures.specs.Run.{Seen, seen_of, seen_in, size_of, NgFrontAsIs}
 use Rattle.pcap_tolerant_captures.specs.State.{State, opening, order_at}
 
--- ---- the first place at which a test passes
+-- ---- the first index at which a test passes
 
 abbrev pub one_more : Option ℕ → Option ℕ
 one_more None = None
@@ -41,7 +41,7 @@ size_behind x xs i n is =
     let cut : sum_by size_of (take (i + 1) (x ∷ xs)) ≡ sum_by size_of (x ∷ take i xs) = ap (λ (k : ℕ). sum_by size_of (take k (x ∷ xs))) next in
     ap (λ (k : ℕ). x.block.initial_len + k) is ∙ sym (sum_by-cons size_of x (take i xs)) ∙ sym cut
 
--- ---- how many bytes blocks take
+-- ---- the number of bytes that blocks take
 
 abbrev seen_size : Seen → ℕ
 seen_size x = x.block.initial_len
@@ -81,14 +81,14 @@ blocks_size q blocks s left front =
 within : (total all after used left : ℕ) → total + left ≡ all → used + left ≡ after → after < all → total ≤ all - after + used
 within total all after used left a b c = omega (arith, a, b, c)
 
--- they take all that was used
+-- The blocks take no more than all the bytes that were used.
 pub all_used : (q : State) (blocks : List BlockAsIs) (s left : List ℕ) (after used : ℕ) → NgFrontAsIs q (map seen_of blocks) s left → used + length left ≡ after → after < length s
     → sum_by size_of blocks ≤ length s - after + used
 all_used q blocks s left after used front used_is less = within (sum_by size_of blocks) (length s) after used (length left) (blocks_size q blocks s left front) used_is less
 
 -- ---- the front of a capture
 
--- where a first item is behind which blocks lead to what no block begins, they are the front
+-- A first item and the blocks behind it, up to a rest that no block begins, are the front.
 pub item_front : (item : Item) (last : State) (blocks : List Seen) (s after left : List ℕ) → AsIsSays opening s (whole item after)
     → LeadsTo as_is_format seen_in item.led.after last blocks after left → ((next : Item) (t : List ℕ) → as_is_format.says last left (whole next t) → ⊥) → NgFrontAsIs last (seen_in item ∷ blocks) s left
 unfolding as_is_format
@@ -99,7 +99,7 @@ item_front item last blocks s after left text leads longest = record {
   in_force = leads.state_is;
 }
 
--- the same of blocks of the code
+-- The same for blocks that the code returned.
 pub run_front : (first : BlockAsIs) (start last : State) (blocks : List BlockAsIs) (s after left : List ℕ) → AsIsSays opening s (whole (item_of start first) after)
     → LeadsTo as_is_format seen_in start last (map seen_of blocks) after left → ((item : Item) (t : List ℕ) → as_is_format.says last left (whole item t) → ⊥) → NgFrontAsIs last (map seen_of (first ∷ blocks)) s left
 run_front first start last blocks s after left text leads longest = item_front (item_of start first) last (map seen_of blocks) s after left text leads longest

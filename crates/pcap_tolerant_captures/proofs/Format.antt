@@ -1,4 +1,4 @@
--- Blocks as they stand are a lawful format, from their frames and what their bodies are.
+-- The format of blocks read leniently is lawful, by the laws of their frames and of their bodies.
 use Rattle.std.proofs.Common.{◌≡◌, ℕ, List, [], ◌∷◌, ◌++◌, Option, refl, sym, ap, subst, ◌∙◌, arith, inl, inr}
 use Rattle.pcap_core.specs.declared.rules.Rule.TheVariants.{SectionMissing}
 use Rattle.pcap_core.specs.Answer.{number_in, Verdict, whole, lacks, faulty}
@@ -18,7 +18,7 @@ use Rattle.pcap_tolerant_blocks.proofs.OneAsIs.{one_image, interface_one, sectio
 use Rattle.pcap_tolerant_captures.specs.State.{State, opening, within, order_at, Role, begins_section, adds_interface, leaves_all, role_of, Led, MeansFor, Means}
 use Rattle.pcap_tolerant_captures.specs.Blocks.{Item, AsIsSays, as_is_format}
 
--- ---- of a block in its frame one thing is said
+-- ---- a block in its frame has exactly one answer
 
 led_with : List Said → State → HeadReading Led
 led_with flaws after = good (record { flaws = flaws; after = after })
@@ -100,7 +100,7 @@ meant_one (within section interfaces) b leaves_all = left_means section interfac
 pub means_one : (q : State) (b : Framed) → ExactlyOne (Means q b)
 means_one q b = meant_one q b (role_of b.type_)
 
--- ---- first the frame, and then what it is
+-- ---- first the frame, and then its meaning
 
 module _ (q : State) where
   Next : Framed → List ℕ → Verdict Item → Type 0
@@ -181,7 +181,7 @@ as_is_lawful = record {
   last = λ q s more n m long x count y. frames_lawful.last (order_at q) s more n m long x count y;
 }
 
--- a block's text, by the format
+-- A block's text, by the format.
 pub as_is_said : (q : State) (s : List ℕ) (v : Verdict Item) → AsIsSays q s v → as_is_format.says q s v
 unfolding as_is_format
 as_is_said q s v x = x

@@ -1,4 +1,4 @@
--- Blocks in their frames that stand in a row.
+-- Blocks in their frames that follow each other.
 use Rattle.std.proofs.Common.{◌≡◌, ◌<◌, ◌≤◌, ◌+◌, ◌-◌, ℕ, List, length, take, drop, refl, sym, subst, ◌∙◌, arith, inl, inr}
 use Rattle.std.proofs.lemmas.Bool.{cases_lt}
 use Rattle.std.proofs.lemmas.List.{take_all, length-drop}
@@ -18,13 +18,13 @@ laws : IsLawful frames_in_a_row
 unfolding frames_in_a_row frame_format
 laws = lawful_moved frame_format frames_in_a_row (λ e. refl) (λ e s v x. x) (λ e s v x. x) frames_lawful
 
--- a row of one frame
+-- One frame is a row of one.
 one_row : (e : Endianness) (s : List ℕ) (b : Framed) (rest : List ℕ) → FrameText e b s rest → HasRoom b → FrameRow e 1 s
 unfolding frames_in_a_row
 one_row e s b rest text room = (b, rest, text, room, inr tt)
 
 module _ (e : Endianness) (s : List ℕ) where
-  -- where a block stands, a section header is that block
+  -- If `s` begins with a block and with a section header, the block is that header.
   pub header_is : (b : Framed) (rest : List ℕ) → FrameText e b s rest → HeaderStands e s → (b.type_ ≡ types.SectionHeader) × (16 ≤ length b.body)
   header_is b rest text header =
       let one = frame_one e s in
@@ -35,7 +35,7 @@ module _ (e : Endianness) (s : List ℕ) where
   unfolding frames_in_a_row
   no_header error x header = goes_no_further frames_in_a_row HasRoom laws e 1 s error x (omega arith) (one_row e s header.block header.rest header.frame (λ is. header.room))
 
--- nothing stands up to here, and nothing here
+-- If no place before this one satisfies the condition, and this one doesn't, no place up to here does.
 pub none_further : (Holds : List ℕ → Type 0) (s : List ℕ) (at : ℕ) → ((m : ℕ) → m < at → Holds (drop m s) → ⊥) → (Holds (take (length s - at) (drop at s)) → ⊥) → (m : ℕ) → m < at + 1 → Holds (drop m s) → ⊥
 none_further Holds s at before here m less holds =
     elim (cases_lt m at) [

@@ -1,4 +1,4 @@
--- Blocks as they stand off a stream: what is held is settled by what is said of it.
+-- Blocks read leniently from a stream: the held bytes have exactly one answer.
 use Rattle.std.proofs.Common.{◌≡◌, ℕ, List, [], length, Bool, false, Option, refl, sym, ap, subst, ◌∙◌, arith, inl, inr}
 use Rattle.std.specs.Io.KnownBytes.{Consumes}
 use Rattle.std.proofs.lemmas.List.{nil_from_length}
@@ -21,7 +21,7 @@ use Rattle.pcap_tolerant_captures.specs.Blocks.{Item, AsIsSays, MayGrow, as_is_f
 use Rattle.pcap_tolerant_captures.proofs.Format.{as_is_lawful, means_one}
 
 module _ (q : State) (s : List ℕ) where
-  -- a frame that is all bytes is a block or is refused
+  -- A frame with nothing behind it is a block or is refused.
   frame_settled : (b : Framed) → FrameText (order_at q) b s [] → (r : HeadReading Led) → Means q b r → IsSettled (AsIsSays q s)
   frame_settled b frame (good led) means = inl (record { block = b; led = led }, record { frame = frame; means = means })
   frame_settled b frame (bad fault) means = inr (fault, inr (record { block = b; rest = []; frame = frame; means = means }))
@@ -36,7 +36,7 @@ module _ (q : State) (s : List ℕ) where
   lacks_no_fault : (n : ℕ) (fault : Fault) → ◌≡◌ {A = Verdict Item} (lacks n) (faulty fault) → ⊥
   lacks_no_fault n fault e = absurd cc
 
-  -- a head that is refused
+  -- A refused head refuses the block.
   pub head_refused : (e : PcapError) → ((n : ℕ) → e ≡ errors.IncompleteBuffer n → ⊥) → Refuses ⊥ (λ n. FrameSays (order_at q) s (lacks n)) (λ fault. FrameSays (order_at q) s (faulty fault)) e
       → Shows (λ fault. as_is_format.says q s (faulty fault)) e
   unfolding as_is_format
@@ -46,7 +46,7 @@ module _ (q : State) (s : List ℕ) where
   head_refused (errors.Utf8Error a) other x = inl x
   head_refused _ other x = absurd x
 
-  -- what is settled lacks nothing, and nothing follows its block
+  -- Settled bytes lack nothing, and nothing follows their block.
   settled_lacks : IsSettled (AsIsSays q s) → (n : ℕ) → AsIsSays q s (lacks n) → ⊥
   unfolding as_is_format
   settled_lacks (inl x) n lack = lacks_no_text as_is_format as_is_lawful q n s lack x.0 [] x.1
@@ -57,7 +57,7 @@ module _ (q : State) (s : List ℕ) where
   settled_rest (inl x) item rest text = (text_same as_is_format as_is_lawful q item x.0 s rest [] text x.1).1
   settled_rest (inr x) item rest text = absurd (fault_no_text as_is_format as_is_lawful q x.0 s x.1 item rest text)
 
-  -- why what is held is no block
+  -- The reason why the held bytes are no block.
   module _ (before after : Option (List ℕ)) (failed : Bool) (unfailed : failed ≡ false) (came : Consumes before after s) (asked : IsAskedFor (as_is_format.says q) s) (settled : IsSettled (as_is_format.says q s)) where
     shown_cause : (e : PcapError) → Shows (λ fault. AsIsSays q s (faulty fault)) e → HasCause (as_is_format.says q) before failed e × TakesAsked (as_is_format.says q) before after
     unfolding as_is_format
@@ -75,7 +75,7 @@ module _ (q : State) (s : List ℕ) where
   item_of_led : Led → Framed → Item
   item_of_led led b = record { block = b; led = led }
 
-  -- what is held is the block of its header and of the body that it lends
+  -- The held bytes are the block with its header and with the body that the reader lends.
   pub held_said : (b : Framed) (led : Led) (rest : List ℕ) (header : BlockHeader) → IsSettled (as_is_format.says q s) → header ≡ header_of b → AsIsSays q s (whole (record { block = b; led = led }) rest)
       → as_is_format.says q s (whole (record { block = framed_around header (body_in s); led = led }) [])
   unfolding as_is_format frame_format item_of_led

@@ -1,4 +1,4 @@
--- What refuses a frame, or what a block is, refuses the block as it stands.
+-- An error that refuses a frame, or the meaning of a block, refuses the block in lenient reading.
 use Rattle.std.proofs.Common.{◌≡◌, ℕ, List, refl, inl, inr}
 use Rattle.pcap_core.specs.declared.errors.PcapError.{PcapError}
 use Rattle.pcap_core.specs.declared.errors.PcapError.TheVariants as errors
@@ -12,7 +12,7 @@ use Rattle.pcap_ng.specs.Frames.{Framed, FrameText, FrameSays}
 use Rattle.pcap_tolerant_captures.specs.State.{State, opening, order_at, role_of, MeansFor, Means, CanGrow}
 use Rattle.pcap_tolerant_captures.specs.Blocks.{AsIsSays, MayGrow}
 
--- a refusal says what follows from what lacks or from the fault that it shows, and memory may run out where it may
+-- A refusal stays true for weaker conditions of what is missing, of the fault, and of when memory may run out.
 pub refuses_more : (M N : Type 0) (K L : ℕ → Type 0) (P Q : Fault → Type 0) → (M → N) → ((n : ℕ) → K n → L n) → ((f : Fault) → P f → Q f) → (e : PcapError) → Refuses M K P e → Refuses N L Q e
 refuses_more M N K L P Q grow lack step (errors.IncompleteBuffer n) x = lack n x
 refuses_more M N K L P Q grow lack step (errors.InvalidField text) x = (x.0, x.1, step (Invalid x.0) x.2)
@@ -33,7 +33,7 @@ module _ (q : State) (s : List ℕ) where
       refuses_more (CanGrow q b) (MayGrow q s) (λ n. ⊥) (λ n. AsIsSays q s (lacks n)) (λ f. Means q b (bad f)) (λ f. AsIsSays q s (faulty f)) (λ grows. record { block = b; rest = rest; frame = frame; grows = grows }) (λ n none. absurd none)
       (λ f h. inr (record { block = b; rest = rest; frame = frame; means = h })) e x
 
--- a first block of another type is refused
+-- A first block of another type is refused.
 pub first_missing : (t : BlockType) → (t ≡ types.SectionHeader → ⊥) → (b : Framed) → MeansFor (role_of t) opening b (bad (Invalid SectionMissing))
 first_missing types.SectionHeader none b = absurd (none refl)
 first_missing _ none b = refl

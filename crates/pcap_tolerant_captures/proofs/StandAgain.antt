@@ -1,4 +1,4 @@
--- Where blocks stand, the next one is given as it stands.
+-- Where resynchronization finds blocks, the lenient parser returns the next one.
 use Rattle.std.proofs.Common.{◌≡◌, ◌≤◌, ◌<◌, ℕ, suc, zero, List, ◌++◌, length, Option, Some, None, refl, sym, ap, subst, ◌∙◌, arith, append_assoc, inl, inr}
 use Rattle.byteorder.specs.Endian.{big_number}
 use Rattle.pcap_core.specs.declared.common.Endianness.{Endianness}
@@ -19,7 +19,7 @@ use Rattle.pcap_tolerant_captures.specs.State.{State, opening, within, order_at,
 use Rattle.pcap_tolerant_captures.specs.Resync.{frames_in_a_row, HasRoom, HeaderStands, BlocksStand, IsGiven}
 use Rattle.pcap_tolerant_captures.proofs.Format.{means_one}
 
--- a section header has its number
+-- A section header has its type number.
 header_number : (n : ℕ) → block_type n ≡ types.SectionHeader → n ≡ 0x0A0D0D0A
 header_number n is = grind arith
 
@@ -33,7 +33,7 @@ magic_more magic s rest more x = record { bytes = x.bytes; text = ap (λ (t : Li
 some_none : (e : Endianness) (o : Option Endianness) → o ≡ Some e → o ≡ None → ⊥
 some_none e o is none = let no : Some e ≡ None = sym is ∙ none in absurd cc
 
--- a section header in its frame names its order
+-- A section header in its frame names its byte order.
 module _ (e : Endianness) (b : Framed) (s rest : List ℕ) (frame : FrameText e b s rest) (is : b.type_ ≡ types.SectionHeader) where
   named : magic_order frame.head.magic ≡ Some b.endianness
   named = named_there e b.endianness frame.number frame.head.magic (header_number frame.number (sym frame.type_is ∙ is)) frame.head.own_is
@@ -50,7 +50,7 @@ module _ (e : Endianness) (b : Framed) (s rest : List ℕ) (frame : FrameText e 
 section_role : (t : BlockType) → role_of t ≡ begins_section → t ≡ types.SectionHeader
 section_role t e = grind arith
 
--- a section header that has room is refused by nothing
+-- Nothing refuses a section header that has the sixteen bytes before its options.
 module _ (q : State) (s rest : List ℕ) (b : Framed) (frame : FrameText (order_at q) b s rest) where
   given : (r : HeadReading Led) → Means q b r → ((fault : Fault) → Means q b (bad fault) → ⊥) → IsGiven q s
   given (good led) means none = (record { block = b; led = led }, rest, record { frame = frame; means = means })

@@ -1,4 +1,4 @@
--- What the strict reading says where a block as it stands is read.
+-- The answers of strict reading for blocks that are also read leniently.
 use Rattle.std.proofs.Common.{◌≡◌, ◌≢◌, ℕ, List, [], ◌∷◌, ◌++◌, map, true, false, Bool, Option, Some, None, refl, sym, ap, subst, ◌∙◌, inl, inr}
 use Rattle.std.proofs.lemmas.List.{map-append}
 use Rattle.pcap_core.specs.declared.common.Endianness.{Endianness}
@@ -32,7 +32,7 @@ unfolding strict.order_at
 order_same strict.opening = refl
 order_same (strict.within section interfaces) = refl
 
--- what is there of a body that leads on, or is refused
+-- The meaning of a body in strict reading: it leads on, or is refused.
 Leads : strict.State → Framed → List Said → State → Type 0
 Leads q b [] after = (next : strict.State) × (after ≡ as_it_stands next) × strict.Means q b (good next)
 Leads q b (first ∷ others) after = strict.Means q b (bad first.fault)
@@ -111,7 +111,7 @@ module _ (section : Section) (interfaces : List Interface) (b : Framed) (is : b.
 
 -- ---- any block
 
--- a section, an interface, or a block whose body is kept by neither reading
+-- The kinds of blocks: a section, an interface, or a block whose body neither reading keeps.
 data KindOf (t : BlockType) : Type 0 where
   is_section : t ≡ types.SectionHeader → KindOf t
   is_interface : t ≡ types.InterfaceDescription → KindOf t
@@ -122,7 +122,7 @@ kind_of types.SectionHeader = is_section refl
 kind_of types.InterfaceDescription = is_interface refl
 kind_of _ = is_other refl refl
 
--- a body of another type is no section's
+-- A body of another type is no section's.
 leads_nowhere : (order : ℕ → List ℕ → ℕ) (t : BlockType) (s rest : List ℕ) (body : Body) → t ≢ types.SectionHeader → BodySays order t s (whole body rest) → strict.leads strict.opening body ≡ bad (Invalid SectionMissing)
 leads_nowhere order types.SectionHeader s rest body differs h = absurd (differs refl)
 leads_nowhere order _ s rest body differs h = ap (strict.leads strict.opening) h.1
@@ -130,7 +130,7 @@ leads_nowhere order _ s rest body differs h = ap (strict.leads strict.opening) h
 good_no_bad : (a : strict.State) (f : Fault) → bad f ≡ good a → ⊥
 good_no_bad a f e = absurd cc
 
--- a first block that is no section is refused by either reading
+-- A first block that is no section header is refused by both readings.
 first_refused : (b : Framed) → b.type_ ≢ types.SectionHeader → (r : HeadReading strict.State) → strict.Means strict.opening b r → (f : Fault) × strict.Means strict.opening b (bad f)
 first_refused b differs (good next) h = absurd (good_no_bad next (Invalid SectionMissing) (sym (leads_nowhere (number_in b.endianness) b.type_ b.body h.1 h.0 differs h.2) ∙ h.3))
 first_refused b differs (bad f) h = (f, h)
@@ -162,7 +162,7 @@ leads (strict.within section interfaces) b led (is_other is kept) h =
     let m = means_with (as_it_stands (strict.within section interfaces)) b (good led) leaves_all is h in
     other_leads section interfaces b led.flaws led.after kept m.0 m.1
 
--- ---- the strict verdict is there, and no other
+-- ---- strict reading has exactly this answer
 
 There : strict.State → List ℕ → Verdict Item → Type 0
 There q s a = (v : Verdict strict_blocks.Item) × strict_blocks.BlockSays q s v × law.StrictIs q a v

@@ -1,4 +1,4 @@
--- The strict reading of a capture goes as far as its blocks have no flaw, and ends at the first one.
+-- Strict reading of a capture goes on while its blocks have no flaw, and ends at the first flaw.
 use Rattle.std.proofs.Common.{◌≡◌, ℕ, List, [], ◌∷◌, ◌++◌, map, refl, sym, ap, subst, ◌∙◌, inl, inr}
 use Rattle.std.specs.Prelude.{All}
 use Rattle.std.proofs.lemmas.List.Elements.{All-head, All-tail}
@@ -19,14 +19,14 @@ use Rattle.pcap_tolerant_captures.specs.StrictRun.{IsSound, StrictFrontIs, Stric
 use Rattle.pcap_tolerant_captures.proofs.Format.{as_is_one}
 use Rattle.pcap_tolerant_captures.proofs.Strict.{strict_is}
 
--- the strict texts of blocks without a flaw
+-- The strict texts of blocks without a flaw.
 record StrictTexts (q : strict.State) (items : List Item) (s left : List ℕ) : Type 0 where
   blocks : List strict_blocks.Item
   texts : Texts block_format q blocks s left
   same : map (λ (b : strict_blocks.Item). b.block) blocks ≡ map (λ (item : Item). item.block) items
   in_force : state_after as_is_format (as_it_stands q) items ≡ as_it_stands (state_after block_format q blocks)
 
--- what the strict reading says of a block without a flaw
+-- The answer of strict reading for a block without a flaw.
 sound_block : (q : strict.State) (item : Item) (s after : List ℕ) → AsIsSays (as_it_stands q) s (whole item after) → IsSound item
     → (next : strict.State) × (item.led.after ≡ as_it_stands next) × BlockSays q s (whole (record { block = item.block; after = next }) after)
 sound_block q item s after x sound =
@@ -49,7 +49,7 @@ sound_texts q (item ∷ items) s left texts sound =
       in_force = ap (λ (p : State). state_after as_is_format p items) here.1 ∙ r.in_force;
     }
 
--- where no block as it stands begins a rest, no strict one does
+-- If no block read leniently begins a rest, no strict one does.
 strict_none : (q : strict.State) (b : strict_blocks.Item) (s t : List ℕ) (a : Verdict Item) → ((item : Item) (rest : List ℕ) → AsIsSays (as_it_stands q) s (whole item rest) → ⊥)
     → AsIsSays (as_it_stands q) s a → law.StrictIs q a (whole b t) → ⊥
 strict_none q b s t (whole item rest) none x said = none item rest x
@@ -77,12 +77,12 @@ sound_front items s left front sound =
       in_force = r.in_force;
     }
 
--- the texts of items are those of the first ones, and of the others under the state that these lead to
+-- The texts of a list of items are the texts of its first part, and those of the others under the state that the first part leads to.
 texts_split : {S V : Type 0} (f : Format S V) (q : S) (vs ws : List V) (s rest : List ℕ) → Texts f q (vs ++ ws) s rest → (mid : List ℕ) × Texts f q vs s mid × Texts f (state_after f q vs) ws mid rest
 texts_split f q [] ws s rest texts = (s, refl, texts)
 texts_split f q (v ∷ vs) ws s rest texts = let r = texts_split f (f.goes q v) vs ws texts.0 rest texts.2 in (r.0, (texts.0, texts.1, r.1), r.2)
 
--- what the strict reading says of a block with a flaw
+-- The answer of strict reading for a block with a flaw.
 flawed_block : (q : strict.State) (item : Item) (first : Said) (more : List Said) (s after : List ℕ) → AsIsSays (as_it_stands q) s (whole item after) → item.led.flaws ≡ first ∷ more → BlockSays q s (faulty first.fault)
 flawed_block q item first more s after x flaws =
     let one = block_one q s in

@@ -1,4 +1,4 @@
--- The strict reading of a capture whose blocks are read as they stand.
+-- The strict reading of a capture whose blocks are also read leniently.
 use Rattle.std.specs.Prelude.{◌≡◌, ℕ, List, [], map}
 use Rattle.pcap_core.specs.Answer.{faulty}
 use Rattle.pcap_core.specs.Faults.{Fault}
@@ -10,18 +10,18 @@ use Rattle.pcap_tolerant_captures.specs.Blocks.{Item, as_is_format}
 use Rattle.pcap_tolerant_captures.specs.State.{opening}
 use Rattle.pcap_tolerant_captures.specs.Strict.{as_it_stands}
 
--- nothing is wrong with its body
+-- The body of the block has no flaw.
 abbrev pub IsSound : Item → Type 0
 IsSound item = item.led.flaws ≡ []
 
--- the strict front of s is these blocks, with the same in force after them, and then left
+-- The strict front of `s` is these blocks, with the same section and interfaces in force after them, followed by `left`.
 pub record StrictFrontIs (items : List Item) (s left : List ℕ) : Type 0 where
   pub blocks : List strict_blocks.Item
   pub front : Front block_format strict.opening blocks s left
   pub same : map (λ (b : strict_blocks.Item). b.block) blocks ≡ map (λ (item : Item). item.block) items
   pub in_force : state_after as_is_format opening items ≡ as_it_stands (state_after block_format strict.opening blocks)
 
--- the strict front of s is these blocks, and what stands behind them is refused by this fault
+-- The strict front of `s` is these blocks, and strict reading refuses what follows them by this fault.
 pub record StrictEndsAt (before : List Item) (fault : Fault) (s : List ℕ) : Type 0 where
   pub stop : List ℕ
   pub texts : Texts as_is_format opening before s stop

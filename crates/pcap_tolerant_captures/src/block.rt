@@ -1,4 +1,4 @@
-//! Blocks as they stand.
+//! Blocks read leniently.
 
 ghost use Rattle.std.specs.Prelude.{◌≡◌, ◌<◌, length, IfOk, IfErr, IfSome};
 ghost use Rattle.pcap_core.specs.Answer.{number_in};
@@ -23,7 +23,7 @@ use pcap_tolerant_blocks::{
 };
 use std::alloc::{AllocError, Global};
 
-// What is read of a body, with what follows it, where the block is of this type; none where it is of another.
+// Reads the body of a block of this type and drops what follows it, or returns None if the block has another type.
 macro_rules! of_type {
     ($type:expr => $kind:ident, $read:expr) => {{
         if !matches!($type, BlockType::$kind) {
@@ -36,7 +36,7 @@ macro_rules! of_type {
 
 pub(crate) use of_type;
 
-// What a body is as it stands, in this order, and what follows it.
+// Reads a body leniently in this byte order, and returns what follows it and the body.
 macro_rules! in_order {
     ($order:ident $body:ident $alloc:ident $slice:ident) => {
         match $order {
@@ -46,12 +46,12 @@ macro_rules! in_order {
     };
 }
 
-/// A block as it stands, and what is wrong with its body, where that is a section's or an interface's.
+/// A block read leniently, with the flaws of its body if the block is a section header or an interface description.
 #[derive(Debug, Drop)]
 pub struct BlockAsIs<'a> {
     /// The block in its frame. Its body is still bytes.
     pub block: Block<'a>,
-    /// What is wrong with the body of a section or an interface, in the order of the text. The body of any other block isn't read.
+    /// The flaws of the body of a section or an interface, in the order of the text. The body of any other block isn't read.
     pub flaws: Vec<Flaw>,
 }
 
@@ -61,16 +61,16 @@ impl<'a> BlockAsIs<'a> {
     ghost use Rattle.pcap_core.specs.Errors.{IsMemory};
     ghost use Rattle.pcap_tolerant_captures.specs.Run.{is_flawed, seen_of};
 
-    /// Whether something is wrong with the body, where that is a section's or an interface's.
+    /// Returns whether the block has a flaw. Only the body of a section or an interface is read.
     pub fn is_flawed(&self) -> bool
         ensures { result ≡ is_flawed self.now }
     {
         !self.flaws.is_empty()
     }
 
-    /// The same block, with a body of its own: a borrowed one is copied, an owned one kept.
+    /// Returns the same block with a body of its own: it copies a borrowed body, and keeps an owned one.
     ///
-    /// `OutOfMemory` where the copy can't be made; the block is then dropped.
+    /// Returns `OutOfMemory` if the copy can't be made, and drops the block.
     pub fn into_owned(self, alloc: Global) -> ResultParsing<BlockAsIs<'static>>
         ensures same { IfOk result (λ kept. seen_of kept ≡ seen_of self.entry) }
         ensures owned { IfOk result (λ kept. IsOwned kept.block.body) }
@@ -84,10 +84,11 @@ impl<'a> BlockAsIs<'a> {
         })
     }
 
-    /// The enhanced packet that the body is as it stands, with what is wrong with it. None where the block is of another type. Its
-    /// bytes are borrowed from the body.
+    /// Reads the body as an enhanced packet leniently, and returns the packet with its flaws. Returns None if the block has
+    /// another type. The packet's bytes are borrowed from the body.
     ///
-    /// `AllocError` where a list can't grow, and only where the block is of this type and there is a flaw or an option.
+    /// Returns `AllocError` if a list can't grow. This can happen only if the block has this type and there is a flaw or an
+    /// option.
     pub fn enhanced(&self, alloc: Global) -> Result<Option<EnhancedAsIs<'_>>, AllocError>
         ensures body { IfOk result (IsPacketIn (framed_of self.now.block)) }
         ensures memory { IfErr result (λ _. PacketGrowsIn (framed_of self.now.block)) }
@@ -96,10 +97,10 @@ impl<'a> BlockAsIs<'a> {
         of_type!(self.block.type_ => EnhancedPacket, packet_in(self.block.endianness(), alloc, self.block.body.as_slice()))
     }
 
-    /// The simple packet that the body is as it stands, with what is wrong with it. None where the block is of another type. Its
-    /// bytes are borrowed from the body.
+    /// Reads the body as a simple packet leniently, and returns the packet with its flaws. Returns None if the block has
+    /// another type. The packet's bytes are borrowed from the body.
     ///
-    /// `AllocError` where a list can't grow, and only where the block is of this type and there is no packet.
+    /// Returns `AllocError` if a list can't grow. This can happen only if the block has this type and there is no packet.
     pub fn simple(&self, alloc: Global) -> Result<Option<SimpleAsIs<'_>>, AllocError>
         ensures body { IfOk result (IsSimpleIn (framed_of self.now.block)) }
         ensures memory { IfErr result (λ _. SimpleGrowsIn (framed_of self.now.block)) }
@@ -108,10 +109,11 @@ impl<'a> BlockAsIs<'a> {
         of_type!(self.block.type_ => SimplePacket, simple_in(self.block.endianness(), alloc, self.block.body.as_slice()))
     }
 
-    /// The obsolete packet that the body is as it stands, with what is wrong with it. None where the block is of another type. Its
-    /// bytes are borrowed from the body.
+    /// Reads the body as an obsolete packet leniently, and returns the packet with its flaws. Returns None if the block has
+    /// another type. The packet's bytes are borrowed from the body.
     ///
-    /// `AllocError` where a list can't grow, and only where the block is of this type and there is a flaw or an option.
+    /// Returns `AllocError` if a list can't grow. This can happen only if the block has this type and there is a flaw or an
+    /// option.
     pub fn packet_block(&self, alloc: Global) -> Result<Option<PacketBlockAsIs<'_>>, AllocError>
         ensures body { IfOk result (IsPacketBlockIn (framed_of self.now.block)) }
         ensures memory { IfErr result (λ _. PacketBlockGrowsIn (framed_of self.now.block)) }
@@ -120,9 +122,11 @@ impl<'a> BlockAsIs<'a> {
         of_type!(self.block.type_ => Packet, packet_block_in(self.block.endianness(), alloc, self.block.body.as_slice()))
     }
 
-    /// The interface statistics that the body is as they stand, with what is wrong with them. None where the block is of another type.
+    /// Reads the body as interface statistics leniently, and returns them with their flaws. Returns None if the block has
+    /// another type.
     ///
-    /// `AllocError` where a list can't grow, and only where the block is of this type and there is a flaw or an option.
+    /// Returns `AllocError` if a list can't grow. This can happen only if the block has this type and there is a flaw or an
+    /// option.
     pub fn statistics(&self, alloc: Global) -> Result<Option<StatisticsAsIs<'_>>, AllocError>
         ensures body { IfOk result (AreStatisticsIn (framed_of self.now.block)) }
         ensures memory { IfErr result (λ _. StatisticsGrowIn (framed_of self.now.block)) }
@@ -130,9 +134,11 @@ impl<'a> BlockAsIs<'a> {
         of_type!(self.block.type_ => InterfaceStatistics, statistics_in(self.block.endianness(), alloc, self.block.body.as_slice()))
     }
 
-    /// The names of addresses that the body is as they stand, with what is wrong with them. None where the block is of another type.
+    /// Reads the body as names of addresses leniently, and returns them with their flaws. Returns None if the block has another
+    /// type.
     ///
-    /// `AllocError` where a list can't grow, and only where the block is of this type and there is a flaw, a record or an option.
+    /// Returns `AllocError` if a list can't grow. This can happen only if the block has this type and there is a flaw, a record
+    /// or an option.
     pub fn names(&self, alloc: Global) -> Result<Option<NamesAsIs<'_>>, AllocError>
         ensures body { IfOk result (AreNamesIn (framed_of self.now.block)) }
         ensures memory { IfErr result (λ _. NamesGrowIn (framed_of self.now.block)) }
@@ -141,7 +147,7 @@ impl<'a> BlockAsIs<'a> {
     }
 }
 
-// The enhanced packet that a body is as it stands, in this order, and what follows it.
+// Reads a body as an enhanced packet leniently in this byte order, and returns what follows it and the packet.
 pub(crate) fn packet_in<'a>(
     order: Endianness,
     alloc: Global,
@@ -154,7 +160,7 @@ pub(crate) fn packet_in<'a>(
     in_order!(order EnhancedAsIs alloc slice)
 }
 
-// The simple packet that a body is as it stands, in this order, and what follows it.
+// Reads a body as a simple packet leniently in this byte order, and returns what follows it and the packet.
 pub(crate) fn simple_in<'a>(
     order: Endianness,
     alloc: Global,
@@ -167,7 +173,7 @@ pub(crate) fn simple_in<'a>(
     in_order!(order SimpleAsIs alloc slice)
 }
 
-// The obsolete packet that a body is as it stands, in this order, and what follows it.
+// Reads a body as an obsolete packet leniently in this byte order, and returns what follows it and the packet.
 pub(crate) fn packet_block_in<'a>(
     order: Endianness,
     alloc: Global,
@@ -180,7 +186,7 @@ pub(crate) fn packet_block_in<'a>(
     in_order!(order PacketBlockAsIs alloc slice)
 }
 
-// The interface statistics that a body is as they stand, in this order, and what follows them.
+// Reads a body as interface statistics leniently in this byte order, and returns what follows them and the statistics.
 pub(crate) fn statistics_in<'a>(
     order: Endianness,
     alloc: Global,
@@ -192,7 +198,7 @@ pub(crate) fn statistics_in<'a>(
     in_order!(order StatisticsAsIs alloc slice)
 }
 
-// The names of addresses that a body is as they stand, in this order, and what follows them.
+// Reads a body as names of addresses leniently in this byte order, and returns what follows them and the names.
 pub(crate) fn names_in<'a>(
     order: Endianness,
     alloc: Global,

@@ -1,4 +1,4 @@
-//! Copies of captures whose blocks may have flaws, from a reader to a writer.
+//! Lenient copies of PcapNg captures from a reader to a writer.
 
 ghost use Rattle.std.specs.Prelude.{◌≡◌, ◌↔◌, IsTrue};
 ghost use Rattle.pcap_tolerant_captures.specs.Copies.{CopiesAsIs, copied_of};
@@ -13,12 +13,12 @@ use pcap_ng::pcapng::Block;
 use std::alloc::Global;
 use std::io::{BufRead, Read, Write};
 
-/// How a copy of blocks as they stand ended.
+/// The result of a lenient copy of blocks.
 #[derive(Debug, Drop)]
 pub struct NgCopiedAsIs {
-    /// How many whole blocks went out, the first section header among them.
+    /// The number of whole blocks that were written, including the first section header.
     pub blocks: u64,
-    /// Why the copy ended before the end of the stream and before the most blocks that were asked for.
+    /// The reason why the copy ended before the end of the stream and before `most` blocks were copied.
     pub fault: Option<PcapError>,
     /// Whether a read failed.
     pub read_failed: bool,
@@ -26,11 +26,11 @@ pub struct NgCopiedAsIs {
     pub write_failed: bool,
 }
 
-// Blocks as they stand behind those that a parser has read, the first section header where there is none yet.
+// The blocks behind those that a parser has read, or all blocks from the first section header if there is no parser yet.
 #[derive(Drop)]
 struct Blocks;
 
-// Whether what is in force stays behind a block of this type.
+// Returns whether the section and interfaces in force stay the same after a block of this type.
 fn leaves_in_force(type_: BlockType) -> bool
     ensures { IsTrue result ↔ (role_of type_ ≡ leaves_all) }
 {
@@ -87,13 +87,14 @@ impl Holding for Blocks {
     }
 }
 
-/// Copies a PcapNg capture from a reader to a writer, byte by byte, whatever is wrong with the bodies of its blocks: at most `most`
-/// of them, the first section header among them, each before the next one is read. Where there is no fault exactly what was copied
-/// was taken from the reader. An empty stream is copied with no fault.
+/// Copies a PcapNg capture from a reader to a writer byte by byte, whatever flaws the bodies of its blocks have. It copies at
+/// most `most` blocks, including the first section header, and writes each block before it reads the next one. Without a fault,
+/// it has taken exactly the copied bytes from the reader. The copy of an empty stream has no fault.
 ///
-/// A block that is refused gives what `PcapNgReaderAsIs` gives there: all blocks before it have gone out, and no more of it was
-/// taken than was missing. `IoError` also where a write failed: a beginning of the block that comes next has gone out then, and that
-/// block was taken. `OutOfMemory` where a block can't be held, or a section or interface that it brings can't be kept.
+/// If a block is refused, the fault is that of `PcapNgReaderAsIs`. All blocks before it are then written, and the call has
+/// taken no more of it than was missing. A failed write is also an `IoError`: a beginning of the block that comes next is then
+/// written, and that block was taken. The fault is `OutOfMemory` if there is no memory to hold a block, or to keep its section
+/// or interface.
 pub fn copy_pcapng_as_is<R: Read, W: Write>(
     alloc: Global,
     reader: &mut R,
@@ -109,12 +110,12 @@ pub fn copy_pcapng_as_is<R: Read, W: Write>(
     copied(tally, result.err())
 }
 
-/// Copies a PcapNg capture as `copy_pcapng_as_is` does, from a reader that shows its buffer: blocks that lie whole in it are written
-/// from there and never copied, but for a section header or an interface description. These, and the block that ends outside of the
-/// buffer, are held, as all are by `copy_pcapng_as_is`. A reader that shows no byte is at its end; what its buffer holds and no block
-/// took stays in it.
+/// Copies a PcapNg capture as `copy_pcapng_as_is` does, from a reader that shows its buffer, and writes blocks that are whole
+/// in the buffer without a copy. Section headers and interface descriptions are held, as `copy_pcapng_as_is` holds every block,
+/// and so is a block that ends outside the buffer. A reader that shows no bytes is at its end. Bytes in its buffer that no
+/// block took stay there.
 ///
-/// It is refused as `copy_pcapng_as_is` is.
+/// Its faults are those of `copy_pcapng_as_is`.
 pub fn copy_pcapng_as_is_buffered<R: BufRead, W: Write>(
     alloc: Global,
     reader: &mut R,
@@ -130,7 +131,7 @@ pub fn copy_pcapng_as_is_buffered<R: BufRead, W: Write>(
     copied(tally, result.err())
 }
 
-// A copy that came so far, and ended with this fault, or none.
+// Returns the result of a copy that has this tally and ended with this fault, or with none.
 fn copied(tally: &Tally, fault: Option<PcapError>) -> NgCopiedAsIs
     ensures { result ≡ copied_of tally.now fault }
 {

@@ -1,4 +1,4 @@
-//! What is kept of sections and interfaces as they stand.
+//! Sections and interfaces that the lenient parser keeps.
 
 ghost use Rattle.std.specs.Prelude.{◌≡◌, map, IfOk, IfErr, OnErr};
 ghost use Rattle.pcap_core.specs.Answer.{number_in};
@@ -16,7 +16,7 @@ use pcap_ng::pcapng::Block;
 use pcap_tolerant_blocks::{Flaw, InterfacesAsIs, SectionAsIs};
 use std::alloc::Global;
 
-// The section that a block is as it stands, with bytes of its own, and what is wrong with it.
+// Reads a block as a section header leniently, and returns the section with bytes of its own and its flaws.
 pub(crate) fn section_in(
     alloc: Global,
     block: &Block,
@@ -28,7 +28,7 @@ pub(crate) fn section_in(
     Ok((section.into_owned(alloc)?, flaws))
 }
 
-// The section that a capture's first block is, as it stands, and what is wrong with it.
+// Reads the first block of a capture as a section header leniently, and returns the section and its flaws.
 pub(crate) fn first_section(
     alloc: Global,
     block: &Block,
@@ -41,7 +41,7 @@ pub(crate) fn first_section(
     }
 }
 
-// Puts the interface that a body is in force, in this order, and tells what is wrong with it.
+// Puts the interface of a body in this byte order in force, and returns its flaws.
 pub(crate) fn add_in(
     order: Endianness,
     interfaces: &mut InterfacesAsIs,

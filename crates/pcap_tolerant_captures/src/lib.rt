@@ -1,7 +1,7 @@
-//! PcapNg captures as strangers write them: a parser that leaves no block out for what is wrong with its body.
+//! Lenient reading of PcapNg captures: a parser that leaves no block out for the flaws of its body.
 //!
-//! The strict parser of `pcap_ng` ends at the first fault of a section or an interface. This one puts them in force as they stand,
-//! and says what is wrong with them; blocks in their frames are read as strictly as there.
+//! The strict parser of `pcap_ng` stops at the first fault of a section or an interface. This parser puts a flawed section or
+//! interface in force and reports its flaws. It reads the frames of blocks as strictly as `pcap_ng`.
 #![tactic(auto)]
 
 mod block;

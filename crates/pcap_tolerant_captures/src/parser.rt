@@ -1,4 +1,4 @@
-//! A parser of a PcapNg capture that leaves no block out for what is wrong with its body.
+//! A lenient parser of PcapNg captures, which leaves no block out for the flaws of its body.
 
 ghost use Rattle.std.specs.Prelude.{IsSome};
 ghost use Rattle.pcap_blocks.specs.SectionHeader.{magic_order};
@@ -11,8 +11,8 @@ use pcap_ng::pcapng::Block;
 use pcap_tolerant_blocks::{Flaw, InterfacesAsIs};
 use std::alloc::Global;
 
-/// Parser of a PcapNg capture as it stands: it holds the section in force and its interfaces, with those that have flaws, and gives
-/// a block for each slice that begins with one.
+/// A lenient parser of a PcapNg capture. It holds the section in force and its interfaces, including those with flaws, and
+/// returns a block for each slice that begins with one.
 #[derive(Drop)]
 pub struct PcapNgParserAsIs {
     alloc: Global,
@@ -21,12 +21,12 @@ pub struct PcapNgParserAsIs {
     pub ghost valid: { IsSome (magic_order section.magic) },
 }
 
-/// What stands at the front of a capture: the parser behind its first block, and that block as it stands.
+/// The result of opening a capture: the parser behind its first block, and that block read leniently.
 #[derive(Drop)]
 pub struct OpenedAsIs<'a> {
     /// The parser behind the section header.
     pub parser: PcapNgParserAsIs,
-    /// The section header, and what is wrong with it.
+    /// The section header, with its flaws.
     pub first: BlockAsIs<'a>,
 }
 
@@ -41,12 +41,14 @@ impl PcapNgParserAsIs {
     ghost use Rattle.pcap_tolerant_captures.specs.Blocks.{AsIsSays, MayGrow, item_of, opened_of};
     ghost use Rattle.pcap_tolerant_captures.specs.State.{FollowTells, opening, order_at, section_in_force, interfaces_in_force, state_of};
 
-    /// The parser behind the section header at the front of a slice, with that block, and what follows it.
+    /// Reads the section header at the front of a slice, and returns what follows it, the parser behind it, and the block.
     ///
-    /// The block is read big-endian, a section header in the order that its magic number names. `IncompleteBuffer` where bytes of
-    /// it are missing. `InvalidField` for the first rule that its frame breaks; by V10 where it is no section header, whatever its
-    /// body is, and by V11 where its body is under 16 bytes. What else is wrong with the section is a flaw. `OutOfMemory` where a
-    /// section header stands there and something can't grow.
+    /// The parser reads the block as big-endian, and a section header in the byte order of its magic number. Flaws of the
+    /// section cause no error.
+    ///
+    /// Returns `IncompleteBuffer` with the number of missing bytes. Returns `InvalidField` for the first rule that the frame
+    /// breaks. It also returns `InvalidField` by V10 if the block is no section header, whatever its body is, and by V11 if its
+    /// body is under 16 bytes. Returns `OutOfMemory` if the block is a whole section header and something can't grow.
     pub fn new(alloc: Global, slice: &[u8]) -> ResultParsing<(&[u8], OpenedAsIs<'_>)>
         ensures tells { TellsWhere (MayGrow opening slice.now) (AsIsSays opening slice.now) opened_of result }
         ensures borrowed { IfOk result (λ x. IsBorrowed x.1.first.block.body) }
@@ -62,15 +64,20 @@ impl PcapNgParserAsIs {
         Ok((rest, OpenedAsIs { parser, first }))
     }
 
-    /// The block at the front of a slice as it stands, and what follows it. Its body is borrowed from the slice. A section header
-    /// becomes the section in force, with no interface yet; an interface description is one interface more, also where its body has
-    /// no room for its head, so that those behind it have their numbers.
+    /// Reads the block at the front of a slice leniently, and returns what follows it and the block. Its body is borrowed from
+    /// the slice.
     ///
-    /// `IncompleteBuffer` where bytes are missing, 12 for the empty slice. `InvalidField` for the first rule that the block's frame
-    /// breaks, and by V11 where the body of a section header is under 16 bytes. Each other fault of a body is a flaw: where
-    /// `next_block` of the strict parser gives a block, this is that block without a flaw, and where it refuses one for its body,
-    /// this is that block with the refusal's fault for its first flaw. `OutOfMemory` where a whole section header or interface stands
-    /// there, and something can't grow. A refused call leaves the section and its interfaces as they are.
+    /// A section header becomes the section in force, with no interface yet. An interface description adds an interface, even
+    /// if its body has no room for its head, so that later interfaces keep their numbers.
+    ///
+    /// Returns `IncompleteBuffer` with the number of missing bytes, 12 for the empty slice. Returns `InvalidField` for the
+    /// first rule that the block's frame breaks, and by V11 if the body of a section header is under 16 bytes. Returns
+    /// `OutOfMemory` if the block is a whole section header or interface description and something can't grow. A call that
+    /// returns an error leaves the section and its interfaces unchanged.
+    ///
+    /// Any other fault of a body is a flaw. Where `next_block` of the strict parser returns a block, this returns the same
+    /// block without a flaw. Where `next_block` refuses a block for its body, this returns that block, and that fault is its
+    /// first flaw.
     pub fn next_block_as_is<'a>(
         &mut self,
         slice: &'a [u8],
@@ -84,36 +91,37 @@ impl PcapNgParserAsIs {
         Ok((rest, BlockAsIs { block, flaws }))
     }
 
-    /// The section in force, as it stands.
+    /// Returns the section in force, read leniently.
     pub fn section(&self) -> &SectionHeaderBlock<'static>
         ensures { section_of result.now ≡ section_in_force self.now }
     {
         &self.section
     }
 
-    /// How many interfaces the section in force has so far, with those that have no room for their head.
+    /// Returns the number of interfaces in the section in force so far, including those whose body has no room for their head.
     pub fn interface_count(&self) -> usize
         ensures { result ≡ length (interfaces_in_force self.now) }
     {
         self.interfaces.len()
     }
 
-    /// The interface of this number, as it stands. None past their end, and for one whose body has no room for its head.
+    /// Returns the interface with this number, read leniently. Returns None past the last interface, and for an interface whose
+    /// body has no room for its head.
     pub fn interface(&self, number: u32) -> Option<&InterfaceDescriptionBlock<'static>>
         ensures { option_map (λ interface. interface_of interface.now) result ≡ known number (interfaces_in_force self.now) }
     {
         self.interfaces.get(number)
     }
 
-    /// The time of so many units of a packet that names this interface, by its clock, rounded down to whole nanoseconds. None
-    /// where no interface is known by that number.
+    /// Returns the time of `units` units by the clock of the interface with this number, rounded down to whole nanoseconds.
+    /// Returns None if there is no known interface with that number.
     pub fn timestamp(&self, number: u32, units: u64) -> Option<Timestamp>
         ensures { IsTimeBy (known number (interfaces_in_force self.now)) units result }
     {
         self.interfaces.timestamp(number, units)
     }
 
-    // The order of blocks that are no section.
+    // Returns the byte order of all blocks except section headers.
     #[tactic(auto, unfolding(pcap_ng::specs::State::order_at))]
     pub(crate) fn order(&self) -> Endianness
         ensures { result ≡ order_at (state_of self.now) }
@@ -121,8 +129,7 @@ impl PcapNgParserAsIs {
         self.section.endianness()
     }
 
-    // Puts in force what a block is as it stands, where it is a section or an interface, and tells what is wrong with that. A refused
-    // call changes nothing.
+    // Puts a section or an interface in force and returns its flaws. A call that returns an error changes nothing.
     fn follow(&mut self, block: &Block) -> ResultParsing<Vec<Flaw>>
         ensures { FollowTells (state_of self.old) (state_of self.new) (framed_of block.now) result }
     {

@@ -1,4 +1,4 @@
-//! A run over a capture that comes in pieces, which leaves no block out for what is wrong with its body.
+//! Lenient runs over PcapNg captures that come in pieces.
 
 ghost use Rattle.std.specs.Prelude.{◌<◌, ◌^◌, [], ⊤, length, All, IfOk, IfErr};
 ghost use Rattle.pcap_core.specs.Answer.{Refuses, lacks, faulty};
@@ -60,15 +60,18 @@ impl PieceParser for OpenedAsIs<'static> {
     }
 }
 
-/// The whole run over a capture that comes in pieces, with the blocks as they stand that `parse_pcapng_as_is` gives of the joined
-/// bytes, each with a body of its own; and for each piece, how many blocks after the first it and those before it hold, 0 while the
-/// first one isn't whole. Empty pieces are pieces too.
+/// Parses a PcapNg capture in pieces leniently. It returns the run, and the number of blocks after the first up to the end of
+/// each piece.
 ///
-/// The pieces' lengths together fit `usize`, which `pieces_fit` of `pcap_file` tests. Only bytes that no block has taken are kept,
-/// and the parser is asked about each block three times at most, so the cost is linear in the bytes and the pieces.
+/// The blocks are those of `parse_pcapng_as_is` over the joined bytes, each with a body of its own. The number of blocks is 0
+/// while the first block isn't whole. Empty pieces count as pieces.
 ///
-/// The errors are those of `PcapNgParserAsIs::new` on the first block, with `IncompleteBuffer` where it isn't whole.
-/// `OutOfMemory` where something can't grow.
+/// The lengths of the pieces together must fit `usize`, which `pieces_fit` of `pcap_file` tests. The call keeps only bytes that
+/// no block has taken. It calls the parser at most three times for each block, so the cost is linear in the bytes and the
+/// pieces.
+///
+/// Returns the errors of `PcapNgParserAsIs::new` for the first block, and `IncompleteBuffer` if it isn't whole. Returns
+/// `OutOfMemory` if a list or a buffer can't grow.
 pub fn pieces_pcapng_as_is(
     alloc: Global,
     pieces: &[&[u8]],

@@ -1,4 +1,4 @@
-//! A reader of the blocks of a stream, as they stand.
+//! A lenient reader of the blocks of a stream.
 
 ghost use Rattle.std.specs.Prelude.{◌≡◌, false, [], IfOk, option_map};
 ghost use Rattle.pcap_items.specs.Held.{held_bytes};
@@ -24,22 +24,22 @@ use pcap_tolerant_blocks::{
 use std::alloc::{AllocError, Global};
 use std::io::Read;
 
-/// What stands around the body of a block that a reader lends, and what is wrong with that body.
+/// The header of a block whose body a reader lends, and the flaws of that body.
 #[derive(Debug, Drop)]
 pub struct LentAsIs {
-    /// The block's type, its length and the order of its numbers.
+    /// The block's type, its length and its byte order.
     pub header: BlockHeader,
-    /// What is wrong with the body of a section or an interface, in the order of the text. The body of any other block isn't read.
+    /// The flaws of the body of a section or an interface, in the order of the text. The body of any other block isn't read.
     pub flaws: Vec<Flaw>,
 }
 
-/// Reads the blocks of a capture off a stream as they stand, the first section header among them, one for each call of `next_header`:
-/// none is left out for what is wrong with its body. The reader lends the block's bytes until it is called again, so a block
-/// costs no memory of its own, but for a section header or an interface description, which stays in force.
+/// A reader that reads the blocks of a stream leniently, one for each call of `next_header`, from the first section header on. It
+/// leaves no block out for the flaws of its body. The reader lends the block's bytes until the next call, so a block needs no
+/// memory of its own, except a section header or an interface description, which stays in force.
 ///
-/// `next_header` is None where the stream ends between blocks; the next call asks the stream again. After its first refusal it is
-/// None for good. Between blocks exactly the bytes of the blocks were taken; a refused call has taken no more than was missing, and
-/// leaves the section and its interfaces as they are.
+/// `next_header` returns None if the stream ends between blocks, and the next call reads the stream again. After its first
+/// error it always returns None. Between blocks the reader has taken exactly the bytes of the blocks. A call that returns an
+/// error has taken no more than was missing, and leaves the section and its interfaces unchanged.
 #[derive(Drop)]
 pub struct PcapNgReaderAsIs<T> {
     alloc: Global,
@@ -51,7 +51,7 @@ pub struct PcapNgReaderAsIs<T> {
     ghost unfailed: { is_done ≡ false → has_failed ≡ false },
 }
 
-// What a reader lends of a block.
+// Returns what a reader lends of a block.
 fn lent(read: BlockAsIs) -> LentAsIs
     ensures header { result.header ≡ header_of (framed_of read.entry.block) }
     ensures flaws { result.flaws ≡ read.entry.flaws }
@@ -65,7 +65,7 @@ fn lent(read: BlockAsIs) -> LentAsIs
     LentAsIs { header, flaws }
 }
 
-// Reads the block at the front of these bytes: the next one, or the first one, where the parser begins.
+// Reads the block at the front of these bytes: the next one, or the first one, with which the parser begins.
 fn follow(
     alloc: Global,
     parser: &mut Option<PcapNgParserAsIs>,
@@ -86,7 +86,8 @@ fn follow(
     Ok(lent(first))
 }
 
-// Holds the text of the next block. Nothing is held before it, nor where none comes; what is in force moves only where one does.
+// Holds the text of the next block. Nothing is held before the call, nor if no block comes. The section and interfaces in force
+// change only if a block comes.
 pub(crate) fn hold<T: Read>(
     alloc: Global,
     parser: &mut Option<PcapNgParserAsIs>,
@@ -113,13 +114,14 @@ impl<T: Read + Drop> PcapNgReaderAsIs<T> {
     ghost use Rattle.pcap_items.specs.Lent.{LendsText};
     ghost use Rattle.pcap_tolerant_captures.specs.ReaderAsIs.{state_of, stream_of, has_failed, is_done, text_of, lent_item, StaysUnlessGiven};
 
-    /// The header of the next block, whose body the reader lends from then on (`body`, `text`, `enhanced` and its like), until it is called again,
-    /// with exactly what is wrong with the body of a section or an interface. These are in force from then on, as they stand.
+    /// Reads the next block and returns its header, with all flaws of the body of a section or an interface. The reader lends
+    /// the body (`body`, `text`, `enhanced` and similar calls) until the next call. A section or an interface is in force from
+    /// then on.
     ///
-    /// `InvalidField` for the first rule that the block's frame breaks; by V10 where the first block is no section header, and by V11
-    /// where the body of a section header is under 16 bytes. `IoError` where a read failed, or the stream ended inside the block.
-    /// `OutOfMemory` where its bytes can't be held, or what stays in force can't be kept: room grows with the bytes that come, and
-    /// stays.
+    /// Returns `InvalidField` for the first rule that the block's frame breaks, by V10 if the first block is no section header,
+    /// and by V11 if the body of a section header is under 16 bytes. Returns `IoError` if a read fails, or if the stream ends
+    /// inside the block. Returns `OutOfMemory` if the block can't be held, or if a section or interface can't be kept. The
+    /// buffer grows with the bytes that come, and keeps its size.
     pub fn next_header(&mut self) -> Option<ResultParsing<LentAsIs>>
         ensures stays { StaysUnlessGiven (state_of self.old) (state_of self.new) result }
         ensures next { NextGives (as_is_format.says (state_of self.old)) (lent_item self.new)
@@ -156,7 +158,7 @@ impl<T> PcapNgReaderAsIs<T> {
     ghost use Rattle.pcap_tolerant_captures.specs.State.{opening};
     ghost use Rattle.pcap_tolerant_captures.specs.ReaderAsIs.{state_of, stream_of, parser_of, has_failed, is_done, text_of, body_of};
 
-    /// A reader of a capture's blocks: nothing is read yet.
+    /// Returns a reader of a capture's blocks. It reads nothing yet.
     pub fn new(alloc: Global, stream: T) -> PcapNgReaderAsIs<T>
         ensures opening { state_of result ≡ opening }
         ensures stream { stream_of result ≡ stream }
@@ -174,15 +176,15 @@ impl<T> PcapNgReaderAsIs<T> {
         }
     }
 
-    /// The text of the block whose header `next_header` gave last: all of its bytes, from its type to the length behind its body, as
-    /// they stood in the stream. Empty before the first call, and where the last one gave no header.
+    /// Returns the text of the block that `next_header` returned last: all of its bytes as in the stream, from its type to the
+    /// length behind its body. It is empty before the first call, and if the last call returned no header.
     pub fn text(&self) -> &[u8]
         ensures { result.now ≡ text_of self.now }
     {
         self.held.as_slice()
     }
 
-    /// The body of the block whose `text` the reader lends.
+    /// Returns the body of the block whose `text` the reader lends.
     pub fn body(&self) -> &[u8]
         ensures { result.now ≡ body_of self.now }
     {
@@ -195,10 +197,12 @@ impl<T> PcapNgReaderAsIs<T> {
         body
     }
 
-    /// The enhanced packet that the body is as it stands, with what is wrong with it, of the block whose header `next_header` gave
-    /// last. None where the block is of another type. Its bytes are borrowed from the body.
+    /// Reads the body of the last block as an enhanced packet leniently, and returns the packet with its flaws. `header` is the
+    /// header that `next_header` returned last. Returns None if the block has another type. The packet's bytes are borrowed
+    /// from the body.
     ///
-    /// `AllocError` where a list can't grow, and only where the block is of this type and there is a flaw or an option.
+    /// Returns `AllocError` if a list can't grow. This can happen only if the block has this type and there is a flaw or an
+    /// option.
     pub fn enhanced(&self, header: BlockHeader) -> Result<Option<EnhancedAsIs<'_>>, AllocError>
         ensures body { IfOk result (IsPacketIn (framed_around header (body_of self.now))) }
         ensures memory { IfErr result (λ _. PacketGrowsIn (framed_around header (body_of self.now))) }
@@ -207,7 +211,7 @@ impl<T> PcapNgReaderAsIs<T> {
         of_type!(header.type_ => EnhancedPacket, packet_in(header.endianness, self.alloc, self.body()))
     }
 
-    /// The same of an obsolete packet block.
+    /// Reads the body of the last block as an obsolete packet, as `enhanced` does for an enhanced packet.
     pub fn packet_block(
         &self,
         header: BlockHeader,
@@ -219,7 +223,8 @@ impl<T> PcapNgReaderAsIs<T> {
         of_type!(header.type_ => Packet, packet_block_in(header.endianness, self.alloc, self.body()))
     }
 
-    /// The same of a simple packet. `AllocError` only where the block is of this type and there is no packet.
+    /// Reads the body of the last block as a simple packet, as `enhanced` does for an enhanced packet. `AllocError` can come
+    /// only if the block has this type and there is no packet.
     pub fn simple(&self, header: BlockHeader) -> Result<Option<SimpleAsIs<'_>>, AllocError>
         ensures body { IfOk result (IsSimpleIn (framed_around header (body_of self.now))) }
         ensures memory { IfErr result (λ _. SimpleGrowsIn (framed_around header (body_of self.now))) }
@@ -228,7 +233,7 @@ impl<T> PcapNgReaderAsIs<T> {
         of_type!(header.type_ => SimplePacket, simple_in(header.endianness, self.alloc, self.body()))
     }
 
-    /// The same of interface statistics.
+    /// Reads the body of the last block as interface statistics, as `enhanced` does for an enhanced packet.
     pub fn statistics(&self, header: BlockHeader) -> Result<Option<StatisticsAsIs<'_>>, AllocError>
         ensures body { IfOk result (AreStatisticsIn (framed_around header (body_of self.now))) }
         ensures memory { IfErr result (λ _. StatisticsGrowIn (framed_around header (body_of self.now))) }
@@ -236,7 +241,8 @@ impl<T> PcapNgReaderAsIs<T> {
         of_type!(header.type_ => InterfaceStatistics, statistics_in(header.endianness, self.alloc, self.body()))
     }
 
-    /// The same of names of addresses. `AllocError` also where there is a record.
+    /// Reads the body of the last block as names of addresses, as `enhanced` does for an enhanced packet. `AllocError` can also
+    /// come if there is a record.
     pub fn names(&self, header: BlockHeader) -> Result<Option<NamesAsIs<'_>>, AllocError>
         ensures body { IfOk result (AreNamesIn (framed_around header (body_of self.now))) }
         ensures memory { IfErr result (λ _. NamesGrowIn (framed_around header (body_of self.now))) }
@@ -244,28 +250,29 @@ impl<T> PcapNgReaderAsIs<T> {
         of_type!(header.type_ => NameResolution, names_in(header.endianness, self.alloc, self.body()))
     }
 
-    /// The parser behind the blocks so far, which has the section in force and its interfaces. None before the first section header.
+    /// Returns the parser behind the blocks so far, which has the section in force and its interfaces. Returns None before the
+    /// first section header.
     pub fn parser(&self) -> Option<&PcapNgParserAsIs>
         ensures { option_map (λ parser. parser.now) result ≡ parser_of self.now }
     {
         self.parser.as_ref()
     }
 
-    /// Whether a read of the wrapped stream failed.
+    /// Returns whether a read of the wrapped stream failed.
     pub fn failed(&self) -> bool
         ensures { result ≡ has_failed self.now }
     {
         self.has_failed
     }
 
-    /// The wrapped stream.
+    /// Returns the wrapped stream by reference.
     pub fn get_ref(&self) -> &T
         ensures { result.now ≡ stream_of self.now }
     {
         &self.inner
     }
 
-    /// Gives the wrapped stream back. Held bytes are dropped.
+    /// Returns the wrapped stream, and drops the held bytes.
     pub fn into_reader(self) -> T
         ensures { result ≡ stream_of self }
     {

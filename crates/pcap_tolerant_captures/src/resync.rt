@@ -1,4 +1,4 @@
-//! Where blocks stand again.
+//! Resynchronization after corrupt bytes in a PcapNg capture.
 
 ghost use Rattle.std.specs.Prelude.{◌≡◌, ◌≤◌, ◌↔◌, IsTrue, length};
 ghost use Rattle.pcap_ng.specs.Frames.{framed_of};
@@ -10,35 +10,35 @@ use pcap_blocks::BlockType;
 use pcap_core::Endianness;
 use pcap_ng::pcapng::Block;
 
-// Whether a block is a section header.
+// Returns whether a block is a section header.
 fn is_header(block: &Block) -> bool
     ensures { IsTrue result ↔ (block.now.type_ ≡ BlockType.SectionHeader) }
 {
     matches!(block.type_, BlockType::SectionHeader)
 }
 
-// Whether the body of a block has the sixteen bytes that are read of a section header before its options.
+// Returns whether the body of a block has the sixteen bytes that a section header needs before its options.
 fn is_long(block: &Block) -> bool
     ensures { IsTrue result ↔ (16 ≤ length (framed_of block.now).body) }
 {
     block.body.as_slice().len() >= 16
 }
 
-// Whether a block is a section header that has room for what is read of it before its options.
+// Returns whether a block is a section header whose body has the sixteen bytes before its options.
 fn names_its_order(block: &Block) -> bool
     ensures { IsTrue result ↔ ((block.now.type_ ≡ BlockType.SectionHeader) × (16 ≤ length (framed_of block.now).body)) }
 {
     is_header(block) && is_long(block)
 }
 
-// Whether a block is no section header, or one that has that room.
+// Returns whether a block is no section header, or one whose body has these sixteen bytes.
 fn has_room(block: &Block) -> bool
     ensures { IsTrue result ↔ HasRoom (framed_of block.now) }
 {
     !is_header(block) || is_long(block)
 }
 
-// A section header stands at the front of the slice.
+// Returns whether the slice begins with a section header whose body has these sixteen bytes.
 fn header_stands(order: Endianness, slice: &[u8]) -> bool
     ensures { IsTrue result ↔ HeaderStands order slice.now }
 {
@@ -48,7 +48,7 @@ fn header_stands(order: Endianness, slice: &[u8]) -> bool
     }
 }
 
-// At the front of the slice so many blocks stand in a row, or fewer, at least one, to its end.
+// Returns whether `k` blocks follow each other from the front of the slice, or fewer, at least one, to its end.
 fn frames_stand(order: Endianness, slice: &[u8], k: usize) -> bool
     ensures { IsTrue result ↔ FrameRow order k slice.now }
 {
@@ -74,18 +74,20 @@ fn frames_stand(order: Endianness, slice: &[u8], k: usize) -> bool
     true
 }
 
-// At the front of the slice a section header stands, or such a row.
+// Returns whether the slice begins with a section header or with such a row of blocks.
 fn stands(order: Endianness, slice: &[u8], k: usize) -> bool
     ensures { IsTrue result ↔ BlocksStand order k slice.now }
 {
     header_stands(order, slice) || frames_stand(order, slice, k)
 }
 
-/// The first place from which a section header stands, or so many blocks in a row whose frames break no rule, or fewer, at least
-/// one, to the end of the slice. None where there is none. It is a guess: garbage may look like blocks, and interfaces that it hides
-/// have no number.
+/// Returns the first place from which there is a section header, or from which `k` blocks follow each other whose frames break
+/// no rule. Fewer blocks, at least one, are enough if they reach the end of the slice. Returns None if there is no such place.
 ///
-/// The first block is read in the order of the section in force. A section header whose body is under 16 bytes is none.
+/// The result is a guess, since corrupt bytes may look like blocks. Interfaces within the skipped bytes have no number.
+///
+/// The first block is read in the byte order of the section in force. A section header whose body is under 16 bytes doesn't
+/// count.
 pub fn resync(parser: &PcapNgParserAsIs, slice: &[u8], k: usize) -> Option<usize>
     ensures { BlocksResync (order_at (state_of parser.now)) k slice.now result }
 {
@@ -100,8 +102,8 @@ pub fn resync(parser: &PcapNgParserAsIs, slice: &[u8], k: usize) -> Option<usize
     None
 }
 
-/// The first place from which a section header stands whose body is at least 16 bytes, for a capture whose beginning is garbage or
-/// lost. None where there is none.
+/// Returns the first place of a section header whose body is at least 16 bytes, or None. It is for a capture whose beginning is
+/// corrupt or lost.
 pub fn resync_section(slice: &[u8]) -> Option<usize>
     ensures { SectionResyncs slice.now result }
 {

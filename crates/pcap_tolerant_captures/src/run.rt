@@ -1,4 +1,4 @@
-//! A whole run over a capture, which leaves no block out for what is wrong with its body.
+//! Lenient runs over whole PcapNg captures.
 
 ghost use Rattle.std.specs.Prelude.{◌≡◌, ◌<◌, ◌≤◌, ◌^◌, ◌∷◌, All, count_by, sum_by, length, position, IfOk, IfErr, IfSome};
 ghost use Rattle.pcap_core.specs.Answer.{Refuses, lacks, faulty};
@@ -14,34 +14,35 @@ use pcap_items::Rest;
 use pcap_items::run::{Found, Items, found_in, parse_items};
 use std::alloc::{AllocError, Global};
 
-/// Where a block with a flaw stands in a capture.
+/// The place of a block with a flaw in a capture.
 #[derive(Clone, Copy, Debug)]
 pub struct FlawedAt {
-    /// Its place among the capture's blocks, counted from 0, which is the first section header.
+    /// The index of the block in the capture, counted from 0, which is the first section header.
     pub block: usize,
-    /// How many bytes of the capture stand before it.
+    /// The number of bytes of the capture before the block.
     pub offset: usize,
 }
 
-/// A capture's blocks as they stand, the parser after them, how many bytes they take, what follows them, and where the first flaw is.
+/// The result of a lenient run over a slice: the blocks, the parser after them, their length, how the run ended, and the place
+/// of the first flaw.
 #[derive(Drop)]
 pub struct NgRunAsIs<'a> {
     /// The first section header.
     pub first: BlockAsIs<'a>,
-    /// The blocks after it, in order.
+    /// The blocks after the first section header, in order.
     pub blocks: Vec<BlockAsIs<'a>>,
-    /// The parser after them, with the section in force there and its interfaces.
+    /// The parser after the blocks, with the section in force there and its interfaces.
     pub parser: PcapNgParserAsIs,
-    /// How many bytes the first section header and the blocks take.
+    /// The number of bytes of the first section header and the blocks.
     pub used: usize,
-    /// What follows them.
+    /// The rest after the last block: nothing, a truncated block or a malformed one.
     pub rest: Rest,
-    /// Where the first block with a flaw stands: the strict reading ends before it. None where no block has one.
+    /// The place of the first block with a flaw, or None if no block has one. Strict reading ends before this block.
     pub first_flawed: Option<FlawedAt>,
 }
 
 impl NgRunAsIs<'_> {
-    /// How many of the blocks have a flaw, the first section header among them.
+    /// Returns the number of blocks with a flaw, including the first section header.
     pub fn flawed(&self) -> usize
         ensures { result ≡ count_by is_flawed (all_of self.now) }
     {
@@ -92,7 +93,7 @@ impl<'a> Items<'a> for PcapNgParserAsIs {
     }
 }
 
-// How many bytes these blocks take.
+// Returns the number of bytes that these blocks take.
 fn length_of(blocks: &[BlockAsIs]) -> usize
     requires { sum_by size_of blocks.now < 2 ^ 64 }
     ensures { result ≡ sum_by size_of blocks.now }
@@ -103,7 +104,7 @@ fn length_of(blocks: &[BlockAsIs]) -> usize
         .sum()
 }
 
-// The place of the first block with a flaw among these.
+// Returns the index of the first of these blocks that has a flaw.
 fn place_of_flawed(blocks: &[BlockAsIs]) -> Option<usize>
     ensures place { result ≡ position is_flawed blocks.now }
     ensures within { IfSome result (λ index. index < length blocks.now) }
@@ -111,7 +112,7 @@ fn place_of_flawed(blocks: &[BlockAsIs]) -> Option<usize>
     blocks.iter().position(|block| block.is_flawed())
 }
 
-// Where the first block with a flaw stands, of blocks that take at most so many bytes.
+// Returns the place of the first block with a flaw among blocks that take at most `used` bytes.
 pub(crate) fn first_flawed(first: &BlockAsIs, blocks: &[BlockAsIs], used: usize) -> Option<FlawedAt>
     requires { sum_by size_of (first.now ∷ blocks.now) ≤ used }
     ensures { IsFirstFlawed (first.now ∷ blocks.now) result }
@@ -131,11 +132,12 @@ pub(crate) fn first_flawed(first: &BlockAsIs, blocks: &[BlockAsIs], used: usize)
     }
 }
 
-/// The whole run over one slice: all blocks of its longest front as they stand, and what is said of the rest. A block ends it as a
-/// refusal only where its frame does, or where a section names no order of bytes or its body has under 16.
+/// Parses a whole PcapNg capture from a slice leniently: all blocks of its longest front, and the state of the rest. A block
+/// ends the run with a refusal only if its frame breaks a rule, or if it is a section header that names no byte order or has a
+/// body under 16 bytes.
 ///
-/// The errors are those of `PcapNgParserAsIs::new` on the first block. A later block that is refused ends the blocks, and is told
-/// in `rest`; but `OutOfMemory`, where something can't grow, is the answer wherever it comes.
+/// Returns the errors of `PcapNgParserAsIs::new` for the first block. If a later block is refused, the run ends before it and
+/// `rest` reports the refusal. Returns `OutOfMemory` if something can't grow, at any block.
 pub fn parse_pcapng_as_is<'a>(alloc: Global, bytes: &'a [u8]) -> ResultParsing<NgRunAsIs<'a>>
     ensures front { IfOk result (λ run. IsRunAsIs run bytes.now) }
     ensures borrowed { IfOk result (λ run. All (λ block. IsBorrowed block.block.body) (all_of run)) }

@@ -1,4 +1,4 @@
-//! Blocks as they stand as items with a head.
+//! Blocks read leniently, as items with a head.
 
 ghost use Rattle.std.specs.Prelude.{◌≡◌};
 ghost use Rattle.pcap_tolerant_captures.specs.State.{order_at};
@@ -9,13 +9,13 @@ use pcap_core::{Endianness, PcapError, ResultParsing};
 use pcap_items::stream::HasHead;
 use pcap_ng::pcapng::Block;
 
-/// The blocks as they stand behind what a parser has read, or from the first on where there is none yet.
+/// The blocks behind those that a parser has read, or all blocks if there is no parser yet, read leniently.
 #[derive(Clone, Copy)]
 pub(crate) struct BlocksAsIs<'a> {
     pub(crate) parser: &'a Option<PcapNgParserAsIs>,
 }
 
-// The order of blocks that are no section.
+// Returns the byte order of all blocks except section headers.
 fn order_in(parser: &Option<PcapNgParserAsIs>) -> Endianness
     ensures { result ≡ order_at (state_in parser.now) }
 {
