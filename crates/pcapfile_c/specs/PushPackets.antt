@@ -72,7 +72,7 @@ pub record ReadText (q : State) (item : Item) (s rest : List ℕ) : Type 0 where
 abbrev pub ReadSays : State → List ℕ → Verdict Item → Type 0
 ReadSays q s = Says (λ item rest. ReadText q item s rest) (FrameLacks (order_at q) s) (λ fault. BlockSays q s (faulty fault) ⊎ PacketFault (order_at q) s fault)
 
--- Memory is allocated only for the body of a section header, interface or packet that has lists.
+-- Memory is allocated only if reading the block or the body of its packet may need it.
 abbrev pub ReadMayGrow : State → List ℕ → Type 0
 ReadMayGrow q s = MayGrow q s ⊎ PacketMayGrow (order_at q) s
 
