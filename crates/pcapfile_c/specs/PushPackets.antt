@@ -88,8 +88,7 @@ Stops q section places s error told status =
     ((status ≡ pos 11) × (told ≡ error) × LacksPlace q section places s)
     ⊎ TellsRefusalWhere (ReadMayGrow q s) (ReadSays q s) told status
 
--- PutsBlock q next now s rest: `s` is a block under this state that is no packet, and then `rest`, and the structs show the state after
--- it.
+-- PutsBlock q next now s rest: `s` is a block that is no packet, and then `rest`, and the structs show the state after it.
 abbrev pub PutsBlock : State → PcapfileSection → List PcapfileInterface → List ℕ → List ℕ → Type 0
 PutsBlock q next now s rest = (item : Item) × (is_packet_block item ≡ false) × BlockSays q s (whole item rest) × ShowsInForce next now item.after
 

@@ -1,4 +1,4 @@
-//! Finds where PcapNg captures in memory can be cut into parts, and what is in force at each cut.
+//! Finds where PcapNg captures in memory can be cut into parts, and which section and interfaces each part has.
 
 ghost use Rattle.std.specs.Prelude.{◌≡◌, ◌≤◌, pos, length, max, IfErr, IfOk};
 ghost use Rattle.pcap_core.specs.Answer.{Refuses, faulty, lacks};
@@ -16,7 +16,7 @@ use std::alloc::Global;
 /// Finds where a PcapNg capture can be cut between blocks into parts of about equal length, at most as many as `cuts` has places. Each
 /// part after the first begins at the first block boundary at or after the end of an equal share, if bytes follow there. `interfaces`
 /// receives the places of the interfaces. `count` and `known` are set to the number of cuts and interfaces. Under status 11, `known` is
-/// the number of interfaces that need a place. The cuts are `pcapfile_ng_cut` in C.
+/// the number of interfaces that need a place, or 0 if `cuts` is empty. The cuts are `pcapfile_ng_cut` in C.
 #[unsafe(no_mangle)]
 pub extern "C" fn pcapfile_cut_blocks(
     alloc: Global,

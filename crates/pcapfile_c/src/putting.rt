@@ -76,8 +76,8 @@ pub extern "C" fn pcapfile_put_interface(
     0
 }
 
-/// Writes an enhanced packet without options to the front of `room`, in the byte order of the section. The section must have the
-/// interface of the packet.
+/// Writes an enhanced packet without options to the front of `room`, in the byte order of the section. Refuses a packet whose interface
+/// the section doesn't have.
 #[unsafe(no_mangle)]
 pub extern "C" fn pcapfile_put_ng_packet(
     section: &PcapfileSection,

@@ -15,7 +15,7 @@ use pcap_core::rules::Rule;
 pub struct PcapfileError {
     /// The number of the rule that the bytes break, under status 3. Otherwise 0.
     pub rule: u32,
-    /// At least how many bytes are missing: from the capture under status 1, from the room under status 9. Otherwise 0.
+    /// At least how many bytes are missing, under status 1. How many bytes longer the room must be, under status 9. Otherwise 0.
     pub missing: usize,
 }
 
