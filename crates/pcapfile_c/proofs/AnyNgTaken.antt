@@ -1,4 +1,4 @@
--- Packets of a PcapNg capture in memory that calls took, one after the other.
+-- The packets that calls read from a PcapNg capture in memory, one after the other.
 use Rattle.std.proofs.Common.{◌≡◌, ◌≢◌, ℕ, ℤ, pos, List, [], ◌∷◌, ◌++◌, map, refl, sym, ap, subst, ◌∙◌, append-nil, inl, inr}
 use Rattle.std.specs.Prelude.{◌⊎◌}
 use Rattle.std.specs.List.{AllZip}
@@ -26,12 +26,12 @@ use Rattle.pcapfile_c.proofs.PacketsCome.{PacketsCome, behind, come_all, front_c
 use Rattle.pcapfile_c.proofs.PushedNgPackets.{read_blocks}
 use Rattle.pcapfile_c.proofs.RoomLaws.{none_refused}
 
--- where the number of a section is 0, nothing is in force
+-- If the section's magic number is 0, the state is the opening one.
 nothing_opens : (section : PcapfileSection) (places : List PcapfileInterface) (q : State) → ShowsInForce section places q → section.magic_number ≡ 0 → q ≡ opening
 nothing_opens section places opening shows zero = refl
 nothing_opens section places (within s interfaces) shows zero = absurd (zero_opens section s shows.0.0 zero)
 
--- a first block opens
+-- The first block ends the opening state.
 first_opens : (items : List Item) (s rest : List ℕ) → Texts read_format opening items s rest → behind opening items ≡ opening → s ≡ rest
 first_opens [] s rest texts is = texts
 first_opens (item ∷ items) s rest texts is =
@@ -39,15 +39,15 @@ first_opens (item ∷ items) s rest texts is =
     let leaves = texts_leave item items s rest blocks in
     absurd (subst (λ (q : State). Leaves (map (λ (item : Item). item.block) (item ∷ items)) q) (state_same opening (item ∷ items) ∙ is) leaves)
 
--- Of a PcapNg capture on which calls began with nothing in force no header is in force, and these packets came.
+-- After calls on a PcapNg capture that began without a section, there is no header, and these packets were returned.
 abbrev Taken : PcapfileCapture → List ℕ → Kept → List ℕ → List PcapfileAnyPacket → Type 0
 Taken start s kept rest given = (kept.0.header ≡ start.header) × PacketsCome opening s kept.0.section kept.1 rest given
 
--- how a call ended that gave none
+-- How a call ended that returned no packet.
 abbrev Ended : Kept → List ℕ → List Item → PcapfileError → PcapfileError → ℤ → Type 0
 Ended kept rest items error told z = z ≢ pos 0 → z ≢ pos 10 → Stops (behind opening items) kept.0.section kept.1 rest error told z
 
--- what came with a call, and how it ended
+-- What was returned including the packet of a call, and how that call ended.
 abbrev Comes : Kept → List ℕ → List ℕ → List PcapfileAnyPacket → PcapfileError → PcapfileError → ℤ → Type 0
 Comes kept s rest given error told z = (x : PacketsCome opening s kept.0.section kept.1 rest given) × Ended kept rest x.0 error told z
 
@@ -72,7 +72,7 @@ module _ (kept next : Kept) (s left rest : List ℕ) (given : List PcapfileAnyPa
       (there, λ some known. absurd (known l.status_is))
 
 module _ (start : PcapfileCapture) (s : List ℕ) (fresh : IsFresh start) (is : IsNg start s) where
-  -- before the first block the bytes say so, and then the section
+  -- The capture still counts as PcapNg: by its bytes before the first block, and later by its section.
   still_ng : (kept : Kept) (rest : List ℕ) (given : List PcapfileAnyPacket) → Taken start s kept rest given → IsNg kept.0 rest
   still_ng kept rest given come = by_magic (cases_eq kept.0.section.magic_number 0)
     where
@@ -84,7 +84,7 @@ module _ (start : PcapfileCapture) (s : List ℕ) (fresh : IsFresh start) (is : 
       by_magic (inr some) = inl some
       by_magic (inl zero) = by_bytes (first_opens come.1.0 s rest come.1.1 (nothing_opens kept.0.section kept.1 (behind opening come.1.0) come.1.2 zero)) is
 
-  -- a call
+  -- One call.
   call_takes : (kept next : Kept) (left rest : List ℕ) (given : List PcapfileAnyPacket) (old shown : PcapfileAnyPacket) (error told : PcapfileError) (z : ℤ) (come : Taken start s kept left given)
       → TakesAnyNgPacket (behind opening come.1.0) kept.0 next.0 kept.1 next.1 left rest old shown error told z → Taken start s next rest (given ++ under_status z (shown ∷ []))
   call_takes kept next left rest given old shown error told z come (inl x) =
@@ -108,7 +108,7 @@ module _ (start : PcapfileCapture) (s : List ℕ) (fresh : IsFresh start) (is : 
       let come = (calls_take places next rest given calls).1 in
       record { items = come.0; texts = come.1; in_force = come.2; shows = come.3 }
 
-  -- nothing that is left is of a capture that has begun
+  -- If nothing is left, the capture has begun and has ended.
   begun : (kept : Kept) (rest : List ℕ) (given : List PcapfileAnyPacket) → Taken start s kept rest given → rest ≡ [] → HasEnded kept.0 rest
   begun kept rest given come empty = (empty, inl (λ zero. no_section zero))
     where

@@ -1,4 +1,4 @@
--- Packets of a pcap capture in memory that calls took, one after the other.
+-- The packets that calls read from a classic capture in memory, one after the other.
 use Rattle.std.proofs.Common.{◌≡◌, ◌≢◌, ℕ, ℤ, pos, List, [], ◌∷◌, ◌++◌, false, refl, sym, ap, subst, ◌∙◌, append-nil, inl, inr}
 use Rattle.std.specs.Prelude.{IsTrue, ◌⊎◌, ◌==◌}
 use Rattle.std.specs.List.{AllZip, starts_with}
@@ -29,16 +29,16 @@ use Rattle.pcapfile_c.specs.RoomCalls.{under_status}
 use Rattle.pcapfile_c.proofs.Pushes.{HaveCome, no_packet, not_both, opened_comes, packet_comes}
 use Rattle.pcapfile_c.proofs.RoomLaws.{none_refused}
 
--- the packets that came so far, and structs that show them
+-- The packets so far, and structs that show them.
 abbrev Come : List ℕ → PcapfileHeader → List ℕ → List PcapfileAnyPacket → Type 0
 Come s header rest given = (packets : List Captured) × HaveCome s header rest packets × ShowAll header.link packets given
 
--- where no packet came, none is shown
+-- If there was no packet, no struct shows one.
 shown_none : (link : ℕ) (given : List PcapfileAnyPacket) → AllZip (ShowsCaptured link) [] given → given ≡ []
 shown_none link [] x = refl
 shown_none link (g ∷ gs) x = absurd x
 
--- the link type stays, since a header is opened only before the first packet
+-- The link type stays the same, since a header is read only before the first packet.
 links_stay : (before now : PcapfileHeader) (held mid s : List ℕ) (packets : List Captured) (given : List PcapfileAnyPacket) → Opened before now held mid → HaveCome s before held packets
     → ShowAll before.link packets given → ShowAll now.link packets given
 links_stay before now held mid s packets given (inl o) come shows = subst (λ (h : PcapfileHeader). ShowAll h.link packets given) (sym o.1) shows
@@ -49,7 +49,7 @@ links_stay before now held mid s packets given (inr o) (inl x) shows =
     let empty : AllZip (ShowsCaptured before.link) [] given = subst (λ (ps : List Captured). AllZip (ShowsCaptured before.link) ps given) x.2 shows in
     rw (x.2, shown_none before.link given empty) tt
 
--- a packet was taken, or none
+-- A packet was read, or none.
 captured_comes : (before now : PcapfileHeader) (left rest s : List ℕ) (given : List PcapfileAnyPacket) (old shown : PcapfileAnyPacket) (error told : PcapfileError) (z : ℤ)
     → TakesCaptured before now left rest old shown error told z → Come s before left given → Come s now rest (given ++ under_status z (shown ∷ []))
 captured_comes before now left rest s given old shown error told z (inl x) come =
@@ -68,18 +68,18 @@ captured_comes before now left rest s given old shown error told z (inr (inr x))
 abbrev pub StartsNg : List ℕ → Type 0
 StartsNg s = IsTrue (starts_with (λ a b. a == b) s (0x0A ∷ 0x0D ∷ 0x0D ∷ 0x0A ∷ []))
 
--- Of a pcap capture on which calls began with nothing in force no section is in force, and these packets came.
+-- After calls on a classic capture that began without a header, there is no section, and these packets were returned.
 abbrev Taken : PcapfileCapture → List ℕ → Kept → List ℕ → List PcapfileAnyPacket → Type 0
 Taken start s kept rest given = (kept.0.section ≡ start.section) × Come s kept.0.header rest given
 
 module _ (start : PcapfileCapture) (s : List ℕ) (fresh : IsFresh start) (not : IsNg start s → ⊥) where
-  -- what is left is not PcapNg
+  -- What is left does not count as PcapNg.
   still_packets : (kept : PcapfileCapture) (rest : List ℕ) (packets : List Captured) → kept.section ≡ start.section → HaveCome s kept.header rest packets → IsNg kept rest → ⊥
   still_packets kept rest packets same come (inl ng) = ng (ap (λ (t : PcapfileSection). t.magic_number) same ∙ fresh.0)
   still_packets kept rest packets same (inl x) (inr ng) = not (inr (λ is. not_both (is_magic start.header.magic_number) is fresh.1, subst StartsNg x.1 ng.1))
   still_packets kept rest packets same (inr x) (inr ng) = ng.0 (subst (λ (h : PcapfileHeader). IsTrue (is_magic h.magic_number)) (sym x.2) x.3.valid)
 
-  -- a call
+  -- One call.
   call_takes : (kept next : Kept) (left rest : List ℕ) (given : List PcapfileAnyPacket) (old shown : PcapfileAnyPacket) (error told : PcapfileError) (z : ℤ) → Taken start s kept left given
       → TakesAnyPacket kept.0 next.0 kept.1 next.1 left rest old shown error told z → Taken start s next rest (given ++ under_status z (shown ∷ []))
   call_takes kept next left rest given old shown error told z come (inl x) =
@@ -97,7 +97,7 @@ module _ (start : PcapfileCapture) (s : List ℕ) (fresh : IsFresh start) (not :
       let come = calls_take places kept rest given calls in
       rw keeps.0 come
 
--- the header and the packets, or nothing
+-- The header and the packets were read, or nothing.
 taken_said : (header : PcapfileHeader) (s rest : List ℕ) (given : List PcapfileAnyPacket) → Come s header rest given → PacketsTaken header s rest given ⊎ NothingTaken header s rest given
 taken_said header s rest given (packets, inl x, shows) = inr (x.0, x.1, shown_none header.link given (subst (λ (ps : List Captured). ShowAll header.link ps given) x.2 shows))
 taken_said header s rest given (packets, inr x, shows) = inl (record {
@@ -110,7 +110,7 @@ taken_said header s rest given (packets, inr x, shows) = inl (record {
   shows = subst (λ (h : PcapfileHeader). ShowAll h.link packets given) x.2 shows;
 })
 
--- where a call gives none behind what came, this is the front
+-- If a call returns no packet after these, they are the front.
 Ends : PcapfileHeader → List ℕ → List ℕ → List PcapfileAnyPacket → PcapfileError → ℤ → Type 0
 Ends now s rest given told z =
     ((header : PcapHeader) × (packets : List Captured) × (now ≡ shown_header header) × CaptureFront packet_limit header packets s rest × ShowAll (link_number header.datalink) packets given
@@ -135,12 +135,12 @@ front_ends before now left rest s given old shown error told z some (inr (inr x)
     let invalid : is_magic y.0.magic_number ≡ false = subst (λ (h : PcapfileHeader). is_magic h.magic_number ≡ false) y.2 x.1 in
     absurd (not_both (is_magic y.0.magic_number) y.3.valid invalid)
 
--- the header is in force
+-- The header was read.
 in_force : (now : PcapfileHeader) (header : PcapHeader) (packets : List Captured) (s rest : List ℕ) → now ≡ shown_header header → CaptureFront packet_limit header packets s rest → IsTrue (is_magic now.magic_number)
 in_force now header packets s rest is front = subst (λ (h : PcapfileHeader). IsTrue (is_magic h.magic_number)) (sym is) front.header_text.valid
 
 module _ (capture : PcapfileCapture) (s rest : List ℕ) (given : List PcapfileAnyPacket) where
-  -- nothing is left
+  -- Nothing is left.
   ended_there : (request told : PcapfileError) (z : ℤ) → z ≡ pos 8 → capture.section.magic_number ≡ 0 → HasEnded capture rest → Ends capture.header s rest given request (pos 1)
       → FrontTaken s rest given told z ⊎ NoHeader s rest given told z
   unfolding Ends
@@ -148,7 +148,7 @@ module _ (capture : PcapfileCapture) (s rest : List ℕ) (given : List PcapfileA
   ended_there request told z is zero (nothing, inl section) (inr x) = absurd (section zero)
   ended_there request told z is zero (nothing, inr header) (inr x) = absurd (not_both (is_magic capture.header.magic_number) header x.0)
 
-  -- what is left is refused
+  -- What is left is refused.
   refused_there : (told : PcapfileError) (z : ℤ) → (z ≡ pos 1 → HasEnded capture rest → ⊥) → Ends capture.header s rest given told z → FrontTaken s rest given told z ⊎ NoHeader s rest given told z
   unfolding Ends
   refused_there told z goes_on (inl x) =

@@ -1,4 +1,4 @@
--- Blocks of a capture that comes in pieces.
+-- The blocks of a capture that comes in pieces.
 use Rattle.std.proofs.Common.{◌≡◌, ℕ, ℤ, List, [], ◌∷◌, ◌++◌, refl, sym, ap, subst, ◌∙◌, append-nil, inl, inr}
 use Rattle.std.specs.List.{AllZip}
 use Rattle.pcap_items.specs.Format.{Front, Texts, state_after}
@@ -22,15 +22,15 @@ use Rattle.pcapfile_c.proofs.RoomLaws.{come_before, given_all, none_refused, non
 abbrev Shows : Item → PcapfileBlock → Type 0
 Shows item block = ShowsBlock item.block block
 
--- the state behind these blocks
+-- The state after these blocks.
 abbrev behind : List Item → State
 behind items = state_after block_format opening items
 
--- The bytes s are the texts of these blocks, which were given, and what is held; and this is in force behind them.
+-- The bytes `s` are the texts of these blocks, which were returned, and the held bytes; and the struct shows the state after the blocks.
 abbrev BlocksCome : List ℕ → PcapfileSection → List ℕ → List PcapfileBlock → Type 0
 BlocksCome s section held given = (items : List Item) × Texts block_format opening items s held × ShowsState section (behind items) × AllZip Shows items given
 
--- the same, whatever header stands beside it
+-- The same for any header.
 abbrev Known : List ℕ → PcapfileHeader → PcapfileSection → List ℕ → List PcapfileBlock → Type 0
 Known s header section held given = BlocksCome s section held given
 
@@ -82,7 +82,7 @@ module _ (calls : List (List ℕ × List PcapfileBlock)) (push : PcapfilePush) (
       rw (none, append-nil (all_given e.earlier)) (x.0, rw t.1 front, rw t.0 x.2, x.3)
   last_come x old block error told given (inr l) = absurd (e.ends.1 l.0)
 
-  -- The law: however the bytes are cut, and whatever calls are made, what they gave are the blocks of the front of all bytes.
+  -- The law: for any pieces of the bytes and any calls, the returned blocks are those of the front of all bytes.
   pub pushed_blocks : (items : List Item) × Front block_format opening items (all_put calls) (held_in push room) × ShowsState section (behind items) × AllZip Shows items (all_given calls)
   unfolding AreFront
   pushed_blocks =

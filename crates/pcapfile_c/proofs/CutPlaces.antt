@@ -25,12 +25,12 @@ use Rattle.pcap_parts.proofs.Stepping.{steps_fit}
 use Rattle.pcapfile_c.specs.Cuts.{CutsBlocks, HasRoom, IsCutAsAsked}
 
 module _ {S V : Type 0} (f : Format S V) (q : S) (s : List ℕ) (total : ℕ) (left : List ℕ) (before : ℕ) where
-  -- one more place is filled
+  -- One more place is filled.
   pub cut_filled : (how : Parting) (places : List Cut) (k : ℕ) (x : Cut) → k < length places → PartedSoFar f q s total how left before (take k places ++ x ∷ [])
       → PartedSoFar f q s total how left before (take (k + 1) (slice_set places k x))
   cut_filled how places k x within so_far = subst (λ (cuts : List Cut). PartedSoFar f q s total how left before cuts) (sym (take-set_at places k (k + 1) x refl within)) so_far
 
-  -- there are no more cuts than places
+  -- There are no more cuts than places.
   pub cuts_few : (how : Parting) (places : List Cut) (k : ℕ) (x : Cut) → HasRoom how total (length places) → k ≤ length places → PartedSoFar f q s total how left before (take k places ++ x ∷ []) → k < length places
   cuts_few (Equal parts) places k x room within so_far =
       let one : length (take k places ++ x ∷ []) ≡ length (take k places) + 1 = length-append (take k places) (x ∷ []) in
@@ -39,14 +39,14 @@ module _ {S V : Type 0} (f : Format S V) (q : S) (s : List ℕ) (total : ℕ) (l
       let one : length (take k places ++ x ∷ []) ≡ length (take k places) + 1 = length-append (take k places) (x ∷ []) in
       omega (arith, steps_fit f q s total n _ (take k places ++ x ∷ []) (length places) so_far.made so_far.cutting.cuts_are.bounds room, one, length-take-le k places within)
 
--- cuts of all packets that are as it is asked for
+-- The cuts of all packets are as requested.
 pub cut_as_asked : (how : Parting) (header : PcapHeader) (cuts : List Cut) (bytes after : List ℕ) → HeaderText header bytes after → length bytes - length after ≡ 24
     → AreAskedFor (format_under packet_limit header) tt after (length bytes) how cuts → IsCutAsAsked how header cuts bytes
 cut_as_asked (Equal parts) header cuts bytes after text front asked =
     record { after = after; header_text = text; fair = subst (λ (n : ℕ). AreFair (format_under packet_limit header) tt after (length bytes) n parts cuts) front asked }
 cut_as_asked (AtLeast n) header cuts bytes after text front asked = record { after = after; header_text = text; steps = asked }
 
--- the cuts of blocks fit into their places
+-- The cuts of blocks fit into their places.
 pub blocks_fit : (how : Parting) (cuts : NgCuts) (bytes : List ℕ) (places : ℕ) → CutsBlocks how bytes cuts → HasRoom how (length bytes) places → length cuts.cuts.items ≤ places
 blocks_fit (Equal parts) cuts bytes places (cut, fair, told) room = omega (arith, fair.fair.few, length-map cuts.cuts.items (λ (c : NgCut). c.at), room.0, room.1)
 blocks_fit (AtLeast n) cuts bytes places (cut, steps, told) room =
@@ -55,12 +55,12 @@ blocks_fit (AtLeast n) cuts bytes places (cut, steps, told) room =
     let all : AreCuts block_format steps.first steps.after (length bytes - length cut.after) (length bytes) bounds = rw (same.0, same.1) cut.cuts_are in
     omega (arith, steps_fit block_format steps.first steps.after (length bytes) n _ bounds places steps.steps all.bounds room, length-map cuts.cuts.items (λ (c : NgCut). c.at))
 
--- the packets behind a header that are cut
+-- The packets after a header, which are cut.
 module _ (header : PcapHeader) (s : List ℕ) (total : ℕ) (fits : length s ≤ total) (how : Parting) (some : AsksSome how) where
   abbrev f : Format (Unit {0}) Captured
   f = format_under packet_limit header
 
-  -- behind a part that bytes follow there is a place for one more cut, and it is filled
+  -- After a part that is followed by bytes, there is a place for one more cut, and it is filled.
   pub cut_next : (left after : List ℕ) (before wanted items : ℕ) (rest : Option Rest) (places : List Cut) (k : ℕ) (x : Cut) (so_far : PartedSoFar f tt s total how left before (take k places))
       → WantsNext how (length s - length left) (length s) (Some wanted) → Passes f tt left after wanted items rest → rest ≡ None → 0 < length after → items + length after ≤ length left
       → x.offset ≡ total - length after → x.before ≡ before + items → HasRoom how total (length places) → k ≤ length places

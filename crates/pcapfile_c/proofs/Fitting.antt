@@ -1,4 +1,4 @@
--- What is put is a block that is read as it was.
+-- Written blocks fit into the room and are blocks of the format.
 use Rattle.std.proofs.Common.{◌≡◌, ◌≢◌, ℕ, ℤ, ◌+◌, ◌-◌, ◌<◌, ◌≤◌, ◌^◌, List, [], ◌∷◌, length, take, drop, refl, sym, ap, subst, ◌∙◌, append-nil, arith, zero, suc, pos, negsuc, Some, None, inl, inr, w32, to_z, of_z}
 use Rattle.std.specs.Prelude.{◌==◌, if◌then◌else◌, Bool, false, FitsSigned}
 use Rattle.std.specs.Int.{w64, cast_unsigned}
@@ -29,7 +29,7 @@ use Rattle.pcapfile_values.specs.Reasons.{IsRefused}
 use Rattle.pcapfile_values.proofs.Parts.{clock_short, interface_long, section_long}
 use Rattle.pcapfile_c.specs.Putting.{BeginsWith, Given, IsTextOf, PutsBlock, a_section, an_interface, a_packet}
 
--- a text that is put at the front of a room begins it
+-- A room begins with a text that was written at its front.
 pub begins : {text room now : List ℕ} → (n : ℕ) → n ≡ length text → PutsAt 0 text room now → BeginsWith text room now n
 begins {text = text} {room = room} {now = now} n long p = record {
   long = long;
@@ -63,7 +63,7 @@ bits_fit : (z : ℤ) → FitsSigned w64 z → cast_unsigned w64 z < 2 ^ 64
 bits_fit (pos n) fits = omega (arith, fits.sfits)
 bits_fit (negsuc n) fits = omega arith
 
--- a number that names an order has four bytes
+-- A magic number that names a byte order has four bytes.
 magic_fits : (n : ℕ) (e : Endianness) → magic_order n ≡ Some e → n < 2 ^ 32
 unfolding magic_order
 magic_fits n e names = lt_of_not-le (λ (big : 2 ^ 32 ≤ n).
@@ -133,18 +133,18 @@ packet_is_text e s p order known room time original short = record {
   next_is = refl;
 }
 
--- what was put whole
+-- The result for a block that was written.
 pub puts_whole : (Stands : Reason → Type 0) (given : Given) (section next : PcapfileSection) (text room now : List ℕ) (n before : ℕ) (error : PcapfileError) → IsTextOf given section next text → n ≡ length text
     → PutsAt 0 text room now → PutsBlock Stands given section next room now before n error error (pos 0)
 puts_whole Stands given section next text room now n before error is long put = inl (refl, refl, text, is, begins n long put)
 
--- what had no room
+-- The result for a room that is too short.
 pub puts_nothing : (Stands : Reason → Type 0) (given : Given) (section after : PcapfileSection) (text room : List ℕ) (n before : ℕ) (error told : PcapfileError) (status : ℤ) → IsTextOf given section after text → n ≡ length text
     → length room < n → told.rule ≡ 0 → told.missing ≡ n - length room → status ≡ pos 9 → PutsBlock Stands given section section room room before before error told (to_z w32 (of_z w32 status))
 puts_nothing Stands given section after text room n before error told status is long few rule missing said =
     inr (refl, refl, refl, inl (ap (λ (z : ℤ). to_z w32 (of_z w32 z)) said, text, after, is, record { no_rule = rule; some = omega (arith, few, missing); together = omega (arith, few, missing, long) }))
 
--- what something stands against
+-- The result for a block with a reason against it.
 pub puts_refused : (Stands : Reason → Type 0) (given : Given) (section : PcapfileSection) (room : List ℕ) (before : ℕ) (error told : PcapfileError) (status : ℤ) (reason : Reason) → Stands reason → IsRefused reason told status
     → PutsBlock Stands given section section room room before before error told (to_z w32 (of_z w32 status))
 puts_refused Stands given section room before error told status reason stands refused =

@@ -1,4 +1,4 @@
--- Packets of a PcapNg capture that comes in pieces.
+-- The packets of a PcapNg capture that comes in pieces.
 use Rattle.std.proofs.Common.{◌≡◌, ◌≢◌, ℕ, ℤ, pos, List, [], ◌∷◌, ◌++◌, take, refl, sym, ap, subst, ◌∙◌, inl, inr}
 use Rattle.std.specs.List.{AllZip}
 use Rattle.pcap_items.specs.Format.{Front}
@@ -17,11 +17,11 @@ use Rattle.pcapfile_c.specs.RoomCalls.{all_given, all_put, under_status}
 use Rattle.pcapfile_c.proofs.PacketsCome.{PacketsCome, behind, come_all, front_comes, packets_among, read_more, state_all, stops_front}
 use Rattle.pcapfile_c.proofs.RoomLaws.{come_before, given_all, put_all, stays}
 
--- what calls gave from the first byte on
+-- What calls returned from the first byte on.
 abbrev HaveCome : List ℕ → InForceShown → List ℕ → List PcapfileAnyPacket → Type 0
 HaveCome s kept held given = PacketsCome opening s kept.0 kept.1 held given
 
--- the same, whatever header stands beside it
+-- The same for any header.
 abbrev Known : List ℕ → PcapfileHeader → InForceShown → List ℕ → List PcapfileAnyPacket → Type 0
 Known s header kept held given = HaveCome s kept held given
 
@@ -35,11 +35,11 @@ in_force_keeps (within d interfaces) kept next k x = rw (k.0, k.1) x
 packet_keeps : (s held : List ℕ) (header : PcapfileHeader) (kept next : InForceShown) (given : List PcapfileAnyPacket) → KeepsInForce kept next → HaveCome s kept held given → HaveCome s next held given
 packet_keeps s held header kept next given k x = (x.0, x.1, in_force_keeps (behind opening x.0) kept next k x.2, x.3)
 
--- where no packet follows, what is left gives none
+-- If a call reports that no packet follows, what is left gives none.
 abbrev StopsSo : PcapfileError → PcapfileError → ℤ → InForceShown → List ℕ → List Item → Type 0
 StopsSo error told z next rest items = z ≢ pos 0 → z ≢ pos 10 → Stops (behind opening items) next.0 next.1 rest error told z
 
--- what a call left, with how it ended
+-- What a call left, and how it ended.
 CallComes : PcapfileError → PcapfileError → ℤ → List ℕ → InForceShown → List ℕ → List PcapfileAnyPacket → Type 0
 CallComes error told z s next rest given = (x : HaveCome s next rest given) × StopsSo error told z next rest x.0
 
@@ -84,7 +84,7 @@ module _ (before push : PcapfilePush) (kept next : InForceShown) (room s : List 
       let same : KeepsInForce kept next = (l.1.3, ap (take kept.0.interfaces) l.1.4) in
       left_comes (take taken packets) l.1.0 l.1.2 same none
 
--- what a call of either kind gave
+-- What a call of either kind returned.
 abbrev CallEnds : ℤ → List ℕ → InForceShown → List ℕ → List PcapfileAnyPacket → Type 0
 CallEnds z s next rest given = (error : PcapfileError) × (told : PcapfileError) × CallComes error told z s next rest given
 
@@ -102,7 +102,7 @@ packet_goes : (z : ℤ) (before push : PcapfilePush) (kept next : InForceShown) 
 unfolding CallComes
 packet_goes z before push kept next room s given more g x = (call_ends before push kept next room s given more z g x).2.0
 
--- the packets of the front, where these bytes were put
+-- The returned packets are those of the front of the bytes that were put.
 AreFront : List ℕ → List ℕ → List PcapfileAnyPacket → Type 0
 AreFront s rest given = (items : List Item) × Front read_format opening items s rest × AllZip ShowsThere (packets_among opening items) given
 
@@ -112,7 +112,7 @@ module _ (calls : List (List ℕ × List PcapfileAnyPacket)) (push : PcapfilePus
       let come = come_before GivesUnder KeepsInForce Known packet_puts packet_goes packet_keeps _ _ calls push ended.0 room ended.1 ([], refl, ended.1.fresh, tt) in
       call_ends ended.1.last push ended.1.last_kept ended.0 room (all_put ended.1.earlier) (all_given ended.1.earlier) ended.1.given ended.1.status ended.1.tells come
 
-  -- The law: however the bytes are cut, and whatever calls are made, what they gave are the packets of the front of all bytes.
+  -- The law: for any pieces of the bytes and any calls, the returned packets are those of the front of all bytes.
   pub pushed_packets : (items : List Item) × Front read_format opening items (all_put calls) (held_in push room) × AllZip ShowsThere (packets_among opening items) (all_given calls)
   unfolding AreFront CallComes
   pushed_packets =

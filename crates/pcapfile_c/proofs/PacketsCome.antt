@@ -1,4 +1,4 @@
--- Blocks of a PcapNg capture that were taken, and the structs that show their packets.
+-- Blocks of a PcapNg capture that were read, and the structs that show their packets.
 use Rattle.std.proofs.Common.{◌≡◌, ◌≢◌, ◌⊎◌, if◌then◌else◌, ℕ, ℤ, pos, List, [], ◌∷◌, ◌++◌, Bool, true, false, refl, sym, ap, subst, ◌∙◌, inl, inr}
 use Rattle.std.specs.Prelude.{filter}
 use Rattle.std.specs.List.{AllZip}
@@ -27,9 +27,9 @@ use Rattle.pcapfile_c.specs.ReadBlocks.{ShowsThere, each_under, is_packet_there,
 use Rattle.pcapfile_c.proofs.Pushes.{not_both}
 use Rattle.pcapfile_c.proofs.RoomLaws.{none_refused_where, not_for_memory}
 
--- ---- blocks whose bodies are good where they are packets
+-- ---- blocks in which the body of each packet is good
 
--- more bytes behind them change nothing
+-- The blocks stay the same if more bytes follow them.
 pub read_more : (q : State) (items : List Item) (s rest more : List ℕ) → Texts read_format q items s rest → Texts read_format q items (s ++ more) (rest ++ more)
 unfolding read_format block_format
 read_more q [] s rest more texts = ap (λ (t : List ℕ). t ++ more) texts
@@ -37,7 +37,7 @@ read_more q (item ∷ items) s rest more texts =
     let text = (blocks_lawful.stable q).text s more texts.0 item texts.1.text in
     (texts.0 ++ more, record { text = text; body = texts.1.body }, read_more item.after items texts.0 rest more texts.2)
 
--- a block that is no packet is one of these
+-- A block that is no packet is one of these.
 plain_read : (q : State) (item : Item) (s rest : List ℕ) → BlockText q item s rest → is_packet_block item ≡ false → ReadText q item s rest
 plain_read q item s rest text none = record { text = text; body = λ is. absurd (not_both (is_packet_block item) is none) }
 
@@ -90,7 +90,7 @@ module _ (q : State) (s : List ℕ) (item : Item) (after : List ℕ) (text : Rea
       let bad : BodySays (number_in (order_at q)) item.block.type_ item.block.body (faulty fault) = subst (λ (b : Framed). BodySays (number_in (order_at q)) b.type_ b.body (faulty fault)) same.0 x.says in
       body_no_fault q item.block good.0 good.1 fault good.2 bad
 
-  -- what is refused is none of these
+  -- Bytes that are refused begin with none of these.
   pub refused_no_read : (told : PcapfileError) (z : ℤ) → TellsRefusal (ReadSays q s) told z → ⊥
   unfolding block_format
   refused_no_read told z (inl x) = lacks_no_text block_format blocks_lawful q told.missing s x.2 item after text.text
@@ -98,17 +98,17 @@ module _ (q : State) (s : List ℕ) (item : Item) (after : List ℕ) (text : Rea
   refused_no_read told z (inr (inr (inl x))) = fault_no_read Io x.2
   refused_no_read told z (inr (inr (inr x))) = fault_no_read Utf8 x.2
 
--- ---- what was taken
+-- ---- what was read
 
--- the state behind these blocks
+-- The state after these blocks.
 abbrev pub behind : State → List Item → State
 behind q items = state_after read_format q items
 
--- the packets among them
+-- The packets among these blocks.
 abbrev pub packets_among : State → List Item → List (State × Item)
 packets_among q items = filter is_packet_there (each_under q items)
 
--- Under this state the bytes s are the texts of these blocks and rest; the structs show what is in force behind them, and their packets.
+-- Under this state, the bytes `s` are the texts of these blocks and `rest`. The structs show the state after them, and their packets.
 abbrev pub PacketsCome : State → List ℕ → PcapfileSection → List PcapfileInterface → List ℕ → List PcapfileAnyPacket → Type 0
 PacketsCome q s section places rest given =
     (items : List Item) × Texts read_format q items s rest × ShowsInForce section places (behind q items) × AllZip ShowsThere (packets_among q items) given
@@ -122,7 +122,7 @@ zip_all R (a ∷ xs) us (b ∷ ys) vs x y = (x.0, zip_all R xs us ys vs x.1 y)
 among_all : (q : State) (items more : List Item) → packets_among q (items ++ more) ≡ packets_among q items ++ packets_among (behind q items) more
 among_all q items more = ap (filter is_packet_there) (under_all q items more) ∙ filter-append is_packet_there (each_under q items) (each_under (behind q items) more)
 
--- more was taken
+-- More blocks were read.
 pub come_all : (q : State) (s mid rest : List ℕ) (section next : PcapfileSection) (places now : List PcapfileInterface) (given more : List PcapfileAnyPacket)
     → (x : PacketsCome q s section places mid given) → (y : PacketsCome (behind q x.0) mid next now rest more) → (z : PacketsCome q s next now rest (given ++ more)) × (z.0 ≡ x.0 ++ y.0)
 come_all q s mid rest section next places now given more x y =
@@ -139,7 +139,7 @@ read_said : (q : State) (item : Item) (s rest : List ℕ) → ReadText q item s 
 unfolding read_format
 read_said q item s rest text = text
 
--- where the last one is a packet
+-- The last block is a packet.
 pub last_is : (items : List Item) (item : Item) → is_packet_block item ≡ true → PacketIsLast (items ++ item ∷ [])
 last_is [] item is = is
 last_is (x ∷ []) item is = is
@@ -150,7 +150,7 @@ pub stops_give_none : {A : Type 0} (q : State) (section : PcapfileSection) (plac
 stops_give_none q section places s error told z all (inl x) = ap (λ (k : ℤ). under_status k all) x.0
 stops_give_none q section places s error told z all (inr x) = none_refused_where (ReadMayGrow q s) (ReadSays q s) told z all x
 
--- what is left gives none, and so the blocks before it are those of the front
+-- What is left gives no packet, so the blocks before it are those of the front.
 pub stops_front : (q : State) (section : PcapfileSection) (places : List PcapfileInterface) (items : List Item) (s rest : List ℕ) (error told : PcapfileError) (z : ℤ) → z ≢ pos 6 → z ≢ pos 11 → Texts read_format q items s rest
     → Stops (behind q items) section places rest error told z → Front read_format q items s rest × TellsRefusal (ReadSays (behind q items) rest) told z
 unfolding read_format
@@ -160,15 +160,15 @@ stops_front q section places items s rest error told z memory room texts (inr sa
     let refused = not_for_memory (ReadMayGrow p rest) (ReadSays p rest) told z memory said in
     (record { texts = texts; longest = λ item after text. refused_no_read p rest item after text told z refused }, refused)
 
--- how a walk to a packet ends behind these blocks: with the packet, or before what gives none
+-- How a search for a packet ends after these blocks: the packet was read, or what is left gives none.
 abbrev pub HasCome : State → List Item → PcapfileSection → List PcapfileInterface → List ℕ → PcapfileAnyPacket → PcapfileAnyPacket → PcapfileError → PcapfileError → ℤ → Type 0
 HasCome q items next now rest old packet error told z =
     ((z ≡ pos 0) × (told ≡ error) × PacketIsLast items) ⊎ ((packet ≡ old) × Stops (behind q items) next now rest error told z)
 
--- a walk to a packet
+-- A search for a packet.
 module _ (q : State) (next : PcapfileSection) (now : List PcapfileInterface) (s rest : List ℕ) (old packet : PcapfileAnyPacket) (error told : PcapfileError) (z : ℤ)
     (t : TakesFrontPacket q next now s rest old packet error told z) where
-  -- what it gives
+  -- What the search returns.
   Comes : Type 0
   Comes = (x : PacketsCome q s next now rest (under_status z (packet ∷ []))) × HasCome q x.0 next now rest old packet error told z
 

@@ -1,4 +1,4 @@
--- Blocks before a packet, and what they put in force, as structs show it.
+-- The blocks before a packet, and the structs that show the state after them.
 use Rattle.std.proofs.Common.{◌≡◌, ◌<◌, ◌≤◌, ◌+◌, ◌-◌, ◌^◌, ◌⊎◌, ℕ, ℤ, zero, suc, List, [], ◌∷◌, ◌++◌, length, min, take, Bool, if◌then◌else◌, true, false, Ok, Err, Option, Some, None, refl, sym, ap, subst, ◌∙◌, inl, inr, arith, w32, to_z, of_z, append_assoc}
 use Rattle.std.specs.Prelude.{IsSome, slice_set, filter}
 use Rattle.std.specs.List.{All, AllZip, slice_get}
@@ -51,7 +51,7 @@ use Rattle.pcapfile_c.proofs.Pushed.{Found, held_says, with_rest}
 use Rattle.pcapfile_c.proofs.PushedBlocks.{block_ends}
 use Rattle.pcapfile_c.proofs.Refused.{tells_refusal_where}
 
--- a place behind the one that is filled is as it was
+-- A place after the filled one is unchanged.
 pub place_other : (xs : List PcapfileInterface) (n i : ℕ) (x : PcapfileInterface) → n < i → slice_get (slice_set xs n x) i ≡ slice_get xs i
 place_other xs n i x lt =
     elim (cases_lt i (length xs)) [
@@ -61,7 +61,7 @@ place_other xs n i x lt =
       | inr past ↦ slice_get_past (slice_set xs n x) i (omega (arith, past, length-set xs n x)) ∙ sym (slice_get_past xs i past)
     ]
 
--- a block that is no section has the order that holds
+-- A block that is no section header has the byte order of the state.
 frame_order : (e : Endianness) (b : Framed) (s rest : List ℕ) → FrameText e b s rest → (b.type_ ≡ types.SectionHeader → ⊥) → b.endianness ≡ e
 unfolding own_order
 frame_order e b s rest x other =
@@ -69,7 +69,7 @@ frame_order e b s rest x other =
     let own : Some e ≡ Some b.endianness = sym (ap (λ (t : Bool). if t then magic_order x.head.magic else Some e) (ne_eqb x.number 0x0A0D0D0A no)) ∙ x.head.own_is in
     sym (same_Some e b.endianness own)
 
--- a refusal says what follows from what it tells
+-- A refusal of one verdict is a refusal of any verdict that follows from it.
 wider : {V W : Type 0} (M N : Type 0) (P : Verdict V → Type 0) (Q : Verdict W → Type 0) → (M → N) → ((n : ℕ) → P (lacks n) → Q (lacks n)) → ((f : Fault) → P (faulty f) → Q (faulty f))
     → (told : PcapfileError) (z : ℤ) → TellsRefusalWhere M P told z → TellsRefusalWhere N Q told z
 wider M N P Q grow lack fault told z (inl (inl x)) = inl (inl (x.0, x.1, lack told.missing x.2))
@@ -78,7 +78,7 @@ wider M N P Q grow lack fault told z (inl (inr (inr (inl x)))) = inl (inr (inr (
 wider M N P Q grow lack fault told z (inl (inr (inr (inr x)))) = inl (inr (inr (inr (x.0, x.1, fault Utf8 x.2))))
 wider M N P Q grow lack fault told z (inr x) = inr (x.0, x.1, grow x.2)
 
--- what refuses a block gives no packet
+-- A refused block gives no packet.
 pub block_stops : (q : State) (section : PcapfileSection) (places : List PcapfileInterface) (s : List ℕ) (error told : PcapfileError) (z : ℤ)
     → TellsRefusalWhere (MayGrow q s) (BlockSays q s) told z → Stops q section places s error told z
 block_stops q section places s error told z x =
@@ -88,29 +88,29 @@ passage_fault : (q : State) (s : List ℕ) (fault : Fault) → PassageSays (orde
 passage_fault q s fault (inl x) = inl (inl x)
 passage_fault q s fault (inr x) = inr x
 
--- nor does what refuses a frame, or the body of a packet
+-- A refused frame gives no packet, nor does a refused body of a packet.
 passage_stops : (q : State) (section : PcapfileSection) (places : List PcapfileInterface) (e : Endianness) (s : List ℕ) (error told : PcapfileError) (z : ℤ) → order_at q ≡ e
     → TellsRefusalWhere (PacketMayGrow e s) (PassageSays e s) told z → Stops q section places s error told z
 passage_stops q section places e s error told z holds x =
     let here : TellsRefusalWhere (PacketMayGrow (order_at q) s) (PassageSays (order_at q) s) told z = subst (λ (o : Endianness). TellsRefusalWhere (PacketMayGrow o s) (PassageSays o s) told z) (sym holds) x in
     inr (wider (PacketMayGrow (order_at q) s) (ReadMayGrow q s) (PassageSays (order_at q) s) (ReadSays q s) (λ grows. inr grows) (λ n lack. lack) (λ fault said. passage_fault q s fault said) told z here)
 
--- a magic number that names an order is not 0
+-- A magic number that names a byte order is not 0.
 named_some : (magic : ℕ) (e : Endianness) → magic_order magic ≡ Some e → magic ≡ 0 → ⊥
 named_some magic e is zero_is = not_named magic zero_is (subst IsSome (sym is) refl)
 
--- the order that the section names is the one that holds
+-- The byte order that the section names is that of the state.
 pub holding : (section : PcapfileSection) (places : List PcapfileInterface) (q : State) (e : Endianness) → ShowsInForce section places q → magic_order section.magic_number ≡ Some e → order_at q ≡ e
 unfolding order_at
 holding section places opening e shows is = absurd (named_some section.magic_number e is shows)
 holding section places (within d interfaces) e shows is = ap or_big (ap magic_order (sym shows.0.0.magic) ∙ is)
 
--- what refuses a passage where a section is in force
+-- A refused packet or skipped block gives no packet in a section.
 pub front_stops : (q : State) (section : PcapfileSection) (places : List PcapfileInterface) (e : Endianness) (s : List ℕ) (error told : PcapfileError) (z : ℤ)
     → ShowsInForce section places q → magic_order section.magic_number ≡ Some e → TellsRefusalWhere (PacketMayGrow e s) (PassageSays e s) told z → Stops q section places s error told z
 front_stops q section places e s error told z shows is x = passage_stops q section places e s error told z (holding section places q e shows is) x
 
--- a block that is passed over
+-- A skipped block.
 pub other_puts : (q : State) (section : PcapfileSection) (places : List PcapfileInterface) (e : Endianness) (s rest : List ℕ) → ShowsInForce section places q → magic_order section.magic_number ≡ Some e
     → OtherText e s rest → PutsBlock q section places s rest
 other_puts opening section places e s rest shows is x = absurd (named_some section.magic_number e is shows)
@@ -133,7 +133,7 @@ packet_unkept types.SectionHeader is = absurd cc
 packet_unkept types.InterfaceDescription is = absurd cc
 packet_unkept _ is = refl
 
--- a packet
+-- A packet.
 pub packet_gives : (q : State) (section : PcapfileSection) (places : List PcapfileInterface) (e : Endianness) (s rest : List ℕ) (packet : PcapfileNgPacket) (shown : PcapfileAnyPacket)
     → ShowsInForce section places q → magic_order section.magic_number ≡ Some e → PacketText e packet s rest
     → ShowsAny (slice_get (take section.interfaces places) packet.interface_id) packet shown → GivesPacket q s rest shown
@@ -160,19 +160,19 @@ packet_gives (within d interfaces) section places e s rest packet shown shows is
       };
     }
 
--- a new section has no interface
+-- A new section has no interface.
 fresh_section : (next : PcapfileSection) (places : List PcapfileInterface) (d : Section) → ShowsState next (within d []) → ShowsInForce next places (within d [])
 fresh_section next places d x =
     let none : next.interfaces ≡ 0 = omega (arith, x.1) in
     (x, subst (λ (n : ℕ). AllZip IsTakenFor [] (take n places)) (sym none) tt)
 
--- a first block that leads anywhere is a section header
+-- A first block that leads to a state is a section header.
 first_leads : (order : Order) (t : BlockType) (s rest : List ℕ) (body : Body) (after : State) → BodySays order t s (whole body rest) → leads opening body ≡ good after
     → (t ≡ types.SectionHeader) × (d : Section) × (after ≡ within d [])
 first_leads order types.SectionHeader s rest body after x e = (refl, x.0, good_in after (within x.0 []) (sym e ∙ ap (leads opening) x.1))
 first_leads order _ s rest body after x e = absurd (bad_no_good _ after (sym (ap (leads opening) x.1) ∙ e))
 
--- the first block
+-- The first block.
 pub first_puts : (q : State) (section next : PcapfileSection) (places : List PcapfileInterface) (s rest : List ℕ) (item : Item) → ShowsInForce section places q → magic_order section.magic_number ≡ None
     → BlockSays q s (whole item rest) → ShowsState next item.after → PutsBlock q next places s rest
 first_puts opening section next places s rest item shows none says after =
@@ -185,7 +185,7 @@ first_puts opening section next places s rest item shows none says after =
 first_puts (within d interfaces) section next places s rest item shows none says after =
     absurd (none_some (magic_order d.magic) (ap magic_order (sym shows.0.0.magic) ∙ none) shows.0.0.named)
 
--- where a section has no interface, no place of one stands for another base
+-- If a section has no interface, no place has a wrong base.
 pub no_bases : (next : PcapfileSection) (places : List PcapfileInterface) → next.interfaces ≡ 0 → HaveBases next places
 no_bases next places none = subst (λ (n : ℕ). All HasBase (take n places)) (sym none) (All-nil HasBase)
 
@@ -197,7 +197,7 @@ none_behind_first next s rest item says after =
     let here : ShowsState next (within led.1 []) = subst (λ (a : State). ShowsState next a) led.2 after in
     omega (arith, here.1)
 
--- nor behind the first block of a capture
+-- After the first block of a capture, no place has a wrong base.
 pub first_bases : (section next : PcapfileSection) (places : List PcapfileInterface) (s rest : List ℕ) → magic_order section.magic_number ≡ None → (order_shown section.magic_number ≡ None → ⊥)
     → (section.magic_number ≡ 0 → (item : Item) × ShowsState next item.after × BlockSays opening s (whole item rest)) → HaveBases next places
 first_bases section next places s rest none not says = elim (eqb_tells section.magic_number 0) [
@@ -205,7 +205,7 @@ first_bases section next places s rest none not says = elim (eqb_tells section.m
   | inr some ↦ absurd (not (ap (λ (t : Bool). if t then Some Big else magic_order section.magic_number) some.0 ∙ none))
 ]
 
--- a section header
+-- A section header.
 pub section_puts_block : (q : State) (next : PcapfileSection) (places : List PcapfileInterface) (body s rest : List ℕ) → LeadingText (order_at q) types.SectionHeader body s rest → TellsSection body (Ok next)
     → PutsBlock q next places s rest
 section_puts_block q next places body s rest text told =
@@ -213,7 +213,7 @@ section_puts_block q next places body s rest text told =
     let means = section_puts b body text.type_is text.body_is q next told in
     (record { block = b; after = within told.0 [] }, ap is_packet text.type_is, record { frame = text.frame; means = means }, fresh_section next places told.0 (told.3, told.4))
 
--- or its refusal
+-- A refused section header.
 pub section_stops : (q : State) (section : PcapfileSection) (places : List PcapfileInterface) (body s rest : List ℕ) (e : PcapError) (error told : PcapfileError) (z : ℤ)
     → LeadingText (order_at q) types.SectionHeader body s rest → TellsSection body (Err e) → ShowsError e told z → Stops q section places s error told (to_z w32 (of_z w32 z))
 section_stops q section places body s rest e error told z text refused shows =
@@ -224,14 +224,14 @@ section_stops q section places body s rest e error told z text refused shows =
 interface_no_section : types.InterfaceDescription ≡ types.SectionHeader → ⊥
 interface_no_section e = absurd cc
 
--- an interface behind a section and its interfaces so far
+-- An interface, after a section and its interfaces so far.
 module _ (d : Section) (interfaces : List Interface) (section : PcapfileSection) (places : List PcapfileInterface) (e : Endianness) (body s rest : List ℕ)
     (shows : ShowsInForce section places (within d interfaces)) (is : magic_order section.magic_number ≡ Some e) (text : LeadingText (order_at (within d interfaces)) types.InterfaceDescription body s rest) where
   interface_order : text.block.endianness ≡ e
   interface_order =
       frame_order (order_at (within d interfaces)) text.block s rest text.frame (λ other. interface_no_section (sym text.type_is ∙ other)) ∙ holding section places (within d interfaces) e shows is
 
-  -- an interface that leads on stands there
+  -- The bytes begin with an interface that leads to the next state.
   abbrev InterfaceText : PcapfileInterface → Type 0
   InterfaceText found = (i : Interface) × IsTakenFor i found × BlockText (within d interfaces) (record { block = text.block; after = within d (interfaces ++ i ∷ []) }) s rest
 
@@ -250,7 +250,7 @@ module _ (d : Section) (interfaces : List Interface) (section : PcapfileSection)
       let count : length (take section.interfaces places) ≡ section.interfaces = length-take-le section.interfaces places (omega (arith, within_places)) in
       omega (arith, long, count, few, length-append interfaces (i ∷ []))
 
--- where it has a place
+-- An interface for which there is a place.
 pub found_puts : (q : State) (section next : PcapfileSection) (places : List PcapfileInterface) (e : Endianness) (body s rest : List ℕ) (found : PcapfileInterface) → ShowsInForce section places q
     → magic_order section.magic_number ≡ Some e → LeadingText (order_at q) types.InterfaceDescription body s rest → BodyTells ShowsInterface IsInterface e types.InterfaceDescription body (Ok (Some found))
     → section.interfaces < length places → section.interfaces < 2 ^ 32 - 1 → next.interfaces ≡ section.interfaces + 1 → next.magic_number ≡ section.magic_number
@@ -269,7 +269,7 @@ shown_base : (body : Body) (found : PcapfileInterface) → ShowsInterface body f
 shown_base (InterfaceBody i) found shows = shows.base
 shown_base _ found shows = absurd shows
 
--- which has the base of its unit
+-- The struct of the interface has the base of its unit.
 pub found_bases : (section : PcapfileSection) (n : ℕ) (places : List PcapfileInterface) (e : Endianness) (body : List ℕ) (found : PcapfileInterface)
     → BodyTells ShowsInterface IsInterface e types.InterfaceDescription body (Ok (Some found)) → section.interfaces < length places → n ≡ section.interfaces + 1
     → HaveBases section places → All HasBase (take n (slice_set places section.interfaces found))
@@ -297,12 +297,12 @@ found_stops (within d interfaces) section places e body s rest error error_befor
     let led = change_refuses section q b error shows.0 (named_some section.magic_number e is) (ap is_kept text.type_is) faults in
     block_stops q section places s error_before told (to_z w32 (of_z w32 z)) (tells_refusal_where (MayGrow q s) (BlockSays q s) error told z (body_refuses q s b rest text.frame error led) shown)
 
--- Blocks one after the other, none of them a packet, and these structs show what is in force behind them.
+-- Blocks one after the other, none of them a packet, and structs that show the state after them.
 abbrev pub PutsBlocks : State → PcapfileSection → List PcapfileInterface → List ℕ → List ℕ → Type 0
 PutsBlocks q next now s mid =
     (passed : List Item) × Texts block_format q passed s mid × (filter is_packet_block passed ≡ []) × ShowsInForce next now (state_after block_format q passed)
 
--- one block more
+-- One more block was read.
 pub puts_more : (q : State) (section next : PcapfileSection) (places now : List PcapfileInterface) (s mid rest : List ℕ) → (x : PutsBlocks q section places s mid)
     → PutsBlock (state_after block_format q x.0) next now mid rest → PutsBlocks q next now s rest
 puts_more q section next places now s mid rest x y =
@@ -311,13 +311,13 @@ puts_more q section next places now s mid rest x y =
     let none : filter is_packet_block (x.0 ++ y.0 ∷ []) ≡ [] = filter-append is_packet_block x.0 (y.0 ∷ []) ∙ ap (λ (l : List Item). l ++ filter is_packet_block (y.0 ∷ [])) x.2 ∙ one in
     (x.0 ++ y.0 ∷ [], texts_push block_format q x.0 y.0 s mid rest x.1 says, none, subst (λ (a : State). ShowsInForce next now a) (sym (behind_push q x.0 y.0)) y.3)
 
--- a block that is no packet, where any may stand
+-- A block that is no packet, as a step of a search for any block.
 pub puts_step : (q : State) (section next : PcapfileSection) (places now : List PcapfileInterface) (s rest : List ℕ) (packet : PcapfileAnyPacket) (error told : PcapfileError) (r : Option ℤ)
     → PutsTells q section next places now s rest error told r → StepTells q section next places now s rest packet packet error told r
 puts_step q section next places now s rest packet error told None x = (x.0, refl, x.1)
 puts_step q section next places now s rest packet error told (Some z) x = (x.0, x.1, inr (refl, x.2, x.3))
 
--- ---- what is taken from what is held
+-- ---- what is read from the held bytes
 
 walk_ends : (q : State) (section : PcapfileSection) (places : List PcapfileInterface) (s rest : List ℕ) (old packet : PcapfileAnyPacket) (error told : PcapfileError) (z : ℤ)
     → EndsWalk q section places s rest old packet error told z → (t : List ℕ) × (s ≡ t ++ rest)
@@ -331,7 +331,7 @@ front_ends q next now s rest old packet error told z x =
     let m = walk_ends (state_after block_format q x.passed) next now x.mid rest old packet error told z x.ends in
     (o.0 ++ m.0, o.1 ∙ ap (λ (l : List ℕ). o.0 ++ l) m.1 ∙ sym (append_assoc o.0 m.0 rest))
 
--- a packet is taken from what is held
+-- A packet is read from the held bytes.
 pub packet_takes : (before : PcapfilePush) (q : State) (section next : PcapfileSection) (places now : List PcapfileInterface) (room s rest : List ℕ) (old packet : PcapfileAnyPacket) (error told : PcapfileError) (z : ℤ)
     → Found before room s → TakesFrontPacket q next now s rest old packet error told z
     → TakesNextPacket q before (with_rest before before.header rest) section next places now room old packet error told z
@@ -344,7 +344,7 @@ pub shows_state : (q : State) (section : PcapfileSection) (places : List Pcapfil
 shows_state opening section places shows = shows
 shows_state (within d interfaces) section places shows = shows.0
 
--- a body that is read leads to a section in force
+-- The body of a block never leads back to the opening state.
 led_within : (q : State) (body : Body) → leads q body ≡ good opening → ⊥
 led_within q (SectionBody section) e = absurd cc
 led_within opening (InterfaceBody b) e = absurd cc
@@ -360,7 +360,7 @@ means_within : (q : State) (b : Framed) → Means q b (good opening) → ⊥
 means_within opening b (body, rest, says, e) = led_within opening body e
 means_within (within s is) b means = means_if (is_kept b.type_) (within s is) b (λ k e. absurd cc) means
 
--- so many interfaces are in force there at least as the struct counts
+-- The state has at least as many interfaces as the struct counts.
 counts : (section : PcapfileSection) (places : List PcapfileInterface) (a : State) → (a ≡ opening → ⊥) → ShowsInForce section places a → section.interfaces ≤ length (interfaces_at a)
 counts section places opening none shows = absurd (none refl)
 counts section places (within s is) none shows = omega (arith, shows.0.1)
@@ -368,7 +368,7 @@ counts section places (within s is) none shows = omega (arith, shows.0.1)
 counts_behind : (q : State) (b : Framed) (after : State) (section : PcapfileSection) (places : List PcapfileInterface) → Means q b (good after) → ShowsInForce section places after → section.interfaces ≤ length (interfaces_at after)
 counts_behind q b after section places means shows = counts section places after (λ is. means_within q b (subst (λ (a : State). Means q b (good a)) is means)) shows
 
--- behind one block more other places are as they were
+-- After one more block, all other places are unchanged.
 others_more : (q : State) (passed : List Item) (item : Item) (places mid now : List PcapfileInterface) (section : PcapfileSection) (s rest : List ℕ)
     → BlockSays q s (whole item rest) → ShowsInForce section now item.after → OthersStay passed places mid
     → ((i : ℕ) → section.interfaces ≤ i → slice_get now i ≡ slice_get mid i) → OthersStay (passed ++ item ∷ []) places now
@@ -377,7 +377,7 @@ others_more q passed item places mid now section s rest says shows before step i
     let count = counts_behind q item.block item.after section now says.means shows in
     step i (omega (arith, count, parts.1)) ∙ before i parts.0
 
--- one block more, and other places are as they were
+-- One more block was read, and all other places are unchanged.
 pub puts_and_leaves : (q : State) (section next : PcapfileSection) (start places now : List PcapfileInterface) (s mid rest : List ℕ) → (x : PutsBlocks q section places s mid)
     → PutsBlock (state_after block_format q x.0) next now mid rest → OthersStay x.0 start places → ((i : ℕ) → next.interfaces ≤ i → slice_get now i ≡ slice_get places i)
     → (y : PutsBlocks q next now s rest) × OthersStay y.0 start now
@@ -387,7 +387,7 @@ puts_and_leaves q section next start places now s mid rest x y before step = (
   others_more (state_after block_format q x.0) x.0 y.0 start places now next mid rest y.2 y.3 before step,
 )
 
--- and where a walk ends: behind a packet, or before what gives none
+-- At the end of a search, with a packet or without, all other places are unchanged.
 pub others_done : (q : State) (section : PcapfileSection) (places start now : List PcapfileInterface) (next : PcapfileSection) (s mid rest : List ℕ) (old packet : PcapfileAnyPacket) (error told : PcapfileError) (z : ℤ)
     → (x : PutsBlocks q section places s mid) → next ≡ section → now ≡ places → EndsWalk (state_after block_format q x.0) section places mid rest old packet error told z → OthersStay x.0 start places
     → LeavesOthers q next start now s rest
@@ -404,7 +404,7 @@ others_done q section places start now next s mid rest old packet error told z x
 others_done q section places start now next s mid rest old packet error told z x same_section same (inr (kept, is, stops)) others =
     rw (same_section, same, is) (record { passed = x.0; texts = x.1; in_force = x.3; others = others })
 
--- where nothing is taken
+-- If nothing is read, all places are unchanged.
 pub others_none : (q : State) (section : PcapfileSection) (places : List PcapfileInterface) (s : List ℕ) → ShowsInForce section places q → LeavesOthers q section places places s s
 others_none q section places s shows = record { passed = []; texts = refl; in_force = shows; others = λ i below. refl }
 
@@ -413,7 +413,7 @@ unfolding block_format
 behind_all q [] more = refl
 behind_all q (item ∷ items) more = behind_all item.after items more
 
--- one call behind another
+-- After two calls, all other places are unchanged.
 pub others_joined : (q : State) (section next : PcapfileSection) (places between now : List PcapfileInterface) (s mid rest : List ℕ) → (x : LeavesOthers q section places between s mid)
     → LeavesOthers (state_after block_format q x.passed) next between now mid rest → LeavesOthers q next places now s rest
 others_joined q section next places between now s mid rest x y =
@@ -429,14 +429,14 @@ others_joined q section next places between now s mid rest x y =
           y.others i back ∙ x.others i front;
     }
 
--- of what is taken from what is held
+-- All other places are unchanged by a call that reads from the held bytes.
 pub others_held : (before : PcapfilePush) (q : State) (next : PcapfileSection) (places now : List PcapfileInterface) (room s rest : List ℕ) → Found before room s → LeavesOthers q next places now s rest
     → LeavesOthers q next places now (held_in before room) (held_in (with_rest before before.header rest) room)
 others_held before q next places now room s rest found x =
     let o = texts_own block_format blocks_lawful q x.passed s rest x.texts in
     (held_says (λ s rest. LeavesOthers q next places now s rest) before before.header room s rest found (o.0, o.1) x).2
 
--- a walk ends behind blocks that are no packets
+-- A search ends after blocks that are no packets.
 pub walk_done : (q : State) (section next : PcapfileSection) (places now : List PcapfileInterface) (s mid rest : List ℕ) (old before packet : PcapfileAnyPacket) (error known told : PcapfileError) (z : ℤ)
     → before ≡ old → known ≡ error → (x : PutsBlocks q section places s mid) → StepTells (state_after block_format q x.0) section next places now mid rest before packet known told (Some z)
     → TakesFrontPacket q next now s rest old packet error told z

@@ -1,4 +1,4 @@
--- Blocks that are taken from what is held.
+-- Blocks that are read from the held bytes.
 use Rattle.std.proofs.Common.{◌≡◌, ◌-◌, ℕ, ℤ, List, [], ◌++◌, length, take, refl, sym, ap, ◌∙◌, arith, inl, inr, length-drop}
 use Rattle.std.proofs.lemmas.List.{length-take-le}
 use Rattle.pcap_core.specs.Answer.{whole}
@@ -15,7 +15,7 @@ use Rattle.pcapfile_c.specs.Push.{held_in}
 use Rattle.pcapfile_c.specs.PushBlocks.{TakesFrontBlock, TakesNextBlock, RefusesNextBlock}
 use Rattle.pcapfile_c.proofs.Pushed.{Found, between_same, held_says, with_rest}
 
--- what follows a block's text
+-- What follows the text of a block.
 pub block_ends : (q : State) (s rest : List ℕ) (item : Item) → BlockSays q s (whole item rest) → (t : List ℕ) × (s ≡ t ++ rest)
 unfolding block_format
 block_ends q s rest item x = let o = blocks_lawful.own q s rest item x in (o.0, o.1)
@@ -29,7 +29,7 @@ module _ (before : PcapfilePush) (section next : PcapfileSection) (room : List �
   front_ends q s rest (inl x) = block_ends q s rest x.2 x.5
   front_ends q s rest (inr x) = ([], sym x.1)
 
-  -- a block is taken from what is held
+  -- A block is read from the held bytes.
   pub block_takes : (q : State) → TakesBlock q section next left now old block error told z
       → TakesNextBlock q before (with_rest before before.header now.bytes.now) section next room old block error told z
   block_takes q takes =
@@ -38,7 +38,7 @@ module _ (before : PcapfilePush) (section next : PcapfileSection) (room : List �
       let held = held_says (λ s rest. TakesFrontBlock q section next s rest old block error told z) before before.header room left.bytes.now now.bytes.now found ends f in
       inl ((held.0, held.1, refl, refl), held.2)
 
-  -- or the magic number is refused, and all that is held stays
+  -- The magic number names no byte order, and all held bytes stay held.
   pub order_refuses : RefusesOrder section next left now old block told z → RefusesNextBlock before (with_rest before before.header now.bytes.now) section next room old block error told z
   order_refuses x =
       let is : left.bytes.now ≡ held_in before room = found.2 ∙ between_same before.begin before.end room found.0 in

@@ -32,10 +32,10 @@ stops_not_0 q section places s error told z (inl x) e = omega (arith, sym (ap (o
 stops_not_0 q section places s error told z (inr (inl x)) e = refusal_not_0 (ReadSays q s) told z x e
 stops_not_0 q section places s error told z (inr (inr x)) e = omega (arith, sym (ap (of_z w32) x.0) ∙ e)
 
--- behind packets that fill the first places a walk to the next one ended
+-- A search for the next packet ended, after packets that fill the first places.
 module _ (q : State) (s mid rest : List ℕ) (section next : PcapfileSection) (places now : List PcapfileInterface) (packets : List PcapfileAnyPacket) (k : ℕ) (old packet : PcapfileAnyPacket) (error told : PcapfileError) (z : ℤ)
     (x : PacketsCome q s section places mid (take k packets)) (t : TakesFrontPacket (behind q x.0) next now mid rest old packet error told z) where
-  -- with a packet
+  -- The search found a packet.
   pub packet_fills : k < length packets → PacketIsLast x.0 → of_z w32 z ≡ 0 → (y : PacketsCome q s next now rest (take (k + 1) (slice_set packets k packet))) × PacketIsLast y.0 × (told ≡ error)
   packet_fills few last ok =
       let p = behind q x.0 in
@@ -72,7 +72,7 @@ module _ (q : State) (s mid rest : List ℕ) (section next : PcapfileSection) (p
       } in
       subst (λ (l : List PcapfileAnyPacket). TakesFrontNgPackets q next now s rest before l k error told z) (sym same) here
 
-  -- before what gives none
+  -- The search found no packet.
   pub none_fills : (before after : List PcapfileAnyPacket) (start : PcapfileError) → (of_z w32 z ≡ 0 → ⊥) → k < length packets → (packet ≡ old → after ≡ packets) → drop k packets ≡ drop k before → error ≡ start
       → TakesFrontNgPackets q next now s rest before after k start told z
   none_fills before after start refused few kept others is =
@@ -82,14 +82,14 @@ module _ (q : State) (s mid rest : List ℕ) (section next : PcapfileSection) (p
         | inr e ↦ subst (λ (a : PcapfileError). TakesFrontNgPackets q next now s rest before after k a told z) is (none_filled before after few (kept e.0) others f.0 e.1)
       ]
 
--- ---- what is taken from what is held
+-- ---- what is read from the held bytes
 
 pub read_blocks : (q : State) (items : List Item) (s rest : List ℕ) → Texts read_format q items s rest → Texts block_format q items s rest
 unfolding read_format block_format
 read_blocks q [] s rest texts = texts
 read_blocks q (item ∷ items) s rest texts = (texts.0, texts.1.text, read_blocks item.after items texts.0 rest texts.2)
 
--- packets are taken from what is held
+-- Packets are read from the held bytes.
 pub ng_packets_take : (before : PcapfilePush) (q : State) (section next : PcapfileSection) (places now : List PcapfileInterface) (room s rest : List ℕ) (old packets : List PcapfileAnyPacket) (taken : ℕ) (error told : PcapfileError) (z : ℤ)
     → Found before room s → TakesFrontNgPackets q next now s rest old packets taken error told z
     → TakesNextNgPackets q before (with_rest before before.header rest) section next places now room old packets taken error told z

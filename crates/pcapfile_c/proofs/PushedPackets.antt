@@ -1,4 +1,4 @@
--- Many packets of a capture that comes in pieces.
+-- Many packets of a classic capture that comes in pieces.
 use Rattle.std.proofs.Common.{◌≡◌, ◌≤◌, ◌-◌, ℕ, ℤ, List, [], ◌++◌, length, map, take, drop, refl, sym, ap, ◌∙◌, arith, append_assoc, length-append, length-take, inl, inr}
 use Rattle.pcap_core.specs.Answer.{number_in}
 use Rattle.pcap_items.proofs.Formats.{texts_own}
@@ -14,7 +14,7 @@ use Rattle.pcapfile_c.specs.declared.push.PcapfilePush.{PcapfilePush}
 use Rattle.pcapfile_c.specs.PushBatches.{FillsPlaces, TakesFrontPackets, TakesNextPackets}
 use Rattle.pcapfile_c.proofs.Pushed.{Found, held_says, opened_ends, with_rest}
 
--- what is left is the end of what was there
+-- What is left is the end of the bytes.
 fills_ends : (magic : ℕ) (s rest : List ℕ) (old packets : List PcapfilePacket) (taken : ℕ) (error told : PcapfileError) (z : ℤ)
     → FillsPlaces magic s rest old packets taken error told z → (t : List ℕ) × (s ≡ t ++ rest)
 fills_ends magic s rest old packets taken error told z x =
@@ -31,11 +31,11 @@ packets_end before now s rest old packets taken error told z (inl x) =
     (o.0 ++ p.0, o.1 ∙ ap (λ (l : List ℕ). o.0 ++ l) p.1 ∙ sym (append_assoc o.0 p.0 rest))
 packets_end before now s rest old packets taken error told z (inr x) = ([], sym x.3)
 
--- no more is left than stood there
+-- What is left is no longer than the room before the end of the held bytes.
 pub rest_fits : (b e : ℕ) (room held t rest : List ℕ) → held ≡ take (e - b) (drop b room) → held ≡ t ++ rest → length rest ≤ e
 rest_fits b e room held t rest is text = omega (arith, ap length is ∙ length-take (e - b) (drop b room), ap length text ∙ length-append t rest)
 
--- packets are taken from what is held
+-- Packets are read from the held bytes.
 pub packets_take : (before : PcapfilePush) (header : PcapfileHeader) (room s rest : List ℕ) (old packets : List PcapfilePacket) (taken : ℕ) (error told : PcapfileError) (z : ℤ)
     → Found before room s → TakesFrontPackets before.header header s rest old packets taken error told z
     → TakesNextPackets before (with_rest before header rest) room old packets taken error told z

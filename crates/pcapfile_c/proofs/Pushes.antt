@@ -1,4 +1,4 @@
--- Calls on a capture that comes in pieces, one after the other.
+-- Sequences of calls on a classic capture that comes in pieces.
 use Rattle.std.proofs.Common.{take, map, ◌≡◌, ℕ, ℤ, List, [], ◌∷◌, ◌++◌, false, Bool, T, refl, sym, ap, subst, ◌∙◌, inl, inr, pos}
 use Rattle.std.specs.Prelude.{IsTrue, ◌≢◌, ◌⊎◌}
 use Rattle.pcap_core.specs.Answer.{number_in, whole}
@@ -27,12 +27,12 @@ use Rattle.pcapfile_c.specs.Pushes.TakingCall.{one, many}
 use Rattle.pcapfile_c.specs.RoomCalls.{all_given, all_put, under_status}
 use Rattle.pcapfile_c.proofs.RoomLaws.{come_before, given_all, none_refused, put_all, refused_no_text, stays}
 
--- packets under a magic number
+-- Packets under a magic number.
 abbrev pub Under : ℕ → List Captured → List ℕ → List ℕ → Type 0
 Under magic packets s rest = Texts (packet_format packet_limit (number_in (order_of magic)) (resolution_of magic)) tt packets s rest
 
--- Of the bytes s no header is in force yet, all are held, and there is no packet; or s is the text of the header in force,
--- those of the packets, and what is held.
+-- There is no header yet, all of the bytes `s` are held, and there is no packet; or `s` is the text of the header, those of the packets,
+-- and the held bytes.
 abbrev pub HaveCome : List ℕ → PcapfileHeader → List ℕ → List Captured → Type 0
 HaveCome s now held packets =
     ((is_magic now.magic_number ≡ false) × (held ≡ s) × (packets ≡ []))
@@ -41,11 +41,11 @@ HaveCome s now held packets =
 pub not_both : (b : Bool) → IsTrue b → b ≡ false → ⊥
 not_both b is wrong = subst T (sym is ∙ wrong) tt
 
--- the same, beside which nothing is kept
+-- The same, with nothing kept beside the room.
 abbrev Known : List ℕ → PcapfileHeader → Unit {0} → List ℕ → List Captured → Type 0
 Known s now kept held packets = HaveCome s now held packets
 
--- bytes were put
+-- More bytes were put.
 put_comes : (s t held : List ℕ) (now : PcapfileHeader) (kept : Unit {0}) (packets : List Captured) → HaveCome s now held packets → HaveCome (s ++ t) now (held ++ t) packets
 put_comes s t held now kept packets (inl x) = inl (x.0, ap (λ (l : List ℕ). l ++ t) x.1, x.2)
 put_comes s t held now kept packets (inr x) =
@@ -55,7 +55,7 @@ put_comes s t held now kept packets (inr x) =
     let more = texts_more (packet_format packet_limit order r) (packets_lawful packet_limit order r) tt packets x.1 held t x.4 in
     inr (x.0, x.1 ++ t, x.2, header_stable.text s t x.1 x.0 x.3, more)
 
--- the header's text was taken, where none was in force
+-- The text of the header was read, if there was no header yet.
 pub opened_comes : (before now : PcapfileHeader) (held mid s : List ℕ) (packets : List Captured) → Opened before now held mid → HaveCome s before held packets
     → (header : PcapHeader) × (after : List ℕ) × (now ≡ shown_header header) × HeaderText header s after × Under header.magic_number packets after mid
 opened_comes before now held mid s packets (inl o) (inl x) = absurd (not_both (is_magic before.magic_number) o.0 x.0)
@@ -68,7 +68,7 @@ opened_comes before now held mid s packets (inr o) (inr x) =
     let invalid : is_magic x.0.magic_number ≡ false = subst (λ (h : PcapfileHeader). is_magic h.magic_number ≡ false) x.2 o.0 in
     absurd (not_both (is_magic x.0.magic_number) x.3.valid invalid)
 
--- a packet was taken
+-- A packet was read.
 pub packet_comes : (before now : PcapfileHeader) (held rest s : List ℕ) (packets : List Captured) (packet : Captured) → NextText before now packet held rest → HaveCome s before held packets
     → HaveCome s now rest (packets ++ packet ∷ [])
 packet_comes before now held rest s packets packet n come =
@@ -81,7 +81,7 @@ packet_comes before now held rest s packets packet n come =
     let texts = texts_push (packet_format packet_limit order r) tt packets packet o.1 n.0 rest o.4 says in
     inr (o.0, o.1, o.2, o.3, texts)
 
--- a packet was taken, or none
+-- A packet was read, or none.
 next_comes : (before now : PcapfileHeader) (held rest s : List ℕ) (packets : List Captured) (old packet : PcapfilePacket) (error told : PcapfileError) (z : ℤ)
     → TakesFront before now held rest old packet error told z → HaveCome s before held packets → HaveCome s now rest (packets ++ under_status z (captured packet ∷ []))
 next_comes before now held rest s packets old packet error told z (inl x) come =
@@ -94,7 +94,7 @@ next_comes before now held rest s packets old packet error told z (inr (inr x)) 
     let none = none_refused (HeaderSays held) told z (captured packet ∷ []) x.4 in
     stays Known s held rest before now tt tt packets (under_status z (captured packet ∷ [])) x.2 refl x.3 none come
 
--- packets were taken, or none
+-- Packets were read, or none.
 many_come : (before now : PcapfileHeader) (held rest s : List ℕ) (packets : List Captured) (old places : List PcapfilePacket) (taken : ℕ) (error told : PcapfileError) (z : ℤ)
     → TakesFrontPackets before now held rest old places taken error told z → HaveCome s before held packets → HaveCome s now rest (packets ++ map captured (take taken places))
 many_come before now held rest s packets old places taken error told z (inl x) come =
@@ -107,7 +107,7 @@ many_come before now held rest s packets old places taken error told z (inl x) c
 many_come before now held rest s packets old places taken error told z (inr x) come =
     stays Known s held rest before now tt tt packets (map captured (take taken places)) x.2 refl x.3 (ap (λ (n : ℕ). map captured (take n places)) x.0.0) come
 
--- a call that takes packets
+-- A call that reads packets.
 taking_comes : (z : ℤ) (before push : PcapfilePush) (kept next : Unit {0}) (room s : List ℕ) (packets given : List Captured) → TakingCall before push room z given → HaveCome s before.header (held_in before room) packets
     → HaveCome s push.header (held_in push room) (packets ++ given)
 taking_comes z before push kept next room s packets given (one old packet error told (inl x)) come = next_comes before.header push.header (held_in before room) (held_in push room) s packets old packet error told z x.3 come
@@ -119,7 +119,7 @@ taking_comes z before push kept next room s packets given (many old places taken
     let none : map captured (take taken places) ≡ [] = ap (λ (n : ℕ). map captured (take n places)) x.3.0 in
     stays Known s (held_in before room) (held_in push room) before.header push.header tt tt packets (map captured (take taken places)) (ap (λ (p : PcapfilePush). p.header) x.2) refl (ap (λ (p : PcapfilePush). held_in p room) x.2) none come
 
--- what is refused begins no packet
+-- Bytes that are refused begin with no packet.
 pub no_packet : (magic : ℕ) (left : List ℕ) (told : PcapfileError) (z : ℤ) → TellsRefusal (PacketsSaid magic left) told z → (v : Captured) (after : List ℕ)
     → (packet_format packet_limit (number_in (order_of magic)) (resolution_of magic)).says tt left (whole v after) → ⊥
 unfolding packet_format
@@ -128,7 +128,7 @@ no_packet magic left told z refused v after text =
     let r = resolution_of magic in
     refused_no_text (packet_format packet_limit order r) (packets_lawful packet_limit order r) tt left told z refused v after text
 
--- why no packet follows behind the header in force
+-- The reason why no packet follows after the header.
 abbrev Refuses : PcapfilePush → List ℕ → ℤ → Type 0
 Refuses push room z = (told : PcapfileError) × TellsRefusal (PacketsSaid push.header.magic_number (held_in push room)) told z
 
@@ -148,7 +148,7 @@ taking_refuses before push room given z (many old places taken error told (inl (
     absurd (not_both (is_magic push.header.magic_number) valid none)
 taking_refuses before push room given z (many old places taken error told (inr x)) some known valid = absurd (known x.0)
 
--- where a packet is refused behind all packets that came, these are the front's
+-- If the bytes after all returned packets are refused, these packets are those of the front.
 front_come : (now : PcapfileHeader) (left s : List ℕ) (packets : List Captured) (told : PcapfileError) (z : ℤ) → IsTrue (is_magic now.magic_number) → TellsRefusal (PacketsSaid now.magic_number left) told z
     → HaveCome s now left packets → (header : PcapHeader) × (now ≡ shown_header header) × CaptureFront packet_limit header packets s left
 front_come now left s packets told z valid refused (inl x) = absurd (not_both (is_magic now.magic_number) valid x.0)
@@ -157,11 +157,11 @@ front_come now left s packets told z valid refused (inr o) =
     let front : Front (format_under packet_limit o.0) tt packets o.1 left = record { texts = o.4; longest = λ v after text. no_packet o.0.magic_number left told z here v after text } in
     (o.0, o.2, record { after = o.1; header_text = o.3; front = front })
 
--- between two calls nothing changes beside the room
+-- Between two calls, nothing beside the room changes.
 nothing_changes : (s held : List ℕ) (header : PcapfileHeader) (kept next : Unit {0}) (packets : List Captured) → KeepsNothing kept next → HaveCome s header held packets → HaveCome s header held packets
 nothing_changes s held header kept next packets keeps come = come
 
--- The law: however the bytes are cut, and whatever calls are made, what they gave are the packets of the front of all bytes.
+-- The law: for any pieces of the bytes and any calls, the returned packets are those of the front of all bytes.
 pub pushes_front : (calls : List (List ℕ × List Captured)) (push : PcapfilePush) (room : List ℕ) → HaveEnded calls push room
     → (header : PcapHeader) × (push.header ≡ shown_header header) × CaptureFront packet_limit header (all_given calls) (all_put calls) (held_in push room)
 pushes_front calls push room x =

@@ -1,4 +1,4 @@
--- What was put is read as it was.
+-- Written blocks are read as what the program passed.
 use Rattle.std.proofs.Common.{◌≡◌, ℕ, ℤ, ◌+◌, ◌-◌, ◌<◌, List, [], ◌∷◌, map, refl, sym, ap, subst, ◌∙◌, arith, Option, Some, false, true, Bool, inl, inr, rules}
 use Rattle.std.specs.Prelude.{if◌then◌else◌, nat_lt, unwrap_or, IsSome, FitsSigned}
 use Rattle.std.specs.Int.{w64, cast_signed, cast_unsigned}
@@ -29,7 +29,7 @@ use Rattle.pcapfile_values.specs.Bodies.{base_of, unit_shown}
 use Rattle.pcapfile_c.specs.Putting.{Given, IsBlockOf, MayStandAt, a_section, an_interface, a_packet}
 use Rattle.pcapfile_c.specs.PutsAgain.{ArePut, IsReadAs, IsShownBy, section_given}
 
--- the unit of a byte is that of its base and exponent
+-- The unit that a byte encodes is that of its base and exponent.
 byte_unit : (base exponent : ℕ) → exponent < 128 → unit_shown base exponent ≡ unit_of (resolution_byte base exponent)
 byte_unit base exponent small = elim (eqb_tells base 2) [
   | inl two ↦
@@ -43,7 +43,7 @@ byte_unit base exponent small = elim (eqb_tells base 2) [
       subst (λ (is : Bool). (if is then Binary exponent else Decimal exponent) ≡ unit_of (if is then exponent + 128 else exponent)) (sym ten.0) said
 ]
 
--- the base of a unit has the same unit
+-- The base of a unit, with its exponent, gives the same unit.
 same_unit : (base exponent : ℕ) → unit_shown (base_of (unit_shown base exponent)) exponent ≡ unit_shown base exponent
 same_unit base exponent =
     let Same : Bool → Type 0 = λ is. unit_shown (base_of (if is then Binary exponent else Decimal exponent)) exponent ≡ (if is then Binary exponent else Decimal exponent) in
@@ -52,7 +52,7 @@ same_unit base exponent =
       | inr ten ↦ subst Same (sym ten.0) refl
     ]
 
--- the number under a code, of a unit and an offset
+-- The offset is read again from the options of a unit and an offset.
 offset_again : (resolution : ℕ) (z : ℤ) → FitsSigned w64 z → z ≡ cast_signed w64 (unwrap_or (first_under 14 number_in (clock_options resolution (cast_unsigned w64 z))) 0)
 offset_again resolution z fits =
     let bits = cast_unsigned w64 z in
@@ -80,7 +80,7 @@ interface_shown i body (link, link_is, small, offset, is) =
     } in
     subst (λ (b : Body). IsShownBy b (an_interface i)) (sym is) shown
 
--- each kind is shown by the struct that was given, where its section names an order
+-- The passed struct shows its block, if its section names a byte order.
 block_shown : (given : Given) (section : PcapfileSection) (e : Endianness) (body : Body) → magic_order (section_given section given).magic_number ≡ Some e → IsBlockOf given body → IsShownBy body given
 block_shown (a_section s) section e body order is =
     let some : IsSome {T = Endianness} (Some e) = search rules in
@@ -91,7 +91,7 @@ block_shown (a_packet p) section e body order is =
     let shown : IsShownBy (packet_block p) (a_packet p) = record { type_is = refl; interface_is = refl; timestamp_is = refl; original_is = refl; bytes_are = refl } in
     subst (λ (b : Body). IsShownBy b (a_packet p)) (sym is) shown
 
--- none of them ends with bytes that are read with their padding
+-- No such block ends with bytes that are read with their padding.
 block_kept : (given : Given) (body : Body) → IsBlockOf given body → kept_body body ≡ body
 block_kept (a_section s) body is = subst (λ (b : Body). kept_body b ≡ b) (sym is) refl
 block_kept (an_interface i) body (link, link_is, small, offset, is) = subst (λ (b : Body). kept_body b ≡ b) (sym is) refl
@@ -102,11 +102,11 @@ may_stand (a_section s) section at order same = tt
 may_stand (an_interface i) section at order same = (order, same)
 may_stand (a_packet p) section at order same = (order, same)
 
--- blocks of what was given
+-- The bodies are those of what was passed.
 abbrev AreShown : List Body → List Given → Type 0
 AreShown = AllZip (λ (body : Body) (given : Given). IsShownBy body given)
 
--- the blocks that were put behind others
+-- Blocks that were written after others.
 record WrittenAs (at : Place) (puts : List Given) (bytes : List ℕ) : Type 0 where
   bodies : List Body
   end : Place
@@ -129,7 +129,7 @@ blocks_written section at (given ∷ others) bytes order same (next, text, more,
       kept = ap (λ (b : Body). b ∷ map kept_body tail.bodies) (block_kept given one.body one.body_is) ∙ ap (λ (bs : List Body). one.body ∷ bs) tail.kept;
     }
 
--- what is read of blocks is shown by what was given for them
+-- The blocks that are read are what was passed for them.
 all_read : (items : List Item) (bodies : List Body) (puts : List Given) → AllZip IsBodyOf items bodies → AreShown bodies puts → AllZip IsReadAs items puts
 all_read [] [] [] said shown = tt
 all_read (item ∷ items) (body ∷ bodies) (given ∷ puts) said shown = ((body, said.0, shown.0), all_read items bodies puts said.1 shown.1)

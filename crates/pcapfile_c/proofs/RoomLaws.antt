@@ -1,4 +1,4 @@
--- Calls on a capture that comes in pieces, one after the other.
+-- Sequences of calls on a capture that comes in pieces.
 use Rattle.std.proofs.Common.{◌≡◌, ◌≢◌, ℕ, ℤ, pos, List, [], ◌∷◌, ◌++◌, take, drop, refl, ap, ◌∙◌, append_assoc, append-nil, inl, inr}
 use Rattle.std.proofs.lemmas.List.Concat.{flat_map-append}
 use Rattle.pcap_core.specs.Answer.{Verdict, whole}
@@ -13,7 +13,7 @@ use Rattle.pcapfile_c.specs.Push.{MakesSpace, held_in}
 use Rattle.pcapfile_c.specs.RoomCalls.{Ended, RoomCall, RoomCalls, all_given, all_put, under_status}
 use Rattle.pcapfile_c.specs.RoomCalls.RoomCall.{space, put, gives, between}
 
--- a refusal gives nothing
+-- A refusal returns nothing.
 pub none_refused : {V A : Type 0} (IsSaid : Verdict V → Type 0) (told : PcapfileError) (z : ℤ) (all : List A) → TellsRefusal IsSaid told z → under_status z all ≡ []
 none_refused IsSaid told z all (inl x) = ap (λ (k : ℤ). under_status k all) x.0
 none_refused IsSaid told z all (inr (inl x)) = ap (λ (k : ℤ). under_status k all) x.0
@@ -24,12 +24,12 @@ pub none_refused_where : {V A : Type 0} (M : Type 0) (IsSaid : Verdict V → Typ
 none_refused_where M IsSaid told z all (inl x) = none_refused IsSaid told z all x
 none_refused_where M IsSaid told z all (inr x) = ap (λ (k : ℤ). under_status k all) x.0
 
--- a refusal that isn't for memory
+-- A refusal that isn't for lack of memory.
 pub not_for_memory : {V : Type 0} (M : Type 0) (IsSaid : Verdict V → Type 0) (told : PcapfileError) (z : ℤ) → z ≢ pos 6 → TellsRefusalWhere M IsSaid told z → TellsRefusal IsSaid told z
 not_for_memory M IsSaid told z had (inl x) = x
 not_for_memory M IsSaid told z had (inr x) = absurd (had x.0)
 
--- what is refused begins no text
+-- Bytes that are refused begin with no text.
 pub refused_no_text : {S V : Type 0} (f : Format S V) → IsLawful f → (q : S) (s : List ℕ) (told : PcapfileError) (z : ℤ) → TellsRefusal (f.says q s) told z
     → (v : V) (after : List ℕ) → f.says q s (whole v after) → ⊥
 refused_no_text f laws q s told z (inl x) v after text = lacks_no_text f laws q told.missing s x.2 v after text
@@ -37,16 +37,16 @@ refused_no_text f laws q s told z (inr (inl x)) v after text = fault_no_text f l
 refused_no_text f laws q s told z (inr (inr (inl x))) v after text = fault_no_text f laws q Io s x.2 v after text
 refused_no_text f laws q s told z (inr (inr (inr x))) v after text = fault_no_text f laws q Utf8 s x.2 v after text
 
--- space is made, and what is held is as it was
+-- Making room leaves the held bytes the same.
 space_keeps : (before push : PcapfilePush) (room now : List ℕ) (wanted : ℕ) (error told : PcapfileError) (z : ℤ) → MakesSpace before push room now wanted error told z
     → (push.header ≡ before.header) × (held_in push now ≡ held_in before room)
 space_keeps before push room now wanted error told z (inl x) = rw (x.2, x.3) (refl, refl)
 space_keeps before push room now wanted error told z (inr (inl x)) = rw (x.2, x.3) (refl, refl)
 space_keeps before push room now wanted error told z (inr (inr x)) = (x.2.header, x.2.held)
 
--- of what is known of the bytes that were put, the header in force, what is kept, what is held and what was given
+-- Come: what is known of the bytes that were put, the header, what is kept, the held bytes and what was returned.
 module _ {T G : Type 0} (Come : List ℕ → PcapfileHeader → T → List ℕ → List G → Type 0) where
-  -- nothing was put, taken or given
+  -- Nothing was put, read or returned.
   unmoved : (s t held left : List ℕ) (header now : PcapfileHeader) (kept next : T) (given more : List G) → now ≡ header → next ≡ kept → left ≡ held → t ≡ [] → more ≡ [] → Come s header kept held given
       → Come (s ++ t) now next left (given ++ more)
   unmoved s t held left header now kept next given more same_header same is none empty come =
@@ -54,12 +54,12 @@ module _ {T G : Type 0} (Come : List ℕ → PcapfileHeader → T → List ℕ �
       let all : given ++ more ≡ given = ap (λ (l : List G). given ++ l) empty ∙ append-nil given in
       rw (bytes, all, is, same_header, same) come
 
-  -- nothing was taken or given
+  -- Nothing was read or returned.
   pub stays : (s held left : List ℕ) (header now : PcapfileHeader) (kept next : T) (given more : List G) → now ≡ header → next ≡ kept → left ≡ held → more ≡ [] → Come s header kept held given
       → Come s now next left (given ++ more)
   stays s held left header now kept next given more same_header same is empty come = rw (← append-nil s) (unmoved s [] held left header now kept next given more same_header same is refl empty come)
 
--- What each call keeps of that, all of them keep.
+-- What each call preserves, a sequence of calls preserves.
 module _ {T G : Type 0} (Gives : ℤ → PcapfilePush → T → List ℕ → PcapfilePush → T → List G → Type 0) (Keeps : T → T → Type 0) (Come : List ℕ → PcapfileHeader → T → List ℕ → List G → Type 0)
     (puts : (s t held : List ℕ) (header : PcapfileHeader) (kept : T) (given : List G) → Come s header kept held given → Come (s ++ t) header kept (held ++ t) given)
     (goes : (z : ℤ) (before push : PcapfilePush) (kept next : T) (room s : List ℕ) (given more : List G) → Gives z before kept room push next more
@@ -87,7 +87,7 @@ module _ {T G : Type 0} (Gives : ℤ → PcapfilePush → T → List ℕ → Pca
       unmoved Come s [] (held_in before room) (held_in push now) before.header push.header next next given [] (ap (λ (p : PcapfilePush). p.header) same) refl held refl refl
       (keeps s (held_in before room) before.header kept next given k come)
 
-  -- calls: what they gave, and what is held, are all bytes that were put
+  -- Calls: what they returned and the held bytes are all bytes that were put.
   calls_come : (calls : List (List ℕ × List G)) (before push : PcapfilePush) (kept next : T) (room now s : List ℕ) (given : List G)
       → RoomCalls Gives Keeps before kept room calls push next now → Come s before.header kept (held_in before room) given → Come (s ++ all_put calls) push.header next (held_in push now) (given ++ all_given calls)
   calls_come [] before push kept next room now s given x come =
@@ -97,9 +97,9 @@ module _ {T G : Type 0} (Gives : ℤ → PcapfilePush → T → List ℕ → Pca
       let there = calls_come calls x.0 push x.1 next x.2 now (s ++ call.0) (given ++ call.1) x.4 here in
       rw (← append_assoc s call.0 (all_put calls), ← append_assoc given call.1 (all_given calls)) there
 
-  -- where the last one ended them
+  -- The last call ended the sequence.
   module _ (IsFresh : PcapfilePush → T → Type 0) (Ends : ℤ → PcapfilePush → Type 0) (calls : List (List ℕ × List G)) (push : PcapfilePush) (next : T) (room : List ℕ) (e : Ended Gives Keeps IsFresh Ends calls push next room) where
-    -- what is known before it
+    -- What is known before the last call.
     pub come_before : Come [] e.start.header e.start_kept [] [] → Come (all_put e.earlier) e.last.header e.last_kept (held_in e.last room) (all_given e.earlier)
     come_before fresh = calls_come e.earlier e.start e.last e.start_kept e.last_kept e.start_room room [] [] e.made (rw e.empty fresh)
 

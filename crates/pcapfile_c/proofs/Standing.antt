@@ -1,4 +1,4 @@
--- Blocks as they stand, as structs show them.
+-- Blocks from lenient reading, as structs show them.
 use Rattle.std.proofs.Common.{◌≡◌, ◌<◌, ◌+◌, ◌-◌, ◌^◌, ℕ, suc, List, [], ◌∷◌, ◌++◌, length, map, take, min, get_or, Some, None, Ok, refl, sym, ap, subst, ◌∙◌, arith, inl, inr}
 use Rattle.std.specs.Global.{Vec}
 use Rattle.std.specs.Prelude.{slice_set}
@@ -35,7 +35,7 @@ use Rattle.pcapfile_c.specs.BlocksAsIs.{ShowsStanding, shown_flaw, Reading, Read
 
 -- ---- flaws in places
 
--- one more flaw is shown
+-- One more flaw is shown.
 pub flaws_more : (flaws : List Flaw) (places : List PcapfileBlockFlaw) (i : ℕ) (d : Flaw) (x : PcapfileBlockFlaw) → i < length flaws → i < length places → x ≡ shown_flaw (said_of (get_or flaws i d))
     → take i places ≡ map shown_flaw (take i (map said_of flaws)) → take (i + 1) (slice_set places i x) ≡ map shown_flaw (take (i + 1) (map said_of flaws))
 flaws_more flaws places i d x here there is before =
@@ -47,16 +47,16 @@ flaws_more flaws places i d x here there is before =
     let pushed : map shown_flaw (take (i + 1) said) ≡ map shown_flaw (take i said) ++ shown_flaw (said_of (get_or flaws i d)) ∷ [] = ap (map shown_flaw) last ∙ map_push shown_flaw (take i said) (said_of (get_or flaws i d)) in
     take-set_at places i (i + 1) x refl there ∙ ap (λ (l : List PcapfileBlockFlaw). l ++ x ∷ []) before ∙ ap (λ (y : PcapfileBlockFlaw). map shown_flaw (take i said) ++ y ∷ []) is ∙ sym pushed
 
--- ---- what is in force
+-- ---- the state
 
--- the order that a struct shows is the one that holds
+-- The byte order that a struct shows is that of the state.
 pub order_stands : (shown : PcapfileSection) (q : State) (e : Endianness) → ShowsStanding shown q → order_shown shown.magic_number ≡ Some e → order_at q ≡ e
 unfolding strict.order_at
 order_stands shown opening e shows is = ap strict.or_big (sym (ap order_shown shows) ∙ is)
 order_stands shown (within section interfaces) e shows is =
     or_some (magic_order section.magic) e (sym (order_of_section section.magic shows.0.named) ∙ sym (ap order_shown shows.0.magic) ∙ is)
 
--- what a block of this type puts in force, and what is read of it, as it is found and shown
+-- The state after a block of this type, and what is read of it, as it is found and shown.
 found_leads : (q : State) (b : Framed) (lent : PcapfileBlock) (x : FoundAsIs) (next : PcapfileSection) (t : BlockType) (led : Led) (reading : Reading) → b.type_ ≡ t → ShowsBlock b lent → IsOf lent x.shown → MeansFor (role_of t) q b (good led)
     → ReadsAs t (number_in b.endianness) b.body led.flaws reading → ShowsReading reading x.shown → said_in x.flaws ≡ reading.flaws → ShowsStanding next led.after → LeadsStanding q b (Ok (x, next))
 found_leads q b lent x next t led reading is shows of means reads shown flaws after =
@@ -64,7 +64,7 @@ found_leads q b lent x next t led reading is shows of means reads shown flaws af
     let read : ReadsAs b.type_ (number_in b.endianness) b.body led.flaws reading = subst (λ (type : BlockType). ReadsAs type (number_in b.endianness) b.body led.flaws reading) (sym is) reads in
     (led, here, record { type_is = of.0 ∙ shows.0; body_is = of.1 ∙ shows.1; stands = record { reading = reading; reads = read; shows = shown; flaws_are = flaws } }, after)
 
--- the section that a section header puts in force
+-- The section that begins with a section header.
 pub section_stands : (q : State) (b : Framed) (lent : PcapfileBlock) (x : FoundAsIs) (next : PcapfileSection) (flaws : Vec Flaw) → b.type_ ≡ types.SectionHeader → ShowsBlock b lent
     → FindsNothing lent (said_in flaws) x → TellsSection lent.body.now (Ok (next, flaws)) → LeadsStanding q b (Ok (x, next))
 section_stands q b lent x next flaws is shows found told =
@@ -72,27 +72,27 @@ section_stands q b lent x next flaws is shows found told =
     found_leads q b lent x next types.SectionHeader (record { flaws = said_in flaws; after = within told.0 [] }) (record { interface = None; packet = None; flaws = said_in flaws }) is shows found.0 (told.0, told.1, text, refl) (refl, refl, refl)
     found.1 found.2 (told.3, told.4)
 
--- a block that is neither a section nor an interface leaves what is in force
+-- A block that is neither a section header nor an interface leaves the state as it is.
 other_leaves : (t : BlockType) → (t ≡ types.SectionHeader → ⊥) → (t ≡ types.InterfaceDescription → ⊥) → role_of t ≡ leaves_all
 other_leaves types.SectionHeader no_section no_interface = absurd (no_section refl)
 other_leaves types.InterfaceDescription no_section no_interface = absurd (no_interface refl)
 other_leaves _ no_section no_interface = refl
 
--- the body of a block that is neither an interface nor an enhanced packet is not read
+-- The body of a block that is neither an interface nor an enhanced packet is not read.
 other_reads : (t : BlockType) (order : Order) (body : List ℕ) → (t ≡ types.InterfaceDescription → ⊥) → (t ≡ types.EnhancedPacket → ⊥) → ReadsAs t order body [] (record { interface = None; packet = None; flaws = [] })
 other_reads types.SectionHeader order body no_interface no_packet = (refl, refl, refl)
 other_reads types.InterfaceDescription order body no_interface no_packet = absurd (no_interface refl)
 other_reads types.EnhancedPacket order body no_interface no_packet = absurd (no_packet refl)
 other_reads _ order body no_interface no_packet = (refl, refl, refl)
 
--- a first block that is no section header
+-- A first block that is no section header.
 pub missing_stands : (shown : PcapfileSection) (q : State) (b : Framed) (e : PcapError) → ShowsStanding shown q → shown.magic_number ≡ 0 → (b.type_ ≡ types.SectionHeader → ⊥) → Names SectionMissing e
     → Refuses (CanGrow q b) (λ n. ⊥) (λ fault. Means q b (bad fault)) e
 missing_stands shown opening b e shows zero other named =
     named_refuses (CanGrow opening b) (λ n. ⊥) (λ fault. Means opening b (bad fault)) SectionMissing e (first_missing b.type_ other b) named
 missing_stands shown (within section interfaces) b e shows zero other named = absurd (zero_opens shown section shows.0 zero)
 
--- behind the first block: an interface
+-- After the first block: an interface.
 pub interface_stands : (shown next : PcapfileSection) (q : State) (b : Framed) (lent : PcapfileBlock) (x : FoundAsIs) → ShowsStanding shown q → (shown.magic_number ≡ 0 → ⊥) → b.type_ ≡ types.InterfaceDescription
     → ShowsBlock b lent → FindsInterface (number_in b.endianness) lent x
     → next.magic_number ≡ shown.magic_number → next.version_major ≡ shown.version_major → next.version_minor ≡ shown.version_minor → next.interfaces ≡ min (shown.interfaces + 1) (2 ^ 32 - 1)
@@ -105,7 +105,7 @@ interface_stands shown next (within section interfaces) b lent x shows some is o
     found_leads (within section interfaces) b lent x next types.InterfaceDescription (record { flaws = said_in x.flaws; after = within section all }) (record { interface = found.1; packet = None; flaws = said_in x.flaws }) is of found.0
     (all, record { interface = found.1; rest = found.2; text = text; one_more = refl }, refl) (refl, refl, (found.2, text)) found.4 refl (kept, counted interfaces found.1 shown.interfaces next.interfaces shows.1 count)
 
--- an enhanced packet
+-- After the first block: an enhanced packet.
 pub packet_stands : (shown : PcapfileSection) (q : State) (b : Framed) (lent : PcapfileBlock) (x : FoundAsIs) → ShowsStanding shown q → (shown.magic_number ≡ 0 → ⊥) → b.type_ ≡ types.EnhancedPacket
     → ShowsBlock b lent → FindsPacket (number_in b.endianness) lent x → LeadsStanding q b (Ok (x, shown))
 packet_stands shown opening b lent x shows some is of found = absurd (some shows)
@@ -114,7 +114,7 @@ packet_stands shown (within section interfaces) b lent x shows some is of found 
     found_leads (within section interfaces) b lent x shown types.EnhancedPacket (record { flaws = []; after = within section interfaces }) (record { interface = None; packet = found.1; flaws = said_in x.flaws }) is of found.0 (refl, refl)
     (refl, (found.2, text)) found.4 refl shows
 
--- any other block
+-- After the first block: any other block.
 pub other_stands : (shown : PcapfileSection) (q : State) (b : Framed) (lent : PcapfileBlock) (x : FoundAsIs) → ShowsStanding shown q → (shown.magic_number ≡ 0 → ⊥) → (b.type_ ≡ types.SectionHeader → ⊥)
     → (b.type_ ≡ types.InterfaceDescription → ⊥) → (b.type_ ≡ types.EnhancedPacket → ⊥) → ShowsBlock b lent → FindsNothing lent [] x → LeadsStanding q b (Ok (x, shown))
 other_stands shown opening b lent x shows some no_section no_interface no_packet of found = absurd (some shows)
@@ -128,13 +128,13 @@ other_stands shown (within section interfaces) b lent x shows some no_section no
 -- ---- refusals
 
 module _ (q : State) (s : List ℕ) where
-  -- a refused frame refuses the block
+  -- A refused frame refuses the block.
   pub frame_refused : (e : PcapError) → Refuses ⊥ (λ n. FrameSays (order_at q) s (lacks n)) (λ f. FrameSays (order_at q) s (faulty f)) e
       → Refuses (MayGrow q s) (λ n. AsIsSays q s (lacks n)) (λ f. AsIsSays q s (faulty f)) e
   frame_refused e x =
       refuses_more ⊥ (MayGrow q s) (λ n. FrameSays (order_at q) s (lacks n)) (λ n. AsIsSays q s (lacks n)) (λ f. FrameSays (order_at q) s (faulty f)) (λ f. AsIsSays q s (faulty f)) (λ none. absurd none) (λ n h. h) (λ f h. inl h) e x
 
-  -- so does what a block is
+  -- A refused block type or body refuses the block.
   pub standing_refused : (b : Framed) (rest : List ℕ) → FrameText (order_at q) b s rest → (e : PcapError) → Refuses (CanGrow q b) (λ n. ⊥) (λ f. Means q b (bad f)) e
       → Refuses (MayGrow q s) (λ n. AsIsSays q s (lacks n)) (λ f. AsIsSays q s (faulty f)) e
   standing_refused b rest frame e x =

@@ -1,4 +1,4 @@
--- What the calls that take options, records and names give together.
+-- What the results have in common of the calls that read options, records and names.
 use Rattle.std.proofs.Common.{◌≡◌, ◌≢◌, ◌+◌, ◌*◌, ◌^◌, ◌≤◌, ℕ, ℤ, List, [], ◌∷◌, ◌++◌, length, take, drop, Some, None, refl, sym, subst, w32, to_z, of_z}
 use Rattle.pcap_core.specs.declared.errors.PcapError.{PcapError}
 use Rattle.pcap_core.specs.declared.errors.PcapError.TheVariants as errors
@@ -18,24 +18,24 @@ use Rattle.pcapfile_c.specs.declared.records.PcapfileRecord.{PcapfileRecord}
 use Rattle.pcapfile_c.specs.Records.{ShowsAddress, ShowsRecord}
 use Rattle.pcapfile_c.proofs.Refused.{tells_refusal}
 
--- an error that shows a fault refuses for it
+-- An error that shows a fault refuses for this fault.
 shown_refuses : (L : ℕ → Type 0) (F : Fault → Type 0) (e : PcapError) → Shows F e → Refuses ⊥ L F e
 shown_refuses L F (errors.InvalidField text) shown = shown
 shown_refuses L F (errors.IoError io) shown = shown
 shown_refuses L F (errors.Utf8Error utf) shown = shown
 shown_refuses L F _ shown = absurd shown
 
--- a fault that an error shows is told
+-- The status and the struct report a fault that an error shows.
 pub tells_shown : {V : Type 0} (IsSaid : Verdict V → Type 0) (e : PcapError) (told : PcapfileError) (z : ℤ)
     → Shows (λ fault. IsSaid (faulty fault)) e → ShowsError e told z → TellsRefusal IsSaid told (to_z w32 (of_z w32 z))
 tells_shown IsSaid e told z shown shows =
     tells_refusal IsSaid e told z (shown_refuses (λ n. IsSaid (lacks n)) (λ fault. IsSaid (faulty fault)) e shown) shows
 
--- the first bytes of a body
+-- The first bytes of a body.
 pub behind_first : (n : ℕ) (s a b : List ℕ) → a ≡ take n s → b ≡ drop n s → length a ≡ n → Behind n s b
 behind_first n s a b front back long = record { bytes = a; text = split_parts n s a b front back; length_is = long }
 
--- the time and the lengths of a packet
+-- The time and the lengths of a packet.
 pub packet_head : (order : Order) (high low n o : ℕ) (s a b c d bytes : List ℕ) → Number order 4 high s a → Number order 4 low a b → Number order 4 n b c → Number order 4 o c d
     → StoredHead order (stored (high * 2 ^ 32 + low) n o bytes []) s d
 packet_head order high low n o s a b c d bytes h l m k = record {
@@ -46,12 +46,12 @@ packet_head order high low n o s a b c d bytes h l m k = record {
   original_is = k;
 }
 
--- one more name
+-- One more name.
 pub names_more : (s left rest name : List ℕ) → (names : List (List ℕ)) × Chain NameText names s left → NameText name left rest
     → (names : List (List ℕ)) × Chain NameText names s rest
 names_more s left rest name so_far text = (so_far.0 ++ name ∷ [], chain_more NameText so_far.0 s left rest name so_far.1 text)
 
--- an address and its names
+-- An address and its names.
 pub address_found : (type width : ℕ) (v a b : List ℕ) (shown : PcapfileRecord) → width + 2 ≤ length v → a ≡ take width v → b ≡ drop width v → length a ≡ width
     → shown.type_ ≡ type → shown.address.now ≡ a → shown.names.now ≡ b → (names : List (List ℕ)) × NamesText names b []
     → (address : Address) × ShowsAddress type address shown × AddressText width address v []
@@ -61,24 +61,24 @@ address_found type width v a b shown long front back wide type_is address_is nam
   record { after = b; long = long; parts = split_parts width v a b front back; wide = wide; names_are = names.1 },
 )
 
--- a record that a struct shows is no end
+-- A record that a struct shows is not the end.
 shown_no_end : (r : NameRecord) (shown : PcapfileRecord) → ShowsRecord r (Some shown) → r ≢ End
 shown_no_end End shown shows e = absurd shows
 shown_no_end _ shown shows e = absurd cc
 
--- one that none shows is the end
+-- A record that no struct shows is the end.
 none_is_end : (r : NameRecord) → ShowsRecord r None → r ≡ End
 none_is_end End shows = refl
 none_is_end _ shows = absurd shows
 
--- one more record
+-- One more record.
 pub records_more : (order : Order) (s left rest : List ℕ) (shown : PcapfileRecord) → (records : List NameRecord) × Chain (KeptText order) records s left
     → (r : NameRecord) × ShowsRecord r (Some shown) × RecordText order r left rest → (records : List NameRecord) × Chain (KeptText order) records s rest
 records_more order s left rest shown so_far found =
     let kept : KeptText order found.0 left rest = record { record_is = found.2; no_end = shown_no_end found.0 shown found.1 } in
     (so_far.0 ++ found.0 ∷ [], chain_more (KeptText order) so_far.0 s left rest found.0 so_far.1 kept)
 
--- all records
+-- All records.
 pub records_end : (order : Order) (s left rest : List ℕ) → (records : List NameRecord) × Chain (KeptText order) records s left
     → (r : NameRecord) × ShowsRecord r None × RecordText order r left rest → (records : List NameRecord) × RecordsText order records s rest
 records_end order s left rest so_far found =

@@ -1,4 +1,4 @@
--- What the calls that tell where a capture can be cut answer.
+-- What the calls return that find where a capture can be cut.
 use Rattle.std.specs.Prelude.{◌≡◌, ◌<◌, ◌≤◌, ◌*◌, ◌⊎◌, ℕ, ℤ, pos, List, [], length, take, drop}
 use Rattle.pcap_classic.specs.declared.pcap.header.PcapHeader.{PcapHeader}
 use Rattle.pcap_classic.specs.HeaderText.{HeaderSays}
@@ -16,26 +16,26 @@ use Rattle.pcap_parts.specs.Places.{TellAllPlaces}
 use Rattle.pcapfile_values.specs.declared.errors.PcapfileError.{PcapfileError}
 use Rattle.pcapfile_values.specs.Refusals.{TellsRefusal, TellsRefusalWhere}
 
--- the first places hold these values, so many, and all other places are as they were
+-- The first places hold these values, the number is how many they are, and all other places are unchanged.
 abbrev pub Fills : {A : Type 0} → List A → List A → List A → ℕ → Type 0
 Fills values before after count = (count ≡ length values) × (take count after ≡ values) × (drop count after ≡ drop count before)
 
--- so many places hold all cuts that are asked for, of bytes that end at this place
+-- This many places have room for all requested cuts of a capture of this length.
 abbrev pub HasRoom : Parting → ℕ → ℕ → Type 0
 HasRoom (Equal parts) total places = (parts ≡ places) × (0 < places)
 HasRoom (AtLeast n) total places = total < places * n
 
--- these places may not hold each cut that is asked for: there is none, or as long as so many parts of n bytes are, the bytes are too
+-- There may be too few places for the requested cuts: there is none, or n times their number is at most the number of these bytes.
 abbrev pub MayLackPlaces : {A : Type 0} → Parting → List ℕ → List A → Type 0
 MayLackPlaces (Equal parts) bytes places = places ≡ []
 MayLackPlaces (AtLeast n) bytes places = length places * n ≤ length bytes
 
--- the packets behind this header are cut as it is asked for
+-- The packets after this header are cut as requested.
 abbrev pub IsCutAsAsked : Parting → PcapHeader → List Cut → List ℕ → Type 0
 IsCutAsAsked (Equal parts) header cuts bytes = IsCutFairly parts header cuts bytes
 IsCutAsAsked (AtLeast n) header cuts bytes = IsCutAtLeast n header cuts bytes
 
--- the first places hold the cuts of a classic capture that are asked for
+-- The first places hold the requested cuts of a classic capture.
 pub record CutsPackets (how : Parting) (bytes : List ℕ) (before after : List Cut) (count : ℕ) : Type 0 where
   pub header : PcapHeader
   pub cuts : List Cut
@@ -43,33 +43,32 @@ pub record CutsPackets (how : Parting) (bytes : List ℕ) (before after : List C
   pub asked : IsCutAsAsked how header cuts bytes
   pub filled : Fills cuts before after count
 
--- Status 0: the capture is cut. Else there is no cut, and the places are as they were. Status 11: there may be too few. Another: the
--- capture's header is refused.
+-- Status 0: the capture is cut. Otherwise there are no cuts, and the places are unchanged. Status 11: there may be too few places.
+-- Another status: the capture's header is refused.
 abbrev pub TellsCuts : Parting → List ℕ → List Cut → List Cut → ℕ → PcapfileError → PcapfileError → ℤ → Type 0
 TellsCuts how bytes before after count error told status =
     ((status ≡ pos 0) × (told ≡ error) × CutsPackets how bytes before after count)
     ⊎ ((count ≡ 0) × (after ≡ before) × (((status ≡ pos 11) × (told ≡ error) × MayLackPlaces how bytes before) ⊎ TellsRefusal (HeaderSays bytes) told status))
 
--- memory is taken for cuts of a PcapNg capture only behind its first block, or where that one's body has lists
+-- Cutting a PcapNg capture may allocate memory only after its first block, or if reading that block may.
 abbrev pub CutMayGrow : List ℕ → Type 0
 CutMayGrow bytes = MayGrow opening bytes ⊎ HasOpening bytes
 
--- these are the cuts of a PcapNg capture that are asked for, with the places of its interfaces
+-- These are the requested cuts of a PcapNg capture, with the places of its interfaces.
 abbrev pub CutsBlocks : Parting → List ℕ → NgCuts → Type 0
 CutsBlocks (Equal parts) bytes cuts =
     IsNgCut cuts bytes × IsNgCutFairly parts cuts.cuts.items bytes × TellAllPlaces bytes cuts.interfaces.items cuts.cuts.items
 CutsBlocks (AtLeast n) bytes cuts =
     IsNgCut cuts bytes × IsNgCutAtLeast n cuts.cuts.items bytes × TellAllPlaces bytes cuts.interfaces.items cuts.cuts.items
 
--- There may be too few places for cuts, or the capture has more interfaces than there are places: so many, up to the last cut at
--- least.
+-- There may be too few places for cuts, or the capture has this many interfaces, at least up to the last cut, and fewer places.
 abbrev pub LacksPlaces : Parting → List ℕ → List NgCut → List ℕ → ℕ → Type 0
 LacksPlaces how bytes before places known =
     ((known ≡ 0) × MayLackPlaces how bytes before)
     ⊎ ((cuts : NgCuts) × CutsBlocks how bytes cuts × (known ≡ length cuts.interfaces.items) × (length places < known))
 
--- Status 0: the first places hold the cuts of the capture, and those for interfaces the places of the interfaces. Else there is no
--- cut, and all places are as they were. Status 11: places are missing. Another: the first block is refused, or memory.
+-- Status 0: the first places hold the cuts of the capture, and the first places for interfaces hold theirs. Otherwise there are no cuts,
+-- and all places are unchanged. Status 11: there are too few places. Another status: the first block is refused, or memory runs out.
 abbrev pub TellsBlockCuts : Parting → List ℕ → List NgCut → List NgCut → ℕ → List ℕ → List ℕ → ℕ → PcapfileError → PcapfileError → ℤ → Type 0
 TellsBlockCuts how bytes before after count places now known error told status =
     ((status ≡ pos 0) × (told ≡ error) × (cuts : NgCuts) × CutsBlocks how bytes cuts × Fills cuts.cuts.items before after count × Fills cuts.interfaces.items places now known)

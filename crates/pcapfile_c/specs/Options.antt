@@ -1,4 +1,4 @@
--- What the calls that find and take options answer ('Options').
+-- What the calls return that find and read options ('Options').
 use Rattle.std.specs.Prelude.{◌≡◌, ◌≢◌, ◌<◌, ◌⊎◌, ℕ, ℤ, pos, List, [], length, Bool, true, false, Option, Some, None, Result, Ok, Err}
 use Rattle.std.specs.Borrow.{Bor}
 use Rattle.pcap_core.specs.declared.common.Endianness.{Endianness}
@@ -23,33 +23,34 @@ use Rattle.pcapfile_values.specs.declared.shown.PcapfileBytes.{PcapfileBytes}
 use Rattle.pcapfile_values.specs.Refusals.{TellsRefusal}
 use Rattle.pcapfile_c.specs.declared.options.PcapfileOption.{PcapfileOption}
 
--- the option that a struct shows: its code, and its value as it stands
+-- The option that a struct shows: its code, and its value without an interpretation.
 abbrev pub option_shown : PcapfileOption → Entry
 option_shown shown = record { code = shown.code; value = Unknown (length shown.value.now) shown.value.now }
 
--- the list of options is over: at its mark, or since no byte is left
+-- The list of options ends here, with its end mark or because no byte is left.
 abbrev pub IsOverAt : Order → List ℕ → Type 0
 IsOverAt order s = (s ≡ []) ⊎ ((rest : List ℕ) × EndMark order s rest)
 
--- the option at the front of bytes, and what follows it; or the list is over there
+-- The result of reading the option at the front of bytes: the option and what follows it, or the end of the list.
 abbrev pub OptionTells : Order → List ℕ → Result (Option (Bor (List ℕ) × PcapfileOption)) PcapError → Type 0
 OptionTells order s (Ok (Some (rest, shown))) = OptionText order no_kind (option_shown shown) s rest.now
 OptionTells order s (Ok None) = IsOverAt order s
 OptionTells order s (Err e) = (s ≢ []) × Shows (λ fault. OptionSays order no_kind s (faulty fault)) e
 
--- Status 0: an option stands there, the struct shows it, and what follows it is left. Status 8: the list is over there. The error
--- is as it was then. Another status: no option can be found there. Then what is left and the struct are as they were.
+-- Status 0: the left bytes begin with an option, the struct shows it, and the rest is left. Status 8: the list ends here. The error is
+-- unchanged under both. Another status: the option is refused, and the left bytes and the struct are unchanged.
 abbrev pub TakesOption : Endianness → PcapfileBytes → PcapfileBytes → PcapfileOption → PcapfileOption → PcapfileError → PcapfileError → ℤ → Type 0
 TakesOption e left now before after error told status =
     ((status ≡ pos 0) × (told ≡ error) × OptionText (number_in e) no_kind (option_shown after) left.bytes.now now.bytes.now)
     ⊎ (((status ≡ pos 8) × (told ≡ error) × (now ≡ left) × (after ≡ before) × IsOverAt (number_in e) left.bytes.now)
     ⊎ ((now ≡ left) × (after ≡ before) × (left.bytes.now ≢ []) × TellsRefusal (OptionSays (number_in e) no_kind left.bytes.now) told status))
 
--- what is said of a body whose options stand behind so many bytes: what these are, or that it is too short
+-- The verdict on a body whose options follow its first n bytes: what follows these, or that the body is too short.
 abbrev pub FixedSays : ℕ → Rule → List ℕ → Verdict (Unit {0}) → Type 0
 FixedSays n too_short s = Says (λ nothing rest. Behind n s rest) (λ lack. ⊥) (λ fault. (fault ≡ Invalid too_short) × (length s < n))
 
--- s is an interface, the time and the lengths of a packet, its bytes with their padding, and then rest
+-- PacketText order s rest: `s` is an interface number, the time and the lengths of a packet, its bytes with their padding, and then
+-- `rest`.
 pub record PacketText (order : Order) (s rest : List ℕ) : Type 0 where
   pub packet : Stored
   pub after_interface : List ℕ
@@ -59,28 +60,28 @@ pub record PacketText (order : Order) (s rest : List ℕ) : Type 0 where
   pub captured : length packet.bytes ≡ packet.captured_len
   pub padded : Padded packet.bytes after_head rest
 
--- the first fault of a packet's body before its options
+-- The first fault of a packet's body before its options.
 pub data PacketFault (order : Order) (s : List ℕ) : Fault → Type 0 where
   short : length s < 20 → PacketFault order s (Invalid EnhancedTooShort)
   cut : (packet : Stored) (after_interface after_head : List ℕ) → Behind 4 s after_interface → StoredHead order packet after_interface after_head
       → length after_head < up_to_4 packet.captured_len → PacketFault order s (Invalid EnhancedCut)
 
--- what is said of a packet's body where its options are asked for
+-- The verdict on a packet's body up to its options.
 abbrev pub PacketSays : Order → List ℕ → Verdict (Unit {0}) → Type 0
 PacketSays order s = Says (λ nothing rest. PacketText order s rest) (λ lack. ⊥) (PacketFault order s)
 
--- what is said of a name resolution body where its options are asked for: they stand behind the end of the records
+-- The verdict on a name resolution body up to its options, which follow the end of the records.
 abbrev pub NamesSay : Order → List ℕ → Verdict (Unit {0}) → Type 0
 NamesSay order s = Says (λ nothing rest. (records : List NameRecord) × RecordsText order records s rest) (λ lack. ⊥) (RecordsFault order s)
 
--- bodies of this type have options
+-- Bodies of this type have options.
 abbrev pub has_options : BlockType → Bool
 has_options types.SimplePacket = false
 has_options types.SystemdJournalExport = false
 has_options (types.Unknown n) = false
 has_options _ = true
 
--- what is said of the body of a block of this type where its options are asked for: they begin at rest, or a fault stands before
+-- The verdict on the body of a block of this type up to its options: they begin at the rest, or there is a fault before them.
 abbrev pub OptionsSay : Order → BlockType → List ℕ → Verdict (Unit {0}) → Type 0
 OptionsSay order types.SectionHeader s = FixedSays 16 SectionTooShort s
 OptionsSay order types.InterfaceDescription s = FixedSays 8 InterfaceTooShort s
@@ -92,27 +93,27 @@ OptionsSay order types.EnhancedPacket s = PacketSays order s
 OptionsSay order types.SystemdJournalExport s = λ verdict. ⊥
 OptionsSay order (types.Unknown n) s = λ verdict. ⊥
 
--- where something begins in bytes, or why it doesn't
+-- The result of a search for where something begins in bytes: the rest, or the reason why there is none.
 abbrev pub BeginsTells : (Verdict (Unit {0}) → Type 0) → Result (Bor (List ℕ)) PcapError → Type 0
 BeginsTells IsSaid (Ok rest) = IsSaid (whole tt rest.now)
 BeginsTells IsSaid (Err e) = Shows (λ fault. IsSaid (faulty fault)) e
 
--- what so many bytes are followed by
+-- The result of skipping the first n bytes of a body.
 abbrev pub FixedTells : ℕ → Rule → List ℕ → Result (Bor (List ℕ)) PcapError → Type 0
 FixedTells n too_short s = BeginsTells (FixedSays n too_short s)
 
--- what a packet's bytes and their padding are followed by
+-- The result of skipping a packet's bytes and their padding.
 abbrev pub PacketTells : Order → List ℕ → Result (Bor (List ℕ)) PcapError → Type 0
 PacketTells order s = BeginsTells (PacketSays order s)
 
--- where the options of the body of a block of this type begin; or it has none
+-- The result of a search for the options in the body of a block of this type, which may have none.
 abbrev pub OptionsTell : Order → BlockType → List ℕ → Result (Option (Bor (List ℕ))) PcapError → Type 0
 OptionsTell order type s (Ok (Some options)) = OptionsSay order type s (whole tt options.now)
 OptionsTell order type s (Ok None) = has_options type ≡ false
 OptionsTell order type s (Err e) = Shows (λ fault. OptionsSay order type s (faulty fault)) e
 
--- Status 0: the options of the block begin at the bytes that are shown. Status 8: blocks of its type have none. The error is as it
--- was then. Another status: a fault stands before them. Then the bytes that are shown are as they were.
+-- Status 0: the options of the block begin at the shown bytes. Status 8: blocks of this type have none, and the shown bytes are
+-- unchanged. The error is unchanged under both. Another status: there is a fault before the options, and the shown bytes are unchanged.
 abbrev pub FindsOptions : Endianness → PcapfileBlock → PcapfileBytes → PcapfileBytes → PcapfileError → PcapfileError → ℤ → Type 0
 FindsOptions e block before after error told status =
     let IsSaid = OptionsSay (number_in e) (block_type block.type_) block.body.now in

@@ -1,4 +1,4 @@
--- What the calls that take a capture in pieces answer.
+-- What the calls return that read a classic capture in pieces.
 use Rattle.std.specs.Prelude.{◌≡◌, ◌<◌, ◌≤◌, ◌+◌, ◌-◌, ◌⊎◌, ℕ, ℤ, pos, List, ◌++◌, length, take, drop, false, IsTrue}
 use Rattle.pcap_core.specs.Answer.{whole}
 use Rattle.pcap_classic.specs.declared.pcap.header.PcapHeader.{PcapHeader}
@@ -13,19 +13,19 @@ use Rattle.pcapfile_values.specs.Shown.{captured, shown_header}
 use Rattle.pcapfile_c.specs.declared.push.PcapfilePush.{PcapfilePush}
 use Rattle.pcapfile_c.specs.Calls.{PacketsSaid}
 
--- the bytes of a room that are held: those that came, and that neither header nor packet has taken
+-- The held bytes of a room: those that came and haven't been read yet.
 abbrev pub held_in : PcapfilePush → List ℕ → List ℕ
 held_in push room = drop push.begin (take push.end room)
 
--- what is held lies within the room
+-- The held bytes are within the room.
 abbrev pub LiesWithin : PcapfilePush → List ℕ → Type 0
 LiesWithin push room = (push.begin ≤ push.end) × (push.end ≤ length room)
 
--- it doesn't
+-- The held bytes are not within the room.
 abbrev pub LiesOutside : PcapfilePush → List ℕ → Type 0
 LiesOutside push room = (push.end < push.begin) ⊎ (length room < push.end)
 
--- what was held stands at the front of the room, and all behind it is as it was
+-- The held bytes moved to the front of the room, and all bytes after them are unchanged.
 pub record MovesToFront (before push : PcapfilePush) (room now : List ℕ) : Type 0 where
   pub header : push.header ≡ before.header
   pub front : push.begin ≡ 0
@@ -34,48 +34,49 @@ pub record MovesToFront (before push : PcapfilePush) (room now : List ℕ) : Typ
   pub behind : drop push.end now ≡ drop push.end room
   pub long : length now ≡ length room
 
--- So many bytes fit into the room behind what is held, which has been moved: status 0. Or the room lacks so many bytes for
--- them: status 9.
+-- After the move, this many more bytes fit into the room after the held ones: status 0. Or the room is this many bytes too short: status
+-- 9.
 abbrev pub TellsSpace : PcapfilePush → List ℕ → ℕ → PcapfileError → PcapfileError → ℤ → Type 0
 TellsSpace push room wanted error told status =
     ((status ≡ pos 0) × (told ≡ error) × (push.end + wanted ≤ length room))
     ⊎ ((status ≡ pos 9) × (told.rule ≡ 0) × (0 < told.missing) × (length room + told.missing ≡ push.end + wanted))
 
--- Place for so many more bytes behind what is held. Status 10: what is held lies outside. Status 0, and nothing has moved: they
--- fit. Else they don't, and what is held has been moved to the front.
+-- The result of making room for this many more bytes after the held ones. Status 10: the held bytes are outside of the room. Status 0
+-- without a move: they fit. Otherwise they don't, and the held bytes moved to the front.
 abbrev pub MakesSpace : PcapfilePush → PcapfilePush → List ℕ → List ℕ → ℕ → PcapfileError → PcapfileError → ℤ → Type 0
 MakesSpace before push room now wanted error told status =
     ((status ≡ pos 10) × (told ≡ error) × (push ≡ before) × (now ≡ room) × LiesOutside before room)
     ⊎ (((status ≡ pos 0) × (told ≡ error) × (push ≡ before) × (now ≡ room) × LiesWithin before room × (before.end + wanted ≤ length room))
     ⊎ (LiesWithin before room × (length room < before.end + wanted) × MovesToFront before push room now × TellsSpace push now wanted error told status))
 
--- So many bytes of the room behind what is held are held too: status 0. Status 10: they pass the room, or what is held lies
--- outside, and nothing changed.
+-- Status 0: this many bytes of the room after the held ones are held too. Status 10: they exceed the room, or the held bytes are outside
+-- of it, and nothing changed.
 abbrev pub Puts : PcapfilePush → PcapfilePush → List ℕ → ℕ → ℤ → Type 0
 Puts before push room count status =
     ((status ≡ pos 0) × (push.header ≡ before.header) × (push.begin ≡ before.begin) × (push.end ≡ before.end + count) × LiesWithin push room
     × (held_in push room ≡ held_in before room ++ take count (drop before.end room)))
     ⊎ ((status ≡ pos 10) × (push ≡ before) × (LiesOutside before room ⊎ (length room < before.end + count)))
 
--- the header in force behind the header's text, where none was in force
+-- The header is as before if there was one; otherwise it is read from the front of the bytes.
 abbrev pub Opened : PcapfileHeader → PcapfileHeader → List ℕ → List ℕ → Type 0
 Opened before now s after =
     (IsTrue (is_magic before.magic_number) × (now ≡ before) × (after ≡ s))
     ⊎ ((is_magic before.magic_number ≡ false) × (header : PcapHeader) × (now ≡ shown_header header) × HeaderText header s after)
 
--- s is the header's text, where none was in force, and that of a packet, and then rest
+-- NextText before now packet s rest: `s` is the text of the header if there was none, that of a packet, and then `rest`.
 abbrev pub NextText : PcapfileHeader → PcapfileHeader → Captured → List ℕ → List ℕ → Type 0
 NextText before now packet s rest = (after : List ℕ) × Opened before now s after × PacketsSaid now.magic_number after (whole packet rest)
 
--- The packet at the front of s, behind the header in force or that which stands before it, and then rest. Status 0: the struct
--- shows it. Another status: s begins no packet behind the header, which is in force now, or no header.
+-- The packet at the front of `s`, after the header, which is read first if there is none yet, and then `rest`. Status 0: the struct shows
+-- the packet. Another status: the packet after the header is refused, or the header is.
 abbrev pub TakesFront : PcapfileHeader → PcapfileHeader → List ℕ → List ℕ → PcapfilePacket → PcapfilePacket → PcapfileError → PcapfileError → ℤ → Type 0
 TakesFront before now s rest old packet error told status =
     ((status ≡ pos 0) × (told ≡ error) × NextText before now (captured packet) s rest)
     ⊎ (((packet ≡ old) × Opened before now s rest × TellsRefusal (PacketsSaid now.magic_number rest) told status)
     ⊎ ((packet ≡ old) × (is_magic before.magic_number ≡ false) × (now ≡ before) × (rest ≡ s) × TellsRefusal (HeaderSays s) told status))
 
--- That of what is held, of which the rest stays held. Status 10: what is held lies outside, and nothing changed.
+-- The packet at the front of the held bytes, whose rest stays held. Status 10: the held bytes are outside of the room, and nothing
+-- changed.
 abbrev pub TakesNext : PcapfilePush → PcapfilePush → List ℕ → PcapfilePacket → PcapfilePacket → PcapfileError → PcapfileError → ℤ → Type 0
 TakesNext before push room old packet error told status =
     (LiesWithin before room × LiesWithin push room × (push.end ≡ before.end) × TakesFront before.header push.header (held_in before room) (held_in push room) old packet error told status)

@@ -1,4 +1,4 @@
--- What the call that takes a packet of a PcapNg capture in pieces answers.
+-- What the call returns that reads a packet of a PcapNg capture in pieces.
 use Rattle.std.specs.Prelude.{◌≡◌, ◌<◌, ◌≤◌, ◌-◌, ◌^◌, ◌⊎◌, ⊤, ℕ, ℤ, pos, List, [], length, take, filter, Bool, true, false, Option, Some, None}
 use Rattle.std.specs.List.{All, AllZip, slice_get}
 use Rattle.pcap_core.specs.declared.rules.Rule.TheVariants.{SectionMagic}
@@ -25,26 +25,26 @@ use Rattle.pcapfile_c.specs.Batches.{PacketFault, PacketMayGrow, is_packet}
 use Rattle.pcapfile_c.specs.Push.{LiesWithin, LiesOutside, held_in}
 use Rattle.pcapfile_c.specs.PushBlocks.{HoldsRest}
 
--- structs that show what is in force: the section, and in the first places what is taken for its interfaces
+-- The structs show the state: the section, and its interfaces in the first places.
 abbrev pub ShowsInForce : PcapfileSection → List PcapfileInterface → State → Type 0
 ShowsInForce section places opening = section.magic_number ≡ 0
 ShowsInForce section places (within s interfaces) = ShowsState section (within s interfaces) × AllZip IsTakenFor interfaces (take section.interfaces places)
 
--- the structs in the places of the interfaces in force have the bases of their units: each 2 or 10
+-- The structs in the places of the section's interfaces have the bases of their units, each 2 or 10.
 abbrev pub HaveBases : PcapfileSection → List PcapfileInterface → Type 0
 HaveBases section places = All HasBase (take section.interfaces places)
 
--- a struct that is taken for this interface, where there is one
+-- The struct counts as this interface, or both are missing.
 abbrev pub ShowsFound : Option Interface → Option PcapfileInterface → Type 0
 ShowsFound (Some interface) (Some shown) = IsTakenFor interface shown
 ShowsFound None None = ⊤
 ShowsFound _ _ = ⊥
 
--- the block is a packet
+-- The block is a packet.
 abbrev pub is_packet_block : Item → Bool
 is_packet_block item = is_packet item.block.type_
 
--- a struct that shows the packet that this block is, under this state: with its interface, where the section has it
+-- The struct shows the packet in this block under this state, with its interface if the section has it.
 pub record ShowsItem (q : State) (item : Item) (shown : PcapfileAnyPacket) : Type 0 where
   pub body : Body
   pub after : List ℕ
@@ -55,7 +55,7 @@ pub record ShowsItem (q : State) (item : Item) (shown : PcapfileAnyPacket) : Typ
   pub found : ShowsFound (slice_get (interfaces_at q) packet.interface_id) interface
   pub shows : ShowsAny interface packet shown
 
--- s is a packet under this state, which a struct shows, and then rest
+-- GivesPacket q s rest shown: `s` is a packet under this state, which the struct shows, and then `rest`.
 pub record GivesPacket (q : State) (s rest : List ℕ) (shown : PcapfileAnyPacket) : Type 0 where
   pub item : Item
   pub text : BlockText q item s rest
@@ -63,58 +63,58 @@ pub record GivesPacket (q : State) (s rest : List ℕ) (shown : PcapfileAnyPacke
   pub stays : item.after ≡ q
   pub shows : ShowsItem q item shown
 
--- s is a block under this state, whose body is good where it is a packet, and then rest
+-- ReadText q item s rest: `s` is a block under this state, whose body is good if it is a packet, and then `rest`.
 pub record ReadText (q : State) (item : Item) (s rest : List ℕ) : Type 0 where
   pub text : BlockText q item s rest
   pub body : is_packet item.block.type_ ≡ true → (body : Body) × (after : List ℕ) × BodySays (number_in (order_at q)) item.block.type_ item.block.body (whole body after)
 
--- what is said of bytes where a block is asked for whose body is read where it is a packet
+-- The verdict on bytes that should begin with a block, where the body of a packet is read too.
 abbrev pub ReadSays : State → List ℕ → Verdict Item → Type 0
 ReadSays q s = Says (λ item rest. ReadText q item s rest) (FrameLacks (order_at q) s) (λ fault. BlockSays q s (faulty fault) ⊎ PacketFault (order_at q) s fault)
 
--- memory is taken only where such a body has lists
+-- Memory is allocated only if reading the block or the body of its packet may need it.
 abbrev pub ReadMayGrow : State → List ℕ → Type 0
 ReadMayGrow q s = MayGrow q s ⊎ PacketMayGrow (order_at q) s
 
--- an interface stands there, and no place is left for it: as many are in force as there are places, or as 32 bits count
+-- The bytes begin with an interface for which there is no place: all places are in use, or 2^32 - 1 interfaces are counted.
 abbrev pub LacksPlace : State → PcapfileSection → List PcapfileInterface → List ℕ → Type 0
 LacksPlace q section places s =
     (item : Item) × (after : List ℕ) × (item.block.type_ ≡ types.InterfaceDescription) × BlockSays q s (whole item after)
     × ((length places ≤ section.interfaces) ⊎ (section.interfaces ≡ 2 ^ 32 - 1))
 
--- no packet is given: status 11 where there is no place for an interface, or what is left is refused
+-- No packet is returned: status 11 if there is no place for an interface, or what is left is refused.
 abbrev pub Stops : State → PcapfileSection → List PcapfileInterface → List ℕ → PcapfileError → PcapfileError → ℤ → Type 0
 Stops q section places s error told status =
     ((status ≡ pos 11) × (told ≡ error) × LacksPlace q section places s)
     ⊎ TellsRefusalWhere (ReadMayGrow q s) (ReadSays q s) told status
 
--- s is a block under this state, which is no packet, and then rest; and these structs show what is in force after it
+-- PutsBlock q next now s rest: `s` is a block that is no packet, and then `rest`, and the structs show the state after it.
 abbrev pub PutsBlock : State → PcapfileSection → List PcapfileInterface → List ℕ → List ℕ → Type 0
 PutsBlock q next now s rest = (item : Item) × (is_packet_block item ≡ false) × BlockSays q s (whole item rest) × ShowsInForce next now item.after
 
--- how a walk ends: at a packet, which is taken, or before what gives none
+-- The end of a search for a packet: it is read, or what is left gives none.
 abbrev pub EndsWalk : State → PcapfileSection → List PcapfileInterface → List ℕ → List ℕ → PcapfileAnyPacket → PcapfileAnyPacket → PcapfileError → PcapfileError → ℤ → Type 0
 EndsWalk q section places s rest old packet error told status =
     ((status ≡ pos 0) × (told ≡ error) × GivesPacket q s rest packet)
     ⊎ ((packet ≡ old) × (rest ≡ s) × Stops q section places s error told status)
 
--- a block that is no packet: it is put in force, or a walk ends before it with this status
+-- The result of a block that is no packet: the structs show the state after it, or the search ends before it with this status.
 abbrev pub PutsTells : State → PcapfileSection → PcapfileSection → List PcapfileInterface → List PcapfileInterface → List ℕ → List ℕ → PcapfileError → PcapfileError → Option ℤ → Type 0
 PutsTells q section next places now s rest error told None = (told ≡ error) × PutsBlock q next now s rest
 PutsTells q section next places now s rest error told (Some status) = (next ≡ section) × (now ≡ places) × (rest ≡ s) × Stops q section places s error told status
 
--- a block: it is no packet and is put in force, or a walk ends there with this status
+-- The result of a block: it is no packet and the structs show the state after it, or the search ends here with this status.
 abbrev pub StepTells : State → PcapfileSection → PcapfileSection → List PcapfileInterface → List PcapfileInterface → List ℕ → List ℕ → PcapfileAnyPacket → PcapfileAnyPacket → PcapfileError → PcapfileError → Option ℤ → Type 0
 StepTells q section next places now s rest old packet error told None = (told ≡ error) × (packet ≡ old) × PutsBlock q next now s rest
 StepTells q section next places now s rest old packet error told (Some status) = (next ≡ section) × (now ≡ places) × EndsWalk q section places s rest old packet error told status
 
--- bytes are left: fewer where a walk goes on, and no more where it ends
+-- Fewer bytes are left if the search goes on, and no more than before if it ends.
 abbrev pub LeavesFewer : List ℕ → List ℕ → Option ℤ → Type 0
 LeavesFewer s rest None = length rest < length s
 LeavesFewer s rest (Some status) = length rest ≤ length s
 
--- The packet at the front of s under this state, behind blocks that are no packets and are in force, and then rest. Status 0: the
--- struct shows it. Another: none stands behind these blocks, and the struct is as it was.
+-- The packet at the front of `s` under this state, after blocks that are no packets, and then `rest`. Status 0: the struct shows it.
+-- Another status: no packet follows these blocks, and the struct is unchanged.
 pub record TakesFrontPacket (q : State) (next : PcapfileSection) (now : List PcapfileInterface) (s rest : List ℕ) (old packet : PcapfileAnyPacket) (error told : PcapfileError) (status : ℤ) : Type 0 where
   pub passed : List Item
   pub mid : List ℕ
@@ -123,18 +123,18 @@ pub record TakesFrontPacket (q : State) (next : PcapfileSection) (now : List Pca
   pub in_force : ShowsInForce next now (state_after block_format q passed)
   pub ends : EndsWalk (state_after block_format q passed) next now mid rest old packet error told status
 
--- each place that lies behind as many interfaces as any of these blocks leaves in force is as it was
+-- Every place is unchanged whose number is at least the number of interfaces after each of these blocks.
 abbrev pub OthersStay : List Item → List PcapfileInterface → List PcapfileInterface → Type 0
 OthersStay passed places now = (i : ℕ) → All (λ (item : Item). length (interfaces_at item.after) ≤ i) passed → slice_get now i ≡ slice_get places i
 
--- so it is of the blocks that are taken of s, behind which this rest is left and the structs show what is in force
+-- That holds for the blocks that were read from `s`, which left `rest`, and the structs show the state after them.
 pub record LeavesOthers (q : State) (next : PcapfileSection) (places now : List PcapfileInterface) (s rest : List ℕ) : Type 0 where
   pub passed : List Item
   pub texts : Texts block_format q passed s rest
   pub in_force : ShowsInForce next now (state_after block_format q passed)
   pub others : OthersStay passed places now
 
--- nothing changed: status 10
+-- Nothing changed: status 10.
 pub record LeavesPackets (before push : PcapfilePush) (section next : PcapfileSection) (places now : List PcapfileInterface) (old packet : PcapfileAnyPacket) (error told : PcapfileError) (status : ℤ) : Type 0 where
   pub status_is : status ≡ pos 10
   pub error_is : told ≡ error
@@ -143,17 +143,17 @@ pub record LeavesPackets (before push : PcapfilePush) (section next : PcapfileSe
   pub places_are : now ≡ places
   pub packet_is : packet ≡ old
 
--- the call makes no sense: what is held lies outside of the room, or more interfaces are in force than there are places
+-- The arguments are invalid: the held bytes are outside of the room, or the section has more interfaces than there are places.
 abbrev pub MakesNoSense : PcapfilePush → PcapfileSection → List PcapfileInterface → List ℕ → Type 0
 MakesNoSense before section places room = LiesOutside before room ⊎ (length places < section.interfaces)
 
--- That packet of what is held, of which the rest stays held.
+-- The packet at the front of the held bytes, whose rest stays held.
 abbrev pub TakesNextPacket : State → PcapfilePush → PcapfilePush → PcapfileSection → PcapfileSection → List PcapfileInterface → List PcapfileInterface → List ℕ → PcapfileAnyPacket → PcapfileAnyPacket → PcapfileError → PcapfileError → ℤ → Type 0
 TakesNextPacket q before push section next places now room old packet error told status =
     (HoldsRest before push room × TakesFrontPacket q next now (held_in before room) (held_in push room) old packet error told status)
     ⊎ (MakesNoSense before section places room × LeavesPackets before push section next places now old packet error told status)
 
--- The magic number is refused as no section's, and all else is as it was.
+-- The magic number names no byte order, and nothing else changed; or the arguments of the call are invalid.
 abbrev pub RefusesNextPacket : PcapfilePush → PcapfilePush → PcapfileSection → PcapfileSection → List PcapfileInterface → List PcapfileInterface → List ℕ → PcapfileAnyPacket → PcapfileAnyPacket → PcapfileError → PcapfileError → ℤ → Type 0
 RefusesNextPacket before push section next places now room old packet error told status =
     (LiesWithin before room × (status ≡ pos 3) × ShowsRule SectionMagic told × (push ≡ before) × (next ≡ section) × (now ≡ places) × (packet ≡ old))

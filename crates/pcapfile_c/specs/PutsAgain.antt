@@ -1,4 +1,4 @@
--- What was put, as it is read.
+-- How written blocks are read again.
 use Rattle.std.specs.Prelude.{◌≡◌, ℕ, List, [], ◌∷◌, ◌++◌}
 use Rattle.pcap_blocks.specs.ParsedBlock.{Body, SectionBody, InterfaceBody, EnhancedBody}
 use Rattle.pcap_ng.specs.Blocks.{Item}
@@ -9,28 +9,28 @@ use Rattle.pcapfile_values.specs.Blocks.{ShowsSection}
 use Rattle.pcapfile_values.specs.Bodies.{ShowsInterfaceOf, ShowsPacket, base_of, unit_shown}
 use Rattle.pcapfile_c.specs.Putting.{Given, IsTextOf, a_section, an_interface, a_packet}
 
--- the struct that a call is given for the section: a section header's own, and else that of the section in force
+-- The section that a call gets: for a section header the passed one, and otherwise the current one.
 abbrev pub section_given : PcapfileSection → Given → PcapfileSection
 section_given section (a_section shown) = shown
 section_given section _ = section
 
--- what calls put, one behind the other, each with the section as the call before it left it
+-- The bytes are what calls wrote one after the other, each with the section that the call before it left.
 abbrev pub ArePut : PcapfileSection → List Given → List ℕ → Type 0
 ArePut section [] bytes = bytes ≡ []
 ArePut section (given ∷ others) bytes =
     (next : PcapfileSection) × (text : List ℕ) × (more : List ℕ) × IsTextOf given (section_given section given) next text × (bytes ≡ text ++ more) × ArePut next others more
 
--- the struct of an interface with the base of its unit: 2, or 10 for any other
+-- The struct of an interface with the base of its unit: 2, or 10 for any other base.
 abbrev pub with_base : PcapfileInterface → PcapfileInterface
 with_base shown = record shown { ts_base = base_of (unit_shown shown.ts_base shown.ts_exponent) }
 
--- a body is shown by the struct that was given: a section's; an interface's, with its base; or that of an enhanced packet
+-- The body is what the passed struct shows: a section, an interface with its base, or an enhanced packet.
 abbrev pub IsShownBy : Body → Given → Type 0
 IsShownBy (SectionBody section) (a_section shown) = ShowsSection shown section
 IsShownBy (InterfaceBody interface) (an_interface shown) = ShowsInterfaceOf interface (with_base shown)
 IsShownBy (EnhancedBody b) (a_packet p) = ShowsPacket (EnhancedBody b) (record p { type_ = 6 })
 IsShownBy _ _ = ⊥
 
--- a block is read as what was given to put
+-- A reader reads the block as what was passed to the call that wrote it.
 abbrev pub IsReadAs : Item → Given → Type 0
 IsReadAs item given = (body : Body) × IsBodyOf item body × IsShownBy body given

@@ -1,4 +1,4 @@
--- What the calls that take records and names of a name resolution block answer ('Name Resolution Block').
+-- What the calls return that read records and names of a name resolution block ('Name Resolution Block').
 use Rattle.std.specs.Prelude.{◌≡◌, ◌≢◌, ◌⊎◌, ℕ, ℤ, pos, List, [], Option, Some, None, Result, Ok, Err}
 use Rattle.std.specs.Borrow.{Bor}
 use Rattle.pcap_core.specs.declared.common.Endianness.{Endianness}
@@ -15,19 +15,19 @@ use Rattle.pcapfile_c.specs.declared.records.PcapfileRecord.{PcapfileRecord}
 use Rattle.pcapfile_c.specs.Options.{BeginsTells}
 use Rattle.pcapfile_c.specs.Options as options
 
--- a struct that shows an address under this type: its bytes, and the bytes that are its names
+-- The struct shows an address under this type: its bytes, and the bytes that are its names.
 pub record ShowsAddress (type : ℕ) (address : Address) (shown : PcapfileRecord) : Type 0 where
   pub type_is : shown.type_ ≡ type
   pub bytes_are : shown.address.now ≡ address.bytes
   pub names_are : NamesText address.names shown.names.now []
 
--- a struct that shows a record of another type: its value
+-- The struct shows a record of another type: its value.
 pub record ShowsOther (type : ℕ) (value : List ℕ) (shown : PcapfileRecord) : Type 0 where
   pub type_is : shown.type_ ≡ type
   pub value_is : shown.address.now ≡ value
   pub no_names : shown.names.now ≡ []
 
--- a struct that shows a record, and none that shows the end
+-- The struct shows a record, and there is no struct for the end.
 abbrev pub ShowsRecord : NameRecord → Option PcapfileRecord → Type 0
 ShowsRecord End None = Unit {0}
 ShowsRecord (Ipv4 address) (Some shown) = ShowsAddress 1 address shown
@@ -35,40 +35,42 @@ ShowsRecord (Ipv6 address) (Some shown) = ShowsAddress 2 address shown
 ShowsRecord (Other type len value) (Some shown) = ShowsOther type value shown
 ShowsRecord _ _ = ⊥
 
--- all bytes are names, or a fault stands in them
+-- The result of reading all bytes as names: they are names, or there is a fault.
 abbrev pub NamesTell : List ℕ → Result (Unit {0}) PcapError → Type 0
 NamesTell s (Ok nothing) = (names : List (List ℕ)) × NamesText names s []
 NamesTell s (Err e) = Shows (λ fault. NamesSay s (faulty fault)) e
 
--- the address of this type and width that all bytes are, with its names; or why they are none
+-- The result of reading all bytes as an address of this type and width, with its names.
 abbrev pub AddressTells : ℕ → ℕ → Rule → List ℕ → Result PcapfileRecord PcapError → Type 0
 AddressTells type width too_short s (Ok shown) = (address : Address) × ShowsAddress type address shown × AddressSays width too_short s (whole address [])
 AddressTells type width too_short s (Err e) = Shows (λ fault. AddressSays width too_short s (faulty fault)) e
 
--- the record of this form that a value is, or why it is none
+-- The result of reading a value as a record of this form.
 abbrev pub ValueTells : Form → List ℕ → Result (Option PcapfileRecord) PcapError → Type 0
 ValueTells form v (Ok shown) = (r : NameRecord) × ShowsRecord r shown × RecordValueSays form v (whole r [])
 ValueTells form v (Err e) = Shows (λ fault. RecordValueSays form v (faulty fault)) e
 
--- the record at the front of bytes, and what follows it
+-- The result of reading the record at the front of bytes, and what follows it.
 abbrev pub RecordTells : Order → List ℕ → Result (Bor (List ℕ) × Option PcapfileRecord) PcapError → Type 0
 RecordTells order s (Ok (rest, shown)) = (r : NameRecord) × ShowsRecord r shown × RecordText order r s rest.now
 RecordTells order s (Err e) = Shows (λ fault. RecordSays order s (faulty fault)) e
 
--- where the records end
+-- The result of a search for what follows the records.
 abbrev pub RecordsTell : Order → List ℕ → Result (Bor (List ℕ)) PcapError → Type 0
 RecordsTell order s = BeginsTells (options.NamesSay order s)
 
--- Status 0: a record stands there, the struct shows it, and what follows it is left. Status 8: the end of the records stands
--- there. The error is as it was then. Another status: it is refused. Then what is left and the struct are as they were.
+-- Status 0: the left bytes begin with a record, the struct shows it, and the rest is left. Status 8: they begin with the end of the
+-- records. The error is unchanged under both. Another status: the record is refused. The left bytes and the struct are unchanged unless
+-- the status is 0.
 abbrev pub TakesRecord : Endianness → PcapfileBytes → PcapfileBytes → PcapfileRecord → PcapfileRecord → PcapfileError → PcapfileError → ℤ → Type 0
 TakesRecord e left now before after error told status =
     ((status ≡ pos 0) × (told ≡ error) × (r : NameRecord) × ShowsRecord r (Some after) × RecordText (number_in e) r left.bytes.now now.bytes.now)
     ⊎ (((status ≡ pos 8) × (told ≡ error) × (now ≡ left) × (after ≡ before) × (rest : List ℕ) × RecordText (number_in e) End left.bytes.now rest)
     ⊎ ((now ≡ left) × (after ≡ before) × TellsRefusal (RecordSays (number_in e) left.bytes.now) told status))
 
--- Status 0: a name stands there, it is shown, and what follows its zero byte is left. Status 8: nothing is left. The error is as it
--- was then. Another status: it is refused. Then what is left and what is shown are as they were.
+-- Status 0: the left bytes begin with a name, which is shown, and what follows its zero byte is left. Status 8: nothing is left. The
+-- error is unchanged under both. Another status: the name is refused. The left bytes and what is shown are unchanged unless the status is
+-- 0.
 abbrev pub TakesName : PcapfileBytes → PcapfileBytes → PcapfileBytes → PcapfileBytes → PcapfileError → PcapfileError → ℤ → Type 0
 TakesName left now before after error told status =
     ((status ≡ pos 0) × (told ≡ error) × NameText after.bytes.now left.bytes.now now.bytes.now)

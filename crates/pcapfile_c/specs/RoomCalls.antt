@@ -1,28 +1,28 @@
--- What calls on a capture that comes in pieces do, one after the other.
+-- What sequences of calls do on a capture that comes in pieces.
 use Rattle.std.specs.Prelude.{◌≡◌, ◌≢◌, ℕ, ℤ, pos, zero, List, [], ◌∷◌, ◌++◌, take, drop}
 use Rattle.std.specs.List.{flat_map}
 use Rattle.pcapfile_values.specs.declared.errors.PcapfileError.{PcapfileError}
 use Rattle.pcapfile_c.specs.declared.push.PcapfilePush.{PcapfilePush}
 use Rattle.pcapfile_c.specs.Push.{MakesSpace, Puts, held_in}
 
--- what a call put or gave that answers this status: nothing but under 0
+-- What a call with this status put or returned: all of it under 0, and otherwise nothing.
 abbrev pub under_status : {A : Type 0} → ℤ → List A → List A
 under_status (pos zero) all = all
 under_status _ all = []
 
--- all bytes that were put
+-- All bytes that the caller put.
 abbrev pub all_put : {A : Type 0} → List (List ℕ × List A) → List ℕ
 all_put calls = flat_map (λ call. call.0) calls
 
--- all that was given, packets or blocks
+-- All packets or blocks that the calls returned.
 abbrev pub all_given : {A : Type 0} → List (List ℕ × List A) → List A
 all_given calls = flat_map (λ call. call.1) calls
 
--- Of calls that give values of G, and keep a value of T beside the room: what such a call gives that answers a status, and how C may
--- change what is kept between two calls.
+-- The calls return values of G and keep a value of T beside the room. Gives is what a call with a status returns. Keeps is how the
+-- program may change what is kept between two calls.
 module _ {T G : Type 0} (Gives : ℤ → PcapfilePush → T → List ℕ → PcapfilePush → T → List G → Type 0) (Keeps : T → T → Type 0) where
-  -- One of the calls, by what it answers; or what C does between two calls, which leaves what is held: it writes elsewhere in the
-  -- room, or takes another one. Each with the bytes that were put and the values that were given.
+  -- One of the calls, with its result; or what the program does between two calls, which keeps the held bytes: it writes elsewhere in the
+  -- room, or takes another room. Each has the bytes that were put and the values that were returned.
   pub data RoomCall (before : PcapfilePush) (kept : T) (room : List ℕ) (push : PcapfilePush) (next : T) (now : List ℕ) : List ℕ → List G → Type 0 where
     space : (wanted : ℕ) (error told : PcapfileError) (status : ℤ) → next ≡ kept → MakesSpace before push room now wanted error told status → RoomCall before kept room push next now [] []
     put : (count : ℕ) (status : ℤ) → next ≡ kept → now ≡ room → Puts before push room count status
@@ -30,13 +30,13 @@ module _ {T G : Type 0} (Gives : ℤ → PcapfilePush → T → List ℕ → Pca
     gives : (status : ℤ) (given : List G) → now ≡ room → Gives status before kept room push next given → RoomCall before kept room push next now [] given
     between : push ≡ before → Keeps kept next → held_in before now ≡ held_in before room → RoomCall before kept room push next now [] []
 
-  -- calls one after the other
+  -- Calls one after the other.
   abbrev pub RoomCalls : PcapfilePush → T → List ℕ → List (List ℕ × List G) → PcapfilePush → T → List ℕ → Type 0
   RoomCalls before kept room [] push next now = (push ≡ before) × (next ≡ kept) × (now ≡ room)
   RoomCalls before kept room (call ∷ calls) push next now =
       (mid : PcapfilePush) × (then : T) × (there : List ℕ) × RoomCall before kept room mid then there call.0 call.1 × RoomCalls mid then there calls push next now
 
-  -- What is left after these calls, from nothing on: the last one ended them, behind what it gave.
+  -- What is left after these calls, from nothing on: the last call ended them, after what it returned.
   pub record Ended (IsFresh : PcapfilePush → T → Type 0) (Ends : ℤ → PcapfilePush → Type 0) (calls : List (List ℕ × List G)) (push : PcapfilePush) (next : T) (room : List ℕ) : Type 0 where
     pub start : PcapfilePush
     pub start_kept : T

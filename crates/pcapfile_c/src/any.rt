@@ -1,4 +1,4 @@
-//! Captures of either format that lie in memory: their packets, by one call.
+//! Reads the packets of a capture of either format in memory, one at each call.
 
 ghost use Rattle.std.specs.Prelude.{◌≡◌, ◌<◌, ◌↔◌, length, pos, None, IsTrue};
 ghost use Rattle.pcap_ng.specs.State.{State};
@@ -17,23 +17,23 @@ use pcapfile_values::errors::{PcapfileError, tell_broken};
 use pcapfile_values::shown::{PcapfileBytes, PcapfileHeader, PcapfilePacket};
 use std::alloc::Global;
 
-/// What a walk over the packets of a capture of either format keeps between two of them. In C: `pcapfile_capture`.
+/// What the reader keeps between two packets of a capture of either format. In C: `pcapfile_capture`.
 #[repr(C)]
 #[derive(Clone, Copy)]
 pub struct PcapfileCapture {
-    /// Of a pcap capture. Its magic number is 0 until it is taken, and in a PcapNg capture.
+    /// The header of a classic capture. Its magic number is 0 until a call reads it, and in a PcapNg capture.
     pub header: PcapfileHeader,
-    /// Of a PcapNg capture. Its magic number is 0 until the first is taken, and in a pcap capture.
+    /// The current section of a PcapNg capture. Its magic number is 0 until a call reads the first one, and in a classic capture.
     pub section: PcapfileSection,
 }
 
 // The first bytes of a PcapNg capture.
 const SECTION: [u8; 4] = [0x0A, 0x0D, 0x0D, 0x0A];
 
-/// Takes the packet at the front of `left`, and what stands before it: a capture's header, or blocks, of which a section header is
-/// put into `capture`, and an interface into the first place of `interfaces` that none of its section has. What is in force, or
-/// else the first bytes, say which format it is. Status 8: nothing is left behind the header or a block. Other statuses as of
-/// `pcapfile_push_next` and `pcapfile_push_ng_next`; status 10 where `capture` has more interfaces than there are places.
+/// Reads the packet at the front of `left` and what precedes it, a capture's header or blocks, and moves `left` after it. A section
+/// header goes into `capture`, and an interface into the first place of `interfaces` after those of its section. The header or section in
+/// `capture` decides the format, or before there is one, the first bytes. Status 8: nothing is left after the header or a block. Status
+/// 10: `capture` has more interfaces than there are places. Other statuses are those of `pcapfile_push_next` and `pcapfile_push_ng_next`.
 #[unsafe(no_mangle)]
 pub extern "C" fn pcapfile_take_any<'a>(
     alloc: Global,
@@ -68,7 +68,7 @@ pub extern "C" fn pcapfile_take_any<'a>(
     status
 }
 
-// The same, but that the end of a capture is told as a request for more.
+// Does the same, but reports the end of a capture as missing bytes.
 fn take_either<'a>(
     alloc: Global,
     capture: &mut PcapfileCapture,
@@ -100,7 +100,7 @@ fn take_either<'a>(
     }
 }
 
-// Takes the packet of a pcap capture at the front of `left`, and the header before it where none is in force.
+// Reads the packet of a classic capture at the front of `left`, and the header before it if `header` has none yet.
 fn take_any_packet<'a>(
     header: &mut PcapfileHeader,
     left: &mut PcapfileBytes<'a>,
@@ -123,7 +123,7 @@ fn take_any_packet<'a>(
     0
 }
 
-// Takes the packet of a PcapNg capture at the front of `left`, and the blocks before it.
+// Reads the packet of a PcapNg capture at the front of `left`, and the blocks before it.
 fn take_any_block<'a>(
     alloc: Global,
     section: &mut PcapfileSection,
@@ -154,7 +154,7 @@ fn take_any_block<'a>(
 }
 
 impl PcapfileCapture {
-    // Whether the capture is PcapNg: what is in force says so, or else its first bytes.
+    // Returns whether the capture is PcapNg. The section or header decides, or the first bytes if there is neither.
     fn is_ng(&self, bytes: &[u8]) -> bool
         ensures { IsTrue result ↔ IsNg self.now bytes.now }
     {
@@ -164,7 +164,7 @@ impl PcapfileCapture {
         self.header.kind().is_none() && bytes.starts_with(&SECTION)
     }
 
-    // Whether a walk that stopped with this status has come to the end of a capture.
+    // Returns whether a call that stopped with this status reached the end of a capture.
     fn is_end(&self, status: i32, left: &[u8]) -> bool
         ensures { IsTrue result ↔ (status ≡ pos 1) × HasEnded self.now left.now }
     {

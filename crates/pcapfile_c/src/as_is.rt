@@ -1,4 +1,4 @@
-//! Packets as they stand, with the rules that they break.
+//! Reads the packets of classic captures leniently: malformed ones too, with the rules that they break.
 
 ghost use Rattle.std.specs.Prelude.{◌≡◌, false, IsTrue};
 ghost use Rattle.std.specs.Option.{MatchOption};
@@ -17,28 +17,28 @@ use pcapfile_values::bodies::PcapfileTime;
 use pcapfile_values::errors::{PcapfileError, tell, tell_broken};
 use pcapfile_values::shown::{PcapfileBytes, PcapfileHeader};
 
-/// A packet as it stands; its bytes lie where its capture lies. In C: `pcapfile_packet_as_is`.
+/// A packet that lenient reading returns, whose bytes are borrowed from its capture. In C: `pcapfile_packet_as_is`.
 #[repr(C)]
 #[derive(Clone, Copy)]
 pub struct PcapfilePacketAsIs<'a> {
-    /// Time in seconds since 1970, as it was written.
+    /// The time in seconds since 1970, as written in the capture.
     pub ts_sec: u32,
-    /// The fraction of the second in the capture's resolution, as it was written.
+    /// The fraction of the second in the capture's timestamp resolution, as written in the capture.
     pub ts_fraction: u32,
-    /// How many bytes it had on the wire, as was written.
+    /// The original length in bytes, as written in the capture.
     pub orig_len: u32,
-    /// The rules that it breaks: for each of them the bit of its number.
+    /// The rules that the packet breaks: bit n is set for the rule of number n.
     pub flaws: u32,
-    /// The number of the first of them. 0 where it breaks none.
+    /// The number of the first rule that the packet breaks, or 0 if it breaks none.
     pub first_flaw: u32,
-    /// Its time, exact also where its fraction passes one second.
+    /// The time of the packet, which is exact even if its fraction is a second or more.
     pub time: PcapfileTime,
-    /// Those that are stored.
+    /// The stored bytes of the packet.
     pub bytes: &'a [u8],
 }
 
-/// Takes the packet at the front of `left` as it stands, behind a capture's header. It is refused only where bytes are missing, or
-/// where its stored length is above the limit, in bytes; one below 262144 is taken for 262144.
+/// Reads the packet at the front of `left` leniently, after a capture's header. Refuses it only if bytes are missing or its stored length
+/// is above `limit`. A limit below 262144 bytes counts as 262144.
 #[unsafe(no_mangle)]
 pub extern "C" fn pcapfile_take_packet_as_is<'a>(
     header: &PcapfileHeader,
@@ -65,8 +65,8 @@ pub extern "C" fn pcapfile_take_packet_as_is<'a>(
     }
 }
 
-/// Tells the first place of `bytes` from which so many packets with data stand in a row that break no rule, or fewer, at least one,
-/// to their end, behind a capture's header.
+/// Finds the first place in `bytes` where the packet records of a capture with this header resume. From there, `row` packet records with
+/// data follow that break no rule, or fewer, at least one, up to the end of `bytes`.
 #[unsafe(no_mangle)]
 pub extern "C" fn pcapfile_resync(
     header: &PcapfileHeader,
@@ -91,7 +91,7 @@ pub extern "C" fn pcapfile_resync(
     }
 }
 
-// The parser of the packets behind a header. None where its magic number is none of the four.
+// Returns the parser of the packets after a header, or None if its magic number is none of the four.
 fn parser_behind(header: &PcapfileHeader) -> Option<PcapParser>
     ensures { let magic = header.now.magic_number in
         MatchOption result (is_magic magic ≡ false) (λ parser. IsTrue (is_magic magic) × ((header_of parser).magic_number ≡ magic)) }
@@ -100,7 +100,7 @@ fn parser_behind(header: &PcapfileHeader) -> Option<PcapParser>
 }
 
 impl<'a> PcapfilePacketAsIs<'a> {
-    // What C sees of a packet as it stands, of a capture of this resolution.
+    // Returns the struct for a packet from lenient reading, in a capture of this timestamp resolution.
     fn new(packet: PacketAsIs<'a>, ts_resolution: TsResolution) -> PcapfilePacketAsIs<'a>
         ensures { ShowsAsIs ts_resolution (as_it_is packet.entry) result }
     {
@@ -120,7 +120,7 @@ impl<'a> PcapfilePacketAsIs<'a> {
     }
 }
 
-// For each rule that is broken the bit of its number.
+// Returns a number with the bit of each broken rule.
 fn flaw_bits(flaws: Flaws) -> u32
     ensures { result ≡ bits_of (rules_of flaws) }
 {
@@ -140,7 +140,7 @@ fn flaw_bits(flaws: Flaws) -> u32
     bits
 }
 
-// The number of the first rule that is broken. 0 where none is.
+// Returns the number of the first broken rule, or 0 if there is none.
 fn first_flaw(flaws: Flaws) -> u32
     ensures { result ≡ number_or_0 (first_rule (rules_of flaws)) }
 {

@@ -1,4 +1,4 @@
-//! PcapNg captures that lie in memory: where they can be cut into parts, and what is in force there.
+//! Finds where PcapNg captures in memory can be cut into parts, and which section and interfaces each part has.
 
 ghost use Rattle.std.specs.Prelude.{◌≡◌, ◌≤◌, pos, length, max, IfErr, IfOk};
 ghost use Rattle.pcap_core.specs.Answer.{Refuses, faulty, lacks};
@@ -13,9 +13,10 @@ use pcapfile_values::errors::{PcapfileError, tell};
 use pcapfile_values::shown::PcapfileBytes;
 use std::alloc::Global;
 
-/// Where a capture can be cut into as many parts of equal length as there are places in `cuts`, but for the last one and less than
-/// a block each, so that no block is torn, and where what is in force there stands. `count` and `known` say how many places are
-/// filled, of cuts and of interfaces; or under status 11 `known` says how many interfaces need a place. The places are `pcapfile_ng_cut` in C.
+/// Finds where a PcapNg capture can be cut between blocks into parts of about equal length, at most as many as `cuts` has places. Each
+/// part after the first begins at the first block boundary at or after the end of an equal share, if bytes follow there. `interfaces`
+/// receives the places of the interfaces. `count` and `known` are set to the number of cuts and interfaces. Under status 11, `known` is
+/// the number of interfaces that need a place, or 0 if `cuts` is empty. The cuts are `pcapfile_ng_cut` in C.
 #[unsafe(no_mangle)]
 pub extern "C" fn pcapfile_cut_blocks(
     alloc: Global,
@@ -48,8 +49,9 @@ pub extern "C" fn pcapfile_cut_blocks(
     )
 }
 
-/// The same of parts of at least so many bytes. `count` and `known` say how many places are filled, of cuts and of interfaces; or
-/// under status 11 `known` says how many interfaces need a place, or 0 where it is the cuts that lack places.
+/// Finds where a PcapNg capture can be cut between blocks into parts of at least `at_least` bytes. `count` and `known` are set to the
+/// number of cuts and interfaces. Under status 11, `known` is the number of interfaces that need a place, or 0 if there may be too few
+/// places for the cuts.
 #[unsafe(no_mangle)]
 pub extern "C" fn pcapfile_cut_blocks_at_least(
     alloc: Global,
@@ -84,7 +86,7 @@ pub extern "C" fn pcapfile_cut_blocks_at_least(
     )
 }
 
-// Puts into the first places the cuts that are asked for, of which they hold each, and the places of interfaces.
+// Writes the requested cuts and the places of the interfaces into the first places. `cuts` must have room for every cut.
 fn fill_cuts(
     alloc: Global,
     bytes: &[u8],
@@ -115,7 +117,7 @@ fn fill_cuts(
     }
 }
 
-// Where a capture can be cut as it is asked for, and where what is in force there stands.
+// Returns the requested cuts of a capture, and the places of its interfaces.
 fn cut_capture(alloc: Global, bytes: &[u8], parting: Parting) -> ResultParsing<NgCuts>
     requires { AsksSome parting }
     ensures cut { IfOk result (CutsBlocks parting bytes.now) }
@@ -127,7 +129,7 @@ fn cut_capture(alloc: Global, bytes: &[u8], parting: Parting) -> ResultParsing<N
     }
 }
 
-// Puts these values into the first places, and tells how many they are.
+// Copies these values into the first places, and returns how many they are.
 fn fill<T: Copy>(values: &[T], places: &mut [T]) -> usize
     requires { length values.now ≤ length places.old }
     ensures { Fills values.now places.old places.new result }

@@ -1,4 +1,4 @@
-//! PcapNg captures that lie in memory: their blocks as they stand, with what is wrong with their bodies.
+//! Reads the blocks of PcapNg captures in memory leniently, with the flaws of their bodies.
 
 ghost use Rattle.std.specs.Prelude.{◌≡◌, ◌≢◌, ℕ, List, [], None, IsErrAnd, IfOk, IfSome, map};
 ghost use Rattle.pcap_core.specs.declared.rules.Rule.TheVariants.{SectionMagic};
@@ -28,19 +28,19 @@ use pcapfile_values::errors::{PcapfileError, tell};
 use pcapfile_values::shown::PcapfileBytes;
 use std::alloc::{AllocError, Global};
 
-/// What is wrong with the body of a block. In C: `pcapfile_block_flaw`.
+/// A flaw in the body of a block. In C: `pcapfile_block_flaw`.
 #[repr(C)]
 #[derive(Clone, Copy)]
 pub struct PcapfileBlockFlaw {
-    /// The status by which the strict reading refuses such a body: 3 a rule, 2 a value that is too short, 4 a string.
+    /// The status with which strict reading refuses such a body: 3 for a rule, 2 for a value that is too short, 4 for a string.
     pub status: i32,
-    /// The number of the rule that is broken, under status 3. Else 0.
+    /// The number of the broken rule, under status 3. Otherwise 0.
     pub rule: u32,
-    /// The code of the option whose value it is. 0 where it is that of the whole body, or of the list of options.
+    /// The code of the option whose value is flawed, or 0 if the flaw is in the rest of the body or in the list of options.
     pub code: u32,
 }
 
-/// A block as it stands: the number of its type, its body, and what that is. In C: `pcapfile_block_as_is`.
+/// A block that lenient reading returns: the number of its type, its body, and what the body contains. In C: `pcapfile_block_as_is`.
 #[repr(C)]
 #[derive(Clone, Copy)]
 pub struct PcapfileBlockAsIs<'a> {
@@ -49,16 +49,16 @@ pub struct PcapfileBlockAsIs<'a> {
     pub has_interface: u8,
     /// 1 for an enhanced packet whose body has room for its head and its bytes.
     pub has_packet: u8,
-    /// How many flaws its body has.
+    /// How many flaws the body has.
     pub flaws: usize,
     pub body: &'a [u8],
-    /// With the first unit and offset that break no rule.
+    /// The interface, with the first unit and the first offset that break no rule.
     pub interface: PcapfileInterface,
     pub packet: PcapfileNgPacket<'a>,
 }
 
-/// Takes the block at the front of `left` as it stands, and shows what is wrong with it in the first places of `flaws`, up to their
-/// last one. `section` is what is in force before it, and then after it.
+/// Reads the block at the front of `left` leniently, and moves `left` after it. Writes its flaws into the first places of `flaws`, as
+/// many as there are places. `section` is the state before the block, and then after it.
 #[unsafe(no_mangle)]
 pub extern "C" fn pcapfile_take_block_as_is<'a>(
     alloc: Global,
@@ -85,14 +85,14 @@ pub extern "C" fn pcapfile_take_block_as_is<'a>(
     }
 }
 
-// What is found of a block as it stands: what C sees of it, and what is wrong with it.
+// What lenient reading finds in a block: the struct for C, and the flaws.
 #[derive(Drop)]
 struct FoundAsIs<'a> {
     shown: PcapfileBlockAsIs<'a>,
     flaws: Vec<Flaw>,
 }
 
-// The block at the front of a slice as it stands, what is in force after it, and what follows it.
+// Reads the block at the front of a slice leniently. Returns the rest, the block, and the section in force after it.
 fn next_standing<'a>(
     section: &PcapfileSection,
     alloc: Global,
@@ -109,7 +109,7 @@ fn next_standing<'a>(
     Ok((rest, found))
 }
 
-// What is found of a block, and what is in force after it.
+// Returns what lenient reading finds in a block, and the section in force after it.
 fn standing<'a>(
     section: &PcapfileSection,
     alloc: Global,
@@ -128,7 +128,7 @@ fn standing<'a>(
     }
 }
 
-// The same of a block that is no section.
+// Does the same for a block that is no section header.
 fn standing_on<'a>(
     section: &PcapfileSection,
     alloc: Global,
@@ -161,7 +161,7 @@ fn standing_on<'a>(
 }
 
 impl<'a> FoundAsIs<'a> {
-    // What is found where nothing is read of a block, with these flaws.
+    // Returns what is found in a block whose body isn't read, with these flaws.
     fn nothing(lent: PcapfileBlock<'a>, flaws: Vec<Flaw>) -> FoundAsIs<'a>
         ensures { FindsNothing lent.entry (said_in flaws) result }
     {
@@ -170,7 +170,7 @@ impl<'a> FoundAsIs<'a> {
         FoundAsIs { shown, flaws }
     }
 
-    // The interface that a block is as it stands.
+    // Returns the block with the interface that lenient reading finds in it.
     fn interface(
         alloc: Global,
         order: Endianness,
@@ -188,7 +188,7 @@ impl<'a> FoundAsIs<'a> {
         Ok(FoundAsIs { shown, flaws })
     }
 
-    // The packet that a block is as it stands.
+    // Returns the block with the packet that lenient reading finds in it.
     fn packet(
         alloc: Global,
         order: Endianness,
@@ -208,7 +208,7 @@ impl<'a> FoundAsIs<'a> {
 }
 
 impl<'a> PcapfileBlockAsIs<'a> {
-    // What C sees of a block of which nothing is read.
+    // Returns the struct for a block whose body isn't read.
     fn bare(lent: PcapfileBlock<'a>) -> PcapfileBlockAsIs<'a>
         ensures of { IsOf lent.entry result }
         ensures bare { ShowsReading (record { interface = None; packet = None; flaws = [] }) result }
@@ -239,7 +239,7 @@ const NO_INTERFACE: PcapfileInterface = PcapfileInterface {
     ts_offset: 0,
 };
 
-// The section that the body of a section header puts in force as it stands, and what is wrong with it.
+// Returns the section that begins with a section header of this body, and its flaws.
 fn section_standing(alloc: Global, body: &[u8]) -> ResultParsing<(PcapfileSection, Vec<Flaw>)>
     ensures { TellsSection body.now result }
 {
@@ -248,7 +248,7 @@ fn section_standing(alloc: Global, body: &[u8]) -> ResultParsing<(PcapfileSectio
     Ok((PcapfileSection::opened(&section), flaws))
 }
 
-// The interface that a body is as it stands, in this order.
+// Returns what lenient reading finds in the body of an interface, in this byte order.
 fn interface_standing<'a>(
     alloc: Global,
     order: Endianness,
@@ -262,7 +262,7 @@ fn interface_standing<'a>(
     }
 }
 
-// The packet that a body is as it stands, in this order.
+// Returns what lenient reading finds in the body of an enhanced packet, in this byte order.
 fn packet_standing<'a>(
     alloc: Global,
     order: Endianness,
@@ -277,7 +277,7 @@ fn packet_standing<'a>(
     }
 }
 
-// Shows what is wrong in the first places, as far as there are places.
+// Writes flaws into the first places, as many as there are places.
 fn show_flaws(flaws: &[Flaw], places: &mut [PcapfileBlockFlaw])
     ensures { ShowsFlaws (map said_of flaws.now) places.old places.new }
 {
@@ -288,7 +288,7 @@ fn show_flaws(flaws: &[Flaw], places: &mut [PcapfileBlockFlaw])
 }
 
 impl PcapfileBlockFlaw {
-    // What C sees of a flaw.
+    // Returns the struct for a flaw.
     fn new(flaw: Flaw) -> PcapfileBlockFlaw
         ensures { result ≡ shown_flaw (said_of flaw) }
     {

@@ -1,4 +1,4 @@
-//! Classic captures that lie in memory: where they can be cut into parts.
+//! Finds where classic captures in memory can be cut into parts.
 
 ghost use Rattle.std.specs.Prelude.{◌≡◌, ◌≤◌, ◌-◌, pos, length, max, take, drop};
 ghost use Rattle.pcap_classic.specs.PacketText.{packet_limit};
@@ -14,8 +14,9 @@ use pcap_parts::{Cut, Parting, Passed, skip_packets};
 use pcapfile_values::errors::{PcapfileError, tell};
 use pcapfile_values::shown::PcapfileBytes;
 
-/// Where a capture can be cut into as many parts of equal length as there are places, but for the last one and less than a packet
-/// each, so that no packet is torn. `count` says how many places are filled. The places are `pcapfile_cut` in C.
+/// Finds where a classic capture can be cut between packets into parts of about equal length, at most as many as `cuts` has places. The
+/// first part begins after the header. Each other one begins at the first packet boundary at or after the end of an equal share, if bytes
+/// follow there. `count` is set to the number of cuts. The cuts are `pcapfile_cut` in C.
 #[unsafe(no_mangle)]
 pub extern "C" fn pcapfile_cut_packets(
     capture: &PcapfileBytes<'_>,
@@ -33,8 +34,9 @@ pub extern "C" fn pcapfile_cut_packets(
     fill_cuts(capture, Parting::Equal(cuts.len()), cuts, count, error)
 }
 
-/// Where a capture can be cut into parts of at least so many bytes, each but the last with no packet more than it needs. `count`
-/// says how many places are filled. Status 11 where the places times so many bytes, or one, are not more than the capture has.
+/// Finds where a classic capture can be cut between packets into parts of at least `at_least` bytes, where 0 counts as 1. Each part but
+/// the last would be too short without its last packet. `count` is set to the number of cuts. Status 11: the number of places times that
+/// length is at most the length of the capture.
 #[unsafe(no_mangle)]
 pub extern "C" fn pcapfile_cut_packets_at_least(
     capture: &PcapfileBytes<'_>,
@@ -54,7 +56,7 @@ pub extern "C" fn pcapfile_cut_packets_at_least(
     fill_cuts(capture, Parting::AtLeast(wanted), cuts, count, error)
 }
 
-// Puts into the first places the cuts that are asked for, of which they hold each.
+// Writes the requested cuts into the first places. `cuts` must have room for every cut.
 fn fill_cuts(
     capture: &PcapfileBytes<'_>,
     parting: Parting,
@@ -76,8 +78,8 @@ fn fill_cuts(
     }
 }
 
-// Puts into the first places where the parts of the packets behind a header begin, and tells how many they are. Their last byte has
-// this place.
+// Writes where the parts of the packets after a header begin into the first places, and returns how many they are. The slice ends at byte
+// `total` of the capture.
 fn cut_packets(
     parser: &PcapParser,
     slice: &[u8],

@@ -1,4 +1,4 @@
-//! Laws of many calls.
+//! Laws about sequences of calls.
 
 ghost use Rattle.std.specs.Prelude.{◌≡◌, ◌⊎◌, ℕ, ℤ, List, [], ◌∷◌, filter};
 ghost use Rattle.std.specs.List.{AllZip};
@@ -27,17 +27,17 @@ ghost use Rattle.pcapfile_c.specs.PutsAgain.{ArePut, IsReadAs};
 ghost use Rattle.pcapfile_c.specs.RoomCalls.{all_given, all_put};
 ghost use Rattle.pcapfile_c.specs.ReadBlocks.{ShowsThere, each_under, is_packet_there, read_format};
 
-/// However a capture is cut, and whatever calls are made in any order, in any rooms in which C leaves what is held: where a call
-/// tells that no packet follows, the packets that were given are those of the front of all bytes that were put, and what is held
-/// is the rest.
+/// Once a call reports that no packet follows, the packets returned from a classic capture in pieces are those of the front of its bytes,
+/// and the held bytes are the rest. This holds for any pieces, any calls in any order, and any rooms in which the caller keeps the held
+/// bytes.
 #[tactic(auto, using(crate::proofs::Pushes::pushes_front))]
 pub fn pushes_give_the_front()
     ensures { (calls : List (List ℕ × List Captured)) (push : PcapfilePush) (room : List ℕ) → HaveEnded calls push room →
         (header : PcapHeader) × (push.header ≡ shown_header header) × CaptureFront packet_limit header (all_given calls) (all_put calls) (held_in push room) }
 {}
 
-/// The same of the blocks of a PcapNg capture: those that were given are those of the front of all bytes that were put, what is
-/// held is the rest, and what is in force is what the front leaves.
+/// Once a call reports that no block follows, the blocks returned from a PcapNg capture in pieces are those of the front of its bytes.
+/// The held bytes are the rest, and the struct shows the state after the front.
 #[tactic(auto, using(crate::proofs::BlockLaws::pushed_blocks))]
 pub fn pushed_blocks_give_the_front()
     ensures { (calls : List (List ℕ × List PcapfileBlock)) (push : PcapfilePush) (section : PcapfileSection) (room : List ℕ)
@@ -46,9 +46,9 @@ pub fn pushed_blocks_give_the_front()
         × AllZip (λ (item : Item) (block : PcapfileBlock). ShowsBlock item.block block) items (all_given calls) }
 {}
 
-/// The same of the packets of a PcapNg capture, where the array of interfaces may be a longer one at each call: those that were
-/// given are, in order, the packets among the blocks of the front of all bytes that were put, where the body of each packet is
-/// read, and each is shown with what is in force where it stands.
+/// Once a call reports that no packet follows, the packets returned from a PcapNg capture in pieces are those of the front of its bytes,
+/// in order. In this front the body of each packet is read too, and each packet is shown with its interface. The caller may pass a longer
+/// array of interfaces at each call.
 #[tactic(auto, using(crate::proofs::PacketLaws::pushed_packets))]
 pub fn pushed_packets_give_the_front()
     ensures { (calls : List (List ℕ × List PcapfileAnyPacket)) (push : PcapfilePush) (room : List ℕ) → PacketsHaveEnded calls push room →
@@ -56,16 +56,16 @@ pub fn pushed_packets_give_the_front()
         × AllZip ShowsThere (filter is_packet_there (each_under opening items)) (all_given calls) }
 {}
 
-/// What calls put one behind the other, the first of it a section header, is a capture of blocks with nothing behind them, and each
-/// is read as the struct that was given for it.
+/// The blocks that calls write one after the other, beginning with a section header, are a capture without a rest. A reader reads each
+/// block as the struct that the caller passed for it.
 pub fn puts_are_read()
     ensures { (first : PcapfileSection) (others : List Given) (section : PcapfileSection) (bytes : List ℕ) → ArePut section (a_section first ∷ others) bytes →
         (items : List Item) × Front block_format opening items bytes [] × AllZip IsReadAs items (a_section first ∷ others) }
 {}
 
-/// However many calls of `pcapfile_take_any` were made on a capture from its beginning on, the packets that were given are the
-/// first of it, in order, and what is left stands behind them: in a pcap capture behind the header and these packets, or all of it
-/// is left before the header; in a PcapNg capture behind blocks whose packets they are, and what these blocks leave is in force.
+/// The packets that calls of `pcapfile_take_any` return from a capture are its first packets, in order, and what is left follows them. In
+/// a classic capture, the header and these packets precede what is left, or nothing was read. In a PcapNg capture, blocks precede it
+/// whose packets these are, and the state is the one after these blocks.
 pub fn taken_packets_stand_in_order()
     ensures packets { (start next : Kept) (s rest : List ℕ) (given : List PcapfileAnyPacket) → IsFresh start.0 → (IsNg start.0 s → ⊥)
         → AnyCalls start s next rest given →
@@ -75,8 +75,8 @@ pub fn taken_packets_stand_in_order()
         NgPacketsTaken next s rest given }
 {}
 
-/// Where a further call then gives none, and not for want of memory or places, they are the packets of the front, and its answer is
-/// that of the rest: its clean end, how many bytes are missing, or the first fault.
+/// Once a call of `pcapfile_take_any` returns no packet, the packets returned before are those of the front. The call reports what
+/// follows: the end of the capture, missing bytes, or the first fault. Calls that are out of memory or places are excepted.
 pub fn taken_packets_are_the_front()
     ensures packets { (start kept next : Kept) (s left rest : List ℕ) (given : List PcapfileAnyPacket) (shown : PcapfileAnyPacket)
         (told : PcapfileError) (status : ℤ) →

@@ -1,8 +1,8 @@
-//! Captures for programs in C, and in each language that calls C. `include/pcapfile.h` declares these calls.
+//! The library for programs in C, and in every language that calls C. `include/pcapfile.h` declares its calls.
 //!
-//! A call answers a status: 0, the number of an error in the table of refusals, or a number from 8 on, which is none: 8 that
-//! what is asked for isn't there, 9 that room is missing, 10 that places pass the room, 11 that an array has too few. Nothing checks
-//! what C passes, so no call requires anything of its arguments' values.
+//! A call returns a status: 0, the number of an error in the table of refusals, or one of four more numbers.
+//! 8: there is no such item. 9: the room is too short. 10: places are outside of the room. 11: an array has too few places.
+//! Nothing checks what a program in C passes, so no call requires anything of the values of its arguments.
 #![tactic(auto)]
 
 mod any;

@@ -1,4 +1,4 @@
-//! PcapNg captures that lie in memory: the options of their blocks, as they stand.
+//! Finds the options of blocks of PcapNg captures in memory, without reading their values.
 
 ghost use Rattle.std.specs.Prelude.{◌≡◌, None, Some};
 ghost use Rattle.pcap_core.specs.declared.common.Endianness.{Endianness};
@@ -17,16 +17,16 @@ use pcapfile_values::blocks::{PcapfileBlock, PcapfileSection};
 use pcapfile_values::errors::{PcapfileError, tell, tell_broken};
 use pcapfile_values::shown::PcapfileBytes;
 
-/// An option: its code, and its value, which lies in the capture. In C: `pcapfile_option`.
+/// An option: its code, and its value, which is borrowed from the capture. In C: `pcapfile_option`.
 #[repr(C)]
 #[derive(Clone, Copy)]
 pub struct PcapfileOption<'a> {
     pub code: u16,
-    /// Without padding.
+    /// The value without padding.
     pub value: &'a [u8],
 }
 
-/// Shows the bytes in which the options of a block stand. Status 8: blocks of its type have none.
+/// Finds the bytes with the options of a block. Status 8: blocks of this type have no options.
 #[unsafe(no_mangle)]
 pub extern "C" fn pcapfile_options<'a>(
     section: &PcapfileSection,
@@ -51,8 +51,8 @@ pub extern "C" fn pcapfile_options<'a>(
     }
 }
 
-/// Takes the option at the front of `left`, whatever its value says. Status 8: the list is over, at its mark, or since nothing is
-/// left.
+/// Reads the option at the front of `left`, whatever its value is, and moves `left` after it. Status 8: the list ends there, with its end
+/// mark or because nothing is left.
 #[unsafe(no_mangle)]
 pub extern "C" fn pcapfile_take_option<'a>(
     section: &PcapfileSection,
@@ -79,7 +79,7 @@ pub extern "C" fn pcapfile_take_option<'a>(
     }
 }
 
-// The bytes in which the options of a body of this type stand. None where such a body has none.
+// Returns the bytes with the options of a body of this type, or None if such a body has no options.
 fn options_of<'a>(
     order: Endianness,
     type_: BlockType,
@@ -93,7 +93,7 @@ fn options_of<'a>(
     }
 }
 
-// The same, where numbers are read in this order.
+// Does the same, with the byte order as a type.
 fn options_in<'a, B: ByteOrder>(type_: BlockType, body: &'a [u8]) -> ResultParsing<Option<&'a [u8]>>
     ensures { OptionsTell B.number_of type_ body.now result }
 {
@@ -107,7 +107,7 @@ fn options_in<'a, B: ByteOrder>(type_: BlockType, body: &'a [u8]) -> ResultParsi
     }
 }
 
-// What follows so many bytes of a body.
+// Returns what follows the first `len` bytes of a body.
 fn behind(body: &[u8], len: usize, too_short: Rule) -> ResultParsing<&[u8]>
     ensures { FixedTells len too_short body.now result }
 {
@@ -118,7 +118,7 @@ fn behind(body: &[u8], len: usize, too_short: Rule) -> ResultParsing<&[u8]>
     Ok(rest)
 }
 
-// What follows the bytes of a packet and their padding in its body.
+// Returns what follows the bytes of a packet and their padding in its body.
 fn behind_packet<B: ByteOrder>(body: &[u8]) -> ResultParsing<&[u8]>
     ensures { PacketTells B.number_of body.now result }
 {
@@ -136,7 +136,7 @@ fn behind_packet<B: ByteOrder>(body: &[u8]) -> ResultParsing<&[u8]>
     }
 }
 
-// The option at the front of a slice, behind what follows it. None where the list is over there.
+// Returns what follows the option at the front of a slice, and the option, or None if the list ends there.
 fn option_at<'a>(
     order: Endianness,
     slice: &'a [u8],
@@ -149,7 +149,7 @@ fn option_at<'a>(
     }
 }
 
-// The same, where numbers are read in this order.
+// Does the same, with the byte order as a type.
 fn option_in<'a, B: ByteOrder>(
     slice: &'a [u8],
 ) -> ResultParsing<Option<(&'a [u8], PcapfileOption<'a>)>>

@@ -1,4 +1,4 @@
-//! Classic captures that come in pieces, in room that the caller has.
+//! Reads classic captures that come in pieces, from a buffer of the caller (the room).
 
 ghost use Rattle.std.specs.Prelude.{◌≡◌, ◌≤◌, ◌↔◌, false, IsTrue};
 ghost use Rattle.pcap_classic.specs.Magic.{is_magic};
@@ -8,22 +8,22 @@ use crate::pcap::{next_packet, pcapfile_take_header, take_slowly};
 use pcapfile_values::errors::PcapfileError;
 use pcapfile_values::shown::{PcapfileBytes, PcapfileHeader, PcapfilePacket};
 
-/// What is kept between two calls of a capture that comes in pieces. Its bytes lie in room of the caller's, which each call is
-/// given anew. In C: `pcapfile_push`.
+/// What the reader keeps between two calls on a capture that comes in pieces. Its bytes are in the caller's room, which the caller passes
+/// to each call. In C: `pcapfile_push`.
 #[repr(C)]
 #[derive(Clone, Copy)]
 pub struct PcapfilePush {
-    /// The capture's header. Its magic number is 0 until it was taken.
+    /// The capture's header. Its magic number is 0 until a call reads it.
     pub header: PcapfileHeader,
-    /// How many bytes of the room stand before those that are held: those that came, and that neither header nor packet has taken.
+    /// Where the held bytes begin in the room: those that came and haven't been read yet.
     pub begin: usize,
-    /// How many bytes of the room stand before the end of those that are held, where more are put.
+    /// Where the held bytes end in the room. The caller puts more bytes there.
     pub end: usize,
 }
 
-/// Makes place for `wanted` more bytes behind those that are held. Where they don't fit, what is held moves to the front of the
-/// room first. Status 0: they fit. Status 9: they don't, also behind what has moved, and `error.missing` says how many bytes
-/// longer the room has to be. Status 10: what is held lies outside of the room, and nothing changed.
+/// Makes room for `wanted` more bytes after the held ones. If they don't fit, moves the held bytes to the front of the room first. Status
+/// 0: they fit. Status 9: they still don't fit, and `error.missing` is how many bytes longer the room must be. Status 10: the held bytes
+/// are outside of the room, and nothing changed.
 #[unsafe(no_mangle)]
 pub extern "C" fn pcapfile_push_space(
     push: &mut PcapfilePush,
@@ -51,8 +51,8 @@ pub extern "C" fn pcapfile_push_space(
     9
 }
 
-/// Holds the `count` bytes that the caller has put behind those that are held. Status 0: they are held too. Status 10: they
-/// pass the room, or what is held lies outside of it, and nothing changed.
+/// Adds the `count` bytes that the caller put after the held ones to these. Status 0: they are held too. Status 10: they exceed the room,
+/// or the held bytes are outside of it, and nothing changed.
 #[unsafe(no_mangle)]
 pub extern "C" fn pcapfile_push_put(push: &mut PcapfilePush, room: &[u8], count: usize) -> i32
     ensures { Puts push.old push.new room.now count result }
@@ -64,10 +64,10 @@ pub extern "C" fn pcapfile_push_put(push: &mut PcapfilePush, room: &[u8], count:
     0
 }
 
-/// Takes the packet at the front of what is held, and the capture's header before it where that isn't taken yet. The packet's
-/// bytes lie in the room. Status 0: it is taken. Statuses 1 and 3: as of `pcapfile_take_packet`, and of `pcapfile_take_header`
-/// where what is held begins no header; the packet is as it was, and nothing but a header was taken. Status 10: what is held
-/// lies outside of the room, and nothing changed.
+/// Reads the packet at the front of the held bytes, and the capture's header before it if that wasn't read yet. The packet's bytes are
+/// borrowed from the room. Status 0: `packet` is set. Statuses 1 and 3: as for `pcapfile_take_packet`, or for `pcapfile_take_header` if
+/// the header is refused. `packet` is then unchanged, and at most a header was read. Status 10: the held bytes are outside of the room,
+/// and nothing changed.
 #[unsafe(no_mangle)]
 pub extern "C" fn pcapfile_push_next<'a>(
     push: &mut PcapfilePush,
@@ -86,7 +86,7 @@ pub extern "C" fn pcapfile_push_next<'a>(
     status
 }
 
-// Takes the packet at the front of `left`, and the header before it where none is in force.
+// Reads the packet at the front of `left`, and the header before it if `header` has none yet.
 #[inline(always)]
 pub(crate) fn take_front<'a>(
     header: &mut PcapfileHeader,
@@ -104,7 +104,7 @@ pub(crate) fn take_front<'a>(
     }
 }
 
-// Takes the header at the front of `left`, and the packet behind it.
+// Reads the header at the front of `left`, and the packet after it.
 #[cold]
 #[inline(never)]
 fn take_first<'a>(
@@ -124,14 +124,14 @@ fn take_first<'a>(
 }
 
 impl PcapfilePush {
-    // Whether what is held lies within a room of so many bytes.
+    // Returns whether the held bytes are within a room of this length.
     fn lies_within(&self, len: usize) -> bool
         ensures { IsTrue result ↔ (self.now.begin ≤ self.now.end) × (self.now.end ≤ len) }
     {
         self.begin <= self.end && self.end <= len
     }
 
-    // Moves what is held to the front of the room.
+    // Moves the held bytes to the front of the room.
     fn move_to_front(&mut self, room: &mut [u8])
         requires { LiesWithin self.old room.old }
         ensures { MovesToFront self.old self.new room.old room.new }

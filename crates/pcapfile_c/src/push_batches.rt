@@ -1,4 +1,4 @@
-//! Captures of either format that come in pieces, in room that the caller has: their packets, many in one call.
+//! Reads packets of captures of either format that come in pieces, many in one call, from a buffer of the caller (the room).
 
 ghost use Rattle.std.specs.Prelude.{◌≡◌, ◌≤◌, length, false, IsTrue, None};
 ghost use Rattle.pcap_classic.specs.Magic.{is_magic};
@@ -21,9 +21,9 @@ use pcapfile_values::errors::{PcapfileError, tell, tell_broken};
 use pcapfile_values::shown::{PcapfileBytes, PcapfileHeader, PcapfilePacket};
 use std::alloc::Global;
 
-/// Takes packets at the front of what is held until each place is filled or what is left is refused, and the capture's header
-/// before them where that isn't taken yet. `taken` says how many they are. Their bytes lie in the room. Status 0: each place is
-/// filled. Other statuses as of `pcapfile_push_next`.
+/// Reads packets at the front of the held bytes into the first places, after the capture's header, which it reads if it wasn't read yet.
+/// Stops when every place is filled or the next packet is refused, and sets `taken` to the number of packets. Their bytes are borrowed
+/// from the room. Status 0: every place is filled. Other statuses are those of `pcapfile_push_next`.
 #[unsafe(no_mangle)]
 pub extern "C" fn pcapfile_push_packets<'a>(
     push: &mut PcapfilePush,
@@ -44,7 +44,7 @@ pub extern "C" fn pcapfile_push_packets<'a>(
     status
 }
 
-// Takes packets at the front of `left`, and the header before them where none is in force.
+// Reads packets at the front of `left`, and the header before them if `header` has none yet.
 fn take_front_packets<'a>(
     header: &mut PcapfileHeader,
     left: &mut PcapfileBytes<'a>,
@@ -61,7 +61,7 @@ fn take_front_packets<'a>(
     }
 }
 
-// Takes the header at the front of `left`, and packets behind it.
+// Reads the header at the front of `left`, and packets after it.
 #[cold]
 #[inline(never)]
 fn take_first_packets<'a>(
@@ -82,7 +82,7 @@ fn take_first_packets<'a>(
     fill_places(header, left, packets, taken, error)
 }
 
-// Takes packets at the front of `left`, behind the header in force, until each place is filled or what is left is refused.
+// Reads packets at the front of `left`, after this header, until every place is filled or the next packet is refused.
 fn fill_places<'a>(
     header: &PcapfileHeader,
     left: &mut PcapfileBytes<'a>,
@@ -100,9 +100,9 @@ fn fill_places<'a>(
     status
 }
 
-/// Takes packets of a PcapNg capture at the front of what is held, with the blocks before each as `pcapfile_push_ng_next` does,
-/// until each place is filled or what is left gives none. `taken` says how many they are. Their bytes lie in the room. Status 0:
-/// each place is filled, and nothing behind the last packet was taken. Other statuses as of `pcapfile_push_ng_next`.
+/// Reads packets of a PcapNg capture at the front of the held bytes, with the blocks before each, as `pcapfile_push_ng_next` does. Stops
+/// when every place is filled or no packet follows, and sets `taken` to the number of packets. Their bytes are borrowed from the room.
+/// Status 0: every place is filled, and nothing after the last packet was read. Other statuses are those of `pcapfile_push_ng_next`.
 #[unsafe(no_mangle)]
 pub extern "C" fn pcapfile_push_ng_packets<'a>(
     alloc: Global,
@@ -142,7 +142,7 @@ pub extern "C" fn pcapfile_push_ng_packets<'a>(
     status
 }
 
-// Takes packets at the front of `left`, and the blocks before each.
+// Reads packets at the front of `left`, and the blocks before each.
 fn take_ng_packets<'a>(
     alloc: Global,
     section: &mut PcapfileSection,

@@ -1,4 +1,4 @@
-//! PcapNg captures that come in pieces, in room that the caller has: their blocks.
+//! Reads blocks of PcapNg captures that come in pieces, from a buffer of the caller (the room).
 
 ghost use Rattle.std.specs.Prelude.{◌≡◌, None};
 ghost use Rattle.pcap_ng.specs.State.{State};
@@ -12,9 +12,9 @@ use pcapfile_values::errors::PcapfileError;
 use pcapfile_values::shown::PcapfileBytes;
 use std::alloc::Global;
 
-/// Takes the block at the front of what is held. `section` is what is in force before it, and then after it. The block's body
-/// lies in the room. Statuses as of `pcapfile_take_block`; where one is refused, nothing changed but the error. Status 10: what is
-/// held lies outside of the room, and nothing changed.
+/// Reads the block at the front of the held bytes. `section` is the state before the block, and then after it. The block's body is
+/// borrowed from the room. Statuses are those of `pcapfile_take_block`. If the block is refused, only `error` changes. Status 10: the
+/// held bytes are outside of the room, and nothing changed.
 #[unsafe(no_mangle)]
 pub extern "C" fn pcapfile_push_block<'a>(
     alloc: Global,

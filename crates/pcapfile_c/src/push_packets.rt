@@ -1,4 +1,4 @@
-//! PcapNg captures that come in pieces, in room that the caller has: their packets.
+//! Reads packets of PcapNg captures that come in pieces, from a buffer of the caller (the room).
 
 ghost use Rattle.std.specs.Prelude.{◌≡◌, ◌<◌, ◌≤◌, ℕ, List, length, None, Some, slice_get};
 ghost use Rattle.pcap_blocks.specs.declared.block_type.BlockType.TheVariants as types;
@@ -22,12 +22,12 @@ use pcapfile_values::errors::{PcapfileError, tell, tell_broken};
 use pcapfile_values::shown::PcapfileBytes;
 use std::alloc::Global;
 
-/// Takes the packet at the front of what is held, and the blocks before it: a section header is put into `section`, an interface
-/// into the first place of `interfaces` that none of its section has, and others are passed over. The packet's bytes lie in the
-/// room. Status 0: it is taken. Status 11: an interface follows, and `interfaces` has no place for it; the blocks before it have
-/// been taken. Other statuses as of `pcapfile_take_block` and `pcapfile_read_packet`: then the packet is as it was, and the blocks
-/// before what is refused have been taken. Status 10: what is held lies outside of the room, or `section` has more interfaces than
-/// there are places, and nothing changed.
+/// Reads the packet at the front of the held bytes, and the blocks before it. A section header goes into `section`, and an interface into
+/// the first place of `interfaces` after those of its section. Other blocks are skipped. The packet's bytes are borrowed from the room.
+/// Status 0: `packet` is set. Status 11: an interface follows for which `interfaces` has no place, and the blocks before it have been
+/// read. Status 10: the held bytes are outside of the room, or `section` has more interfaces than there are places, and nothing changed.
+/// Other statuses are those of `pcapfile_take_block` and `pcapfile_read_packet`. `packet` is then unchanged, and the blocks before the
+/// refused one have been read.
 #[unsafe(no_mangle)]
 pub extern "C" fn pcapfile_push_ng_next<'a>(
     alloc: Global,
@@ -63,7 +63,7 @@ pub extern "C" fn pcapfile_push_ng_next<'a>(
     status
 }
 
-// Takes the packet at the front of `left`, and the blocks before it.
+// Reads the packet at the front of `left`, and the blocks before it.
 #[inline(always)]
 pub(crate) fn take_packet<'a>(
     alloc: Global,
@@ -87,7 +87,7 @@ pub(crate) fn take_packet<'a>(
     }
 }
 
-// Takes the block at the front of `left`. None where the walk goes on behind it.
+// Reads the block at the front of `left`. Returns the status for the caller, or None if the search for a packet goes on.
 #[inline(always)]
 fn take_block<'a>(
     alloc: Global,
@@ -125,7 +125,7 @@ fn take_block<'a>(
     }
 }
 
-// Takes the section header with which a capture begins.
+// Reads the section header with which a capture begins.
 #[cold]
 #[inline(never)]
 fn take_first(
@@ -150,7 +150,7 @@ fn take_first(
     }
 }
 
-// Puts the section of this body in force, which stands at the front of `left` before this rest.
+// Begins the section whose header is at the front of `left` and has this body, before `rest`.
 #[cold]
 #[inline(never)]
 fn take_section<'a>(
@@ -178,7 +178,7 @@ fn take_section<'a>(
     }
 }
 
-// Puts the interface of this body in force, which stands at the front of `left` before this rest.
+// Adds the interface whose block is at the front of `left` and has this body, before `rest`.
 #[cold]
 #[inline(never)]
 fn take_interface<'a>(

@@ -1,4 +1,4 @@
-//! Blocks of PcapNg, put into room that the caller has.
+//! Writes blocks of PcapNg into a buffer of the caller (the room).
 
 ghost use Rattle.std.specs.Prelude.{◌≡◌, ◌<◌, ◌^◌};
 ghost use Rattle.pcapfile_c.specs.Putting.{PacketFlaw, InterfaceFlaw, SectionFlaw, PutsBlock, a_section, an_interface, a_packet};
@@ -11,8 +11,8 @@ use pcapfile_values::errors::PcapfileError;
 use pcapfile_values::reasons::{Reason, need, refuse};
 use pcapfile_values::texts::{interface_len, put_interface, put_packet, put_section};
 
-/// Puts a section header without options into the front of `room`: its magic number, which names the order of what follows, and
-/// its version. From then on the section has no interface.
+/// Writes a section header without options to the front of `room`: its magic number, which declares the byte order of the section, and
+/// its version. After the call the section has no interface.
 #[unsafe(no_mangle)]
 pub extern "C" fn pcapfile_put_section(
     section: &mut PcapfileSection,
@@ -40,8 +40,8 @@ pub extern "C" fn pcapfile_put_section(
     0
 }
 
-/// Puts the description of an interface into the front of `room`, in the order of the section, with its unit of time as an
-/// if_tsresol, and with an if_tsoffset where it has an offset. The section has one interface more from then on.
+/// Writes the description of an interface to the front of `room`, in the byte order of the section. It has an if_tsresol with the unit of
+/// time, and an if_tsoffset if the offset isn't 0. After the call the section has one more interface.
 #[unsafe(no_mangle)]
 pub extern "C" fn pcapfile_put_interface(
     section: &mut PcapfileSection,
@@ -76,8 +76,8 @@ pub extern "C" fn pcapfile_put_interface(
     0
 }
 
-/// Puts a packet of an interface that the section has into the front of `room`, as an enhanced packet without options, in the
-/// order of the section.
+/// Writes an enhanced packet without options to the front of `room`, in the byte order of the section. Refuses a packet whose interface
+/// the section doesn't have.
 #[unsafe(no_mangle)]
 pub extern "C" fn pcapfile_put_ng_packet(
     section: &PcapfileSection,
@@ -107,7 +107,7 @@ pub extern "C" fn pcapfile_put_ng_packet(
     0
 }
 
-// A section that has no interface yet.
+// Returns a section that has no interface yet.
 fn without_interfaces(magic_number: u32, version_major: u16, version_minor: u16) -> PcapfileSection
     ensures shown { result ≡ record { magic_number = magic_number; version_major = version_major; version_minor = version_minor; interfaces = 0 } }
     ensures major { version_major < 2 ^ 16 }

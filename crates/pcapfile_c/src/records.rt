@@ -1,4 +1,4 @@
-//! PcapNg captures that lie in memory: the addresses of name resolution blocks, and their names.
+//! Reads the addresses of name resolution blocks of PcapNg captures in memory, and their names.
 
 ghost use Rattle.std.specs.Prelude.{◌≡◌, ◌<◌, ◌^◌, None, Some};
 ghost use Rattle.pcap_core.specs.declared.common.Endianness.{Endianness};
@@ -18,19 +18,19 @@ use pcapfile_values::errors::{PcapfileError, tell, tell_broken};
 use pcapfile_values::shown::PcapfileBytes;
 use std::io;
 
-/// A record of a name resolution block; its bytes lie in the capture. In C: `pcapfile_record`.
+/// A record of a name resolution block, whose bytes are borrowed from the capture. In C: `pcapfile_record`.
 #[repr(C)]
 #[derive(Clone, Copy)]
 pub struct PcapfileRecord<'a> {
     /// 1 for an IPv4 address, 2 for an IPv6 address, or another number.
     pub type_: u16,
-    /// The address, of 4 or 16 bytes; of another type the whole value.
+    /// The address, of 4 or 16 bytes, or for another type the whole value.
     pub address: &'a [u8],
-    /// Its names, a zero byte behind each. None for another type.
+    /// The names of the address, each with a zero byte after it. Empty for another type.
     pub names: &'a [u8],
 }
 
-/// Takes the record at the front of `left`, all of whose names are good. Status 8: the end of the records stands there.
+/// Reads the record at the front of `left` and all of its names, and moves `left` after it. Status 8: the records end there.
 #[unsafe(no_mangle)]
 pub extern "C" fn pcapfile_take_record<'a>(
     section: &PcapfileSection,
@@ -57,7 +57,7 @@ pub extern "C" fn pcapfile_take_record<'a>(
     }
 }
 
-/// Takes the name at the front of `left`, behind which a zero byte stands. Status 8: nothing is left.
+/// Reads the name at the front of `left`, which ends before a zero byte, and moves `left` after that. Status 8: nothing is left.
 #[unsafe(no_mangle)]
 pub extern "C" fn pcapfile_take_name<'a>(
     left: &mut PcapfileBytes<'a>,
@@ -79,7 +79,7 @@ pub extern "C" fn pcapfile_take_name<'a>(
     }
 }
 
-// The record at the front of a slice, and what follows it. None where it is the end of the records.
+// Returns what follows the record at the front of a slice, and the record, or None for the end of the records.
 fn record_at<'a>(
     order: Endianness,
     slice: &'a [u8],
@@ -92,7 +92,7 @@ fn record_at<'a>(
     }
 }
 
-// What follows the records of a body, and their end.
+// Returns what follows the records of a body and their end.
 pub(crate) fn behind_records<B: ByteOrder>(body: &[u8]) -> ResultParsing<&[u8]>
     ensures { RecordsTell B.number_of body.now result }
 {
@@ -107,7 +107,7 @@ pub(crate) fn behind_records<B: ByteOrder>(body: &[u8]) -> ResultParsing<&[u8]>
     }
 }
 
-// The same, where numbers are read in this order.
+// Does the same as `record_at`, with the byte order as a type.
 fn record_in<'a, B: ByteOrder>(
     slice: &'a [u8],
 ) -> ResultParsing<(&'a [u8], Option<PcapfileRecord<'a>>)>
@@ -129,7 +129,7 @@ fn record_in<'a, B: ByteOrder>(
     }
 }
 
-// The record of this type whose value is all of a slice. None where it is the end of the records.
+// Returns the record of this type whose value is the whole slice, or None for the end of the records.
 fn record_of<'a>(type_: u16, value: &'a [u8]) -> ResultParsing<Option<PcapfileRecord<'a>>>
     ensures { ValueTells (form_of type_) value.now result }
 {
@@ -151,7 +151,7 @@ fn record_of<'a>(type_: u16, value: &'a [u8]) -> ResultParsing<Option<PcapfileRe
     }
 }
 
-// The record of this type whose value is an address of this width, and names.
+// Returns the record of this type whose value is an address of this width and its names.
 fn address_of<'a>(
     type_: u16,
     value: &'a [u8],
@@ -173,7 +173,7 @@ fn address_of<'a>(
     })
 }
 
-// Reads the names that all of a slice is, and keeps none.
+// Checks that the whole slice is a list of names.
 fn read_names(names: &[u8]) -> ResultParsing<()>
     ensures { NamesTell names.now result }
 {

@@ -1,4 +1,4 @@
-//! Captures that lie in memory: their packets as rows of numbers, many in one call.
+//! Reads packets of captures in memory as rows of numbers, many in one call.
 
 ghost use Rattle.std.specs.Prelude.{◌≡◌, ◌<◌, ◌+◌, ◌^◌, false, IsTrue, Some, None};
 ghost use Rattle.pcap_core.specs.declared.common.Endianness.{Endianness};
@@ -19,41 +19,41 @@ use pcapfile_values::errors::{PcapfileError, tell};
 use pcapfile_values::shown::{PcapfileBytes, PcapfileHeader, PcapfilePacket};
 use std::alloc::Global;
 
-/// A packet of a classic capture in numbers. In C: `pcapfile_row`.
+/// The numbers of a packet of a classic capture. In C: `pcapfile_row`.
 #[repr(C)]
 #[derive(Clone, Copy)]
 pub struct PcapfileRow {
-    /// Its time in nanoseconds since 1970.
+    /// The time in nanoseconds since 1970.
     pub time_ns: i64,
-    /// How many bytes are stored.
+    /// How many bytes are stored, at most 2^32 - 1.
     pub len: u32,
     pub orig_len: u32,
-    /// 0, as classic captures number no interfaces.
+    /// 0, since classic captures have no numbered interfaces.
     pub interface_id: u32,
-    /// The number of the link type of its first layer.
+    /// The number of the link type of the packet's first layer.
     pub link: u32,
-    /// Where its stored bytes begin.
+    /// Where the stored bytes begin.
     pub offset: u64,
 }
 
-/// A packet of PcapNg in numbers. In C: `pcapfile_ng_row`.
+/// The numbers of a packet of a PcapNg capture. In C: `pcapfile_ng_row`.
 #[repr(C)]
 #[derive(Clone, Copy)]
 pub struct PcapfileNgRow {
-    /// Its time in units of its interface. 0 of a simple packet, which has none.
+    /// The time in units of the interface. 0 for a simple packet, which has no time.
     pub timestamp: u64,
-    /// How many bytes are stored, of a simple packet with the padding behind them. 2^32 - 1 where they are more.
+    /// How many bytes are stored, at most 2^32 - 1. For a simple packet, padding counts too.
     pub len: u32,
     pub orig_len: u32,
     pub interface_id: u32,
-    /// The number of its block's type.
+    /// The number of the block's type.
     pub type_: u32,
-    /// Where its stored bytes begin.
+    /// Where the stored bytes begin.
     pub offset: u64,
 }
 
-/// Takes packets at the front of `left`, behind a capture's header, as rows, until each place is filled, nothing is left, or what
-/// is left is refused. `taken` says how many they are. `offset` counts from where `left` began.
+/// Reads packets at the front of `left`, after a capture's header, as rows into the first places, and sets `taken` to their number. Stops
+/// when every place is filled, nothing is left, or the next packet is refused. `offset` counts from where `left` began.
 #[unsafe(no_mangle)]
 pub extern "C" fn pcapfile_take_rows(
     header: &PcapfileHeader,
@@ -90,9 +90,9 @@ pub extern "C" fn pcapfile_take_rows(
     0
 }
 
-/// Takes the packets at the front of `left` as rows, and passes over other blocks between them, until each place is filled, nothing
-/// is left, a section header or an interface follows, or what is left is refused. `taken` says how many they are. `offset` counts
-/// from where `left` began.
+/// Reads packets at the front of `left` as rows into the first places, skips other blocks between them, and sets `taken` to the number of
+/// rows. Stops when every place is filled, nothing is left, a section header or an interface follows, or the next block is refused.
+/// `offset` counts from where `left` began.
 #[unsafe(no_mangle)]
 pub extern "C" fn pcapfile_take_ng_rows(
     alloc: Global,
@@ -136,7 +136,7 @@ pub extern "C" fn pcapfile_take_ng_rows(
 }
 
 impl PcapfileRow {
-    // The row of a packet of this link type, whose bytes begin at this place.
+    // Returns the row of a packet of this link type whose bytes begin at this place.
     #[inline(always)]
     fn new(packet: &PcapfilePacket<'_>, link: u32, place: usize) -> PcapfileRow
         ensures { ShowsRow link place (captured packet.now) result }
@@ -153,7 +153,7 @@ impl PcapfileRow {
 }
 
 impl PcapfileNgRow {
-    // The row of a packet whose block begins at this place.
+    // Returns the row of a packet whose block begins at this place.
     #[inline(always)]
     fn new(packet: &PcapfileNgPacket<'_>, place: usize) -> PcapfileNgRow
         requires { place + 28 < 2 ^ 64 }
@@ -170,10 +170,10 @@ impl PcapfileNgRow {
     }
 }
 
-// The number of a simple packet's type.
+// The block type number of a simple packet.
 const SIMPLE: u32 = 3;
 
-// How far behind the front of a block of this type the data of its packet begin, in bytes.
+// Returns how many bytes of a block of this type precede the data of its packet.
 #[inline(always)]
 fn data_place(type_: u32) -> usize
     ensures { result ≡ data_place type_ }
@@ -181,7 +181,7 @@ fn data_place(type_: u32) -> usize
     if type_ == SIMPLE { 12 } else { 28 }
 }
 
-// How many bytes these are, up to the largest number.
+// Returns the number of bytes, at most 2^32 - 1.
 #[inline(always)]
 fn stored(bytes: &[u8]) -> u32
     ensures { result ≡ stored_shown bytes.now }

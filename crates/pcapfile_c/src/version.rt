@@ -1,10 +1,10 @@
-//! The library's own version.
+//! The library's version.
 
 ghost use Rattle.std.specs.Prelude.{◌≡◌, codes};
 
 use pcapfile_values::shown::PcapfileBytes;
 
-/// The version of the library, in ASCII: numbers with points between them.
+/// Sets `version` to the version of the library, in ASCII: numbers with points between them.
 #[unsafe(no_mangle)]
 pub extern "C" fn pcapfile_version(version: &mut PcapfileBytes<'static>)
     ensures { version.new.bytes.now ≡ codes "0.2.0" }

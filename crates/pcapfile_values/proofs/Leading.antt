@@ -1,4 +1,4 @@
--- What a block puts in force, as a struct shows it.
+-- The state after a block, as a struct shows it.
 use Rattle.std.proofs.Common.{◌≡◌, ◌+◌, ◌-◌, ◌^◌, ℕ, List, [], ◌∷◌, ◌++◌, length, min, T, Bool, if◌then◌else◌, is_some, Ok, Err, Some, None, true, false, refl, sym, ap, subst, ◌∙◌, inl, inr, arith}
 use Rattle.std.specs.Prelude.{IsSome, Option}
 use Rattle.std.proofs.lemmas.Bool.{ne_eqb}
@@ -26,7 +26,7 @@ use Rattle.pcapfile_values.specs.Blocks.{ShowsState, ShowsSection, order_shown, 
 pub none_some : (o : Option Endianness) → o ≡ None → IsSome o → ⊥
 none_some o is some = subst T (sym (sym (ap (λ (x : Option Endianness). is_some x) is) ∙ some)) tt
 
--- no body lacks bytes
+-- No body is refused for missing bytes.
 pub body_no_lack : (order : Order) (t : BlockType) (s : List ℕ) (n : ℕ) → BodySays order t s (lacks n) → ⊥
 body_no_lack order types.SectionHeader s n x = x
 body_no_lack order _ s n x = x
@@ -35,7 +35,7 @@ pub body_faults : (b : Framed) (M : Type 0) (P : Fault → Type 0) (e : PcapErro
 body_faults b M P (errors.IncompleteBuffer n) x = body_no_lack (number_in b.endianness) b.type_ b.body n x
 body_faults b M P _ x = x
 
--- the body of a section header
+-- What the body of a section header says of the block.
 module _ (b : Framed) (body : List ℕ) (is : b.type_ ≡ types.SectionHeader) (bytes : body ≡ b.body) where
   section_fault : (fault : Fault) → SectionSays body (faulty fault) → SaysOfBody b (faulty fault)
   section_fault fault says =
@@ -50,7 +50,7 @@ module _ (b : Framed) (body : List ℕ) (is : b.type_ ≡ types.SectionHeader) (
       refuses_wider (SectionMayGrow body) (CanGrow q b) (λ fault. SectionSays body (faulty fault)) (λ fault. Means q b (bad fault)) (λ grows. grows_section b is q)
       (λ fault says. read_means q b (bad fault) (read_section b is q) (inl (section_fault fault says))) e told
 
--- the magic number of a section is not 0
+-- A magic number that names a byte order is not 0.
 pub not_named : (magic : ℕ) → magic ≡ 0 → IsSome (magic_order magic) → ⊥
 unfolding magic_order
 not_named magic zero_is some = subst T (sym (subst (λ (m : ℕ). IsSome (magic_order m)) zero_is some)) tt
@@ -64,19 +64,19 @@ order_of_section magic some = ap (λ (t : Bool). if t then Some Big else magic_o
 pub or_some : (o : Option Endianness) (e : Endianness) → o ≡ Some e → or_big o ≡ e
 or_some o e is = ap or_big is
 
--- the order that a struct shows is the one that holds
+-- The byte order that a struct shows is that of the state.
 pub order_holds : (shown : PcapfileSection) (q : State) (e : Endianness) → ShowsState shown q → order_shown shown.magic_number ≡ Some e → order_at q ≡ e
 unfolding order_at
 order_holds shown opening e shows is = ap or_big (sym (ap order_shown shows) ∙ is)
 order_holds shown (within section interfaces) e shows is =
     or_some (magic_order section.magic) e (sym (order_of_section section.magic shows.0.named) ∙ sym (ap order_shown shows.0.magic) ∙ is)
 
--- a section header's block
+-- A section header leads to its section.
 pub opened_leads : (q : State) (b : Framed) (shown : PcapfileSection) (section : Section) (rest : List ℕ) → b.type_ ≡ types.SectionHeader → SectionSays b.body (whole section rest) → ShowsSection shown section → shown.interfaces ≡ 0
     → LeadsTells q b (Ok shown)
 opened_leads q b shown section rest is says shows none = (within section [], (shows, none), section_means b is q section rest says)
 
--- a first block that is refused
+-- The first block is refused.
 pub first_refuses : (shown : PcapfileSection) (q : State) (b : Framed) (e : PcapError) → ShowsState shown q → shown.magic_number ≡ 0
     → Refuses (GrowsInBody b) (λ n. ⊥) (λ fault. Means opening b (bad fault)) e → LeadsTells q b (Err e)
 first_refuses shown opening b e shows is x = refuses_wider (GrowsInBody b) (CanGrow opening b) (λ fault. Means opening b (bad fault)) (λ fault. Means opening b (bad fault)) inr (λ fault said. said) e x
@@ -87,7 +87,7 @@ kept_grows types.SectionHeader is = tt
 kept_grows types.InterfaceDescription is = tt
 kept_grows _ is = absurd cc
 
--- a block behind a section that is refused
+-- A block after a section header is refused.
 pub change_refuses : (shown : PcapfileSection) (q : State) (b : Framed) (e : PcapError) → ShowsState shown q → (shown.magic_number ≡ 0 → ⊥) → is_kept b.type_ ≡ true
     → Refuses (GrowsInBody b) (λ n. ⊥) (λ fault. SaysOfBody b (faulty fault)) e → LeadsTells q b (Err e)
 change_refuses shown opening b e shows some is x = absurd (some shows)
@@ -95,7 +95,7 @@ change_refuses shown (within section interfaces) b e shows some is x =
     let q = within section interfaces in
     refuses_wider (GrowsInBody b) (CanGrow q b) (λ fault. SaysOfBody b (faulty fault)) (λ fault. Means q b (bad fault)) (λ grows. kept_grows b.type_ is) (λ fault said. read_means q b (bad fault) is (inl said)) e x
 
--- one interface more
+-- One more interface is counted.
 pub counted : {A : Type 0} (interfaces : List A) (i : A) (n m : ℕ) → n ≡ min (length interfaces) (2 ^ 32 - 1) → m ≡ min (n + 1) (2 ^ 32 - 1) → m ≡ min (length (interfaces ++ i ∷ [])) (2 ^ 32 - 1)
 counted interfaces i n m before now = rw (length-append interfaces (i ∷ []), now, before) (omega arith)
 
@@ -110,7 +110,7 @@ interface_leads shown next (within section interfaces) b i rest shows some is sa
   interface_means section interfaces b i rest is says,
 )
 
--- any other block
+-- Any other block leaves the state as it is.
 pub other_leads : (shown : PcapfileSection) (q : State) (b : Framed) → ShowsState shown q → (shown.magic_number ≡ 0 → ⊥) → is_kept b.type_ ≡ false → LeadsTells q b (Ok shown)
 other_leads shown opening b shows some is = absurd (some shows)
 other_leads shown (within section interfaces) b shows some is =

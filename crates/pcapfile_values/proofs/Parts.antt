@@ -1,4 +1,4 @@
--- The texts of blocks, in the parts that are put.
+-- The texts of blocks, in the parts in which they are written.
 use Rattle.std.proofs.Common.{◌≡◌, ◌≢◌, ℕ, ◌+◌, ◌-◌, ◌≤◌, ◌/◌, ◌%◌, ◌^◌, List, [], ◌∷◌, ◌++◌, length, take, sym, ap, ◌∙◌, append_assoc, append-nil, length-append, arith, zero, suc}
 use Rattle.std.specs.Prelude.{◌==◌, false}
 use Rattle.std.specs.Int.{w64, cast_unsigned}
@@ -28,7 +28,7 @@ interface_regrouped : (type len link reserved snaplen list again : List ℕ)
     → type ++ (len ++ ((link ++ reserved) ++ (snaplen ++ (list ++ again)))) ≡ type ++ (len ++ ((link ++ (reserved ++ (snaplen ++ list))) ++ again))
 interface_regrouped type len link reserved snaplen list again = simp append_assoc
 
--- the options of a clock have 24 bytes at most
+-- The options of a clock have at most 24 bytes.
 pub clock_short : (offset : ℕ) → clock_len offset ≤ 24
 clock_short zero = omega arith
 clock_short (suc n) = let is : (suc n == 0) ≡ false = ne_eqb (suc n) 0 (λ e. omega (arith, e)) in rw is (omega arith)

@@ -1,4 +1,4 @@
--- Options that are passed over: where one of them stops, no list of them stands.
+-- Options that are skipped: if one of them can't be skipped, neither can the list.
 use Rattle.std.proofs.Common.{◌≡◌, ◌≢◌, ◌<◌, ℕ, List, [], ◌∷◌, length, Some, Ok, sym, ap, subst, arith}
 use Rattle.std.specs.Prelude.{All}
 use Rattle.std.proofs.lemmas.List.Elements.{All-head, All-tail}
@@ -11,18 +11,18 @@ use Rattle.pcap_options.specs.Values.{Entry, shape_at, value_of}
 use Rattle.pcap_options.proofs.OneList.{head_length, item_same, piece_some}
 use Rattle.pcapfile_values.specs.EnhancedOptions.{IsPassed, OptionsText, NoOptions, NoValue}
 
--- one code and length begin bytes
+-- Bytes begin with at most one code and length.
 head_same : (order : Order) (code len other_code other_len : ℕ) (s a b : List ℕ) → CodeLengthText order code len s a → CodeLengthText order other_code other_len s b → (code ≡ other_code) × (len ≡ other_len) × (a ≡ b)
 head_same order code len other_code other_len s a b h k =
     let first = number_same order 2 code other_code s h.after_code k.after_code h.code_is k.code_is in
     let second = number_same order 2 len other_len k.after_code a b (subst (λ (t : List ℕ). Number order 2 len t a) first.1 h.length_is) k.length_is in
     (first.0, second.0, second.1)
 
--- an option is passed over
+-- The option is skipped.
 abbrev Passed : Entry → Type 0
 Passed option = IsPassed option.code
 
--- no list of options that are passed over stands where neither their end nor one of them begins
+-- The bytes are no list of skipped options if they begin with neither the end mark nor such an option.
 module _ (order : Order) (s : List ℕ) (some : s ≢ []) (no_mark : (rest : List ℕ) → EndMark order s rest → ⊥)
     (no_option : (option : Entry) (after : List ℕ) (more : List Entry) (rest : List ℕ) → OptionText order enhanced_packet option s after → IsPassed option.code → OptionsText order more after rest → ⊥) where
   stops_list : (options : List Entry) (rest : List ℕ) → OptionList may_end_with_body order enhanced_packet options s rest → All (λ option. IsPassed option.code) options → ⊥
@@ -34,21 +34,21 @@ module _ (order : Order) (s : List ℕ) (some : s ≢ []) (no_mark : (rest : Lis
   stops : NoOptions order s
   stops options rest text = stops_list options rest text.list text.passed
 
--- a mark is no option's head
+-- An end mark is not the head of an option.
 mark_no_code : (order : Order) (code len : ℕ) (s after rest : List ℕ) → CodeLengthText order code len s after → code ≢ 0 → EndMark order s rest → ⊥
 mark_no_code order code len s after rest head some mark = some (head_same order code len 0 mark.ignored s after rest head mark.head).0
 
 head_some : (order : Order) (code len : ℕ) (s after : List ℕ) → CodeLengthText order code len s after → s ≢ []
 head_some order code len s after head none = omega (arith, head_length order code len s after head, ap length none)
 
--- too few bytes for a head
+-- Fewer than four bytes have no head of an option.
 pub short_stops : (order : Order) (s : List ℕ) → s ≢ [] → length s < 4 → NoOptions order s
 short_stops order s some short =
     stops order s some
     (λ rest mark. omega (arith, head_length order 0 mark.ignored s rest mark.head, short))
     (λ option after more rest text passed options. omega (arith, head_length order option.code (length text.v) s text.after_head text.head, short))
 
--- a value that is none of an option that is passed over
+-- A value that can't be skipped ends the list.
 pub value_stops : (order : Order) (code len : ℕ) (s after : List ℕ) → CodeLengthText order code len s after → code ≢ 0 → NoValue order code len after → NoOptions order s
 value_stops order code len s after head some none =
     stops order s (head_some order code len s after head)
@@ -64,7 +64,7 @@ value_stops order code len s after head some none =
       passed = subst IsPassed same.0 passed;
     }))
 
--- what stands behind an option
+-- The rest after one option can't be skipped.
 behind_one : (order : Order) (first : Entry) (s after : List ℕ) → OptionText order enhanced_packet first s after → NoOptions order after → NoOptions order s
 behind_one order first s after text none =
     stops order s (piece_some order enhanced_packet s after (Some first) text)
@@ -73,7 +73,7 @@ behind_one order first s after text none =
     let same = item_same order enhanced_packet first option s after behind text other in
     none more rest (subst (λ (t : List ℕ). OptionsText order more t rest) (sym same.1) options))
 
--- what stands behind options
+-- The rest after several options can't be skipped.
 pub behind_stops : (order : Order) (options : List Entry) (s left : List ℕ) → Chain (OptionText order enhanced_packet) options s left → NoOptions order left → NoOptions order s
 behind_stops order [] s left are none = subst (NoOptions order) (sym are) none
 behind_stops order (first ∷ options) s left are none = behind_one order first s are.0 are.1 (behind_stops order options are.0 left are.2 none)

@@ -1,4 +1,4 @@
--- Enhanced packets whose options are all passed over.
+-- Enhanced packets whose options are all skipped.
 use Rattle.std.proofs.Common.{ℕ, List, [], refl, sym, subst, ◌∙◌}
 use Rattle.std.specs.Prelude.{All}
 use Rattle.pcap_core.specs.Answer.{Order, Verdict, whole, lacks, faulty}
@@ -17,13 +17,13 @@ use Rattle.pcap_ng.proofs.EnhancedFrames.{parts_read}
 use Rattle.pcapfile_values.specs.Bodies.{NotPlain}
 use Rattle.pcapfile_values.specs.EnhancedOptions.{IsPassed, NoOptions}
 
--- a body that is refused is none
+-- A body that is refused is no enhanced packet with skipped options.
 pub refused_not_plain : (order : Order) (body : List ℕ) → IsRefused order body → NotPlain order body
 refused_not_plain order body refused packet rest plain =
     let one = enhanced_one order body in
     whole_no_fault packet rest refused.0 (one.only (whole packet rest) plain.text ∙ sym (one.only (faulty refused.0) refused.1))
 
--- behind its bytes stands what is said of a list of options there
+-- A body is no such packet if the bytes after its data are no such list of options, whatever the verdict on that list is.
 told_not_plain : (order : Order) (parts : EnhancedParts) (body : List ℕ) → PartsText order parts body → NoOptions order parts.options.now
     → (verdict : Verdict (List Entry)) → ListSays may_end_with_body order enhanced_packet parts.options.now verdict → NotPlain order body
 told_not_plain order parts body text none (whole options rest) list = λ packet behind plain.
@@ -37,7 +37,7 @@ told_not_plain order parts body text none (faulty fault) list =
     let stored = in_options fault (enhanced_with parts []).packet text.after_head parts.options.now text.head refl text.padded list in
     refused_not_plain order body (fault, in_packet fault text.after_interface (behind_number text.interface_is) stored)
 
--- nor is one behind whose bytes no such options stand
+-- A body is no such packet if the bytes after its data are no such list of options.
 pub options_not_plain : (order : Order) (parts : EnhancedParts) (body : List ℕ) → PartsText order parts body → NoOptions order parts.options.now → NotPlain order body
 options_not_plain order parts body text none =
     let one = list_one may_end_with_body order enhanced_packet parts.options.now in

@@ -1,14 +1,14 @@
--- Texts that are put into a room, one behind the other.
+-- Texts that are written into a room, one after the other.
 use Rattle.std.proofs.Common.{◌≡◌, ℕ, ◌+◌, List, ◌++◌, length, take, drop, sym, ap, ◌∙◌, append_assoc, length-append, take-append-drop, length-drop, arith}
 use Rattle.std.proofs.lemmas.List.{take_at, length-take-le}
 use Rattle.std.proofs.Math.Seq.{drop-append-add}
 use Rattle.pcapfile_values.specs.BlockTexts.{PutsAt}
 
--- what follows a front and m bytes more
+-- Dropping a front and m more bytes drops m bytes of the rest.
 drop_behind : (front rest all : List ℕ) (n m : ℕ) → length front ≡ n → all ≡ front ++ rest → drop (n + m) all ≡ drop m rest
 drop_behind front rest all n m long parts = ap (drop (n + m)) parts ∙ ap (λ (k : ℕ). drop (k + m) (front ++ rest)) (sym long) ∙ drop-append-add front rest m
 
--- a second text behind the first, which has w bytes
+-- Writing a second text after the first, which has w bytes, writes both.
 pub puts_both : {at behind : ℕ} {a b old mid now : List ℕ} → (w : ℕ) → length a ≡ w → behind ≡ at + w → PutsAt at a old mid → PutsAt behind b mid now → PutsAt at (a ++ b) old now
 puts_both {at = at} {behind = behind} {a = a} {b = b} {old = old} {mid = mid} {now = now} w wide end p q =
     let front = take at old ++ a in

@@ -1,4 +1,4 @@
--- What C sees of a packet of either format.
+-- The struct that shows C a packet of a capture of either format.
 use Rattle.std.specs.Prelude.{◌≡◌, ◌≢◌, ◌⊎◌, ◌==◌, if◌then◌else◌, ℕ, pos, List, take, Option, Some, None, FitsSigned}
 use Rattle.std.specs.Int.{w64}
 use Rattle.pcap_classic.specs.PacketText.{Captured}
@@ -12,16 +12,16 @@ use Rattle.pcapfile_values.specs.declared.bodies.PcapfileNgPacket.{PcapfileNgPac
 use Rattle.pcapfile_values.specs.declared.bodies.PcapfileTime.{PcapfileTime}
 use Rattle.pcapfile_values.specs.Bodies.{clock_shown}
 
--- the bytes that are stored of a packet under this snaplen: behind those of a simple packet padding follows
+-- The stored bytes of a packet under this snapshot length. In a simple packet, padding may follow them.
 abbrev pub stored_bytes : PcapfileNgPacket → ℕ → List ℕ
 stored_bytes packet snaplen = if packet.type_ == 3 then take (stored_len packet.orig_len snaplen) packet.bytes.now else packet.bytes.now
 
--- no time is told: its flag is 0, and so are its numbers
+-- A struct shows no time: its flag, seconds and nanoseconds are 0.
 abbrev pub TellsNoTime : ℕ → PcapfileTime → Type 0
 TellsNoTime has_time time = (has_time ≡ 0) × (time.seconds ≡ pos 0) × (time.nanoseconds ≡ 0)
 
--- the time at which this clock has counted the packet's units is told, with the flag 1; or none, since it is a simple packet, or
--- the seconds don't fit 64 bits
+-- The flag is 1 and the struct shows the packet's time by this clock; or it shows no time, since the packet is simple or the seconds
+-- don't fit 64 bits.
 abbrev pub TellsPacketTime : Clock → PcapfileNgPacket → ℕ → PcapfileTime → Type 0
 TellsPacketTime clock packet has_time shown =
     ((packet.type_ ≡ 3) × TellsNoTime has_time shown)
@@ -29,7 +29,7 @@ TellsPacketTime clock packet has_time shown =
     × (((has_time ≡ 1) × (shown.seconds ≡ time.seconds) × (shown.nanoseconds ≡ time.nanoseconds))
     ⊎ (TellsNoTime has_time shown × (FitsSigned w64 time.seconds → ⊥))))
 
--- a struct that shows a packet without an interface
+-- The struct shows a packet without an interface.
 pub record ShowsAlone (packet : PcapfileNgPacket) (shown : PcapfileAnyPacket) : Type 0 where
   pub flag : shown.has_interface ≡ 0
   pub link : shown.link ≡ 0
@@ -38,7 +38,7 @@ pub record ShowsAlone (packet : PcapfileNgPacket) (shown : PcapfileAnyPacket) : 
   pub bytes_are : shown.bytes.now ≡ stored_bytes packet 0
   pub time_is : TellsNoTime shown.has_time shown.time
 
--- a struct that shows a packet of this interface: with its link type and the time by its clock
+-- The struct shows a packet of this interface, with its link type and the time by its clock.
 pub record ShowsOfInterface (interface : PcapfileInterface) (packet : PcapfileNgPacket) (shown : PcapfileAnyPacket) : Type 0 where
   pub flag : shown.has_interface ≡ 1
   pub link : shown.link ≡ interface.link
@@ -47,12 +47,12 @@ pub record ShowsOfInterface (interface : PcapfileInterface) (packet : PcapfileNg
   pub bytes_are : shown.bytes.now ≡ stored_bytes packet interface.snaplen
   pub time_is : TellsPacketTime (clock_shown interface) packet shown.has_time shown.time
 
--- a struct that shows a packet of this interface, or of none
+-- The struct shows a packet of this interface, or of none.
 abbrev pub ShowsAny : Option PcapfileInterface → PcapfileNgPacket → PcapfileAnyPacket → Type 0
 ShowsAny (Some interface) packet shown = ShowsOfInterface interface packet shown
 ShowsAny None packet shown = ShowsAlone packet shown
 
--- a struct that shows a packet of a pcap capture of this link type: it counts as one of the first interface, and has a time
+-- The struct shows a packet of a classic capture of this link type: its interface number is 0, and it has a time.
 pub record ShowsCaptured (link : ℕ) (packet : Captured) (shown : PcapfileAnyPacket) : Type 0 where
   pub link_is : shown.link ≡ link
   pub interface_is : shown.interface_id ≡ 0

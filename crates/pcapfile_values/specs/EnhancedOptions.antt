@@ -1,4 +1,4 @@
--- Options of enhanced packets that are passed over.
+-- The options of enhanced packets that the reader skips.
 use Rattle.std.specs.Prelude.{◌≡◌, ◌≤◌, ℕ, List, length, All, Ok}
 use Rattle.pcap_core.specs.Answer.{Order}
 use Rattle.pcap_core.specs.Padded.{Padded}
@@ -6,20 +6,20 @@ use Rattle.pcap_options.specs.EnhancedOption.{enhanced_packet}
 use Rattle.pcap_options.specs.Options.{OptionList, may_end_with_body}
 use Rattle.pcap_options.specs.Values.{Entry, Value, shape_at, value_of}
 
--- options of this code are passed over: those of flags, 2, of a hash, 3, and of a count of lost packets, 4
+-- The reader skips options of this code: flags (2), a hash (3), and a count of lost packets (4).
 abbrev pub IsPassed : ℕ → Type 0
 IsPassed code = (2 ≤ code) × (code ≤ 4)
 
--- s is a list of an enhanced packet's options, and then rest, and each of them is passed over
+-- OptionsText order options s rest: `s` is a list of an enhanced packet's options and then `rest`, and the reader skips each of them.
 pub record OptionsText (order : Order) (options : List Entry) (s rest : List ℕ) : Type 0 where
   pub list : OptionList may_end_with_body order enhanced_packet options s rest
   pub passed : All (λ option. IsPassed option.code) options
 
--- a list of options is refused, or one of them is not passed over
+-- The list of options is refused, or it has an option that the reader doesn't skip.
 abbrev pub NoOptions : Order → List ℕ → Type 0
 NoOptions order s = (options : List Entry) (rest : List ℕ) → OptionsText order options s rest → ⊥
 
--- s is the value of an option that is passed over, of this code and length, with its padding, and then rest
+-- ValueText order code len s rest: `s` is the padded value of an option of this code and length that the reader skips, and then `rest`.
 pub record ValueText (order : Order) (code len : ℕ) (s rest : List ℕ) : Type 0 where
   pub bytes : List ℕ
   pub value : Value
@@ -28,6 +28,6 @@ pub record ValueText (order : Order) (code len : ℕ) (s rest : List ℕ) : Type
   pub value_is : value_of order (shape_at enhanced_packet code) bytes ≡ Ok value
   pub passed : IsPassed code
 
--- s is no such value: it is refused, or the option is not passed over
+-- The bytes are no such value: it is refused, or the reader doesn't skip the option.
 abbrev pub NoValue : Order → ℕ → ℕ → List ℕ → Type 0
 NoValue order code len s = (rest : List ℕ) → ValueText order code len s rest → ⊥

@@ -1,4 +1,4 @@
--- What C's structs show.
+-- The structs that show C the header and the packets of a classic capture.
 use Rattle.std.specs.Prelude.{length}
 use Rattle.pcap_core.specs.Link.{link_number}
 use Rattle.pcap_classic.specs.declared.pcap.header.PcapHeader.{PcapHeader}
@@ -6,7 +6,7 @@ use Rattle.pcap_classic.specs.PacketText.{Captured}
 use Rattle.pcapfile_values.specs.declared.shown.PcapfileHeader.{PcapfileHeader}
 use Rattle.pcapfile_values.specs.declared.shown.PcapfilePacket.{PcapfilePacket}
 
--- the struct that shows a header
+-- The struct that shows a header.
 abbrev pub shown_header : PcapHeader → PcapfileHeader
 shown_header h = record {
   magic_number = h.magic_number;
@@ -18,7 +18,7 @@ shown_header h = record {
   link = link_number h.datalink;
 }
 
--- the packet that a struct shows: as many bytes are stored as it lends
+-- The packet that a struct shows. Its stored length is the length of the borrowed bytes.
 abbrev pub captured : PcapfilePacket → Captured
 captured p = record {
   header = record { ts_sec = p.ts_sec; ts_nsec = p.ts_nsec; incl_len = length p.bytes.now; orig_len = p.orig_len };

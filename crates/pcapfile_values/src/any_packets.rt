@@ -1,4 +1,4 @@
-//! Packets as C sees them of a capture of either format.
+//! Packets of a capture of either format, as a program in C sees them.
 
 ghost use Rattle.std.specs.Prelude.{◌≡◌, take};
 ghost use Rattle.std.specs.List.{slice_get};
@@ -10,25 +10,25 @@ use crate::blocks::PcapfileSection;
 use crate::bodies::{PcapfileInterface, PcapfileNgPacket, PcapfileTime};
 use crate::shown::{PcapfileHeader, PcapfilePacket};
 
-/// A packet of either format; its bytes lie where its capture lies. In C: `pcapfile_any_packet`.
+/// A packet of a capture of either format, whose bytes are borrowed from the capture. In C: `pcapfile_any_packet`.
 #[repr(C)]
 #[derive(Clone, Copy)]
 pub struct PcapfileAnyPacket<'a> {
-    /// The number of the link type of its first layer. 0 where it has no interface.
+    /// The number of the link type of the packet's first layer, or 0 if the packet has no interface.
     pub link: u32,
     pub interface_id: u32,
-    /// 1, or 0 for a packet of an interface that its section doesn't have.
+    /// 1, or 0 if the section doesn't have an interface of this number.
     pub has_interface: u8,
-    /// 1, or 0 for a simple packet, one without an interface, and one whose seconds pass 64 bits.
+    /// 1, or 0 for a simple packet, for a packet without an interface, and for a time whose seconds don't fit 64 bits.
     pub has_time: u8,
     pub orig_len: u32,
     pub time: PcapfileTime,
-    /// Those that are stored, without padding.
+    /// The stored bytes of the packet, without padding.
     pub bytes: &'a [u8],
 }
 
 impl PcapfileSection {
-    // The interface of this number, where the section has it so far.
+    // Returns the interface of this number, if the section has it so far.
     #[inline(always)]
     pub(crate) fn interface_at(
         &self,
@@ -46,7 +46,7 @@ impl PcapfileSection {
 }
 
 impl<'a> PcapfileAnyPacket<'a> {
-    /// What C sees of a packet behind this header.
+    /// Returns the struct for a packet of a classic capture with this header.
     pub fn of_capture(packet: &PcapfilePacket<'a>, header: &PcapfileHeader) -> PcapfileAnyPacket<'a>
         ensures { ShowsCaptured header.now.link (captured packet.now) result }
     {
@@ -64,7 +64,7 @@ impl<'a> PcapfileAnyPacket<'a> {
         }
     }
 
-    /// What C sees of a packet of a section whose interfaces stand in the first places.
+    /// Returns the struct for a packet of a section, whose interfaces are in the first places of `interfaces`.
     #[inline(always)]
     pub fn new(
         packet: PcapfileNgPacket<'a>,
@@ -79,7 +79,7 @@ impl<'a> PcapfileAnyPacket<'a> {
         }
     }
 
-    // What C sees of a packet of this interface.
+    // Returns the struct for a packet of this interface.
     #[inline(always)]
     fn of_interface(
         packet: PcapfileNgPacket<'a>,
@@ -99,7 +99,7 @@ impl<'a> PcapfileAnyPacket<'a> {
         }
     }
 
-    // What C sees of a packet without an interface.
+    // Returns the struct for a packet without an interface.
     fn alone(packet: PcapfileNgPacket<'a>) -> PcapfileAnyPacket<'a>
         ensures { ShowsAlone packet.entry result }
     {
@@ -120,10 +120,10 @@ const NO_TIME: PcapfileTime = PcapfileTime {
     nanoseconds: 0,
 };
 
-// The number of a simple packet's type.
+// The block type number of a simple packet.
 const SIMPLE: u32 = 3;
 
-// The bytes that are stored of a packet: behind those of a simple one padding follows.
+// Returns the stored bytes of a packet. In a simple packet, padding may follow them.
 #[inline(always)]
 fn stored<'a>(packet: PcapfileNgPacket<'a>, snaplen: u32) -> &'a [u8]
     ensures { result.now ≡ stored_bytes packet.entry snaplen }
@@ -139,7 +139,7 @@ fn stored<'a>(packet: PcapfileNgPacket<'a>, snaplen: u32) -> &'a [u8]
     &packet.bytes[..packet.bytes.len().min(len as usize)]
 }
 
-// The time of a packet by the clock of its interface, and 1 where it has one.
+// Returns 1 and the time of a packet by the clock of its interface, or 0 if it has no time.
 #[inline(always)]
 fn time_in(packet: &PcapfileNgPacket<'_>, interface: &PcapfileInterface) -> (u8, PcapfileTime)
     ensures { TellsPacketTime (clock_shown interface.now) packet.now result.0 result.1 }

@@ -1,4 +1,4 @@
-//! Blocks as C sees them, and what a walk over them keeps.
+//! Blocks as a program in C sees them, and the state between two blocks.
 
 ghost use Rattle.std.specs.Prelude.{◌≡◌, ◌<◌, length, None, IsErrAnd, IfOk, IsSome};
 ghost use Rattle.pcap_core.specs.declared.rules.Rule.TheVariants.{SectionMagic};
@@ -14,11 +14,11 @@ use pcap_core::{CowBytes, Endianness, PcapError, ResultParsing};
 use pcap_ng::pcapng::{Block, Change, SectionHeaderBlock};
 use std::alloc::Global;
 
-/// What a walk over the blocks of a capture keeps between two of them. In C: `pcapfile_section`.
+/// What the reader keeps between two blocks of a capture: the current section. In C: `pcapfile_section`.
 #[repr(C)]
 #[derive(Clone, Copy)]
 pub struct PcapfileSection {
-    /// The magic number of the section in force, read high byte first. 0 before the first block.
+    /// The magic number of the current section, read high byte first, or 0 before the first block.
     pub magic_number: u32,
     pub version_major: u16,
     pub version_minor: u16,
@@ -26,7 +26,7 @@ pub struct PcapfileSection {
     pub interfaces: u32,
 }
 
-/// A block: the number of its type, and its body, which lies in the capture. In C: `pcapfile_block`.
+/// A block: the number of its type, and its body, which is borrowed from the capture. In C: `pcapfile_block`.
 #[repr(C)]
 #[derive(Clone, Copy)]
 pub struct PcapfileBlock<'a> {
@@ -35,7 +35,7 @@ pub struct PcapfileBlock<'a> {
 }
 
 impl PcapfileSection {
-    /// The order that its magic number names.
+    /// Returns the byte order that the magic number names, or None if it names none.
     #[tactic(auto, unfolding(pcap_blocks::specs::SectionHeader::magic_order))]
     pub fn endianness(&self) -> Option<Endianness>
         ensures { result ≡ magic_order self.now.magic_number }
@@ -47,7 +47,7 @@ impl PcapfileSection {
         }
     }
 
-    /// The order of a block that is no section. None where the magic number is none.
+    /// Returns the byte order of a block that is no section header, or None if the magic number is invalid.
     pub fn order(&self) -> Option<Endianness>
         ensures { result ≡ order_shown self.now.magic_number }
     {
@@ -57,7 +57,7 @@ impl PcapfileSection {
         }
     }
 
-    /// The block at the front of a slice, what is in force after it, and what follows it.
+    /// Reads the block at the front of a slice. Returns the rest, the block, and the section in force after it.
     pub fn next_block<'a>(
         &self,
         alloc: Global,
@@ -75,7 +75,7 @@ impl PcapfileSection {
         Ok((rest, (PcapfileBlock::new(block), next)))
     }
 
-    // What is in force after a block.
+    // Returns the section in force after a block.
     fn led(&self, alloc: Global, block: &Block) -> ResultParsing<PcapfileSection>
         ensures { (q : State) → ShowsState self.now q → LeadsTells q (framed_of block.now) result }
     {
@@ -92,7 +92,7 @@ impl PcapfileSection {
         }
     }
 
-    /// What C sees of a section that has no interface yet.
+    /// Returns the struct for a section that has no interface yet.
     pub fn opened(section: &SectionHeaderBlock) -> PcapfileSection
         requires { IsSome (magic_order section.now.magic) }
         ensures shows { ShowsSection result (section_of section.now) }
@@ -107,7 +107,7 @@ impl PcapfileSection {
     }
 }
 
-/// The section that the body of a section header puts in force.
+/// Returns the section that begins with a section header of this body.
 pub fn section_in(alloc: Global, body: &[u8]) -> ResultParsing<PcapfileSection>
     ensures { TellsSection body.now result }
 {
@@ -116,7 +116,7 @@ pub fn section_in(alloc: Global, body: &[u8]) -> ResultParsing<PcapfileSection>
 }
 
 impl<'a> PcapfileBlock<'a> {
-    /// What C sees of a block that lies in a capture.
+    /// Returns the struct for a block that is borrowed from a capture.
     pub fn new(block: Block<'a>) -> PcapfileBlock<'a>
         requires { IsBorrowed block.body }
         ensures { ShowsBlock (framed_of block.entry) result }

@@ -1,4 +1,4 @@
-//! Interfaces, packets and times of PcapNg as C sees them.
+//! Interfaces, packets and times of PcapNg as a program in C sees them.
 
 ghost use Rattle.std.specs.Prelude.{◌≡◌, IfOk, MatchOption};
 ghost use Rattle.pcap_core.specs.Bytes.{IsBorrowed, cow_bytes};
@@ -18,28 +18,28 @@ use pcap_core::{CowBytes, Endianness, ResultParsing};
 use pcap_ng::pcapng::enhanced::split_body;
 use std::alloc::Global;
 
-/// An interface: the link type and the snaplen of its packets, and how it counts time. In C: `pcapfile_interface`.
+/// An interface: the link type and the snapshot length of its packets, and how it counts time. In C: `pcapfile_interface`.
 #[repr(C)]
 #[derive(Clone, Copy)]
 pub struct PcapfileInterface {
     pub link: u32,
     pub snaplen: u32,
-    /// Its unit of time in seconds is this number, 10 or 2, to the power of minus `ts_exponent`.
+    /// The base of the timestamp resolution, 10 or 2. The unit in seconds is this number to the power of minus `ts_exponent`.
     pub ts_base: u8,
     pub ts_exponent: u8,
-    /// Seconds that are added to each time.
+    /// The seconds that the reader adds to each time.
     pub ts_offset: i64,
 }
 
-/// A packet of an interface; its bytes lie in the capture. In C: `pcapfile_ng_packet`.
+/// A packet of an interface, whose bytes are borrowed from the capture. In C: `pcapfile_ng_packet`.
 #[repr(C)]
 #[derive(Clone, Copy)]
 pub struct PcapfileNgPacket<'a> {
-    /// The number of its block's type: 6 enhanced, 3 simple, 2 obsolete.
+    /// The number of the block's type: 6 for an enhanced packet, 3 for a simple packet, 2 for an obsolete packet.
     pub type_: u32,
     pub interface_id: u32,
     pub orig_len: u32,
-    /// In units of the interface. 0 for a simple packet, which has none.
+    /// The time in units of the interface. 0 for a simple packet, which has no time.
     pub timestamp: u64,
     pub bytes: &'a [u8],
 }
@@ -52,7 +52,7 @@ pub struct PcapfileTime {
     pub nanoseconds: u32,
 }
 
-/// The interface that a block of this type is, if it is one.
+/// Returns the interface that a block of this type and body describes, or None if the block is no interface.
 pub fn interface_of(
     alloc: Global,
     order: Endianness,
@@ -65,7 +65,7 @@ pub fn interface_of(
     Ok(interface_in(&parsed))
 }
 
-/// The packet that a block of this type is, if it is one.
+/// Returns the packet in a block of this type and body, or None if the block is no packet.
 #[inline(always)]
 pub fn packet_of<'a>(
     alloc: Global,
@@ -81,7 +81,7 @@ pub fn packet_of<'a>(
     }
 }
 
-// The same of any type: out of line, since what it holds would else be cleared for each enhanced packet.
+// Returns the packet in a block of any type. It is a function of its own, so that an enhanced packet doesn't pay for its locals.
 #[cold]
 #[inline(never)]
 fn seldom_packet<'a>(
@@ -96,7 +96,7 @@ fn seldom_packet<'a>(
     Ok(packet_in(parsed))
 }
 
-// The packet that the body of an enhanced packet is.
+// Returns the packet in the body of an enhanced packet block.
 #[inline(always)]
 fn enhanced<'a>(
     alloc: Global,
@@ -111,7 +111,7 @@ fn enhanced<'a>(
     }
 }
 
-// The body of a block of this type, and what follows it.
+// Returns what follows the body of a block of this type, and the parsed body.
 #[inline(always)]
 fn parse_body<'a>(
     alloc: Global,
@@ -129,7 +129,7 @@ fn parse_body<'a>(
 }
 
 impl PcapfileInterface {
-    /// The time of so many of its units. None where its seconds don't fit 64 bits.
+    /// Returns the time after this many units of the interface, or None if its seconds don't fit 64 bits.
     pub fn time_at(&self, timestamp: u64) -> Option<PcapfileTime>
         ensures { ShowsTime (clock_shown self.now) timestamp result }
     {
@@ -143,7 +143,7 @@ impl PcapfileInterface {
         }
     }
 
-    // How it counts time.
+    // Returns the clock of the interface.
     fn clock(&self) -> Clock
         ensures { result ≡ clock_shown self.now }
     {
@@ -158,7 +158,7 @@ impl PcapfileInterface {
     }
 }
 
-// The base and the exponent of a unit.
+// Returns the base and the exponent of a unit.
 fn unit_parts(unit: TimeUnit) -> (u8, u8)
     ensures unit { unit_shown result.0 result.1 ≡ unit }
     ensures base { result.0 ≡ base_of unit }
@@ -169,7 +169,7 @@ fn unit_parts(unit: TimeUnit) -> (u8, u8)
     }
 }
 
-// What C sees of the interface that a body is.
+// Returns the struct for the interface in a parsed body, or None if the body is no interface.
 fn interface_in(parsed: &ParsedBlock) -> Option<PcapfileInterface>
     ensures { Found ShowsInterface IsInterface (body_of parsed.now) result }
 {
@@ -179,7 +179,7 @@ fn interface_in(parsed: &ParsedBlock) -> Option<PcapfileInterface>
     }
 }
 
-/// What C sees of an interface.
+/// Returns the struct for an interface.
 pub fn interface_shown(interface: &InterfaceDescriptionBlock) -> PcapfileInterface
     ensures { ShowsInterfaceOf (interface_of interface.now) result }
 {
@@ -194,7 +194,7 @@ pub fn interface_shown(interface: &InterfaceDescriptionBlock) -> PcapfileInterfa
     }
 }
 
-// What C sees of the packet that a body is.
+// Returns the struct for the packet in a parsed body, or None if the body is no packet.
 #[inline(always)]
 fn packet_in<'a>(parsed: ParsedBlock<'a>) -> Option<PcapfileNgPacket<'a>>
     requires { ParsedIsBorrowed parsed }
@@ -220,7 +220,7 @@ fn packet_in<'a>(parsed: ParsedBlock<'a>) -> Option<PcapfileNgPacket<'a>>
     }
 }
 
-// The packet that the body of an enhanced packet is. Its options are passed over where none has to be read, so that no list is made of them.
+// Returns the packet in the body of an enhanced packet block. Skips the options if it needn't read them, so that it builds no list.
 #[inline(always)]
 fn enhanced_in<'a, B: ByteOrder>(
     alloc: Global,
@@ -234,8 +234,8 @@ fn enhanced_in<'a, B: ByteOrder>(
     }
 }
 
-/// The packet that the body of an enhanced packet is, where its options are flags, hashes or counts of lost packets, or it has none.
-/// None where it has another one, or is refused.
+/// Returns the packet in the body of an enhanced packet block if it has only options for flags, hashes and counts of lost packets, or
+/// none. Returns None if it has another option, or if the body is truncated or malformed.
 #[inline(always)]
 pub fn plain_in<B: ByteOrder>(body: &[u8]) -> Option<PcapfileNgPacket<'_>>
     ensures { MatchOption result (NotPlain B.number_of body.now) (PlainTells B.number_of body.now) }
@@ -251,7 +251,7 @@ pub fn plain_in<B: ByteOrder>(body: &[u8]) -> Option<PcapfileNgPacket<'_>>
     })
 }
 
-// The same, whatever its options are.
+// Returns the packet in the body of an enhanced packet block, whatever its options are.
 #[cold]
 #[inline(never)]
 fn read_enhanced<'a, B: ByteOrder>(
@@ -264,7 +264,7 @@ fn read_enhanced<'a, B: ByteOrder>(
     Ok(enhanced_shown(packet))
 }
 
-/// What C sees of an enhanced packet.
+/// Returns the struct for an enhanced packet.
 #[inline(always)]
 pub fn enhanced_shown<'a>(packet: EnhancedPacketBlock<'a>) -> PcapfileNgPacket<'a>
     requires { IsBorrowed packet.data_ }
@@ -279,7 +279,7 @@ pub fn enhanced_shown<'a>(packet: EnhancedPacketBlock<'a>) -> PcapfileNgPacket<'
     }
 }
 
-// The bytes that are borrowed.
+// Returns the borrowed bytes.
 fn lent<'a>(bytes: CowBytes<'a>) -> &'a [u8]
     requires { IsBorrowed bytes }
     ensures { result.now ≡ cow_bytes bytes.entry }

@@ -1,4 +1,4 @@
-//! Options of enhanced packets that are passed over, where a packet alone is shown.
+//! Skips options of enhanced packets whose values the reader doesn't need.
 
 ghost use Rattle.std.specs.Prelude.{◌<◌, List, length, MatchOption};
 ghost use Rattle.pcap_options.specs.Options.{CodeLengthText};
@@ -8,14 +8,14 @@ ghost use Rattle.pcapfile_values.specs.EnhancedOptions.{NoOptions, NoValue, Opti
 use byteorder::ByteOrder;
 use pcap_core::fields::{split_padded, split_u16};
 
-// The codes of options whose bytes need no reading: of flags, of a hash and of a count of lost packets.
+// The codes of options that the reader can skip: flags, a hash, and a count of lost packets.
 const FLAGS: u16 = 2;
 
 const HASH: u16 = 3;
 
 const DROP_COUNT: u16 = 4;
 
-// What follows the options at the front of a slice. None where they are refused, or one of them has to be read.
+// Returns what follows the options at the front of a slice, or None if they are refused or one of them must be read.
 #[inline(always)]
 pub(crate) fn behind_options<B: ByteOrder>(slice: &[u8]) -> Option<&[u8]>
     ensures { MatchOption result (NoOptions B.number_of slice.now) (λ rest. (options : List Entry) × OptionsText B.number_of options slice.now rest.now) }
@@ -27,7 +27,7 @@ pub(crate) fn behind_options<B: ByteOrder>(slice: &[u8]) -> Option<&[u8]>
     }
 }
 
-// The same where there are options: out of line, as most packets have none.
+// Does the same for options that aren't empty. It is out of line, since most packets have no options.
 #[inline(never)]
 fn behind_some<B: ByteOrder>(slice: &[u8]) -> Option<&[u8]>
     ensures { MatchOption result (NoOptions B.number_of slice.now) (λ rest. (options : List Entry) × OptionsText B.number_of options slice.now rest.now) }
@@ -43,7 +43,7 @@ fn behind_some<B: ByteOrder>(slice: &[u8]) -> Option<&[u8]>
     Some(left)
 }
 
-// The code and the length of the option, or of the mark, at the front of a slice, and what follows them.
+// Returns the code and the length at the front of a slice, of an option or of the end mark, and what follows them.
 #[inline(always)]
 fn option_head<B: ByteOrder>(slice: &[u8]) -> Option<(u16, u16, &[u8])>
     ensures { MatchOption result (length slice.now < 4) (λ x. CodeLengthText B.number_of x.0 x.1 slice.now x.2.now) }
@@ -56,7 +56,7 @@ fn option_head<B: ByteOrder>(slice: &[u8]) -> Option<(u16, u16, &[u8])>
     Some((code, len, rest))
 }
 
-// What follows the value of an option of this code and length at the front of a slice. None where it has to be read.
+// Returns what follows the value of an option of this code and length, or None if the value must be read or is refused.
 #[inline(always)]
 fn behind_value<B: ByteOrder>(code: u16, len: u16, slice: &[u8]) -> Option<&[u8]>
     ensures { MatchOption result (NoValue B.number_of code len slice.now) (λ rest. ValueText B.number_of code len slice.now rest.now) }

@@ -1,4 +1,4 @@
-//! Statuses, and the struct that says more of a refusal.
+//! Statuses, and the struct that describes why a call failed.
 
 ghost use Rattle.std.specs.Prelude.{◌≡◌, pos};
 ghost use Rattle.pcap_core.specs.declared.rules.Rule.{Rule};
@@ -13,13 +13,13 @@ use pcap_core::rules::Rule;
 #[repr(C)]
 #[derive(Clone, Copy)]
 pub struct PcapfileError {
-    /// The number of the rule that the bytes break, under status 3. Else 0.
+    /// The number of the rule that the bytes break, under status 3. Otherwise 0.
     pub rule: u32,
-    /// How many bytes are missing at least, under status 1, or of the room, under 9. Else 0.
+    /// At least how many bytes are missing, under status 1. How many bytes longer the room must be, under status 9. Otherwise 0.
     pub missing: usize,
 }
 
-// The number of the rule that an error names. 0 where it names none.
+// Returns the number of the rule that an error names, or 0 if it names none.
 fn rule_number(error: &PcapError) -> u32
     ensures named { (rule : Rule) → Names rule error.now → result ≡ number_of rule }
     ensures unnamed { ((rule : Rule) → Names rule error.now → ⊥) → result ≡ 0 }
@@ -30,7 +30,7 @@ fn rule_number(error: &PcapError) -> u32
     }
 }
 
-/// Shows an error in the struct, and gives its status.
+/// Writes an error into the struct and returns its status.
 pub fn tell(error: &PcapError, told: &mut PcapfileError) -> i32
     ensures { ShowsError error.now told.new result }
 {
@@ -55,7 +55,7 @@ pub fn tell(error: &PcapError, told: &mut PcapfileError) -> i32
     }
 }
 
-/// Tells that this rule is broken, and gives the status.
+/// Writes into the struct that the bytes break this rule, and returns the status.
 pub fn tell_broken(rule: Rule, told: &mut PcapfileError) -> i32
     ensures status { result ≡ pos 3 }
     ensures shown { ShowsRule rule told.new }

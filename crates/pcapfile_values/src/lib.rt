@@ -1,7 +1,7 @@
-//! What programs in C see: the structs of `include/pcapfile.h` with the statuses of its calls, how they are read from captures, and
-//! how they are written as parts of them.
+//! What programs in C see: the structs of `include/pcapfile.h` and the statuses of its calls.
+//! The crate reads these structs from captures, and writes them as parts of captures.
 //!
-//! A status is 0, the number of an error in the table of refusals, or a number from 8 on, which is none.
+//! A status is 0, the number of an error in the table of refusals, or a number of 8 or more, which is no error of that table.
 #![tactic(auto)]
 
 pub mod any_packets;

@@ -1,4 +1,4 @@
-//! Why a block that C describes is not put.
+//! Why the library refuses to write a block that a program in C describes.
 
 ghost use Rattle.std.specs.Prelude.{◌≡◌, pos, IfSome, Some};
 ghost use Rattle.pcapfile_values.specs.declared.reasons.Reason.{Reason};
@@ -8,8 +8,7 @@ use crate::errors::PcapfileError;
 use pcap_core::rules::Rule;
 use pcap_written::Unwritable;
 
-/// Why a call is refused under status 3: a rule of the formats, or one of blocks that are put. Its number is that of the table of
-/// refusals.
+/// Why a call is refused under status 3: the rule of a format, or of written blocks. Its number is in the table of refusals.
 #[derive(Clone, Copy)]
 pub enum Reason {
     Breaks(Rule),
@@ -20,7 +19,7 @@ pub enum Reason {
 }
 
 impl Reason {
-    // Its number.
+    // Returns the number of the reason.
     fn number(self) -> u32
         ensures { result ≡ reason_number self }
     {
@@ -33,7 +32,7 @@ impl Reason {
         }
     }
 
-    /// Its name.
+    /// Returns the name of the reason.
     pub fn name(self) -> &'static str
         ensures { result.now ≡ reason_name self }
     {
@@ -46,7 +45,7 @@ impl Reason {
         }
     }
 
-    /// Its text.
+    /// Returns the message of the reason.
     pub fn text(self) -> &'static str
         ensures { result.now ≡ reason_message self }
     {
@@ -59,7 +58,7 @@ impl Reason {
         }
     }
 
-    /// The reason of this number. None where none has it.
+    /// Returns the reason of this number, or None if no reason has it.
     pub fn from_number(number: u32) -> Option<Reason>
         ensures numbered { IfSome result (λ reason. reason_number reason ≡ number) }
         ensures found { (reason : Reason) → reason_number reason ≡ number → result ≡ Some reason }
@@ -77,7 +76,7 @@ impl Reason {
     }
 }
 
-/// Tells that a block is not put, and gives the status.
+/// Writes into the struct that a block was refused for this reason, and returns the status.
 pub fn refuse(reason: Reason, told: &mut PcapfileError) -> i32
     ensures { IsRefused reason told.new result }
 {
@@ -88,7 +87,7 @@ pub fn refuse(reason: Reason, told: &mut PcapfileError) -> i32
     3
 }
 
-/// Tells that the room has to be so many bytes longer, and gives the status.
+/// Writes into the struct how many more bytes of room the call needs, and returns the status.
 pub fn need(missing: usize, told: &mut PcapfileError) -> i32
     ensures told { told.new ≡ record { rule = 0; missing = missing } }
     ensures status { result ≡ pos 9 }

@@ -1,4 +1,4 @@
-//! The structs in which C sees bytes, headers and packets.
+//! The structs in which a program in C sees bytes, headers and packets.
 
 ghost use Rattle.std.specs.Prelude.{◌≡◌, false, length, IsTrue};
 ghost use Rattle.std.specs.Option.{MatchOption};
@@ -12,14 +12,14 @@ use pcap_classic::TsResolution;
 use pcap_classic::pcap::{Packet, PcapHeader};
 use pcap_core::{CowBytes, DataLink, Endianness};
 
-/// Bytes that lie elsewhere. In C: `pcapfile_bytes`, a pointer and a length.
+/// Borrowed bytes. In C: `pcapfile_bytes`, a pointer and a length.
 #[repr(C)]
 #[derive(Drop)]
 pub struct PcapfileBytes<'a> {
     pub bytes: &'a [u8],
 }
 
-/// The header of a capture. In C: `pcapfile_header`.
+/// The header of a classic capture. In C: `pcapfile_header`.
 #[repr(C)]
 #[derive(Clone, Copy)]
 pub struct PcapfileHeader {
@@ -32,7 +32,7 @@ pub struct PcapfileHeader {
     pub link: u32,
 }
 
-/// A packet: its time, its length on the wire, and its bytes, which lie where the capture lies. In C: `pcapfile_packet`.
+/// A packet of a classic capture: its time, its original length, and its bytes, borrowed from the capture. In C: `pcapfile_packet`.
 #[repr(C)]
 #[derive(Clone, Copy)]
 pub struct PcapfilePacket<'a> {
@@ -43,7 +43,7 @@ pub struct PcapfilePacket<'a> {
 }
 
 impl PcapfileHeader {
-    /// What C sees of a header.
+    /// Returns the struct for a header.
     pub fn new(header: &PcapHeader) -> PcapfileHeader
         ensures { result ≡ shown_header header.now }
     {
@@ -58,7 +58,7 @@ impl PcapfileHeader {
         }
     }
 
-    /// The order and the resolution that its magic number names. None where it names none.
+    /// Returns the byte order and the timestamp resolution that the magic number names, or None if it names none.
     #[inline(always)]
     pub fn kind(&self) -> Option<(Endianness, TsResolution)>
         ensures { let magic = self.now.magic_number in
@@ -74,7 +74,7 @@ impl PcapfileHeader {
         Some((header.endianness(), header.ts_resolution()))
     }
 
-    /// The header that C shows.
+    /// Returns the header that the struct shows.
     pub fn header(&self) -> PcapHeader
         ensures shown { shown_header result ≡ self.now }
         ensures link { Link self.now.link result.datalink }
@@ -92,7 +92,7 @@ impl PcapfileHeader {
 }
 
 impl<'a> PcapfilePacket<'a> {
-    /// What C sees of a packet that lies in a capture.
+    /// Returns the struct for a packet whose bytes are borrowed from a capture.
     pub fn new(packet: Packet<'a>) -> PcapfilePacket<'a>
         requires borrowed { IsBorrowed packet.data_ }
         requires whole { length (content_of packet).bytes ≡ packet.header.incl_len }

@@ -1,4 +1,4 @@
-//! The texts of blocks, put into room that has space for them.
+//! Writes the bytes of blocks into a slice (the room) that is long enough for them.
 
 ghost use Rattle.std.specs.Prelude.{◌≡◌, ◌+◌, ◌/◌, ◌%◌, ◌^◌, ◌<◌, ◌≤◌, ◌++◌, length};
 ghost use Rattle.std.specs.Int.{w64, cast_unsigned};
@@ -16,7 +16,7 @@ use crate::bodies::{PcapfileInterface, PcapfileNgPacket};
 use byteorder::{BigEndian, ByteOrder, LittleEndian};
 use pcap_core::{DataLink, Endianness};
 
-// Puts bytes at this place of the room, and gives the place behind them.
+// Writes bytes at this place of the room, and returns the place after them.
 fn put_bytes(room: &mut [u8], at: usize, bytes: &[u8]) -> usize
     requires { at + length bytes.now ≤ length room.old }
     ensures behind { result ≡ at + length bytes.now }
@@ -66,7 +66,7 @@ fn put_pair<B: ByteOrder>(room: &mut [u8], at: usize, first: u16, second: u16) -
     put_u16::<B>(room, second_at, second)
 }
 
-/// Puts a section header, 28 bytes.
+/// Writes a section header of 28 bytes at the beginning of the room.
 pub fn put_section(order: Endianness, section: &PcapfileSection, room: &mut [u8])
     requires { 28 ≤ length room.old }
     ensures { PutsAt 0 (text_of (number_bytes order) (section_block section.now)) room.old room.new }
@@ -94,14 +94,14 @@ fn put_section_in<B: ByteOrder>(section: &PcapfileSection, room: &mut [u8])
     put_u32::<B>(room, len_again_at, 28);
 }
 
-/// How many bytes the description of an interface has.
+/// Returns how many bytes the description of an interface has.
 pub fn interface_len(interface: &PcapfileInterface) -> usize
     ensures { result ≡ clock_len (cast_unsigned w64 interface.now.ts_offset) + 20 }
 {
     if interface.ts_offset == 0 { 32 } else { 44 }
 }
 
-/// Puts the description of an interface.
+/// Writes the description of an interface at the beginning of the room.
 pub fn put_interface(
     order: Endianness,
     link: DataLink,
@@ -139,7 +139,7 @@ fn put_interface_in<B: ByteOrder>(link: DataLink, interface: &PcapfileInterface,
     put_u32::<B>(room, len_again_at, len);
 }
 
-// The byte of an interface's unit of time.
+// Returns the byte that encodes the interface's unit of time (if_tsresol).
 fn resolution(interface: &PcapfileInterface) -> u8
     requires { interface.now.ts_exponent < 128 }
     ensures { result ≡ resolution_byte interface.now.ts_base interface.now.ts_exponent }
@@ -150,14 +150,14 @@ fn resolution(interface: &PcapfileInterface) -> u8
     }
 }
 
-// The bits of an interface's offset.
+// Returns the bits of the interface's time offset.
 fn offset_bits(interface: &PcapfileInterface) -> u64
     ensures { result ≡ cast_unsigned w64 interface.now.ts_offset }
 {
     interface.ts_offset.cast_unsigned()
 }
 
-// Puts how an interface counts time: the byte of its if_tsresol, and the bits of its if_tsoffset, which is left out where they are 0.
+// Writes how an interface counts time: the byte of its if_tsresol, and the bits of its if_tsoffset unless they are 0.
 fn put_clock<B: ByteOrder>(room: &mut [u8], at: usize, resolution: u8, offset: u64) -> usize
     requires { at + clock_len offset ≤ length room.old }
     ensures behind { result ≡ at + clock_len offset }
@@ -173,7 +173,7 @@ fn put_clock<B: ByteOrder>(room: &mut [u8], at: usize, resolution: u8, offset: u
     put_pair::<B>(room, mark_at, 0, 0)
 }
 
-/// Puts an enhanced packet.
+/// Writes an enhanced packet at the beginning of the room.
 pub fn put_packet(order: Endianness, packet: &PcapfileNgPacket<'_>, room: &mut [u8])
     requires short { length packet.now.bytes.now ≤ 4294967260 }
     requires room { up_to_4 (length packet.now.bytes.now) + 32 ≤ length room.old }
@@ -199,7 +199,7 @@ fn put_packet_in<B: ByteOrder>(packet: &PcapfileNgPacket<'_>, room: &mut [u8])
     put_u32::<B>(room, len_again_at, len);
 }
 
-// Puts what stands before the bytes of a packet, in a block of this length: 28 bytes.
+// Writes the 28 bytes before the bytes of a packet, in a block of this length.
 fn put_packet_head<B: ByteOrder>(room: &mut [u8], len: u32, packet: &PcapfileNgPacket<'_>) -> usize
     requires short { length packet.now.bytes.now < 2 ^ 32 }
     requires room { 28 ≤ length room.old }
