@@ -26,14 +26,14 @@ pub enum End {
     Whole,
     /// The greatest number of items was counted.
     Most,
-    /// The capture is truncated: it ends inside its opening or an item, or the body of a section header or interface description ends
-    /// inside a value.
+    /// The capture is truncated: it ends inside a classic header, a packet record or a later block, or the body of a later section
+    /// header or interface description ends inside a value.
     Short,
     /// The bytes there break this rule.
     Breaks(Rule),
     /// A string there isn't UTF-8.
     NotUtf8,
-    /// The input can't be read.
+    /// The input can't be read. A PcapNg capture truncated in its first block also has this end, with kind `UnexpectedEof`.
     Unread(PcapError),
     /// The program is out of memory.
     Memory,
