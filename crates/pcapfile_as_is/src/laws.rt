@@ -28,7 +28,8 @@ pub fn sound_packets_stay()
         → breaks_one packet.flaws ≡ false → repaired_of r packet ≡ strict_of r packet }
 {}
 
-/// Strict reading accepts a header that breaks no rule and the repaired packets after it as a whole capture, and refuses no packet.
+/// Strict reading accepts a repaired capture whole: a header that can be written and read again, and the repaired packets after it.
+/// It refuses no packet.
 pub fn repaired_captures_are_read()
     ensures { (header : PcapHeader) (packets : List AsIs) → IsWholeHeader header → All (λ packet. packet.head.seconds < 2 ^ 32) packets →
         CaptureFront packet_limit header (map (cut (resolution_of header.magic_number)) (map (repaired_of (resolution_of header.magic_number)) packets))
