@@ -1,4 +1,4 @@
--- This file proves what words select that are fetched one by one.
+-- This file proves which action words select when they are fetched one by one.
 use Rattle.std.proofs.Common.{◌≡◌, ◌≤◌, ℕ, zero, suc, List, [], ◌∷◌, Option, None, Some, IfSome, Ok, Err, inl, inr, refl, ap, ◌∙◌, subst, length, slice_get, codes, arith}
 use Rattle.std.specs.Borrow.{Bor}
 use Rattle.std.specs.Prelude.{⊤, IsUtf8, ◌==◌, if◌then◌else◌}

@@ -27,7 +27,7 @@ type Room = [u8; LONGEST_WORD];
 
 /// A source of the words of a run. They need not be text.
 pub trait Words {
-    // The words, where they are known.
+    // The words, if they are known.
     ghost words: { Self → Option (List (List ℕ)) } = { λ _. None };
 
     /// Copies the word at this index to the front of `room`, and returns its length in bytes.

@@ -20,12 +20,13 @@ IsMendedSo mended = Mends (raw_in mended.0.block) mended.1
 abbrev pub text_of : Item × Becomes → List ℕ
 text_of mended = mended_text (raw_in mended.0.block) mended.1
 
--- The block that is left after mending, if any.
+-- What is left of a block, by what it becomes: the block itself, the block with another body, or none.
 abbrev pub left_of : Raw → Becomes → Option Raw
 left_of raw stays = Some raw
 left_of raw (has_body s) = Some (with_body raw s)
 left_of raw is_left_out = None
 
+-- The block of a capture that is left after mending, if any.
 abbrev pub block_left : Item × Becomes → Option Raw
 block_left mended = left_of (raw_in mended.0.block) mended.1
 

@@ -23,7 +23,7 @@ const LONGEST_BODY: usize = 4_294_967_283;
 /// The message for most blocks with a changed body.
 const OPTIONS_LEFT: &str = "options that break rules are left out";
 
-/// A writer of each block mended, which reports its changes.
+/// A writer that mends each block, writes it, and reports its changes.
 #[derive(Debug, Drop)]
 pub struct BlockRepairs<E> {
     /// The text before each line of the report.

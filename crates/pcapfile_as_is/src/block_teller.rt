@@ -12,7 +12,7 @@ use pcap_tolerant_captures::{LentAsIs, PcapNgReaderAsIs};
 use std::alloc::Global;
 use std::io::Write;
 
-/// A writer of a text for each block, read leniently.
+/// A writer of a text for each block that is read leniently.
 pub trait BlockTeller {
     ghost Setting: { Type 0 };
 

@@ -32,7 +32,7 @@ pub struct LeftOut {
     pub bytes: u64,
     /// The kind of the last of them.
     pub scrap: Scrap,
-    /// The rule that the first of these last bytes break, if any.
+    /// The rule that is broken at the beginning of those last bytes, if any.
     pub rule: Option<Rule>,
 }
 

@@ -35,7 +35,7 @@ fn time_of(packet: &PacketAsIs<'_>, ts_resolution: TsResolution) -> (u32, u32)
     (seconds as u32, time.subsec_nanos())
 }
 
-/// Returns the packet repaired, so that it breaks no rule. A packet that breaks none is unchanged.
+/// Returns the packet closest to this one that breaks no rule. A packet that breaks none is unchanged.
 ///
 /// A fraction of a second that is too large is carried into the seconds. If these don't fit, the time is the latest possible one.
 /// A packet of more than 262144 bytes is cut to its first 262144 bytes. The original length is reduced to at most 262144, and raised

@@ -18,7 +18,7 @@ use pcap_tolerant::PacketAsIs;
 use std::alloc::{AllocError, Global};
 use std::io::Write;
 
-/// A writer of each packet repaired, in the byte order of its capture, which reports its changes.
+/// A writer that repairs each packet, writes it in the byte order of its capture, and reports its changes.
 #[derive(Debug, Drop)]
 pub struct Repairs<E> {
     /// The byte order of the capture.

@@ -11,7 +11,7 @@ use pcap_tolerant::PacketAsIs;
 use std::alloc::Global;
 use std::io::Write;
 
-/// A writer of a text for each packet, read leniently.
+/// A writer of a text for each packet that is read leniently.
 pub trait Teller {
     ghost Setting: { Type 0 };
 

@@ -26,7 +26,7 @@ pub fn buffered<R: Read + Drop>(
     BufReader::with_capacity(alloc, INPUT, Uninterrupted::new(stream))
 }
 
-/// A file, or standard input.
+/// The stream of a capture: a file, or standard input.
 #[derive(Drop)]
 pub(crate) enum Stream {
     Standard(Stdin),
@@ -105,7 +105,7 @@ fn length_of(stream: &Stream) -> io::Result<Option<u64>> {
     }
 }
 
-/// Opens the capture with this name and starts to show its progress. Fails as opening the file does.
+/// Opens the capture with this name and starts to show its progress.
 pub fn open_watched(console: &Console, name: &str) -> io::Result<Watched> {
     console.begin();
     open_further(console, name)

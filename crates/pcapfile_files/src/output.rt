@@ -18,7 +18,7 @@ use std::{fs, io};
 /// The size of the output buffer, in bytes.
 pub const OUTPUT: usize = 65_536;
 
-/// A file, or standard output.
+/// The output of a word of the program: a file, or standard output.
 #[derive(Drop)]
 pub enum Output {
     Standard(Stdout),
@@ -117,9 +117,9 @@ fn tell_read(console: &Console, name: &str) -> io::Result<u8> {
     Ok(FAILED)
 }
 
-/// Writes the output with this name by calling `write`, and returns the exit status that `write` returns. Refuses to replace a
-/// capture that is being read. Follows links. The file is written under another name in the same folder, and renamed when it is
-/// complete. It then has the owner, group and permissions of the file that it replaces.
+/// Writes the output with this name by calling `write`, and returns the exit status. Refuses to replace a capture that is being
+/// read. Follows links. A regular file is written under another name in the same folder, and renamed when it is complete. It then
+/// has the owner, group and permissions of the file that it replaces, as far as the system allows.
 pub fn write_named<F: FnOnce(Uninterrupted<Output>) -> io::Result<u8>>(
     console: &Console,
     name: &str,

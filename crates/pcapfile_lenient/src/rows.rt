@@ -71,7 +71,7 @@ impl Kind {
         }
     }
 
-    // Returns what the last bytes are, when at least `missing` bytes are missing from an item.
+    // Classifies the last bytes of the capture, when at least `missing` bytes are missing from an item.
     fn last(&self, bytes: &[u8], missing: usize) -> Front {
         match self {
             Kind::Packets(parser) => match broken_by(parser, bytes) {
