@@ -15,8 +15,8 @@ use std::str;
 /// The most lines or packets that one run of the program writes.
 pub const MOST: u64 = 4_294_967_295;
 
-/// The size of the program's input buffer, in bytes. A packet to be copied or a block to be listed that its end cuts gets a buffer of
-/// its own.
+/// The size of the program's input buffer, in bytes. If its end cuts a packet to be copied or a block to be listed, the program
+/// allocates another buffer for that item.
 const INPUT: usize = 262_144;
 
 /// The greatest length of a word. The program knows no longer one.

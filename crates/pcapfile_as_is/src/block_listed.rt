@@ -45,7 +45,7 @@ struct BodyAsIs<'a> {
     flaws: Vec<Flaw>,
 }
 
-// Makes a block of one kind, read leniently, a body of any kind.
+// Converts a block of one kind, read leniently, to a body with its flaws.
 macro_rules! body_of_kind {
     ($read:ident, $Read:ident, $Body:ident) => {{
         let $Read { packet, flaws } = $read;
