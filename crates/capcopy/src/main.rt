@@ -8,7 +8,7 @@ use pcap_file::PcapError;
 use std::io::ErrorKind;
 use std::process::ExitCode;
 
-/// The status where nobody reads the output any more, which a shell has of a program that ends by SIGPIPE.
+/// The exit status when nobody reads the output any more: the one that a shell gives to a program ended by SIGPIPE.
 const UNREAD: u8 = 141;
 
 fn main(rt: HostRuntime) -> ExitCode {
@@ -17,13 +17,13 @@ fn main(rt: HostRuntime) -> ExitCode {
         return ExitCode::from(UNREAD);
     }
     if !matches!(exit, Exit::Done) {
-        // There is nowhere left to say that this write failed.
+        // If this write fails, there is nowhere left to report it.
         let _ = eprintln!(rt; "{exit}");
     }
     ExitCode::from(exit.status())
 }
 
-// Whether nobody reads the output any more.
+// Returns whether nobody reads the output any more.
 fn is_unread(exit: &Exit) -> bool {
     match exit {
         Exit::Io(PcapError::IoError(error)) => error.kind() == ErrorKind::BrokenPipe,

@@ -1,12 +1,12 @@
-//! The program over its words and its standard streams.
+//! The program over its arguments and its standard streams.
 
 use capcopy_run::{Arguments, Exit, Uninterrupted, run_words};
 use std::io::{BufWriter, Write};
 
-/// The size of the buffer before standard output, in bytes.
+/// The size of the output buffer, in bytes.
 const OUTPUT: usize = 65536;
 
-/// Does what the program's words ask for. What was written is flushed on every way out, and a flush that fails is `Io`.
+/// Runs the program with its arguments. The output is flushed on every way out, and a failed flush is `Io`.
 pub(crate) fn run(rt: &HostRuntime) -> Exit {
     let stdout = Uninterrupted::new(rt.stdout());
     let Ok(mut output) = BufWriter::with_capacity(rt.alloc(), OUTPUT, stdout) else {

@@ -1,4 +1,4 @@
--- Words that come one by one, and what they ask for.
+-- This file proves which action words select when they are fetched one by one.
 use Rattle.std.proofs.Common.{◌≡◌, ◌≤◌, ℕ, zero, suc, List, [], ◌∷◌, Option, None, Some, IfSome, Ok, Err, inl, inr, refl, ap, ◌∙◌, subst, length, slice_get, codes, arith}
 use Rattle.std.specs.Borrow.{Bor}
 use Rattle.std.specs.Prelude.{⊤, IsUtf8, ◌==◌, if◌then◌else◌}
@@ -19,7 +19,7 @@ use Rattle.capcopy_run.specs.declared.words.Place.TheVariants.{Empty, Unknown, T
 use Rattle.capcopy_run.specs.Runs.{IsStrange, StandsAt, TellsWord, Runs, RunsBuffered}
 use Rattle.capcopy_run.specs.Words.{order_word, resolution_word, AskForCopy, AskForNothing}
 
--- none of these words is strange
+-- ArePlain words: none of these words is strange.
 abbrev ArePlain : List (List ℕ) → Type 0
 ArePlain [] = ⊤
 ArePlain (w ∷ ws) = (IsStrange w → ⊥) × ArePlain ws
@@ -49,13 +49,13 @@ unfolding lib.Utf8.encode
 resolution_plain MicroSecond = plain (codes "micro") (omega arith) (codes "micro", (refl, refl))
 resolution_plain NanoSecond = plain (codes "nano") (omega arith) (codes "nano", (refl, refl))
 
--- among plain words none is strange
+-- No plain word is strange.
 none_strange : (ws : List (List ℕ)) → ArePlain ws → (i : ℕ) → StandsAt (slice_get ws i) Unknown → ⊥
 none_strange [] plain i strange = strange
 none_strange (w ∷ ws) plain zero strange = plain.0 strange
 none_strange (w ∷ ws) plain (suc i) strange = none_strange ws plain.1 i strange
 
--- words with a strange one ask for nothing
+-- Words with a strange one select no action.
 copies_plain : (words : List (List ℕ)) (i : ℕ) → StandsAt (slice_get words i) Unknown → (under : Under) → AskForCopy under words → ⊥
 copies_plain words i strange Same is = none_strange (codes "copy" ∷ []) (copy_plain, tt) i (subst (λ (ws : List (List ℕ)). StandsAt (slice_get ws i) Unknown) is strange)
 copies_plain words i strange (Order e r) is =
@@ -69,7 +69,7 @@ strange_asks words i strange = (
   copies_plain words i strange,
 )
 
--- no words ask for nothing
+-- An empty list of words selects no action.
 copies_some : (words : List (List ℕ)) → StandsAt (slice_get words 0) Empty → (under : Under) → AskForCopy under words → ⊥
 copies_some words none Same is = subst (λ (ws : List (List ℕ)). StandsAt (slice_get ws 0) Empty) is none
 copies_some words none (Order e r) is = subst (λ (ws : List (List ℕ)). StandsAt (slice_get ws 0) Empty) is none
@@ -82,7 +82,7 @@ none_asks words none = (
   copies_some words none,
 )
 
--- four words ask for nothing
+-- Four words or more select no action.
 copies_three : (words : List (List ℕ)) → (slice_get words 3 ≡ None → ⊥) → (under : Under) → AskForCopy under words → ⊥
 copies_three words more Same is = more (ap (λ (ws : List (List ℕ)). slice_get ws 3) is)
 copies_three words more (Order e r) is = more (ap (λ (ws : List (List ℕ)). slice_get ws 3) is)
@@ -95,7 +95,7 @@ four_ask words more = (
   copies_three words more,
 )
 
--- the words are those that stand at their places
+-- The words are those found at their indices.
 one : (words : List (List ℕ)) (first : Bor (List ℕ)) → StandsAt (slice_get words 0) (Text first) → StandsAt (slice_get words 1) Empty → first.now ∷ [] ≡ words
 one [] first stands end = absurd stands
 one (w ∷ []) first stands end = ap (λ (word : List ℕ). word ∷ []) stands
@@ -111,23 +111,23 @@ three : (words : List (List ℕ)) (first second third : Bor (List ℕ)) → Stan
 three [] first second third stands next last end = absurd stands
 three (w ∷ ws) first second third stands next last end = rw (stands, two ws second third next last end) refl
 
--- a strange word is there
+-- There is a strange word at this index.
 pub strange_word : (known : Option (List (List ℕ))) (i : ℕ) → IfSome known (λ words. StandsAt (slice_get words i) Unknown) → IfSome known AskForNothing
 strange_word None i strange = tt
 strange_word (Some words) i strange = strange_asks words i strange
 
--- no word is there
+-- There is no first word.
 pub no_word : (known : Option (List (List ℕ))) → IfSome known (λ words. StandsAt (slice_get words 0) Empty) → IfSome known AskForNothing
 no_word None none = tt
 no_word (Some words) none = none_asks words none
 
--- one word is there, and no more
+-- There is one word, and no more.
 pub one_word : (known : Option (List (List ℕ))) (first : Bor (List ℕ)) → IfSome known (λ words. StandsAt (slice_get words 0) (Text first))
     → IfSome known (λ words. StandsAt (slice_get words 1) Empty) → IfSome known (λ words. first.now ∷ [] ≡ words)
 one_word None first stands end = tt
 one_word (Some words) first stands end = one words first stands end
 
--- two words, and no more
+-- There are two words, and no more.
 pub two_words : (known : Option (List (List ℕ))) (first second : Bor (List ℕ)) → IfSome known (λ words. StandsAt (slice_get words 0) (Text first))
     → IfSome known (λ words. StandsAt (slice_get words 1) (Text second)) → IfSome known (λ words. StandsAt (slice_get words 2) Empty)
     → IfSome known (λ words. first.now ∷ second.now ∷ [] ≡ words)
@@ -138,14 +138,14 @@ no_more : (word : Option (List ℕ)) (room : List ℕ) → TellsWord word (Err f
 no_more None room end = tt
 no_more (Some word) room end = absurd end
 
--- three words, and no more
+-- There are three words, and no more.
 pub three_words : (known : Option (List (List ℕ))) (first second third : Bor (List ℕ)) (room : List ℕ) → IfSome known (λ words. StandsAt (slice_get words 0) (Text first))
     → IfSome known (λ words. StandsAt (slice_get words 1) (Text second)) → IfSome known (λ words. StandsAt (slice_get words 2) (Text third))
     → IfSome known (λ words. TellsWord (slice_get words 3) (Err fills.NotPresent) room) → IfSome known (λ words. first.now ∷ second.now ∷ third.now ∷ [] ≡ words)
 three_words None first second third room stands next last end = tt
 three_words (Some words) first second third room stands next last end = three words first second third stands next last (no_more (slice_get words 3) room end)
 
--- a word that was copied, or is longer than the room, is there
+-- A word that was copied, or is longer than the room, exists.
 long_some : (word : Option (List ℕ)) (room : List ℕ) → TellsWord word (Err fills.TooLong) room → word ≡ None → ⊥
 long_some None room long none = long
 long_some (Some word) room long none = subst (λ (w : Option (List ℕ)). TellsWord w (Err fills.TooLong) room) none long
@@ -158,7 +158,7 @@ pub short_fourth : (known : Option (List (List ℕ))) (n : ℕ) (room : List ℕ
 short_fourth None n room short = tt
 short_fourth (Some words) n room short = four_ask words (λ none. subst (λ (w : Option (List ℕ)). TellsWord w (Ok n) room) none short)
 
--- words that ask for nothing
+-- A run with words that select no action.
 pub nothing_runs : (words : List (List ℕ)) (most : ℕ) (before out : Option (List ℕ)) → AskForNothing words → RunsBuffered words most before out out exits.Usage
 nothing_runs words most before out nothing = inl (
   before,
@@ -174,7 +174,7 @@ nothing_runs words most before out nothing = inl (
   },
 )
 
--- a run over an input behind a buffer that is empty
+-- A run over an input with an empty buffer.
 pub buffer_left : {T A : Type 0} (remaining : T → Option (List ℕ)) (r : BufReader T A) (left : Option (List ℕ)) → reader_capacity r ≡ 262144 → reader_buffer r ≡ [] → remaining (reader_inner r) ≡ left
     → reader_remaining remaining r ≡ left
 buffer_left remaining r left capacity empty inner =
@@ -185,7 +185,7 @@ pub buffered_runs : (words : List (List ℕ)) (most : ℕ) (before behind now ou
     → RunsBuffered words most before out_before out_now exit
 buffered_runs words most before behind now out_before out_now exit same runs = inl (now, subst (λ (left : Option (List ℕ)). Runs words most left now out_before out_now exit) same runs)
 
--- what holds of all words of one kind holds of known ones
+-- A fact about all words of one kind holds for the known ones.
 pub known_words : (P Q : List (List ℕ) → Type 0) (known : Option (List (List ℕ))) → IfSome known Q → ((words : List (List ℕ)) → Q words → P words) → IfSome known P
 known_words P Q None are all = tt
 known_words P Q (Some words) are all = all words are

@@ -1,4 +1,4 @@
--- Blocks that are listed.
+-- This file proves how blocks are listed.
 use Rattle.std.proofs.Common.{◌≡◌, refl, IfSome, ℕ, List, [], ◌∷◌, ◌++◌, Option, Result, Ok, Err, sym, subst, ◌∙◌}
 use Rattle.std.specs.Fmt.{decimal}
 use Rattle.std.specs.Io.KnownBytes.{Appends}
@@ -17,20 +17,20 @@ use Rattle.capcopy_run.specs.Listing.{ListsItems, ListsUntil}
 use Rattle.capcopy_run.specs.BlockLines.{IsBodyWord, IsBlockLine, IsItemLine, kind_name, block_lines, section_line, heading_of}
 use Rattle.capcopy_run.proofs.Listing.{lists_heading, lists_known}
 
--- a capture whose first block was taken
+-- A capture whose first block was read.
 module _ (q : State) (section : Section) (names : heading_of q ≡ section_line section) (bytes known before mid : Option (List ℕ)) (took : Takes OpeningSays bytes known q) where
-  -- and whose section's line did not go out
+  -- The section's line wasn't written.
   pub section_torn : (most : ℕ) (exit : Exit) → WritesLine (λ line. line ≡ section_line section) before mid (Err exit) → IfSome bytes (λ s. ListsUntil block_lines most s known before mid exit)
   section_torn most exit part = lists_heading block_lines opening_stable q tt most bytes known before mid took exit (subst (λ (l : List ℕ). WritesLine (λ line. line ≡ l) before mid (Err exit)) (sym names) part)
 
-  -- and whose blocks were listed after that line
+  -- The blocks were listed after the section's line.
   pub blocks_known : WritesLine (λ line. line ≡ section_line section) before mid (Ok tt) → (most : ℕ) (now after : Option (List ℕ)) (result : Result (Unit {0}) Exit)
       → ListsItems IsItemLine block_format q known now mid after most result → IfSome bytes (λ s. ListsUntil block_lines most s now before after (exit_of result))
   blocks_known written most now after result run =
       let headed = subst (λ (l : List ℕ). Appends before mid l) (written.1 ∙ sym names) written.2 in
       lists_known block_lines opening_stable q blocks_lawful bytes known before mid took headed most now after result run
 
--- what is put before a text, from a line's end to its beginning, is the line
+-- The parts put before a text, from the line's end to its beginning, are the line.
 pub block_line_made : (index len : ℕ) (block : Framed) (word l7 l6 l5 l4 l3 l2 l1 l0 all : List ℕ) → IsBodyWord block word → len ≡ block.initial_len
     → l0 ≡ [] → l1 ≡ 10 ∷ l0 → l2 ≡ word ++ l1 → l3 ≡ 32 ∷ l2 → l4 ≡ decimal len ++ l3 → l5 ≡ 32 ∷ l4 → l6 ≡ kind_name block.type_ ++ l5 → l7 ≡ 32 ∷ l6 → all ≡ decimal index ++ l7
     → IsBlockLine index block all

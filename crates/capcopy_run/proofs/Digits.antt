@@ -1,4 +1,4 @@
--- Digits that are written two at a time, and the last eight as four and four.
+-- This file proves that digits can be written two at a time, and the last eight as four and four.
 use Rattle.std.proofs.Common.{◌≡◌, ◌∙◌, ℕ, zero, suc, ◌+◌, ◌-◌, ◌*◌, ◌/◌, ◌%◌, ◌^◌, ◌<◌, ◌≤◌, inl, inr, Bool, true, ◌&&◌, T, eqb, eqb→eq, [], ◌∷◌, ◌++◌, get_or, length, replicate, ap, sym, refl, arith, eq-zero-or-pos, append_assoc, length-append}
 use lib.Ieee.Fits.{and_l, and_r}
 use Rattle.std.specs.Fmt.{decimal}
@@ -9,7 +9,7 @@ use Rattle.capcopy_run.specs.declared.line.TheConstants.{TWO_DIGITS}
 use Rattle.capcopy_run.specs.Digits.{last_digits}
 use Rattle.capcopy_run.specs.PacketLines.{nine_digits}
 
--- the table has the digits of each number below this one
+-- The table has the digits of each number below this one.
 abbrev are_digits : ℕ → Bool
 are_digits zero = true
 are_digits (suc p) = (eqb (get_or TWO_DIGITS (p * 2) 0) (48 + p / 10 % 10) && eqb (get_or TWO_DIGITS (p * 2 + 1) 0) (48 + p % 10)) && are_digits p
@@ -25,18 +25,18 @@ are_below (suc n) p are h =
       | inr g ↦ are_below n p (and_r _ (are_digits n) are) (omega arith)
     ]
 
--- the digits of a number below a hundred, in the table
+-- The digits of a number below a hundred, in the table.
 pub digits_at : (p : ℕ) → p < 100 → (get_or TWO_DIGITS (p * 2) 0 ≡ 48 + p / 10 % 10) × (get_or TWO_DIGITS (p * 2 + 1) 0 ≡ 48 + p % 10)
 digits_at p h = are_below 100 p tt h
 
--- the last digits of zero
+-- The last digits of zero are zeros.
 zeros : (k : ℕ) → last_digits k 0 ≡ replicate k 48
 zeros zero = refl
 zeros (suc k) =
     let more : k + 1 ≡ suc k = omega arith in
     ap (λ ds. ds ++ 48 ∷ []) (zeros k) ∙ replicate_more k 48 ∙ ap (λ n. replicate n 48) more
 
--- the digits of a number of one digit
+-- The digits of a number with one digit.
 one : (k n : ℕ) → n / 10 ≡ 0 → last_digits (suc k) n ≡ replicate (suc k - length (decimal n)) 48 ++ decimal n
 one k n none =
     let same : n % 10 ≡ n = omega arith in
@@ -44,7 +44,7 @@ one k n none =
     let zeros_before : suc k - length (decimal n) ≡ k = omega (arith, ap length digit) in
     rw (zeros_before, digit, none, same, zeros k) refl
 
--- the last digits of a number that has no more
+-- The last k + 1 digits of a number with at most k + 1 digits are its digits, padded with zeros.
 padded : (k n : ℕ) → n < 10 ^ suc k → n < 2 ^ 64 → last_digits (suc k) n ≡ replicate (suc k - length (decimal n)) 48 ++ decimal n
 padded zero n fits small = one zero n (omega arith)
 padded (suc k) n fits small =
@@ -58,7 +58,7 @@ padded (suc k) n fits small =
           (append_assoc (replicate (suc k - length (decimal (n / 10))) 48) (decimal (n / 10)) ((48 + n % 10) ∷ []))
     ]
 
--- the last four digits are those of what is left by ten thousand
+-- The last four digits of a number are those of its remainder by ten thousand.
 four_kept : (n : ℕ) → last_digits 4 n ≡ last_digits 4 (n % 10000)
 four_kept n =
     let a : n % 10000 / 10 / 10 / 10 % 10 ≡ n / 10 / 10 / 10 % 10 = omega arith in
@@ -67,7 +67,7 @@ four_kept n =
     let d : n % 10000 % 10 ≡ n % 10 = omega arith in
     rw (a, b, c, d) refl
 
--- the last four digits of a longer number
+-- The digits of a longer number are those of its quotient by ten thousand and then its last four.
 four_more : (n : ℕ) → 10000 ≤ n → n < 2 ^ 64 → decimal n ≡ decimal (n / 10000) ++ last_digits 4 (n % 10000)
 four_more n more small =
     let a : n % 10000 / 100 / 10 ≡ n % 10000 / 10 / 10 / 10 % 10 = omega arith in
@@ -76,7 +76,7 @@ four_more n more small =
     let d : n % 10000 % 100 % 10 ≡ n % 10000 % 10 = omega arith in
     decimal_four n more small ∙ (λ i. decimal (n / 10000) ++ ((48 + a i) ∷ (48 + b i) ∷ (48 + c i) ∷ (48 + d i) ∷ []))
 
--- a number of nine digits or more has no zeros before it
+-- A number with nine digits or more isn't padded.
 pub nine_long : (n : ℕ) → 100000000 ≤ n → n < 2 ^ 32 → nine_digits n ≡ decimal n
 nine_long n long small =
     let most : length (decimal n) ≡ length (decimal (n / 10000)) + 4 = length_four n (omega arith) (omega arith) in
@@ -85,7 +85,7 @@ nine_long n long small =
     let none : 9 - length (decimal n) ≡ 0 = omega (arith, most, more, some) in
     rw none refl
 
--- a number of eight digits or fewer, as nine digits
+-- A number with eight digits or fewer, as nine digits.
 nine_short : (n : ℕ) → n < 100000000 → nine_digits n ≡ decimal (n / 10000 / 10000) ++ (last_digits 4 (n / 10000) ++ last_digits 4 n)
 nine_short n short =
     let none : n / 10000 / 10000 ≡ 0 = omega arith in
@@ -93,7 +93,7 @@ nine_short n short =
     let eight : n / 10000 / 10 / 10 / 10 / 10 ≡ 0 = omega arith in
     sym (padded 8 n (omega arith) (omega arith)) ∙ rw (none, decimal_digit 0 (omega arith), four, eight) refl
 
--- nine digits or more are what is before the last eight, and four and four
+-- Nine digits or more are the digits before the last eight, and then four and four.
 pub nine_split : (n : ℕ) → n < 2 ^ 32 → nine_digits n ≡ decimal (n / 10000 / 10000) ++ (last_digits 4 (n / 10000 % 10000) ++ last_digits 4 (n % 10000))
 nine_split n small =
     elim (eq-zero-or-pos (n / 100000000)) [

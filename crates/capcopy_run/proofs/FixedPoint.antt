@@ -1,19 +1,19 @@
--- Digits that are computed in fixed point.
+-- This file proves that the digits computed in fixed point are right.
 use Rattle.std.proofs.Common.{◌≡◌, ◌∙◌, ℕ, ◌+◌, ◌*◌, ◌/◌, ◌%◌, ◌^◌, ◌<◌, ◌++◌, refl, arith}
 use Rattle.std.specs.Fmt.{decimal}
 use Rattle.capcopy_run.specs.Digits.{last_digits}
 use Rattle.capcopy_run.specs.PacketLines.{nine_digits}
 use Rattle.capcopy_run.proofs.Digits.{nine_split}
 
--- a hundred times the fraction of a number in fixed point
+-- A hundred times the fraction of a number in fixed point.
 abbrev pub next : ℕ → ℕ
 next x = x % 2 ^ 57 * 100
 
--- a number's hundred-millionths in fixed point
+-- The hundred-millionths of a number in fixed point.
 abbrev pub first : ℕ → ℕ
 first n = n * 1441151881
 
--- x is r over a power of ten in fixed point, and too large by less than its last digit: its whole part, and what is next
+-- If x is r over a power of ten in fixed point, too large by less than its last digit: its whole part, and the next number.
 eight_left : (r m x : ℕ) → 10 ^ 8 * x ≡ r * 2 ^ 57 + m → m < 2 ^ 57 → (x / 2 ^ 57 ≡ r / 10 ^ 8) × (10 ^ 6 * next x ≡ (r % 10 ^ 8) * 2 ^ 57 + m)
 eight_left r m x e small = (omega (arith, e, small), omega (arith, e, small))
 
@@ -29,7 +29,7 @@ two_left r m x e small = (omega (arith, e, small), omega (arith, e, small))
 none_left : (r m x : ℕ) → x ≡ r * 2 ^ 57 + m → m < 2 ^ 57 → x / 2 ^ 57 ≡ r
 none_left r m x e small = omega (arith, e, small)
 
--- the whole parts of what is computed from a number are its digits, two by two
+-- The whole parts of the numbers computed from n are its digits, two by two.
 pub pairs_fixed : (n : ℕ) → n < 2 ^ 32
     → (first n / 2 ^ 57 ≡ n / 10000 / 10000) × (next (first n) / 2 ^ 57 ≡ n / 10000 % 10000 / 100)
     × (next (next (first n)) / 2 ^ 57 ≡ n / 10000 % 100) × (next (next (next (first n))) / 2 ^ 57 ≡ n % 10000 / 100)
@@ -43,7 +43,7 @@ pairs_fixed n small =
     let e = none_left (n % 10 ^ 8 % 10 ^ 6 % 10 ^ 4 % 100) (n * 24144128) (next (next (next (next (first n))))) d.1 too_large in
     (a.0 ∙ omega arith, b.0 ∙ omega arith, c.0 ∙ omega arith, d.0 ∙ omega arith, e ∙ omega arith)
 
--- four digits are two and two
+-- Four digits are two and two.
 four_pairs : (n : ℕ) → last_digits 4 (n % 10000) ≡ last_digits 2 (n % 10000 / 100) ++ last_digits 2 (n % 100)
 four_pairs n =
     let a : n % 10000 / 10 / 10 / 10 % 10 ≡ n % 10000 / 100 / 10 % 10 = omega arith in
@@ -52,7 +52,7 @@ four_pairs n =
     let d : n % 10000 % 10 ≡ n % 100 % 10 = omega arith in
     rw (a, b, c, d) refl
 
--- nine digits or more are what is before the last eight, and those two by two
+-- Nine digits or more are the digits before the last eight, and those two by two.
 pub nine_pairs : (n : ℕ) → n < 2 ^ 32
     → nine_digits n ≡ decimal (n / 10000 / 10000) ++ (last_digits 2 (n / 10000 % 10000 / 100) ++ (last_digits 2 (n / 10000 % 100) ++ (last_digits 2 (n % 10000 / 100) ++ last_digits 2 (n % 100))))
 nine_pairs n small = nine_split n small ∙ (λ i. decimal (n / 10000 / 10000) ++ (four_pairs (n / 10000) i ++ four_pairs n i))

@@ -1,16 +1,16 @@
--- Bytes that a read or write which failed left.
+-- This file proves that calls which take or write nothing can be left out.
 use Rattle.std.proofs.Common.{◌≡◌, ◌++◌, ℕ, List, Some, None, sym, subst, ◌∙◌}
 use Rattle.std.specs.Prelude.{Option}
 use Rattle.std.specs.Io.KnownBytes.{Appends, Consumes, Keeps}
 
--- what is taken after it was kept
+-- Bytes taken after a step that takes nothing are taken from the start.
 pub kept_taken : (a b c : Option (List ℕ)) (t : List ℕ) → Keeps a b → Consumes b c t → Consumes a c t
 kept_taken None b c t kept took = tt
 kept_taken (Some x) None c t kept took = absurd kept
 kept_taken (Some x) (Some y) None t kept took = absurd took
 kept_taken (Some x) (Some y) (Some z) t kept took = sym kept ∙ took
 
--- what is appended after it was kept
+-- Bytes appended after a step that writes nothing are appended to the start.
 pub kept_appended : (a b c : Option (List ℕ)) (t : List ℕ) → Keeps a b → Appends b c t → Appends a c t
 kept_appended None b c t kept wrote = tt
 kept_appended (Some x) None c t kept wrote = absurd kept

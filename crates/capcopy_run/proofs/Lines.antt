@@ -1,9 +1,9 @@
--- Lines that follow on lines.
+-- This file proves how a line is added to lines.
 use Rattle.std.proofs.Common.{arith, ap, refl, sym, subst, ◌∙◌, ◌≡◌, ℕ, suc, ◌+◌, List, [], ◌∷◌, ◌++◌, length}
 use Rattle.std.proofs.lemmas.List.{append-nil, append_assoc}
 use Rattle.capcopy_run.specs.Lines.{AreLines}
 
--- one line more
+-- One more line.
 pub lines_push : {V : Type 0} (IsLine : ℕ → V → List ℕ → Type 0) (k : ℕ) (items : List V) (item : V) (lines line : List ℕ)
     → AreLines IsLine k items lines → IsLine (k + length items) item line → AreLines IsLine k (items ++ item ∷ []) (lines ++ line)
 lines_push IsLine k [] item lines line are is =

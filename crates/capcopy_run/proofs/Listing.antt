@@ -1,4 +1,4 @@
--- Items that are listed, one after another, over any lawful format.
+-- This file proves how items are listed one after another, over any lawful format.
 use Rattle.std.proofs.Common.{◌≡◌, ◌<◌, ◌≤◌, ◌+◌, IfSome, ◌⊎◌, ℕ, suc, List, [], ◌∷◌, ◌++◌, length, Bool, false, Option, Some, None, Result, Ok, Err, inl, inr, refl, sym, ap, ◌∙◌, subst, arith, length-append, append_assoc}
 use Rattle.std.specs.Io.KnownBytes.{Appends, Keeps, IsAtEnd}
 use Rattle.std.proofs.KnownBytes.{Appends-trans, Consumes-kept, Keeps-refl}
@@ -23,14 +23,14 @@ use Rattle.capcopy_run.specs.Lines.{WritesLine}
 use Rattle.capcopy_run.specs.Listing.{Kind, Listing, TearsNext, LinesEnd, InputEnd, ListsItems, Listed, TearsLine, ListsUntil}
 use Rattle.capcopy_run.proofs.Lines.{lines_push}
 
--- a refusal that is neither of a read nor for want of memory shows a fault
+-- An error that is neither of a read nor of memory shows a fault of the bytes.
 shows : {V : Type 0} (IsSaid : List ℕ → Verdict V → Type 0) (left : Option (List ℕ)) (failed : Bool) (e : PcapError) → (IsIo e → ⊥) → (IsMemory e → ⊥)
     → HasCause IsSaid left failed e → Shows (IsFaultOf IsSaid left) e
 shows IsSaid left failed e no_io no_memory_ cause =
     elim cause [ read_failed io is ↦ absurd (no_io io) | no_memory memory is ↦ absurd (no_memory_ memory) | torn io is short ↦ absurd (no_io io) | refused stands is ↦ stands ]
 
 module _ {V : Type 0} (IsLine : ℕ → V → List ℕ → Type 0) (IsSaid : List ℕ → Verdict V → Type 0) (left mid : Option (List ℕ)) (n most : ℕ) (fewer : n < most) where
-  -- the reader's refusal ends the lines
+  -- An error of the reader ends the lines.
   pub ends_refused : (failed : Bool) (e : PcapError) (exit : Exit) → HasCause IsSaid left failed e → EndsAt e exit → LinesEnd IsLine IsSaid left mid mid n most (Err exit)
   ends_refused failed (errors.IoError x) exit cause ends = rw ends (fewer, inl (Keeps-refl mid))
   ends_refused failed (errors.OutOfMemory x) exit cause ends = rw ends (fewer, Keeps-refl mid)
@@ -40,7 +40,7 @@ module _ {V : Type 0} (IsLine : ℕ → V → List ℕ → Type 0) (IsSaid : Lis
   ends_refused failed (errors.FromUtf8Error x) exit cause ends = absurd (shows IsSaid left failed (errors.FromUtf8Error x) (λ x. x) (λ x. x) cause)
   ends_refused failed errors.WriterFailed exit cause ends = absurd (shows IsSaid left failed errors.WriterFailed (λ x. x) (λ x. x) cause)
 
-  -- of the input no more was taken then than was asked for
+  -- After that error, no more of the input was read than the item needs.
   pub asked_refused : (now : Option (List ℕ)) (e : PcapError) (exit : Exit) → TakesAsked IsSaid left now → EndsAt e exit → InputEnd IsSaid left now (Err exit)
   asked_refused now (errors.IoError x) exit asked ends = rw ends tt
   asked_refused now (errors.OutOfMemory x) exit asked ends = rw ends tt
@@ -51,13 +51,13 @@ module _ {V : Type 0} (IsLine : ℕ → V → List ℕ → Type 0) (IsSaid : Lis
   asked_refused now (errors.IncompleteBuffer k) (exits.Io e) asked ends = tt
   asked_refused now (errors.IncompleteBuffer k) _ asked ends = absurd ends
 
-  -- whatever is left where a line was not written
+  -- Any part of the input may be left if a line wasn't written.
   pub any_torn : (now out_now : Option (List ℕ)) (item : V) (exit : Exit) → WritesLine (IsLine (n + 1) item) mid out_now (Err exit) → InputEnd IsSaid left now (Err exit)
   any_torn now out_now item (exits.Io e) part = tt
   any_torn now out_now item exits.Memory part = tt
   any_torn now out_now item _ part = absurd part
 
-  -- a line that was not written ends them
+  -- A line that wasn't written ends the lines.
   pub ends_torn : (now out_now : Option (List ℕ)) (item : V) (exit : Exit) → Takes IsSaid left now item
       → WritesLine (IsLine (n + 1) item) mid out_now (Err exit) → LinesEnd IsLine IsSaid left mid out_now n most (Err exit)
   ends_torn now out_now item (exits.Io (errors.IoError x)) took part =
@@ -67,7 +67,7 @@ module _ {V : Type 0} (IsLine : ℕ → V → List ℕ → Type 0) (IsSaid : Lis
   ends_torn now out_now item _ took part = absurd part
 
 module _ {S V : Type 0} (IsLine : ℕ → V → List ℕ → Type 0) (f : Format S V) (q : S) where
-  -- one item more, which leads there
+  -- One more item, which leads to the next state.
   pub listing_more : IsLawful f → (here there : S) (a b c p r t : Option (List ℕ)) (n : ℕ) (item : V) → Listing IsLine f q here a b p r n
       → Takes (f.says here) b c item → f.goes here item ≡ there → WritesLine (IsLine (n + 1) item) r t (Ok tt) → Listing IsLine f q there a c p t (n + 1)
   listing_more laws here there a b c p r t n item so_far took goes out =
@@ -83,7 +83,7 @@ module _ {S V : Type 0} (IsLine : ℕ → V → List ℕ → Type 0) (f : Format
         out = Appends-trans p r t so_far.lines out.0 so_far.out out.2;
       }
 
--- the exit where the opening is refused
+-- The exit if the opening is refused.
 module _ {O S V : Type 0} (kind : Kind O S V) (most : ℕ) (s : List ℕ) (now before after : Option (List ℕ)) (kept : Keeps before after) (asked : TakesAsked kind.opens (Some s) now) where
   opening_shown : (e : PcapError) → Shows (IsFaultOf kind.opens (Some s)) e → (exit : Exit) → EndsAt e exit → ListsUntil kind most s now before after exit
   opening_shown (errors.IoError x) stands exit ends = rw ends (inl kept)
@@ -99,7 +99,7 @@ module _ {O S V : Type 0} (kind : Kind O S V) (most : ℕ) (s : List ℕ) (now b
   opening_memory (errors.OutOfMemory x) grows memory exit ends = rw ends (inl (grows, kept))
   opening_memory _ grows memory exit ends = absurd memory
 
--- a capture whose opening is refused
+-- A capture whose opening is refused.
 pub lists_none : {O S V : Type 0} (kind : Kind O S V) (most : ℕ) (known now before after : Option (List ℕ)) → Keeps before after → TakesAsked kind.opens known now → (e : PcapError)
     → (IsMemory e → kind.grows) → IsIo e ⊎ IsMemory e ⊎ Shows (IsFaultOf kind.opens known) e → (exit : Exit) → EndsAt e exit → IfSome known (λ s. ListsUntil kind most s now before after exit)
 lists_none kind most None now before after kept asked e grows cause exit ends = tt
@@ -110,14 +110,14 @@ lists_none kind most (Some s) now before after kept asked e grows cause exit end
       | inr (inr stands) ↦ opening_shown kind most s now before after kept asked e stands exit ends
     ]
 
--- an opening that was taken, and a line of it that did not go out
+-- An opening that was read, and whose line wasn't written.
 module _ {O S V : Type 0} (kind : Kind O S V) (grows : kind.grows) (most : ℕ) (s : List ℕ) (now before after : Option (List ℕ)) (opening : O) (rest : List ℕ) (opens : kind.opens s (whole opening rest)) where
   heading_torn : (exit : Exit) → WritesLine (λ line. line ≡ kind.heading opening) before after (Err exit) → ListsUntil kind most s now before after exit
   heading_torn (exits.Io (errors.IoError x)) part = inr (inl (record { opening = opening; rest = rest; opens = opens; out = subst (λ line. AppendsPart before after line) part.1 part.2 }))
   heading_torn exits.Memory part = inl (grows, part)
   heading_torn _ part = absurd part
 
--- an opening whose line went out, and the run over the items after it
+-- An opening whose line was written, and the run over the items after it.
 module _ {O S V : Type 0} (kind : Kind O S V) (opening : O) (laws : IsLawful (kind.format opening)) (s rest : List ℕ) (opens : kind.opens s (whole opening rest))
     (before start : Option (List ℕ)) (headed : Appends before start (kind.heading opening)) where
   abbrev f : Format S V
@@ -126,16 +126,16 @@ module _ {O S V : Type 0} (kind : Kind O S V) (opening : O) (laws : IsLawful (ki
   abbrev q : S
   q = kind.start opening
 
-  -- the items that were listed
+  -- The items that were listed.
   abbrev ListingTo : S → Option (List ℕ) → Option (List ℕ) → ℕ → Type 0
   ListingTo here left mid n = Listing kind.IsLine f q here (Some rest) left start mid n
 
-  -- the items that were taken are a beginning of the front's, up to why the run stopped
+  -- The items that were read are the beginning of the front, up to where the run stopped.
   reads : (items : List V) (left : Option (List ℕ)) (most : ℕ) (fault : Option PcapError) → TakesTexts f q items (Some rest) left → length items ≤ most
       → Stops (f.says (state_after f q items)) left left false (length items) most fault → ReadsFront f q rest most items fault false
   reads items left most fault took within stops = run_reads f laws q rest left false most items fault (record { left = left; took = took; within = within; stops = stops })
 
-  -- some first items of the front, whatever ended the run
+  -- They are first items of the front, whatever ended the run.
   some_reads : (items : List V) (left : Option (List ℕ)) → TakesTexts f q items (Some rest) left → ReadsFront f q rest (length items) items None false
   some_reads items left took = reads items left (length items) None took (omega arith) (refl, Keeps-refl left, inr refl)
 
@@ -154,7 +154,7 @@ module _ {O S V : Type 0} (kind : Kind O S V) (opening : O) (laws : IsLawful (ki
     out = Appends-trans before start mid (kind.heading opening) so_far.lines headed so_far.out;
   }
 
-  -- nothing more was taken behind the items
+  -- Nothing more was read after the items.
   still_took : (items : List V) (left now : Option (List ℕ)) → TakesTexts f q items (Some rest) left → Keeps left now → TakesTexts f q items (Some rest) now
   still_took items left now took still = record { bytes = took.bytes; texts = took.texts; took = Consumes-kept (Some rest) left now took.bytes took.took still }
 
@@ -163,7 +163,7 @@ module _ {O S V : Type 0} (kind : Kind O S V) (opening : O) (laws : IsLawful (ki
   still_at_end items (Some l) None took end still = absurd still
   still_at_end items (Some l) (Some m) took end still = still ∙ end
 
-  -- what is left where the next item is refused is the front's rest
+  -- If the next item is refused, what is left of the input is the rest of the front.
   left_is_rest : (items more : List V) (left : Option (List ℕ)) (end : List ℕ) (e : PcapError) → TakesTexts f q items (Some rest) left → Front f q (items ++ more) rest end
       → Shows (IsFaultOf (f.says (state_after f q items)) left) e → left ≡ Some end
   left_is_rest items more None end e took front bad = absurd took.took
@@ -259,19 +259,19 @@ module _ {O S V : Type 0} (kind : Kind O S V) (opening : O) (laws : IsLawful (ki
   lists_from most now after (Err exits.Memory) run = let some = lists_some most run.n run.here run.mid run.left run.so_far run.ends.0 in inr (some.0, some.1, rw some.2 run.ends.1)
   lists_from most now after _ run = absurd run.ends
 
--- a capture whose opening was taken
+-- A capture whose opening was read.
 module _ {O S V : Type 0} (kind : Kind O S V) (stable : IsStable kind.opens) (opening : O) where
   opens_there : (s rest : List ℕ) → Takes kind.opens (Some s) (Some rest) opening → kind.opens s (whole opening rest)
   opens_there s rest took = subst (λ (l : List ℕ). kind.opens l (whole opening rest)) (sym took.2) (stable.text took.0 rest [] opening took.1)
 
-  -- and whose line did not go out
+  -- The opening's line wasn't written.
   pub lists_heading : kind.grows → (most : ℕ) (bytes known before after : Option (List ℕ)) → Takes kind.opens bytes known opening → (exit : Exit)
       → WritesLine (λ line. line ≡ kind.heading opening) before after (Err exit) → IfSome bytes (λ s. ListsUntil kind most s known before after exit)
   lists_heading grows most None known before after took exit part = tt
   lists_heading grows most (Some s) None before after took exit part = absurd took.2
   lists_heading grows most (Some s) (Some rest) before after took exit part = heading_torn kind grows most s (Some rest) before after opening rest (opens_there s rest took) exit part
 
-  -- and whose items were listed
+  -- The items after the opening were listed.
   pub lists_known : IsLawful (kind.format opening) → (bytes known before start : Option (List ℕ)) → Takes kind.opens bytes known opening → Appends before start (kind.heading opening) → (most : ℕ) (now after : Option (List ℕ))
       (result : Result (Unit {0}) Exit) → ListsItems kind.IsLine (kind.format opening) (kind.start opening) known now start after most result → IfSome bytes (λ s. ListsUntil kind most s now before after (exit_of result))
   lists_known laws None known before start took headed most now after result run = tt

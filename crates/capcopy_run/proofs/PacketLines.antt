@@ -1,11 +1,11 @@
--- How the line of a packet is put together.
+-- This file proves how the line of a packet is put together.
 use Rattle.std.proofs.Common.{◌≡◌, ℕ, List, [], ◌∷◌, ◌++◌, rules}
 use Rattle.std.specs.Fmt.{decimal}
 use Rattle.std.proofs.lemmas.List.{append_assoc}
 use Rattle.pcap_classic.specs.declared.pcap.packet.PacketHeader.{PacketHeader}
 use Rattle.capcopy_run.specs.PacketLines.{nine_digits, packet_line}
 
--- what is put before a text, from a line's end to its beginning, is the line
+-- The parts put before a text, from the line's end to its beginning, are the line.
 pub line_made : (index original included seconds : ℕ) (header : PacketHeader) (l9 l8 l7 l6 l5 l4 l3 l2 l1 l0 all : List ℕ)
     → original ≡ header.orig_len → included ≡ header.incl_len → seconds ≡ header.ts_sec
     → l0 ≡ [] → l1 ≡ 10 ∷ l0 → l2 ≡ decimal original ++ l1 → l3 ≡ 47 ∷ l2 → l4 ≡ decimal included ++ l3 → l5 ≡ 32 ∷ l4

@@ -1,4 +1,4 @@
--- Packets that are listed.
+-- This file proves how packets are listed.
 use Rattle.std.proofs.Common.{◌≡◌, ◌<◌, ◌⊎◌, IfSome, true, false, ℕ, List, [], ◌++◌, Option, Result, Err, inl, inr, refl, subst}
 use Rattle.std.specs.Prelude.{⊤}
 use Rattle.std.proofs.KnownBytes.{Appends-nil, Consumes-trans}
@@ -26,7 +26,7 @@ use Rattle.capcopy_run.specs.PacketLines.{packets_in}
 use Rattle.capcopy_run.specs.Skipping.{TakesExactly}
 use Rattle.capcopy_run.proofs.Listing.{ends_refused, lists_known}
 
--- a packet whose header was read off a stream, and whose data was skipped
+-- A packet whose header was read from a stream, and whose data was skipped.
 pub packet_skipped : (order : Order) (r : TsResolution) (left mid now : Option (List ℕ)) (header : PacketHeader) → Takes (PacketHeaderSays packet_limit order r) left mid header
     → (skipped : TakesExactly header.incl_len mid now) → Takes ((packet_format packet_limit order r).says tt) left now (record { header = header; bytes = skipped.0 })
 packet_skipped order r left mid now header took skipped =
@@ -37,12 +37,12 @@ packet_skipped order r left mid now header took skipped =
       Consumes-trans left mid now took.0 skipped.0 took.2 skipped.1,
     )
 
--- what was asked for a packet was asked for in its format
+-- The bytes that reading a packet needs are those that its format needs.
 pub packet_asked : (order : Order) (r : TsResolution) (left now : Option (List ℕ)) → TakesAsked (PacketSays packet_limit order r) left now → TakesAsked ((packet_format packet_limit order r).says tt) left now
 unfolding packet_format
 packet_asked order r left now asked = asked
 
--- a refusal of a packet that was to be read off a stream ends the lines
+-- An error in reading a packet from a stream ends the lines.
 pub packet_unread : (IsLine : ℕ → Captured → List ℕ → Type 0) (order : Order) (r : TsResolution) (left mid : Option (List ℕ)) (n most : ℕ) → n < most → (e : PcapError) (exit : Exit)
     → IsIo e ⊎ (⊤ × IsMemory e) ⊎ Shows (IsFaultOf (PacketSays packet_limit order r) left) e → EndsAt e exit → LinesEnd IsLine ((packet_format packet_limit order r).says tt) left mid mid n most (Err exit)
 unfolding packet_format
@@ -54,7 +54,7 @@ packet_unread IsLine order r left mid n most fewer e exit cause ends =
       | inr (inr shown) ↦ ends_refused IsLine IsSaid left mid n most fewer false e exit (refused shown refl) ends
     ]
 
--- a capture whose header was taken, and whose packets were listed in its order and resolution
+-- A capture whose header was read, and whose packets were listed in its byte order and timestamp resolution.
 pub packets_known : (grows : Type 0) (IsLine : ℕ → Captured → List ℕ → Type 0) (header : PcapHeader) (order : Endianness) (r : TsResolution) (bytes known now before : Option (List ℕ)) → order ≡ order_of header.magic_number → r ≡ resolution_of header.magic_number
     → Takes HeaderSays bytes known header → (most : ℕ) (after : Option (List ℕ)) (result : Result (Unit {0}) Exit)
     → ListsItems IsLine (packet_format packet_limit (number_in order) r) tt known now before after most result → IfSome bytes (λ s. ListsUntil (packets_in grows IsLine) most s now before after (exit_of result))

@@ -1,4 +1,4 @@
--- Turns of a list, over any lawful format.
+-- This file proves how the turns of a list follow each other, over any lawful format.
 use Rattle.std.proofs.Common.{◌≡◌, ◌∙◌, ◌<◌, ◌+◌, ◌-◌, ℕ, List, [], ◌++◌, length, take, drop, Bool, true, false, Option, Some, None, Result, Ok, Err, IfSome, refl, sym, ap, subst, arith, length-append, append_assoc, take-append-drop, drop_at}
 use Rattle.std.specs.Io.{StartsWith}
 use Rattle.std.specs.Io.KnownBytes.{Keeps, Consumes, prepend_known}
@@ -15,7 +15,7 @@ use Rattle.capcopy_run.specs.Turns.{GoesOn, Ends, TurnGives, WalkGives}
 use Rattle.capcopy_run.proofs.Listing.{listing_more, ends_torn, any_torn}
 
 module _ {S V : Type 0} (IsLine : ℕ → V → List ℕ → Type 0) (f : Format S V) where
-  -- what is kept stays listed
+  -- A step that reads and writes nothing keeps the list.
   pub goes_kept : (here : S) (left now mid out : Option (List ℕ)) (n : ℕ) → Keeps left now → Keeps mid out → GoesOn IsLine f here here left now mid out n n
   goes_kept here left now mid out n kept still = λ q before start so_far. record {
     items = so_far.items;
@@ -27,24 +27,24 @@ module _ {S V : Type 0} (IsLine : ℕ → V → List ℕ → Type 0) (f : Format
     out = Appends-kept start mid out so_far.lines so_far.out still;
   }
 
-  -- it ends where it came to
+  -- The list ends where it is.
   pub ends_here : (here : S) (left now mid out : Option (List ℕ)) (n most : ℕ) (result : Result (Unit {0}) Exit) → LinesEnd IsLine (f.says here) left mid out n most result
       → InputEnd (f.says here) left now result → Ends IsLine f here left now mid out n most result
   ends_here here left now mid out n most result ends input = λ q before start so_far. record { n = n; here = here; left = left; mid = mid; so_far = so_far; ends = ends; input = input }
 
-  -- one item more was taken off a stream, and its line went out
+  -- One more item was read from a stream, and its line was written.
   pub turn_more : IsLawful f → (here there : S) (left now mid out : Option (List ℕ)) (n : ℕ) (item : V) → Takes (f.says here) left now item → f.goes here item ≡ there
       → WritesLine (IsLine (n + 1) item) mid out (Ok tt) → GoesOn IsLine f here there left now mid out n (n + 1)
   turn_more laws here there left now mid out n item took goes written = λ q before start so_far. listing_more IsLine f q laws here there before left now start mid out n item so_far took goes written
 
-  -- a turn behind what goes on
+  -- A turn after a list that goes on.
   pub turn_behind : (here to there : S) (a b c p r t : Option (List ℕ)) (n k m most : ℕ) (result : Result Bool Exit) → GoesOn IsLine f here to a b p r n k
       → TurnGives IsLine f to there b c r t k m most result → TurnGives IsLine f here there a c p t n m most result
   turn_behind here to there a b c p r t n k m most (Ok true) on turn = λ q before start so_far. turn q before start (on q before start so_far)
   turn_behind here to there a b c p r t n k m most (Ok false) on turn = λ q before start so_far. turn q before start (on q before start so_far)
   turn_behind here to there a b c p r t n k m most (Err exit) on turn = λ q before start so_far. turn q before start (on q before start so_far)
 
--- a text at the front of shown bytes is taken off them and what is behind them
+-- An item at the front of the buffered bytes is taken from them and whatever follows.
 pub takes_shown : {S V : Type 0} (f : Format S V) → IsLawful f → (here : S) (s rest : List ℕ) (v : V) → f.says here s (whole v rest) → (behind : Option (List ℕ))
     → Takes (f.says here) (prepend_known s behind) (prepend_known rest behind) v
 takes_shown f laws here s rest v stands behind =
@@ -56,17 +56,17 @@ takes_shown f laws here s rest v stands behind =
     came t e (Some more) = ap (λ l. l ++ more) e ∙ append_assoc t rest more
 
 module _ {S V : Type 0} (IsLine : ℕ → V → List ℕ → Type 0) (f : Format S V) where
-  -- a walk over shown bytes, that came to this rest of them
+  -- Walked: a walk over buffered bytes has come to this rest of them.
   pub record Walked (from here : S) (shown rest : List ℕ) (start mid : Option (List ℕ)) (first n : ℕ) : Type 0 where
     pub front : List ℕ
     pub split : shown ≡ front ++ rest
     pub on : (behind : Option (List ℕ)) → GoesOn IsLine f from here (prepend_known shown behind) (prepend_known rest behind) start mid first n
 
-  -- it begins
+  -- The walk begins.
   pub walked_none : (from : S) (shown : List ℕ) (start : Option (List ℕ)) (first : ℕ) → Walked from from shown shown start start first first
   walked_none from shown start first = record { front = []; split = refl; on = λ behind q before out so_far. so_far }
 
-  -- it ends before the rest
+  -- The walk ends before the rest.
   pub walked_used : (from here : S) (shown rest : List ℕ) (start mid : Option (List ℕ)) (first n most : ℕ) → Walked from here shown rest start mid first n
       → WalkGives IsLine f from here shown start mid first n most (Ok (length shown - length rest))
   walked_used from here shown rest start mid first n most walked =
@@ -75,16 +75,16 @@ module _ {S V : Type 0} (IsLine : ℕ → V → List ℕ → Type 0) (f : Format
       let back : drop used shown ≡ rest = ap (drop used) walked.split ∙ drop_at walked.front rest used count in
       rw back walked.on
 
-  -- it ends before the rest, since memory was refused
+  -- The walk ends before the rest, because it is out of memory.
   pub walked_refused : (from here to : S) (shown rest : List ℕ) (start mid : Option (List ℕ)) (first n m most : ℕ) → Walked from here shown rest start mid first n → n < most
       → WalkGives IsLine f from to shown start mid first m most (Err Memory)
   walked_refused from here to shown rest start mid first n m most walked fewer = λ behind end q before out so_far.
       ends_here IsLine f here (prepend_known rest behind) end mid mid n most (Err Memory) (fewer, Keeps-refl mid) tt q before out (walked.on behind q before out so_far)
 
-  -- at an item that stands at the front of the rest
+  -- An item is at the front of the rest.
   module _ (laws : IsLawful f) (from here : S) (shown rest after : List ℕ) (start mid : Option (List ℕ)) (first n : ℕ) (walked : Walked from here shown rest start mid first n) (item : V)
       (stands : f.says here rest (whole item after)) where
-    -- it goes on, since its line went out
+    -- The walk goes on, because the item's line was written.
     pub walked_more : (there : S) (now : Option (List ℕ)) → f.goes here item ≡ there → WritesLine (IsLine (n + 1) item) mid now (Ok tt) → Walked from there shown after start now first (n + 1)
     walked_more there now goes written =
         let own = laws.own here rest after item stands in
@@ -94,14 +94,14 @@ module _ {S V : Type 0} (IsLine : ℕ → V → List ℕ → Type 0) (f : Format
           on = λ behind q before out so_far. turn_more IsLine f laws here there _ _ mid now n item (takes_shown f laws here rest after item stands behind) goes written q before out (walked.on behind q before out so_far);
         }
 
-    -- it ends, since its line did not go out
+    -- The walk ends, because the item's line wasn't written.
     pub walked_torn : (to : S) (now : Option (List ℕ)) (m most : ℕ) (exit : Exit) → n < most → WritesLine (IsLine (n + 1) item) mid now (Err exit) → WalkGives IsLine f from to shown start now first m most (Err exit)
     walked_torn to now m most exit fewer part = λ behind end q before out so_far.
         let left = prepend_known rest behind in
         let torn = ends_torn IsLine (f.says here) left mid n most fewer (prepend_known after behind) now item exit (takes_shown f laws here rest after item stands behind) part in
         ends_here IsLine f here left end mid now n most (Err exit) torn (any_torn IsLine (f.says here) left mid n most fewer end now item exit part) q before out (walked.on behind q before out so_far)
 
--- what is behind the bytes that a stream shows
+-- The bytes of a stream that follow its buffered bytes.
 abbrev pub behind_shown : List ℕ → Option (List ℕ) → Option (List ℕ)
 behind_shown shown left = option_map (λ xs. drop (length shown) xs) left
 
@@ -109,7 +109,7 @@ pub shown_split : (shown : List ℕ) (left : Option (List ℕ)) → IfSome left 
 shown_split shown None front = refl
 shown_split shown (Some xs) front = ap Some (starts_with_rest xs shown front)
 
--- and what is left of both, once so many of these are used
+-- The rest of both, after some of the buffered bytes are used.
 pub shown_used : (shown : List ℕ) (used : ℕ) (left now : Option (List ℕ)) → IfSome left (λ xs. StartsWith xs shown) → Consumes left now (take used shown)
     → Keeps (prepend_known (drop used shown) (behind_shown shown left)) now
 shown_used shown used None now front came = tt
@@ -121,17 +121,17 @@ shown_used shown used (Some xs) (Some ys) front came =
     sym (drop_at (take used shown) ys (length (take used shown)) refl) ∙ ap (drop (length (take used shown))) (sym came ∙ all) ∙ drop_at (take used shown) (drop used shown ++ behind) (length (take used shown)) refl
 
 module _ {S V : Type 0} (IsLine : ℕ → V → List ℕ → Type 0) (f : Format S V) (here : S) (left mid kept : Option (List ℕ)) (still : Keeps mid kept) (shown : List ℕ) (front : IfSome left (λ xs. StartsWith xs shown)) (n : ℕ) where
-  -- what was listed, with the bytes that are shown and those behind them
+  -- A list over the buffered bytes and those that follow them.
   listed_shown : (q : S) (before start : Option (List ℕ)) → Listing IsLine f q here before left start mid n → Listing IsLine f q here before (prepend_known shown (behind_shown shown left)) start kept n
   listed_shown q before start so_far =
       subst (λ (l : Option (List ℕ)). Listing IsLine f q here before l start kept n) (shown_split shown left front) (goes_kept IsLine f here left left mid kept n (Keeps-refl left) still q before start so_far)
 
-  -- a walk over the bytes that are shown ends the list
+  -- A walk over the buffered bytes ends the list.
   pub ends_shown : (now out : Option (List ℕ)) (most : ℕ) (result : Result (Unit {0}) Exit) → ((behind : Option (List ℕ)) → Ends IsLine f here (prepend_known shown behind) now kept out n most result)
       → Ends IsLine f here left now mid out n most result
   ends_shown now out most result ends = λ q before start so_far. ends (behind_shown shown left) q before start (listed_shown q before start so_far)
 
-  -- or the list goes on behind those that were used
+  -- The list goes on after the bytes that the walk used.
   pub goes_shown : (there : S) (now out : Option (List ℕ)) (used m : ℕ) → ((behind : Option (List ℕ)) → GoesOn IsLine f here there (prepend_known shown behind) (prepend_known (drop used shown) behind) kept out n m)
       → Consumes left now (take used shown) → GoesOn IsLine f here there left now mid out n m
   goes_shown there now out used m on came = λ q before start so_far.

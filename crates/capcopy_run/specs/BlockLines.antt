@@ -1,4 +1,4 @@
--- What the word blocks writes.
+-- This file defines the lines that the word `blocks` writes.
 use Rattle.std.specs.Prelude.{◌≡◌, ◌⊎◌, ⊤, ℕ, List, [], ◌++◌, codes}
 use Rattle.std.specs.Fmt.{decimal}
 use Rattle.pcap_core.specs.declared.common.Endianness.{Endianness}
@@ -16,22 +16,22 @@ use Rattle.pcap_ng.specs.State.{State, opening, within, or_big}
 use Rattle.capcopy_run.specs.Listing.{Kind}
 use Rattle.capcopy_run.specs.Words.{order_word}
 
--- the order of a section's numbers
+-- The order of a section is the byte order of its numbers, big if its magic has none.
 abbrev pub order_of : Section → Endianness
 order_of section = or_big (magic_order section.magic)
 
--- the line of a section: its order and its version
+-- The line of a section gives its byte order and its version.
 abbrev pub section_line : Section → List ℕ
 section_line section =
     let version = decimal section.major_version ++ (codes "." ++ decimal section.minor_version) in
     codes "section " ++ (order_word (order_of section) ++ (codes " " ++ (version ++ codes "\n")))
 
--- the line of the section that is in force after the first block
+-- The heading is the line of the section in force after the first block.
 abbrev pub heading_of : State → List ℕ
 heading_of opening = []
 heading_of (within section interfaces) = section_line section
 
--- how a line names a block's type
+-- The name of a block type in a line.
 abbrev pub kind_name : BlockType → List ℕ
 kind_name types.SectionHeader = codes "section"
 kind_name types.InterfaceDescription = codes "interface"
@@ -43,24 +43,24 @@ kind_name types.EnhancedPacket = codes "enhanced"
 kind_name types.SystemdJournalExport = codes "journal"
 kind_name (types.Unknown number) = codes "unknown:" ++ decimal number
 
--- the word for a block's body: ok where it has a value, refused where it has a fault
+-- IsBodyWord block word: `word` is ok if the block's body has a value, and refused if it has a fault.
 abbrev pub IsBodyWord : Framed → List ℕ → Type 0
 IsBodyWord block word =
     ((word ≡ codes "ok") × ((body : Body) × (rest : List ℕ) × SaysOfBody block (whole body rest)))
     ⊎ ((word ≡ codes "refused") × ((fault : Fault) × SaysOfBody block (faulty fault)))
 
--- the line of the block at this index: its index, its kind, the length of the whole block, and the word for its body
+-- IsBlockLine index block line: the line gives the block's index, its type, the length of the whole block, and the word for its body.
 abbrev pub IsBlockLine : ℕ → Framed → List ℕ → Type 0
 IsBlockLine index block line =
     (word : List ℕ)
     × IsBodyWord block word
     × (line ≡ decimal index ++ (codes " " ++ (kind_name block.type_ ++ (codes " " ++ (decimal block.initial_len ++ (codes " " ++ (word ++ codes "\n")))))))
 
--- the line of a block, whatever it leads to
+-- The line of an item is the line of its block.
 abbrev pub IsItemLine : ℕ → Item → List ℕ → Type 0
 IsItemLine index item = IsBlockLine index item.block
 
--- captures of blocks: a line for the section that the first block is, and one for each block after it
+-- A capture of blocks is listed as one line for the section that its first block is, and one for each later block.
 abbrev pub block_lines : Kind State State Item
 block_lines = record {
   opens = OpeningSays;

@@ -1,4 +1,4 @@
--- How runs of the program end.
+-- This file defines how runs of the program end: exits, statuses and messages.
 use Rattle.std.specs.Prelude.{◌≡◌, ⊤, ℕ, List, [], ◌++◌, Result, Ok, Err, codes}
 use Rattle.std.specs.IoError.{error_kind}
 use Rattle.std.specs.declared.io.ErrorKind.TheVariants.{UnexpectedEof}
@@ -8,12 +8,12 @@ use Rattle.pcap_core.specs.Errors.{error_message}
 use Rattle.capcopy_run.specs.declared.exit.Exit.{Exit}
 use Rattle.capcopy_run.specs.declared.exit.Exit.TheVariants.{Done, Refused, Most, Usage, Io, Memory}
 
--- the exit of a call, whose `Ok` is `Done`
+-- The exit of a call is `Done` for `Ok`, and its error otherwise.
 abbrev pub exit_of : Result (Unit {0}) Exit → Exit
 exit_of (Ok done) = Done
 exit_of (Err exit) = exit
 
--- the status of the process
+-- The exit status of the process.
 abbrev pub status_of : Exit → ℕ
 status_of Done = 0
 status_of (Refused e) = 1
@@ -22,7 +22,7 @@ status_of Usage = 2
 status_of (Io e) = 3
 status_of Memory = 4
 
--- the line on standard error; that of a refusal ends with what the error shows
+-- The message on standard error; that of a refusal ends with the message of the error.
 abbrev pub message_of : Exit → List ℕ
 message_of Done = []
 message_of (Refused e) = codes "capcopy: " ++ error_message e
@@ -31,24 +31,24 @@ message_of Usage = codes "usage: capcopy list | copy [big|little micro|nano] | b
 message_of (Io e) = codes "capcopy: input or output failed or ended early"
 message_of Memory = codes "capcopy: out of memory"
 
--- the run ended early: an input error says so
+-- IsEarlyEnd exit: the exit is an `Io` whose error has the kind `UnexpectedEof`.
 abbrev pub IsEarlyEnd : Exit → Type 0
 IsEarlyEnd (Io (IoError e)) = error_kind e ≡ UnexpectedEof
 IsEarlyEnd exit = ⊥
 
--- the exit at which this error ends a run
+-- EndsAt error exit: this error ends a run with this exit.
 abbrev pub EndsAt : PcapError → Exit → Type 0
 EndsAt (IncompleteBuffer n) exit = IsEarlyEnd exit
 EndsAt (IoError e) exit = exit ≡ Io (IoError e)
 EndsAt (OutOfMemory e) exit = exit ≡ Memory
 EndsAt error exit = exit ≡ Refused error
 
--- the exit is want of memory
+-- IsMemoryExit exit: the program is out of memory.
 abbrev pub IsMemoryExit : Exit → Type 0
 IsMemoryExit Memory = ⊤
 IsMemoryExit exit = ⊥
 
--- the exit is one of a known word, and an `Io` holds the error of a read, a write or an early end
+-- IsOfKnownWord exit: the exit is one of a known word, and an `Io` holds an `IoError`: of a read, of a write or of an early end.
 abbrev pub IsOfKnownWord : Exit → Type 0
 IsOfKnownWord Usage = ⊥
 IsOfKnownWord (Refused (IoError e)) = ⊥

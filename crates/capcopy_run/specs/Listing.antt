@@ -1,4 +1,4 @@
--- What the program takes and writes where it lists a capture, one line for each item.
+-- This file defines what the program reads and writes when it lists a capture, one line for each item.
 use Rattle.std.specs.Prelude.{◌≡◌, ◌<◌, ◌⊎◌, ⊤, ℕ, suc, List, ◌∷◌, [], ◌++◌, Option, Some, Result, Ok, Err, length}
 use Rattle.std.specs.Io.KnownBytes.{Keeps, Appends, IsAtEnd}
 use Rattle.pcap_core.specs.declared.errors.PcapError.{PcapError}
@@ -13,23 +13,23 @@ use Rattle.capcopy_run.specs.declared.exit.Exit.{Exit}
 use Rattle.capcopy_run.specs.declared.exit.Exit.TheVariants.{Done, Refused, Most, Usage, Io, Memory}
 use Rattle.capcopy_run.specs.Lines.{AreLines}
 
--- a kind of capture that is listed: what opens it, the items after that, and their lines
+-- A kind of capture that is listed has an opening, items after it, and lines for both.
 pub record Kind (O S V : Type 0) : Type 1 where
-  -- what is said of bytes where its opening is asked for
+  -- what reading the opening from bytes returns
   pub opens : List ℕ → Verdict O → Type 0
-  -- where reading the opening may take memory
+  -- whether reading the opening may need memory
   pub grows : Type 0
-  -- the line of the opening, if it has one
+  -- the line of the opening, empty if it has none
   pub heading : O → List ℕ
-  -- the format of the items after it
+  -- the format of the items after the opening
   pub format : O → Format S V
-  -- the state that it leads to
+  -- the state after the opening
   pub start : O → S
   -- the line of the item at an index
   pub IsLine : ℕ → V → List ℕ → Type 0
 
 module _ {V : Type 0} (IsLine : ℕ → V → List ℕ → Type 0) (IsSaid : List ℕ → Verdict V → Type 0) where
-  -- after so many lines the next item was taken, and a write failed in its line
+  -- TearsNext: after n lines the next item was read, and a write failed within its line.
   pub record TearsNext (left mid out_now : Option (List ℕ)) (n : ℕ) : Type 0 where
     pub item : V
     pub now : Option (List ℕ)
@@ -38,7 +38,7 @@ module _ {V : Type 0} (IsLine : ℕ → V → List ℕ → Type 0) (IsSaid : Lis
     pub is_line : IsLine (suc n) item line
     pub out : AppendsPart mid out_now line
 
-  -- how the lines end after so many of them: at the end of the stream, at the most lines, or before both by this exit
+  -- LinesEnd: after n lines the run ended: at the end of the stream, at the most lines, or before both with this error.
   abbrev pub LinesEnd : Option (List ℕ) → Option (List ℕ) → Option (List ℕ) → ℕ → ℕ → Result (Unit {0}) Exit → Type 0
   LinesEnd left mid out_now n most (Ok done) = (n < most) × IsAtEnd left × Keeps mid out_now
   LinesEnd left mid out_now n most (Err Most) = (n ≡ most) × Keeps mid out_now
@@ -48,8 +48,8 @@ module _ {V : Type 0} (IsLine : ℕ → V → List ℕ → Type 0) (IsSaid : Lis
   LinesEnd left mid out_now n most (Err Memory) = (n < most) × Keeps mid out_now
   LinesEnd left mid out_now n most (Err exit) = ⊥
 
--- what was taken of the input behind the last line: nothing at the end of the stream and after the most lines, and where the next
--- item is refused no more than it asked for; a failed read or write leaves any part
+-- InputEnd: nothing was read after the last line at the end of the stream or at the most lines. If the next item was refused, no more
+-- was read than it needs. A failed read or write leaves any part.
 abbrev pub InputEnd : {V : Type 0} → (List ℕ → Verdict V → Type 0) → Option (List ℕ) → Option (List ℕ) → Result (Unit {0}) Exit → Type 0
 InputEnd IsSaid left now (Ok done) = Keeps left now
 InputEnd IsSaid left now (Err Most) = Keeps left now
@@ -57,7 +57,7 @@ InputEnd IsSaid left now (Err (Refused error)) = TakesAsked IsSaid left now
 InputEnd IsSaid left now (Err exit) = ⊤
 
 module _ {S V : Type 0} (IsLine : ℕ → V → List ℕ → Type 0) (f : Format S V) (q : S) where
-  -- so many items were taken, which lead to this state, and their lines went out
+  -- Listing: n items were read, they lead to this state, and their lines were written.
   pub record Listing (here : S) (before now out_before out_now : Option (List ℕ)) (n : ℕ) : Type 0 where
     pub items : List V
     pub count : length items ≡ n
@@ -67,7 +67,7 @@ module _ {S V : Type 0} (IsLine : ℕ → V → List ℕ → Type 0) (f : Format
     pub are_lines : AreLines IsLine 1 items lines
     pub out : Appends out_before out_now lines
 
-  -- items were taken and listed, until the run ended
+  -- ListsItems: items were read and listed until the run ended.
   pub record ListsItems (before now out_before out_now : Option (List ℕ)) (most : ℕ) (result : Result (Unit {0}) Exit) : Type 0 where
     pub n : ℕ
     pub here : S
@@ -78,7 +78,7 @@ module _ {S V : Type 0} (IsLine : ℕ → V → List ℕ → Type 0) (f : Format
     pub input : InputEnd (f.says here) left now result
 
 module _ {O S V : Type 0} (kind : Kind O S V) where
-  -- s is an opening, items, more items and a rest that no item begins, and the lines of the opening and of the first items went out
+  -- Listed: s is an opening, a front of items and a rest, and the lines of the opening and of the first items were written.
   pub record Listed (s : List ℕ) (before : Option (List ℕ)) : Type 0 where
     pub opening : O
     pub after : List ℕ
@@ -92,14 +92,14 @@ module _ {O S V : Type 0} (kind : Kind O S V) where
     pub mid : Option (List ℕ)
     pub out : Appends before mid (kind.heading opening ++ lines)
 
-  -- s is an opening and more, and a write failed in the opening's line
+  -- TearsHeading: s is an opening and more, and a write failed within the opening's line.
   pub record TearsHeading (s : List ℕ) (before after : Option (List ℕ)) : Type 0 where
     pub opening : O
     pub rest : List ℕ
     pub opens : kind.opens s (whole opening rest)
     pub out : AppendsPart before after (kind.heading opening)
 
-  -- all items, fewer than `most`, and nothing is after them, nor left of the input
+  -- EndsClean: all items were listed, they are fewer than `most`, and nothing follows them in the capture or is left in the input.
   pub record EndsClean (most : ℕ) (now after : Option (List ℕ)) {s : List ℕ} {before : Option (List ℕ)} (listed : Listed s before) : Type 0 where
     pub fewer : length listed.items < most
     pub all : listed.more ≡ []
@@ -107,13 +107,13 @@ module _ {O S V : Type 0} (kind : Kind O S V) where
     pub input : IsAtEnd now
     pub out : Keeps listed.mid after
 
-  -- so many items, and of the input their texts were taken and no more
+  -- EndsFull: exactly `most` items were listed, and exactly their bytes were read from the input.
   pub record EndsFull (most : ℕ) (now after : Option (List ℕ)) {s : List ℕ} {before : Option (List ℕ)} (listed : Listed s before) : Type 0 where
     pub count : length listed.items ≡ most
     pub took : TakesTexts (kind.format listed.opening) (kind.start listed.opening) listed.items (Some listed.after) now
     pub out : Keeps listed.mid after
 
-  -- all items, fewer than `most`, and after them a rest that shows this error, of which no more was taken than it asks for
+  -- ListEndsRefused: all items, fewer than `most`, were listed. The rest shows this error, and no more of it was read than the item needs.
   pub record ListEndsRefused (most : ℕ) (error : PcapError) (now after : Option (List ℕ)) {s : List ℕ} {before : Option (List ℕ)} (listed : Listed s before) : Type 0 where
     pub fewer : length listed.items < most
     pub all : listed.more ≡ []
@@ -121,7 +121,7 @@ module _ {O S V : Type 0} (kind : Kind O S V) where
     pub asked : TakesAsked ((kind.format listed.opening).says (state_after (kind.format listed.opening) (kind.start listed.opening) listed.items)) (Some listed.left) now
     pub out : Keeps listed.mid after
 
-  -- a write failed in the line of the next item
+  -- TearsLine: a write failed within the line of the next item.
   pub record TearsLine (after : Option (List ℕ)) {s : List ℕ} {before : Option (List ℕ)} (listed : Listed s before) : Type 0 where
     pub next : V
     pub others : List V
@@ -130,7 +130,7 @@ module _ {O S V : Type 0} (kind : Kind O S V) where
     pub is_line : kind.IsLine (suc (length listed.items)) next line
     pub out : AppendsPart listed.mid after line
 
-  -- what a run that ended so has taken and written of the capture s; nothing tells which stream failed
+  -- ListsUntil: what a run that ended with this exit has read and written of the capture s. An `Io` doesn't say which stream failed.
   abbrev pub ListsUntil : ℕ → List ℕ → Option (List ℕ) → Option (List ℕ) → Option (List ℕ) → Exit → Type 0
   ListsUntil most s now before after Done = (listed : Listed s before) × EndsClean most now after listed
   ListsUntil most s now before after Most = (listed : Listed s before) × EndsFull most now after listed

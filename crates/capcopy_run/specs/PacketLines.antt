@@ -1,4 +1,4 @@
--- What the word list writes.
+-- This file defines the lines that the word `list` writes.
 use Rattle.std.specs.Prelude.{◌≡◌, ℕ, ◌-◌, List, [], ◌++◌, length, replicate, codes}
 use Rattle.std.specs.Fmt.{decimal}
 use Rattle.pcap_classic.specs.declared.pcap.header.PcapHeader.{PcapHeader}
@@ -8,26 +8,26 @@ use Rattle.pcap_classic.specs.PacketText.{packet_limit, Captured}
 use Rattle.pcap_classic.specs.Packets.{format_under}
 use Rattle.capcopy_run.specs.Listing.{Kind}
 
--- a number with zeros before it, to at least nine digits
+-- A number padded with zeros in front to at least nine digits.
 abbrev pub nine_digits : ℕ → List ℕ
 nine_digits n = replicate (9 - length (decimal n)) 48 ++ decimal n
 
--- the line of the packet at this index: its index, its time in seconds and nanoseconds, its stored and original length
+-- The line of a packet gives its index, its time in seconds and nanoseconds, and its stored and original length.
 abbrev pub packet_line : ℕ → PacketHeader → List ℕ
 packet_line index header =
     let time = decimal header.ts_sec ++ (codes "." ++ nine_digits header.ts_nsec) in
     let lengths = decimal header.incl_len ++ (codes "/" ++ decimal header.orig_len) in
     decimal index ++ (codes " " ++ (time ++ (codes " " ++ (lengths ++ codes "\n"))))
 
--- the line of a packet is that of its header
+-- of_header IsLine: the line of a packet is the line of its header.
 abbrev pub of_header : (ℕ → PacketHeader → List ℕ → Type 0) → ℕ → Captured → List ℕ → Type 0
 of_header IsLine index packet line = IsLine index packet.header line
 
--- the line of a packet
+-- IsPacketLine index packet line: `line` is the packet's line at this index.
 abbrev pub IsPacketLine : ℕ → Captured → List ℕ → Type 0
 IsPacketLine = of_header (λ index header line. line ≡ packet_line index header)
 
--- classic captures: no line for the header, and such a line for each packet
+-- A classic capture is listed as one line for each packet, without a line for the header.
 abbrev pub packets_in : Type 0 → (ℕ → Captured → List ℕ → Type 0) → Kind PcapHeader (Unit {0}) Captured
 packets_in grows IsLine = record {
   opens = HeaderSays;
@@ -38,6 +38,6 @@ packets_in grows IsLine = record {
   IsLine = IsLine;
 }
 
--- those lines take no memory
+-- The lines of the word `list` need no memory.
 abbrev pub packet_lines : Kind PcapHeader (Unit {0}) Captured
 packet_lines = packets_in ⊥ IsPacketLine

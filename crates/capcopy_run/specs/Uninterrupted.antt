@@ -1,6 +1,6 @@
--- What a stream shows whose reads are repeated.
+-- This file defines the stream inside a stream that repeats interrupted calls.
 use Rattle.capcopy_run.specs.declared.uninterrupted.Uninterrupted.{Uninterrupted}
 
--- the stream under it
+-- The stream inside.
 abbrev pub stream_of : {R : Type 0} → Uninterrupted R → R
 stream_of reads = reads.stream

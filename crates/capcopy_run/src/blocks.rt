@@ -1,4 +1,4 @@
-//! The word `blocks`: a line for the first section of a PcapNg capture, and one for each of its blocks.
+//! The word `blocks`: writes one line for the first section of a PcapNg capture, and one for each of its blocks.
 
 ghost use Rattle.std.specs.Prelude.{◌≡◌, ◌≤◌, ◌+◌, ◌++◌, [], drop, IfSome, IfErr, OnOk, IsSome, MatchResult, string_bytes};
 ghost use Rattle.pcap_blocks.specs.SectionHeader.{section_of, magic_order};
@@ -24,7 +24,7 @@ use pcap_file::{Endianness, PcapError};
 use std::alloc::{AllocError, Global};
 use std::io::{BufRead, Write};
 
-// Puts the name of a block's kind before the text that begins at `end`, and returns where it begins then.
+// Puts the name of a block's type before the text that begins at `end`, and returns the new beginning.
 fn put_kind(room: &mut [u8; ROOM], end: usize, type_: BlockType) -> usize
     requires { (28 ≤ end) × (end ≤ 126) }
     ensures start { (result ≤ end) × (end ≤ result + 28) }
@@ -55,7 +55,7 @@ fn order_name(order: Endianness) -> &'static str
     }
 }
 
-// Makes the line of a section.
+// Appends the line of a section.
 fn push_section(line: &mut String, section: &SectionHeaderBlock) -> Result<(), AllocError>
     requires empty { string_bytes line.old ≡ [] }
     requires valid { IsSome (magic_order section.now.magic) }
@@ -80,7 +80,7 @@ fn write_section<W: Write>(
     put_line(output, line.as_bytes())
 }
 
-// Whether a block's body can be read.
+// Returns the word that says whether the body of a block can be parsed.
 fn body_word(alloc: Global, block: &Block) -> Result<&'static str, Exit>
     ensures { MatchResult result (λ word. IsBodyWord (framed_of block.now) word.now) (λ exit. (exit ≡ exits.Memory) × GrowsInBody (framed_of block.now)) }
 {
@@ -91,7 +91,7 @@ fn body_word(alloc: Global, block: &Block) -> Result<&'static str, Exit>
     }
 }
 
-// Makes the line of the block at this index at the end of the room, and returns where it begins.
+// Writes the line of the block at this index into the end of the buffer, and returns where the line begins.
 fn make_block_line(room: &mut [u8; ROOM], index: u64, block: &Block, word: &str) -> usize
     requires { IsBodyWord (framed_of block.now) word.now }
     ensures within { result ≤ 126 }
@@ -107,7 +107,7 @@ fn make_block_line(room: &mut [u8; ROOM], index: u64, block: &Block, word: &str)
     put_number(room, start, index)
 }
 
-// Lines that are made in room of their own.
+// A writer of block lines, with its own buffer.
 #[derive(Drop)]
 struct KindLines {
     room: [u8; ROOM],
@@ -152,9 +152,9 @@ impl BlockLine for KindLines {
     }
 }
 
-/// Writes a line for the first section of the capture that the input holds, and then one for each block, `most` at most.
+/// Writes one line for the first section of the capture in the input, and then one for each block, up to `most` lines.
 ///
-/// What refuses the rest is told after the lines of the blocks before it.
+/// Returns an error for a malformed or truncated rest after it has written the lines of the blocks before it.
 pub(crate) fn blocks<R: BufRead, W: Write>(
     alloc: Global,
     input: &mut R,

@@ -1,4 +1,4 @@
-//! The words that the program knows, and what each does.
+//! The words that the program knows, and the actions that they select.
 
 ghost use Rattle.std.specs.Prelude.{◌≡◌, IfSome};
 ghost use Rattle.std.specs.Io.KnownBytes.{Keeps};
@@ -21,7 +21,7 @@ use pcap_file::{Endianness, TsResolution};
 use std::alloc::Global;
 use std::io::{BufRead, Write};
 
-// What the program is asked to do.
+// The action that the words select.
 pub(crate) enum Command {
     List,
     Copy(Under),
@@ -44,18 +44,18 @@ fn asked_for(words: &[&str]) -> Option<Command>
     Some(Command::Copy(under))
 }
 
-/// Does what the words ask for, with `most` lines or packets at most.
+/// Runs the program with these words, and writes at most `most` lines or packets.
 ///
-/// `list` writes a line for each packet of the capture that the input holds: `index sec.nsec incl/orig`, where index
-/// counts from 1, sec and nsec are the time in seconds and nanoseconds, and incl and orig the stored and the original
-/// length in bytes. `copy` writes the capture again, and `copy big|little micro|nano` writes it in that order of bytes
-/// and resolution of time. `blocks` writes `section big|little major.minor` for the first section header of a PcapNg
-/// capture, which is no one of the `most` lines, and then a line for each block after it: `index kind length ok|refused`,
-/// where length is that of the whole block in bytes, and the last word says whether its body could be read. Lines and
-/// packets before a fault are written. Other words are `Usage`, and then nothing is read or written.
+/// `list` writes a line for each packet of the capture in the input: `index sec.nsec incl/orig`. The index counts from 1, sec and
+/// nsec are the time in seconds and nanoseconds, and incl and orig are the stored and the original length in bytes.
+/// `copy` writes the capture again, and `copy big|little micro|nano` writes it with that byte order and timestamp resolution.
+/// `blocks` writes `section big|little major.minor` for the first section header of a PcapNg capture, which doesn't count towards
+/// `most`. It then writes a line for each later block: `index kind length ok|refused`. The length is that of the whole block in
+/// bytes, and the last word says whether the body could be read. Lines and packets before an error are written.
+/// For other words the result is `Usage`, and nothing is read or written.
 ///
-/// The input shows its buffer (`BufRead`), since packets and blocks are lent from there. `list` and `blocks` flush the output
-/// each time before they ask the input for more; `copy` leaves that to the caller.
+/// The input must be buffered (`BufRead`), since packets and blocks are lent from its buffer. `list` and `blocks` flush the output
+/// each time before they read more of the input. With `copy` the caller must flush.
 pub fn run<R: BufRead, W: Write>(
     alloc: Global,
     words: &[&str],

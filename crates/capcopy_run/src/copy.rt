@@ -1,4 +1,4 @@
-//! The word `copy`: the capture again, as it is or under another header.
+//! The word `copy`: writes the capture again, unchanged or with another header.
 
 ghost use Rattle.std.specs.Prelude.{IfErr};
 ghost use Rattle.capcopy_run.specs.Copying.{CopiesUntil};
@@ -9,9 +9,9 @@ use pcap_file::run::{Copied, Under, copy_buffered};
 use std::alloc::Global;
 use std::io::{BufRead, Write};
 
-/// Writes the capture that the input holds, and `most` packets of it at most.
+/// Writes the capture in the input again, up to `most` packets.
 ///
-/// What refuses the rest is told after the packets before it.
+/// Returns an error for a malformed or truncated rest after it has written the packets before it.
 pub(crate) fn copy<R: BufRead, W: Write>(
     alloc: Global,
     input: &mut R,

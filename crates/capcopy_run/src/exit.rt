@@ -1,4 +1,4 @@
-//! How a run of the program ends.
+//! The ways in which a run of the program ends.
 
 ghost use Rattle.std.specs.Prelude.{◌≡◌, Some};
 ghost use Rattle.capcopy_run.specs.declared.exit.Exit.TheVariants as exits;
@@ -10,25 +10,25 @@ use std::alloc::{AllocError, AllocFailed};
 use std::io::ErrorKind;
 use std::{fmt, io};
 
-/// How a run of the program ends.
+/// The way in which a run of the program ends.
 #[derive(Debug, Drop)]
 pub enum Exit {
-    /// All was done.
+    /// The run is complete.
     Done,
     /// The input breaks a rule of its format.
     Refused(PcapError),
-    /// As many lines or packets were written as one run may write.
+    /// The run wrote the greatest number of lines or packets that it may write.
     Most,
-    /// The words name nothing that the program does.
+    /// The words name no action of the program.
     Usage,
-    /// A read or a write failed, or the input ended early; or a value in the body of a section or an interface is too short.
+    /// A read or write failed, or the input ended early, or the body of a section or interface is too short for a value.
     Io(PcapError),
-    /// A growth was refused.
+    /// The program is out of memory.
     Memory,
 }
 
 impl Exit {
-    /// The status with which the process ends.
+    /// Returns the exit status of the process.
     pub fn status(&self) -> u8
         ensures { result ≡ status_of self.now }
     {
@@ -42,7 +42,7 @@ impl Exit {
     }
 }
 
-/// The line on standard error, without its newline. `Done` has none.
+/// Writes the message for standard error, without a newline. `Done` has no message.
 impl fmt::Display for Exit {
     ghost output = { λ exit. Some (message_of exit) };
 
@@ -60,7 +60,7 @@ impl fmt::Display for Exit {
     }
 }
 
-/// A text that ends early is `Io` with an error of kind `UnexpectedEof`.
+/// Converts an error of the library. A truncated capture becomes `Io` with an error of kind `UnexpectedEof`.
 impl From<PcapError> for Exit {
     ghost from_gives = { EndsAt };
 

@@ -1,4 +1,4 @@
-//! What comes in.
+//! Skipping bytes of the input.
 
 ghost use Rattle.std.specs.Prelude.{OnOk, OnErr};
 ghost use Rattle.pcap_items.specs.Streams.{TakesFewer};
@@ -7,7 +7,7 @@ ghost use Rattle.capcopy_run.specs.Skipping.{TakesExactly};
 use std::io;
 use std::io::{BufRead, ErrorKind};
 
-/// Takes so many bytes off the input and keeps none of them. The errors are those of the input, and `UnexpectedEof` at its end.
+/// Skips exactly `n` bytes of the input. Returns the errors of the input, and `UnexpectedEof` if the input ends before.
 pub fn skip_exact<R: BufRead>(input: &mut R, n: usize) -> io::Result<()>
     ensures skipped { OnOk result (TakesExactly n (R.remaining input.old) (R.remaining input.new)) }
     ensures part { OnErr result (TakesFewer n (R.remaining input.old) (R.remaining input.new)) }

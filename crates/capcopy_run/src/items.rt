@@ -1,4 +1,4 @@
-//! Items of a capture that are listed, one line each.
+//! Listing the items of a capture, one line each.
 
 ghost use Rattle.std.specs.Prelude.{◌≡◌, ◌≤◌, ◌<◌, ◌+◌, ℕ, List, length, true, IfOk, IfErr};
 ghost use Rattle.capcopy_run.specs.Exits.{IsMemoryExit};
@@ -10,7 +10,7 @@ use crate::Exit;
 use std::alloc::Global;
 use std::io::{BufRead, Write};
 
-/// What writes a line for each item of one kind.
+/// A writer of lines for items of one kind.
 pub trait Lister {
     ghost Setting: { Type 0 };
 
@@ -28,8 +28,8 @@ pub trait Lister {
 
     ghost state: { Self → State };
 
-    /// Writes a line for each item that lies whole at the front of these bytes, and returns how many bytes these are. Each that is
-    /// listed is counted, up to `most` of them. An error of the output is `Io`; `Memory` where a line can't be made.
+    /// Writes a line for each whole item at the front of these bytes, and returns the number of bytes of these items. Counts each listed
+    /// item in `listed`, up to `most`. Returns `Io` if the output fails, and `Memory` if a line can't be made for lack of memory.
     fn list_shown<W: Write>(
         &mut self,
         alloc: Global,
@@ -46,8 +46,8 @@ pub trait Lister {
         ensures walks { WalkGives (is_line (setting self.old)) (format (setting self.old)) (state self.old) (state self.new) shown.now
             (W.contents output.old) (W.contents output.new) listed.old listed.new most result };
 
-    /// Writes the line of the item at the front of the input, and says whether there was one. The errors are those of
-    /// `list_shown`, `Io` where the input fails or ends early, and `Refused` where the item is.
+    /// Writes the line of the item at the front of the input, and returns whether there was one. Returns the errors of `list_shown`, `Io`
+    /// if the input fails or ends early, and `Refused` if the item is malformed.
     fn list_torn<R: BufRead, W: Write>(
         &mut self,
         alloc: Global,
@@ -64,8 +64,8 @@ pub trait Lister {
             (R.remaining input.old) (R.remaining input.new) (W.contents output.old) (W.contents output.new) listed.old listed.new most result };
 }
 
-// Writes the lines of the items that lie whole in the input's buffer, else that of the item which is torn at its end. Before
-// the input waits, the lines so far are out.
+// Writes the lines of the items that are whole in the input's buffer, or else of the item cut by the end of the buffer. It flushes the
+// lines so far before the input may wait.
 fn list_some<L: Lister, R: BufRead, W: Write>(
     alloc: Global,
     lister: &mut L,
@@ -95,8 +95,8 @@ fn list_some<L: Lister, R: BufRead, W: Write>(
     lister.list_torn(alloc, input, output, listed, most)
 }
 
-/// Writes a line for each item of the input, `most` of them at most, which ends with `Most`. The other errors are those of the
-/// lister, and `Io` where the output can't be flushed.
+/// Writes a line for each item of the input, and returns `Most` once `most` lines are written. Returns the other errors of the lister,
+/// and `Io` if the output can't be flushed.
 pub fn list_items<L: Lister, R: BufRead, W: Write>(
     alloc: Global,
     lister: &mut L,

@@ -1,4 +1,4 @@
-//! What the program `capcopy` does, over any input and output.
+//! The actions of the program `capcopy`, over any input and output.
 #![tactic(auto)]
 
 mod blocks;

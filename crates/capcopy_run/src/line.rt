@@ -1,4 +1,4 @@
-//! Lines that are made from their end to their beginning, with no memory of their own.
+//! Lines that are built from the end to the beginning in a fixed buffer, without allocation.
 
 ghost use Rattle.std.specs.Prelude.{◌≡◌, ◌+◌, ◌<◌, ◌≤◌, ◌∷◌, ◌++◌, drop, length};
 ghost use Rattle.std.specs.Fmt.{decimal};
@@ -8,20 +8,20 @@ ghost use Rattle.capcopy_run.specs.PacketLines.{nine_digits, packet_line};
 use itoa::write_digits;
 use pcap_file::pcap::PacketHeader;
 
-/// Room for the longest line, in bytes: six numbers of at most twenty digits, and a byte after each.
+/// The size of the buffer for a line, in bytes: room for six numbers of at most twenty digits, and a byte after each.
 pub const ROOM: usize = 126;
 
 // The two digits of each number below a hundred.
 static TWO_DIGITS: [u8; 200] =
     *b"00010203040506070809101112131415161718192021222324252627282930313233343536373839404142434445464748495051525354555657585960616263646566676869707172737475767778798081828384858687888990919293949596979899";
 
-// One in fixed point: a fraction has 57 bits.
+// The number one in fixed point: a fraction has 57 bits.
 const ONE: u64 = 144_115_188_075_855_872;
 
-// The fraction above one hundred-millionth that is next to it.
+// The next fixed-point fraction above one hundred-millionth.
 const HUNDRED_MILLIONTH: u64 = 1_441_151_881;
 
-/// Puts a word before the text that begins at `end`, and returns where it begins then.
+/// Puts a word before the text that begins at `end`, and returns the new beginning.
 pub fn put_word(room: &mut [u8; ROOM], end: usize, word: &str) -> usize
     requires { (length word.now ≤ end) × (end ≤ 126) }
     ensures start { result + length word.now ≡ end }
@@ -32,7 +32,7 @@ pub fn put_word(room: &mut [u8; ROOM], end: usize, word: &str) -> usize
     start
 }
 
-/// Puts a byte before the text that begins at `end`, and returns where it begins then.
+/// Puts a byte before the text that begins at `end`, and returns the new beginning.
 pub fn put_byte(room: &mut [u8; ROOM], end: usize, byte: u8) -> usize
     requires { (0 < end) × (end ≤ 126) }
     ensures start { result + 1 ≡ end }
@@ -43,7 +43,7 @@ pub fn put_byte(room: &mut [u8; ROOM], end: usize, byte: u8) -> usize
     start
 }
 
-/// Puts the digits of a number before the text that begins at `end`, and returns where it begins then.
+/// Puts the decimal digits of a number before the text that begins at `end`, and returns the new beginning.
 pub fn put_number(room: &mut [u8; ROOM], end: usize, number: u64) -> usize
     requires { (20 ≤ end) × (end ≤ 126) }
     ensures start { (result ≤ end) × (end ≤ result + 20) }
@@ -52,7 +52,7 @@ pub fn put_number(room: &mut [u8; ROOM], end: usize, number: u64) -> usize
     write_digits(number, room, end)
 }
 
-// Puts the two digits of a number before the text that begins at `end`, and returns where it begins then.
+// Puts the two digits of a number before the text that begins at `end`, and returns the new beginning.
 fn put_two_digits(room: &mut [u8; ROOM], end: usize, number: u64) -> usize
     requires { (2 ≤ end) × (end ≤ 126) × (number < 100) }
     ensures start { result + 2 ≡ end }
@@ -65,14 +65,13 @@ fn put_two_digits(room: &mut [u8; ROOM], end: usize, number: u64) -> usize
     start
 }
 
-/// Puts the digits of a number, with zeros before them to nine, before the text that begins at `end`, and returns where it
-/// begins then.
+/// Puts the digits of a number, padded with zeros to nine, before the text that begins at `end`, and returns the new beginning.
 pub fn put_nine_digits(room: &mut [u8; ROOM], end: usize, number: u32) -> usize
     requires { (20 ≤ end) × (end ≤ 126) }
     ensures start { (result ≤ end) × (end ≤ result + 20) }
     ensures text { drop result room.new ≡ nine_digits number ++ drop end room.old }
 {
-    // In fixed point: a hundred times the fraction has the next two digits before its point.
+    // In fixed point: a hundred times the fraction has the next two digits before the point.
     let first = u64::from(number) * HUNDRED_MILLIONTH;
     let second = first % ONE * 100;
     let third = second % ONE * 100;
@@ -85,7 +84,7 @@ pub fn put_nine_digits(room: &mut [u8; ROOM], end: usize, number: u32) -> usize
     write_digits(first / ONE, room, start)
 }
 
-// Puts seconds before the text that begins at `end`. Since March 1973 they have nine digits or more.
+// Puts seconds before the text that begins at `end`. Times since March 1973 have at least nine digits.
 #[inline(always)]
 fn put_seconds(room: &mut [u8; ROOM], end: usize, seconds: u32) -> usize
     requires { (20 ≤ end) × (end ≤ 126) }
@@ -98,7 +97,7 @@ fn put_seconds(room: &mut [u8; ROOM], end: usize, seconds: u32) -> usize
     put_nine_digits(room, end, seconds)
 }
 
-/// Makes the line of the packet at this index at the end of the room, and returns where it begins.
+/// Writes the line of the packet at this index into the end of the buffer, and returns where the line begins.
 #[inline(always)]
 pub(crate) fn make_line(room: &mut [u8; ROOM], index: u64, header: PacketHeader) -> usize
     ensures within { result ≤ 126 }

@@ -1,4 +1,4 @@
-//! Blocks of a PcapNg capture that are listed, whatever their lines are.
+//! Listing the blocks of a PcapNg capture, with any form of lines.
 
 ghost use Rattle.std.specs.Prelude.{⊤, ◌≡◌, ℕ, List};
 ghost use Rattle.pcap_items.specs.Format.{Format};
@@ -15,7 +15,7 @@ use pcap_file::pcapng::{Block, PcapNgParser};
 use std::alloc::Global;
 use std::io::{BufRead, Write};
 
-/// What writes the line of a block, if it has one.
+/// A writer of lines for blocks.
 pub trait BlockLine {
     ghost Setting: { Type 0 };
 
@@ -39,7 +39,7 @@ pub trait BlockLine {
 
     ghost kept: { Self → Kept };
 
-    /// Writes the line of the block at this index, which leads to what is in force in this parser.
+    /// Writes the line of the block at this index, if it has one. The parser is in its state after the block.
     fn write_line<W: Write>(
         &mut self,
         alloc: Global,
@@ -56,12 +56,12 @@ pub trait BlockLine {
     ghost are_blocks: { AreBlocks format reached value behind };
 }
 
-/// The blocks of a capture behind those of a parser, and what writes their lines.
+/// The blocks of a capture that follow those of a parser, and the writer of their lines.
 #[derive(Drop)]
 pub struct Blocks<L> {
-    /// What writes their lines.
+    /// The writer of their lines.
     pub lines: L,
-    /// What is in force.
+    /// The parser, in its state before the next block.
     pub parser: PcapNgParser,
 }
 

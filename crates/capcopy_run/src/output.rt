@@ -1,4 +1,4 @@
-//! What goes out.
+//! Writing lines to the output.
 
 ghost use Rattle.std.specs.Prelude.{◌≡◌, IfErr};
 ghost use Rattle.capcopy_run.specs.Exits.{IsMemoryExit};
@@ -8,7 +8,7 @@ use crate::Exit;
 use std::io;
 use std::io::{ErrorKind, Write};
 
-/// Writes all of a line, or up to a call that fails or takes nothing of it, which is `Io`.
+/// Writes a whole line. Returns `Io` if a write fails or accepts no bytes; the line is then written up to there.
 pub fn put_line<W: Write>(output: &mut W, line: &[u8]) -> Result<(), Exit>
     ensures writes { WritesLine (λ bytes. bytes ≡ line.now) (W.contents output.old) (W.contents output.new) result }
     ensures no_memory { IfErr result (λ exit. IsMemoryExit exit → ⊥) }

@@ -1,4 +1,4 @@
-//! Packets of a classic capture that are listed, whatever their lines are.
+//! Listing the packets of a classic capture, with any form of lines.
 
 ghost use Rattle.std.specs.Prelude.{◌≡◌, ◌≤◌, ◌<◌, ◌+◌, ℕ, List, length, true, IfSome, IfOk, IfErr};
 ghost use Rattle.pcap_core.specs.Answer.{number_in};
@@ -22,7 +22,7 @@ use pcap_file::{Endianness, TsResolution};
 use std::alloc::Global;
 use std::io::{BufRead, Write};
 
-/// What writes the line of a packet.
+/// A writer of lines for packets.
 pub trait PacketLine {
     ghost Setting: { Type 0 };
 
@@ -32,7 +32,7 @@ pub trait PacketLine {
 
     ghost setting: { Self → Setting };
 
-    /// Writes the line of the packet of this header at this index.
+    /// Writes the line of the packet with this header at this index.
     fn write_line<W: Write>(
         &mut self,
         alloc: Global,
@@ -45,7 +45,7 @@ pub trait PacketLine {
         ensures writes { WritesLine (line (setting self.old) index header) (W.contents output.old) (W.contents output.new) result };
 }
 
-// Writes a line for each packet that lies whole at the front of these bytes, and returns how many bytes these are.
+// Writes a line for each whole packet record at the front of these bytes, and returns the number of bytes of these records.
 fn list_shown<L: PacketLine, B: ByteOrder, W: Write>(
     alloc: Global,
     lines: &mut L,
@@ -75,7 +75,7 @@ fn list_shown<L: PacketLine, B: ByteOrder, W: Write>(
     Ok(shown.len() - rest.len())
 }
 
-// Writes the line of the packet at the front of the input, once all of its data has come.
+// Writes the line of the packet at the front of the input, after all of its data has been read.
 fn list_torn<L: PacketLine, B: ByteOrder, R: BufRead, W: Write>(
     alloc: Global,
     lines: &mut L,
@@ -99,7 +99,7 @@ fn list_torn<L: PacketLine, B: ByteOrder, R: BufRead, W: Write>(
     Ok(true)
 }
 
-// The packets of a capture, and what writes their lines.
+// The packets of a capture, and the writer of their lines.
 #[derive(Drop)]
 struct Packets<L> {
     lines: L,
@@ -165,9 +165,9 @@ impl<L: PacketLine> Lister for Packets<L> {
     }
 }
 
-/// Writes a line for each packet of the capture that the input holds, and `most` lines at most.
+/// Writes a line for each packet of the capture in the input, up to `most` lines.
 ///
-/// What refuses the rest is told after the lines of the packets before it.
+/// Returns an error for a malformed or truncated rest after it has written the lines of the packets before it.
 pub fn list_packets<L: PacketLine + Drop, R: BufRead, W: Write>(
     alloc: Global,
     lines: L,

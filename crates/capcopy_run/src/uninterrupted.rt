@@ -1,4 +1,4 @@
-//! Reads and writes that a signal interrupts.
+//! Streams that repeat interrupted reads and writes.
 
 ghost use Rattle.std.specs.Prelude.{◌≡◌, ◌≢◌, IfErr};
 ghost use Rattle.std.specs.Io.{ReadsAtMost, WritesAtMost};
@@ -9,14 +9,14 @@ ghost use Rattle.capcopy_run.specs.Uninterrupted.{stream_of};
 use std::io;
 use std::io::{ErrorKind, Read, Write};
 
-/// A stream whose reads and writes are repeated where a signal interrupts them.
+/// A stream that repeats a read or write when a signal interrupts it.
 #[derive(Drop)]
 pub struct Uninterrupted<R> {
     stream: R,
 }
 
 impl<R> Uninterrupted<R> {
-    /// Reads and writes of this stream, each repeated until it isn't interrupted.
+    /// Returns a stream over this one that repeats each read and write until it isn't interrupted.
     pub fn new(stream: R) -> Uninterrupted<R>
         ensures { stream_of result ≡ stream }
     {

@@ -1,4 +1,4 @@
-//! The words of a run, wherever they come from.
+//! The words of a run, from any source.
 
 ghost use Rattle.std.specs.Prelude.{◌≡◌, ℕ, List, Option, None, IfSome, slice_get};
 ghost use Rattle.std.specs.Io.{WritesAtMost};
@@ -12,38 +12,38 @@ use std::env::{Env, FillError};
 use std::io::{BufReader, Read, Write};
 use std::str;
 
-/// The most lines or packets of one run of the program.
+/// The most lines or packets that one run of the program writes.
 pub const MOST: u64 = 4_294_967_295;
 
-/// The size of the buffer over the program's input, in bytes. What its end cuts is held by itself: a packet to be copied, a block
-/// to be listed.
+/// The size of the program's input buffer, in bytes. If its end cuts a packet to be copied or a block to be listed, the program
+/// allocates another buffer for that item.
 const INPUT: usize = 262_144;
 
-/// A longer word is none that the program knows.
+/// The greatest length of a word. The program knows no longer one.
 const LONGEST_WORD: usize = 64;
 
-/// Where a word is kept while it is looked at.
+/// The buffer for one word.
 type Room = [u8; LONGEST_WORD];
 
-/// Where the words of a run come from. They need not be text.
+/// A source of the words of a run. They need not be text.
 pub trait Words {
-    // The words, where they are known.
+    // The words, if they are known.
     ghost words: { Self → Option (List (List ℕ)) } = { λ _. None };
 
-    /// Copies the word at this index to the front of the room, and returns its length.
+    /// Copies the word at this index to the front of `room`, and returns its length in bytes.
     fn word(&self, index: usize, room: &mut [u8]) -> Result<usize, FillError>
         ensures bound { WritesAtMost result room.new }
         ensures tells { IfSome (words self.now) (λ all. TellsWord (slice_get all index) result room.new) };
 }
 
-/// The words of a process, those after the program's name.
+/// The arguments of a process, after the program's name.
 #[derive(Drop)]
 pub struct Arguments<E> {
     env: E,
 }
 
 impl<E: Env> Arguments<E> {
-    /// The words behind the first of this environment.
+    /// Returns the arguments of this environment after the first.
     pub fn new(env: E) -> Arguments<E>
         ensures { environment_of result ≡ env }
     {
@@ -57,14 +57,14 @@ impl<E: Env> Words for Arguments<E> {
     }
 }
 
-/// Words that lie in memory.
+/// Words in memory.
 #[derive(Drop)]
 pub struct WordList<'a> {
     words: &'a [&'a [u8]],
 }
 
 impl<'a> WordList<'a> {
-    /// These words.
+    /// Returns a source of these words.
     pub fn new(words: &'a [&'a [u8]]) -> WordList<'a>
         ensures { words_in result ≡ texts_of words.now }
     {
@@ -89,7 +89,7 @@ impl Words for WordList<'_> {
     }
 }
 
-// What stands at the place of a word.
+// The word at an index, if there is one.
 #[derive(Drop)]
 enum Place<'a> {
     Empty,
@@ -97,7 +97,7 @@ enum Place<'a> {
     Text(&'a str),
 }
 
-// What stands at this place of the words.
+// Returns the word at this index.
 fn find_word<'a, E: Words>(words: &E, index: usize, room: &'a mut Room) -> Place<'a>
     ensures { IfSome (E.words words.now) (λ all. StandsAt (slice_get all index) result) }
 {
@@ -114,14 +114,14 @@ fn find_word<'a, E: Words>(words: &E, index: usize, room: &'a mut Room) -> Place
 // Up to three words.
 #[derive(Drop)]
 enum Texts<'a> {
-    // They ask for nothing.
+    // They select no action.
     Nothing,
     One(&'a str),
     Two(&'a str, &'a str),
     Three(&'a str, &'a str, &'a str),
 }
 
-// All words, where they may be those of a command.
+// Returns all words if they may be those of an action.
 fn texts_in<'a, E: Words>(
     words: &E,
     first: &'a mut Room,
@@ -152,7 +152,7 @@ fn texts_in<'a, E: Words>(
     }
 }
 
-// What these words ask for, over an input that was not buffered yet.
+// Runs the action that these words select, over an unbuffered input.
 fn run_texts<R: Read + Drop, W: Write>(
     alloc: Global,
     texts: &[&str],
@@ -167,7 +167,7 @@ fn run_texts<R: Read + Drop, W: Write>(
     run(alloc, texts, &mut input, output, MOST)
 }
 
-// The same of words that were looked at.
+// Runs the action that these texts select, over an unbuffered input.
 fn run_asked<R: Read + Drop, W: Write>(
     alloc: Global,
     texts: Texts,
@@ -187,11 +187,11 @@ fn run_asked<R: Read + Drop, W: Write>(
     }
 }
 
-/// Does what the words ask for, as `run` does, with `MOST` lines or packets at most, over an input that isn't buffered. A read of
-/// it that is interrupted is repeated.
+/// Runs the program with these words, as `run` does with `MOST` lines or packets, over an unbuffered input. Interrupted reads are
+/// repeated.
 ///
-/// A word of more than 64 bytes and one that isn't text ask for nothing, and so do words behind a third. `Memory` also where
-/// there is none for the input's buffer; then nothing is written. The output is flushed as by `run`.
+/// A word of more than 64 bytes or one that isn't UTF-8 selects no action, and neither do more than three words. Returns `Memory` also
+/// if the input buffer can't be allocated; then nothing is written. The output is flushed as by `run`.
 pub fn run_words<E: Words, R: Read + Drop, W: Write>(
     alloc: Global,
     words: &E,

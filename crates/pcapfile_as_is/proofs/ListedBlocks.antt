@@ -1,4 +1,4 @@
--- What a list tells of blocks as they stand.
+-- This file proves what a list has for blocks that are read leniently.
 use Rattle.std.proofs.Common.{◌≡◌, ℕ, List, [], map, Bool, true, false, refl, sym, ap, subst}
 use Rattle.std.specs.Prelude.{Option}
 use Rattle.pcap_blocks.specs.ParsedBlock.{Body}
@@ -16,16 +16,16 @@ holds_packet b body flaws (enhanced packet said rest type text) = ap is_packet t
 holds_packet b body flaws (obsolete packet said rest type text) = ap is_packet type
 holds_packet b body flaws (simple packet said rest type text) = ap is_packet type
 
--- a block holds the body and the flaws that were read
+-- The block holds the body and the flaws that were read.
 pub holds_as : (b : Framed) (body other : Option Body) (flaws others : List Flaw) → body ≡ other → flaws ≡ others → HoldsAsIs b other (map said_of others) → HoldsAsIs b body (map said_of flaws)
 holds_as b body other flaws others bodies same holds =
     subst (λ (x : Option Body). HoldsAsIs b x (map said_of flaws)) (sym bodies) (subst (λ (l : List Flaw). HoldsAsIs b other (map said_of l)) (sym same) holds)
 
--- of a block that holds no packet
+-- A block that holds no packet.
 pub no_packet : (number place : ℕ) (item : Item) (told : Told) → is_packet item.block.type_ ≡ false → told ≡ unnumbered (is_flawed item) → IsListed number place item told []
 no_packet number place item told none is = subst (λ (b : Bool). IsListedIf b number item told []) (sym none) (is, refl)
 
--- of one that does
+-- A block that holds a packet.
 pub one_packet : (number place : ℕ) (item : Item) (body : Option Body) (flaws : List Said) → HoldsAsIs item.block body flaws → (told : Told) (line : List ℕ) → IsListedBody (described item.led.after) number body flaws told line → IsListed number place item told line
 one_packet number place item body flaws holds told line listed =
     subst (λ (b : Bool). IsListedIf b number item told line) (sym (holds_packet item.block body flaws holds)) (body, flaws, holds, listed)

@@ -1,4 +1,4 @@
--- The texts of mended blocks, one behind the other, are a capture that the strict reading takes whole.
+-- This file proves that strict reading accepts the bytes of mended blocks, in order, as a whole capture.
 use Rattle.std.proofs.Common.{◌≡◌, ◌≢◌, ◌≤◌, ◌<◌, ◌-◌, ◌%◌, ◌^◌, ℕ, List, [], ◌∷◌, ◌++◌, length, take, drop, Bool, true, false, refl, sym, ap, subst, ◌∙◌, arith, rules, length-append}
 use Rattle.std.specs.Prelude.{⊤, ◌==◌, All, filter, flat_map, filter_map, map, replicate, Option, Some, None}
 use Rattle.std.specs.List.{cons_option}
@@ -42,7 +42,7 @@ use Rattle.pcapfile_mended.proofs.BodiesSaid.{section_front, unstated_length, wi
 use Rattle.pcapfile_mended.proofs.StrictAgain.{mended_taken}
 use Rattle.pcapfile_as_is.specs.MendedCaptures.{AreRead, IsMendedSo, block_left, block_of, left_of, raw_read, text_of}
 
--- ---- bodies of whole words of four bytes
+-- ---- bodies whose length is a multiple of four bytes
 
 piece_aligned : (order : Order) (of : OptionsOf) (piece : Piece) → IsPiece order (kind_of of) piece → length piece.text % 4 ≡ 0
 piece_aligned order of piece is =
@@ -135,7 +135,7 @@ options_four e order s kept of at =
     let whole_long : 4 ≤ length (unstated types.SectionHeader u) = omega (arith, unstated_length types.SectionHeader u (λ _. long), long) in
     take-append-le 4 (unstated types.SectionHeader u) kept whole_long ∙ stated_four u long ∙ take-take 4 n s more
 
--- ---- what is left of a block has a text
+-- ---- the block that is left can be written
 
 fit_after : (raw : Raw) (t : List ℕ) → Mends raw (has_body t) → IsFitRaw raw → IsFitRaw (with_body raw t)
 fit_after raw _ (stated body rest says other) fit =
@@ -194,15 +194,15 @@ module _ (e : Endianness) (b : Framed) (s rest : List ℕ) (f : FrameText e b s 
       let named : ◌≡◌ {A = Option Endianness} (Some e) (Some b.endianness) = rw (ne_eqb f.number 0x0A0D0D0A differ) at f.head.own_is in
       cc
 
--- ---- where a mended block leads
+-- ---- the state after a mended block
 
--- the order that holds is the same
+-- Agrees: both states have the same byte order.
 Agrees : tolerant.State → strict.State → Type 0
 Agrees tolerant.opening strict.opening = ⊤
 Agrees (tolerant.within section interfaces) (strict.within s is) = strict.order_at (strict.within section []) ≡ strict.order_at (strict.within s is)
 Agrees _ _ = ⊥
 
--- what is left of a block is read, and leads there; of nothing nothing is read
+-- Reads: the block that is left is read and leads to this state; if none is left, nothing is read.
 Reads : strict.State → strict.State → Option Raw → List ℕ → List ℕ → Type 0
 Reads p next None text rest = (text ≡ []) × (next ≡ p)
 Reads p next (Some raw) text rest = (text ≡ raw_text raw) × BlockText p (record { block = framed_raw raw; after = next }) (raw_text raw ++ rest) rest
@@ -212,7 +212,7 @@ record Steps (p : strict.State) (after : tolerant.State) (left : Option Raw) (te
   agrees : Agrees after next
   read : (rest : List ℕ) → Reads p next left text rest
 
--- a block of this type, in this order and with this body
+-- The block with this type, byte order and body.
 abbrev raw_as : BlockType → Endianness → List ℕ → Raw
 raw_as type e s = record { type_ = type; endianness = e; body = s }
 
@@ -225,7 +225,7 @@ section_agrees : (section other : Section) (after : tolerant.State) → after �
 unfolding Agrees strict.order_at
 section_agrees section other after is same = rw (is, same) refl
 
--- a section that is left is read, whatever order holds there
+-- A section that is left is read, whatever the byte order before it.
 section_step : (p : strict.State) (led : Led) (e : Endianness) (s t : List ℕ) (section : Section) (rest : List ℕ) → as_is.SectionText section led.flaws s rest → led.after ≡ tolerant.within section []
     → magic_order (big_number 4 (take 4 s)) ≡ Some e → take 4 t ≡ take 4 s → IsFitRaw (raw_as types.SectionHeader e t) → IsTaken (number_in e) types.SectionHeader t true
     → Steps p led.after (Some (raw_as types.SectionHeader e t)) (raw_text (raw_as types.SectionHeader e t))
@@ -272,7 +272,7 @@ module _ (section : Section) (interfaces : List (Option Interface)) (s : Section
       → FrameText (strict.order_at here) (framed_raw raw) (raw_text raw ++ rest) rest
   plain_frame raw rest fit other order = subst (λ (o : Endianness). FrameText o (framed_raw raw) (raw_text raw ++ rest) rest) order (plain_again raw rest fit other)
 
-  -- an interface that is left is read
+  -- An interface that is left is read.
   interface_step : (led : Led) (e : Endianness) (t : List ℕ) (all : List (Option Interface)) → led.after ≡ tolerant.within section all → e ≡ strict.order_at here
       → IsFitRaw (raw_as types.InterfaceDescription e t) → IsTaken (number_in e) types.InterfaceDescription t true
       → Steps here led.after (Some (raw_as types.InterfaceDescription e t)) (raw_text (raw_as types.InterfaceDescription e t))
@@ -297,7 +297,7 @@ module _ (section : Section) (interfaces : List (Option Interface)) (s : Section
       interface_step led e u all after order (fit_after (raw_as types.InterfaceDescription e t) u mends fit) (mended_taken (raw_as types.InterfaceDescription e t) (has_body u) mends)
   interface_mended led e t is_left_out all after order fit (lost fault says none other) = absurd (other refl)
 
-  -- any other block that is left is read
+  -- Any other block that is left is read.
   other_step : (led : Led) (raw : Raw) → led.after ≡ tolerant.within section interfaces → raw.endianness ≡ strict.order_at here → (type_number raw.type_ == 0x0A0D0D0A) ≡ false → is_kept raw.type_ ≡ false
       → IsFitRaw raw → Steps here led.after (Some raw) (raw_text raw)
   unfolding Reads
@@ -382,7 +382,7 @@ module _ (q : tolerant.State) (p : strict.State) (b : Framed) (led : Led) (becom
 
 -- ---- a capture
 
--- these blocks are read of bytes, and nothing is behind them
+-- AreTexts: these blocks are read from the bytes, and nothing follows them.
 AreTexts : strict.State → List ℕ → List Raw → Type 0
 AreTexts p s raws = (items : List strict_blocks.Item) × Texts block_format p items s [] × (map raw_read items ≡ raws)
 

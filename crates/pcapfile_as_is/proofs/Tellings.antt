@@ -1,4 +1,4 @@
--- Items as they stand that are told, one after another.
+-- This file proves how items that are read leniently are written, one after another.
 use Rattle.std.proofs.Common.{◌≡◌, ◌<◌, ◌≤◌, ◌+◌, ◌^◌, ℕ, List, [], ◌∷◌, ◌++◌, length, map, cond, Bool, Option, Ok, Err, refl, sym, ap, ◌∙◌, subst, arith, length-append}
 use Rattle.std.specs.Prelude.{count_by, sum_by, Result}
 use Rattle.std.specs.List.{flat_map}
@@ -30,18 +30,18 @@ use Rattle.pcapfile_as_is.specs.Counts.{counted, one_if, block_size}
 use Rattle.pcapfile_as_is.specs.declared.counted.Told.{Told}
 use Rattle.pcapfile_as_is.specs.Texts.{Row, AreTold, Telling, TellsBy, TellsItems, TellsTorn, WritesTold, numbered, item_in, text_in, has_number, has_flaw, size_in}
 
--- a packet that was taken is a head of 16 bytes and its data
+-- A packet that was read is a header of 16 bytes and its data.
 pub as_is_long : (limit : ℕ) (header : PcapHeader) (s : List ℕ) (packet : AsIs) → (as_is_under limit header).says tt s (whole packet []) → length s ≡ 16 + packet.head.included
 unfolding as_is_format
 as_is_long limit header s packet text =
     omega (arith, head_length (number_in (order_of header.magic_number)) packet.head s text.after text.text, ap length text.data_is, length-append packet.bytes [], text.whole)
 
--- a block that was taken is as long as it says
+-- A block that was read has the length that it states.
 pub block_long : (q : State) (s : List ℕ) (item : blocks.Item) → blocks.as_is_format.says q s (whole item []) → length s ≡ block_size item
 unfolding blocks.as_is_format
 block_long q s item text = omega (arith, frame_size (order_at q) item.block s [] text.frame)
 
--- ---- one item more
+-- ---- one more item
 
 module _ {V : Type 0} (size : V → ℕ) (IsTold : ℕ → ℕ → V → Told → List ℕ → Type 0) where
   told_at : (n m p q : ℕ) (row : Row V) → n ≡ m → p ≡ q → IsTold n p row.item row.told row.text → IsTold m q row.item row.told row.text
@@ -67,24 +67,24 @@ items_push rows row = map-append item_in rows (row ∷ [])
 texts_push_row : {V : Type 0} (rows : List (Row V)) (row : Row V) → flat_map text_in rows ++ row.text ≡ flat_map text_in (rows ++ row ∷ [])
 texts_push_row rows row = flat_map_more text_in [] rows row
 
--- what was written as one thing was written as another
+-- A line that was written as one thing was written as another.
 pub writes_as : (IsLine IsOther : List ℕ → Type 0) → ((line : List ℕ) → IsLine line → IsOther line) → (before after : Option (List ℕ)) (result : Result (Unit {0}) Exit) → WritesLine IsLine before after result → WritesLine IsOther before after result
 writes_as IsLine IsOther becomes before after (Ok done) wrote = (wrote.0, becomes wrote.0 wrote.1, wrote.2)
 writes_as IsLine IsOther becomes before after (Err (Io (IoError e))) wrote = (wrote.0, becomes wrote.0 wrote.1, wrote.2)
 writes_as IsLine IsOther becomes before after (Err Memory) wrote = wrote
 writes_as IsLine IsOther becomes before after (Err _) wrote = absurd wrote
 
--- what was told as one thing was told as another
+-- A text that was written for one thing was written for another.
 pub told_as : (IsTold IsOther : Told → List ℕ → Type 0) → ((told : Told) (line : List ℕ) → IsTold told line → IsOther told line) → (before after : Option (List ℕ)) (result : Result Told Exit) → WritesTold IsTold before after result → WritesTold IsOther before after result
 told_as IsTold IsOther becomes before after (Ok told) wrote = writes_as (IsTold told) (IsOther told) (becomes told) before after (Ok tt) wrote
 told_as IsTold IsOther becomes before after (Err exit) wrote = (wrote.0, writes_as (IsTold wrote.0) (IsOther wrote.0) (becomes wrote.0) before after (Err exit) wrote.1)
 
--- a text that went out is told of an item that has a number, and a flaw or none
+-- A text that was written belongs to an item with a number.
 pub tells_by : {V : Type 0} (flawed : V → Bool) (text : ℕ → ℕ → V → List ℕ) (number place : ℕ) (item : V) (told : Told) (before after : Option (List ℕ)) (result : Result (Unit {0}) Exit) → told ≡ numbered (flawed item)
     → WritesLine (λ line. line ≡ text number place item) before after result → WritesLine (TellsBy flawed text number place item told) before after result
 tells_by flawed text number place item told before after result is wrote = writes_as (λ line. line ≡ text number place item) (TellsBy flawed text number place item told) (λ line same. (is, same)) before after result wrote
 
--- what was written is the text of this packet
+-- The text written is that of this packet.
 pub put_as : {S : Type 0} (text : S → TsResolution → ℕ → ℕ → AsIs → List ℕ) (s t : S) (r u : TsResolution) (n p : ℕ) (x y : AsIs) (mid out : Option (List ℕ)) (result : Result (Unit {0}) Exit) → s ≡ t → r ≡ u → x ≡ y
     → WritesLine (λ line. line ≡ text s r n p x) mid out result → WritesLine (λ line. line ≡ text t u n p y) mid out result
 put_as {S} text s t r u n p x y mid out result settings resolutions packets wrote =
@@ -105,7 +105,7 @@ module _ {S V : Type 0} (f : Format S V) (q : S) (size : V → ℕ) (IsTold : �
     out = Appends-nil out;
   }
 
-  -- one item more, whose text went out
+  -- One more item, whose text was written.
   pub telling_more : IsLawful f → (p next : S) (before left now out_before mid out_now : Option (List ℕ)) (old here new : Counted) (n number : ℕ) (item : V) (told : Told) → Telling f q size IsTold p before left out_before mid old here n
       → f.goes p item ≡ next → (took : Takes (f.says p) left now item) → length took.0 ≡ size item → number ≡ counted (here.items + 1)
       → new.items ≡ counted (here.items + one_if told.has_number) → new.flawed ≡ counted (here.flawed + one_if told.has_flaw) → new.bytes ≡ counted (here.bytes + size item)
@@ -137,7 +137,7 @@ module _ {S V : Type 0} (f : Format S V) (q : S) (size : V → ℕ) (IsTold : �
         out = subst (λ (l : List ℕ). Appends out_before out_now l) (texts_push_row rows row) (Appends-trans out_before mid out_now (flat_map text_in rows) wrote.0 so_far.out wrote.2);
       }
 
-  -- it stops
+  -- The run stops.
   pub telling_stops : (p reached : S) (before left now out_before out : Option (List ℕ)) (failed : Bool) (most : ℕ) (old here : Counted) (n : ℕ) (fault : Option PcapError) → Telling f q size IsTold p before left out_before out old here n
       → reached ≡ p → n ≤ most → Stops (f.says p) left now failed n most fault → TellsItems f q size IsTold reached before now out_before out failed most old here fault
   telling_stops p reached before left now out_before out failed most old here n fault so_far stays within stops =
@@ -158,7 +158,7 @@ module _ {S V : Type 0} (f : Format S V) (q : S) (size : V → ℕ) (IsTold : �
         out = so_far.out;
       }
 
-  -- a write failed in the text of the next item, or there was no memory to make it
+  -- A write failed within the text of the next item, or there was no memory to make it.
   pub telling_torn : (p reached : S) (before left now out_before mid out_now : Option (List ℕ)) (old here : Counted) (n number : ℕ) (item : V) (exit : Exit) → Telling f q size IsTold p before left out_before mid old here n
       → f.goes p item ≡ reached → Takes (f.says p) left now item → number ≡ counted (here.items + 1) → WritesTold (IsTold number here.bytes item) mid out_now (Err exit)
       → TellsTorn f q size IsTold reached before now out_before out_now old here exit

@@ -1,4 +1,4 @@
--- Repaired packets break no rule, and packets that break none stay what they are.
+-- This file proves that repaired packets break no rule, and that packets which break none are unchanged.
 use Rattle.std.proofs.Common.{◌≡◌, ◌<◌, ◌≤◌, ◌/◌, ◌%◌, ◌^◌, ℕ, List, [], length, take, map, cond, Bool, true, false, refl, sym, ap, ◌∙◌, arith, slice_index_or}
 use Rattle.std.specs.Prelude.{max, min, nat_lt, All, if◌then◌else◌}
 use Rattle.std.proofs.lemmas.Bool.{ltb-false}
@@ -16,7 +16,7 @@ use Rattle.pcap_tolerant.specs.AsIs.{AsIs, AsIsText, breaks_one, strict_of}
 use Rattle.pcapfile_as_is.specs.Lists.{exact_time}
 use Rattle.pcapfile_as_is.specs.Repaired.{repaired_of, repaired_time}
 
--- seconds and nanoseconds that have room in a head
+-- HasRoom time: the seconds and nanoseconds fit in a packet's header.
 record HasRoom (time : ℕ × ℕ) : Type 0 where
   seconds : time.0 < 2 ^ 32
   nanos : time.1 < 2 ^ 32
@@ -56,7 +56,7 @@ none_of false true d e x = absurd cc
 none_of false false true e x = absurd cc
 none_of false false false e x = (refl, refl, refl, x)
 
--- the packet of this time, these lengths and these bytes
+-- The packet with this time, these lengths and these bytes.
 abbrev pub captured_with : ℕ × ℕ → ℕ → ℕ → List ℕ → Captured
 captured_with time stored original bytes = record { header = record { ts_sec = time.0; ts_nsec = time.1; incl_len = stored; orig_len = original }; bytes = bytes }
 

@@ -1,4 +1,4 @@
--- The lines of the flaws of blocks.
+-- This file defines the lines for the flaws of blocks.
 use Rattle.std.specs.Prelude.{ℕ, List, [], ◌++◌, codes, Option, None, Some}
 use Rattle.std.specs.List.{flat_map}
 use Rattle.std.specs.Fmt.{decimal}
@@ -7,34 +7,34 @@ use Rattle.pcap_core.specs.Rules.{number_of}
 use Rattle.pcap_tolerant_blocks.specs.Flaws.{Said}
 use Rattle.pcap_tolerant_captures.specs.Blocks.{Item}
 
--- where the block of this number stands, which has so many bytes before it
+-- The text that says where a block is: its number and the number of bytes before it.
 abbrev pub block_place : List ℕ → ℕ → ℕ → List ℕ
 block_place prefix number place = prefix ++ (codes "block " ++ (decimal number ++ (codes " at byte " ++ decimal place)))
 
--- in which option a flaw is, where it is in one
+-- The text that names the option with a flaw, empty if it is in none.
 abbrev pub option_text : Option ℕ → List ℕ
 option_text None = []
 option_text (Some code) = codes " in option " ++ decimal code
 
--- the line of a rule of this number and message that is broken at a place
+-- The line of a rule with this number and message that is broken at a place.
 abbrev pub broken_rule : List ℕ → ℕ → List ℕ → List ℕ → List ℕ
 broken_rule place number option message = place ++ (codes " breaks rule " ++ (decimal number ++ (option ++ (codes ": " ++ (message ++ codes "\n")))))
 
--- the line of a fault; a body has none of another format
+-- The line of a fault. A body has no fault of another format.
 abbrev pub fault_line : List ℕ → List ℕ → Fault → List ℕ
 fault_line place option (Invalid rule) = broken_rule place (number_of rule) option (rule_message rule)
 fault_line place option Io = place ++ (codes " is too short" ++ (option ++ codes "\n"))
 fault_line place option Utf8 = place ++ (codes " is not UTF-8" ++ (option ++ codes "\n"))
 fault_line place option (Own n) = []
 
--- the line of a flaw
+-- The line of a flaw.
 abbrev pub said_line : List ℕ → Said → List ℕ
 said_line place said = fault_line place (option_text said.code) said.fault
 
--- the lines of flaws, in their order
+-- The lines of flaws, in order.
 abbrev pub said_lines : List ℕ → List Said → List ℕ
 said_lines place = flat_map (said_line place)
 
--- the lines of the block of this number that stands behind so many bytes
+-- The lines of the block with this number, after this many bytes.
 abbrev pub block_lines : List ℕ → ℕ → ℕ → Item → List ℕ
 block_lines prefix number place item = said_lines (block_place prefix number place) item.led.flaws

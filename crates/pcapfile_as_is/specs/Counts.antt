@@ -1,33 +1,33 @@
--- Packets and blocks as they stand that are counted.
+-- This file defines how packets and blocks that are read leniently are counted.
 use Rattle.std.specs.Prelude.{◌+◌, ◌-◌, ◌^◌, ◌==◌, ℕ, List, length, Bool, not, min, if◌then◌else◌}
 use Rattle.pcap_tolerant.specs.AsIs.{AsIs, breaks_one}
 use Rattle.pcap_tolerant_blocks.specs.Flaws.{Said}
 use Rattle.pcap_tolerant_captures.specs.Blocks.{Item}
 
--- a number as it is counted: the largest of 64 bits stands for all above it
+-- A number as it is counted: the greatest number of 64 bits also represents all above it.
 abbrev pub counted : ℕ → ℕ
 counted n = min n (2 ^ 64 - 1)
 
--- one where something holds
+-- One if the condition holds, and else zero.
 abbrev pub one_if : Bool → ℕ
 one_if holds = if holds then 1 else 0
 
--- the packet breaks a rule
+-- has_flaw packet: the packet breaks a rule.
 abbrev pub has_flaw : AsIs → Bool
 has_flaw packet = breaks_one packet.flaws
 
--- the bytes of a packet with its head, as this states them
+-- The number of bytes of a packet with its header, as the header states it.
 abbrev pub size_of : AsIs → ℕ
 size_of packet = 16 + packet.head.included
 
--- something is wrong with a body
+-- are_some flaws: a body has flaws.
 abbrev pub are_some : List Said → Bool
 are_some flaws = not (length flaws == 0)
 
--- something is wrong with the body of a block
+-- is_flawed item: the body of a block has flaws.
 abbrev pub is_flawed : Item → Bool
 is_flawed item = are_some item.led.flaws
 
--- the bytes of a block
+-- The number of bytes of a block.
 abbrev pub block_size : Item → ℕ
 block_size item = item.block.initial_len

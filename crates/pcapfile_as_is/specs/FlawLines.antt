@@ -1,4 +1,4 @@
--- The lines of the rules that packets break.
+-- This file defines the lines for the rules that packets break.
 use Rattle.std.specs.Prelude.{ℕ, List, [], ◌++◌, codes, if◌then◌else◌}
 use Rattle.std.specs.Fmt.{decimal}
 use Rattle.pcap_core.specs.declared.rules.Rule.{Rule}
@@ -7,19 +7,19 @@ use Rattle.pcap_core.specs.Faults.{rule_message}
 use Rattle.pcap_core.specs.Rules.{number_of}
 use Rattle.pcap_tolerant.specs.declared.as_is.Flaws.{Flaws}
 
--- where the packet of this number stands, which has so many bytes before it
+-- The text that says where a packet is: its number and the number of bytes before it.
 abbrev pub place_text : List ℕ → ℕ → ℕ → List ℕ
 place_text prefix number place = prefix ++ (codes "packet " ++ (decimal number ++ (codes " at byte " ++ decimal place)))
 
--- the line of a rule of this number and message that is broken at a place
+-- The line of a rule with this number and message that is broken at a place.
 abbrev pub rule_text : List ℕ → ℕ → List ℕ → List ℕ
 rule_text place number message = place ++ (codes " breaks rule " ++ (decimal number ++ (codes ": " ++ (message ++ codes "\n"))))
 
--- the line of a rule that the packet of this number breaks
+-- The line of a rule that the packet with this number breaks.
 abbrev pub flaw_text : List ℕ → ℕ → ℕ → Rule → List ℕ
 flaw_text prefix number place rule = rule_text (place_text prefix number place) (number_of rule) (rule_message rule)
 
--- the lines of those that are broken, in the rules' order
+-- The lines of the broken rules, in the order of the rules.
 abbrev pub flaws_text : List ℕ → ℕ → ℕ → Flaws → List ℕ
 flaws_text prefix number place f =
     (if f.fraction_too_large then flaw_text prefix number place FractionTooLarge else [])

@@ -1,4 +1,4 @@
--- Bytes that are left out of captures.
+-- This file defines the lines for bytes of a capture that are left out.
 use Rattle.std.specs.Prelude.{ℕ, List, [], ◌++◌, ◌-◌, ◌==◌, codes, Option, None, Some, if◌then◌else◌}
 use Rattle.std.specs.Fmt.{decimal}
 use Rattle.pcap_core.specs.declared.rules.Rule.{Rule}
@@ -10,30 +10,30 @@ use Rattle.pcapfile_as_is.specs.declared.gaps.Place.{Place}
 use Rattle.pcapfile_as_is.specs.declared.gaps.Scrap.{Scrap}
 use Rattle.pcapfile_as_is.specs.declared.gaps.Scrap.TheVariants.{NoPackets, NoBlocks, PacketFront, BlockFront}
 
--- what such bytes are
+-- The words for the kind of such bytes.
 abbrev pub scrap_text : Scrap → List ℕ
 scrap_text NoPackets = codes "no packets"
 scrap_text NoBlocks = codes "no blocks"
 scrap_text PacketFront = codes "of a packet that is cut short"
 scrap_text BlockFront = codes "of a block that is cut short"
 
--- how many bytes of a gap stand where, what they are, and that they are left out
+-- The text of a gap has its number of bytes, their offset and kind, and that they are left out.
 abbrev pub gap_text : Gap → List ℕ
 gap_text gap = decimal gap.bytes ++ (codes " bytes at byte " ++ (decimal gap.place ++ (codes " are " ++ (scrap_text gap.scrap ++ codes ", and are left out"))))
 
--- by which rule, where one is broken
+-- The text with the rule that the bytes break, if any.
 abbrev pub reason_text : Option Rule → List ℕ
 reason_text None = []
 reason_text (Some rule) = codes " by rule " ++ (decimal (number_of rule) ++ (codes ": " ++ rule_message rule))
 
--- the line of a gap
+-- The line of a gap.
 abbrev pub gap_line : List ℕ → Gap → List ℕ
 gap_line prefix gap = prefix ++ (gap_text gap ++ (reason_text gap.rule ++ codes "\n"))
 
--- a gap of so many bytes at a place
+-- A gap of this many bytes at a place.
 abbrev pub gap_at : ℕ → ℕ → LeftOut → Gap
 gap_at place bytes left = record { place = place; bytes = bytes; scrap = left.scrap; rule = left.rule }
 
--- the gap that follows on a place, where more bytes are left out than before; none where they are as many
+-- The gap after a place, if more bytes are left out than before.
 abbrev pub gap_behind : Place → LeftOut → Option Gap
 gap_behind place left = if left.bytes - place.left_out == 0 then None else Some (gap_at place.counted.bytes (left.bytes - place.left_out) left)

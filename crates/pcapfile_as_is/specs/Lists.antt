@@ -1,4 +1,4 @@
--- The lines of packets as they stand.
+-- This file defines the lines of packets that are read leniently.
 use Rattle.std.specs.Prelude.{◌+◌, ◌*◌, ◌/◌, ◌%◌, ℕ, List, [], ◌++◌, codes, if◌then◌else◌}
 use Rattle.std.specs.Fmt.{decimal}
 use Rattle.pcap_classic.specs.declared.common.TsResolution.{TsResolution}
@@ -7,17 +7,17 @@ use Rattle.capcopy_run.specs.PacketLines.{nine_digits}
 use Rattle.pcap_tolerant.specs.declared.as_is.Flaws.{Flaws}
 use Rattle.pcap_tolerant.specs.AsIs.{AsIs}
 
--- the end of a line: a mark with its number for each rule that is broken
+-- The end of a line has a mark with the number of each rule that is broken.
 abbrev pub marks_text : Flaws → List ℕ
 marks_text f =
     (if f.fraction_too_large then codes " !2" else []) ++ ((if f.included_too_long then codes " !3" else [])
     ++ ((if f.original_too_long then codes " !4" else []) ++ ((if f.included_past_original then codes " !5" else []) ++ codes "\n")))
 
--- the time of a head in nanoseconds since 1970, exact also where its fraction passes a second
+-- The time of a header in nanoseconds since 1970, exact even if its fraction is more than a second.
 abbrev pub exact_time : TsResolution → Head → ℕ
 exact_time r head = head.seconds * 1_000_000_000 + nanoseconds r head.fraction
 
--- the line of the packet of this number: its number, its time, its stored and original length, and its marks
+-- The line of the packet with this number has its number, its time, its stored and original length, and its marks.
 abbrev pub as_is_line : TsResolution → ℕ → AsIs → List ℕ
 as_is_line r number packet =
     decimal number ++ (codes " " ++ (decimal (exact_time r packet.head / 1_000_000_000) ++ (codes "." ++ (nine_digits (exact_time r packet.head % 1_000_000_000)

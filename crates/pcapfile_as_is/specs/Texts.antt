@@ -1,4 +1,4 @@
--- What is told of items as they stand, one after another.
+-- This file defines what is written for items that are read leniently, one after another.
 use Rattle.std.specs.Prelude.{◌≡◌, ◌+◌, ⊤, ℕ, List, [], ◌∷◌, length, map, count_by, sum_by, Bool, true, Option, Result, Ok, Err}
 use Rattle.std.specs.List.{flat_map}
 use Rattle.std.specs.Io.KnownBytes.{Appends}
@@ -12,60 +12,60 @@ use Rattle.pcapfile_as_is.specs.declared.counted.Counted.{Counted}
 use Rattle.pcapfile_as_is.specs.declared.counted.Told.{Told}
 use Rattle.pcapfile_as_is.specs.Counts.{counted, one_if}
 
--- an item that has a number, and a flaw or none
+-- The facts about an item with a number.
 abbrev pub numbered : Bool → Told
 numbered flawed = record { has_number = true; has_flaw = flawed }
 
--- an item has a number, and a flaw or none and a text as these say
+-- TellsBy: an item has a number, and these functions give whether it has a flaw, and its text.
 abbrev pub TellsBy : {V : Type 0} → (V → Bool) → (ℕ → ℕ → V → List ℕ) → ℕ → ℕ → V → Told → List ℕ → Type 0
 TellsBy flawed text number place item told bytes = (told ≡ numbered (flawed item)) × (bytes ≡ text number place item)
 
--- one call that tells of an item: its text went out as a line does
+-- WritesTold: a call writes the text of an item as a line is written, and returns the facts about the item.
 abbrev pub WritesTold : (Told → List ℕ → Type 0) → Option (List ℕ) → Option (List ℕ) → Result Told Exit → Type 0
 WritesTold IsTold before after (Ok told) = WritesLine (IsTold told) before after (Ok tt)
 WritesTold IsTold before after (Err exit) = (told : Told) × WritesLine (IsTold told) before after (Err exit)
 
--- an item, what was told of it, and its text
+-- A row is an item, the facts about it, and its text.
 pub record Row (V : Type 0) : Type 0 where
   pub item : V
   pub told : Told
   pub text : List ℕ
 
--- the item alone
+-- The item of a row.
 abbrev pub item_in : {V : Type 0} → Row V → V
 item_in row = row.item
 
--- the text alone
+-- The text of a row.
 abbrev pub text_in : {V : Type 0} → Row V → List ℕ
 text_in row = row.text
 
--- the item has a number
+-- has_number row: the item has a number.
 abbrev pub has_number : {V : Type 0} → Row V → Bool
 has_number row = row.told.has_number
 
--- it has a flaw
+-- has_flaw row: the item has a flaw.
 abbrev pub has_flaw : {V : Type 0} → Row V → Bool
 has_flaw row = row.told.has_flaw
 
--- its bytes
+-- The number of bytes of the item.
 abbrev pub size_in : {V : Type 0} → (V → ℕ) → Row V → ℕ
 size_in size row = size row.item
 
--- this is told of items, where the first that has a number has this one, and stand behind so many bytes
+-- AreTold: these are the facts and texts of items, where the first item with a number has this one, and this many bytes precede them.
 abbrev pub AreTold : {V : Type 0} → (V → ℕ) → (ℕ → ℕ → V → Told → List ℕ → Type 0) → ℕ → ℕ → List (Row V) → Type 0
 AreTold size IsTold number place [] = ⊤
 AreTold size IsTold number place (row ∷ rows) =
     IsTold (counted number) (counted place) row.item row.told row.text × AreTold size IsTold (number + one_if row.told.has_number) (place + size row.item) rows
 
--- items of a format under a state, each of so many bytes, and what is told of each by its number and its place
+-- Items of a format from a state on, each of this size, and what is written for each, given its number and its place.
 module _ {S V : Type 0} (f : Format S V) (q : S) (size : V → ℕ) (IsTold : ℕ → ℕ → V → Told → List ℕ → Type 0) where
-  -- those that have numbers, those with flaws and all bytes were counted behind what was counted before
+  -- Counts: items with numbers, items with flaws and all bytes were added to what was counted before.
   pub record Counts (old new : Counted) (rows : List (Row V)) : Type 0 where
     pub items_are : new.items ≡ counted (old.items + count_by has_number rows)
     pub flawed_are : new.flawed ≡ counted (old.flawed + count_by has_flaw rows)
     pub bytes_are : new.bytes ≡ counted (old.bytes + sum_by (size_in size) rows)
 
-  -- so many items were taken, and no more, they lead to this state, they are counted, and their texts went out
+  -- Telling: exactly n items were read, they lead to this state, they were counted, and their texts were written.
   pub record Telling (reached : S) (before left out_before out_now : Option (List ℕ)) (old new : Counted) (n : ℕ) : Type 0 where
     pub rows : List (Row V)
     pub count : length rows ≡ n
@@ -76,7 +76,8 @@ module _ {S V : Type 0} (f : Format S V) (q : S) (size : V → ℕ) (IsTold : �
     pub counts : Counts old new rows
     pub out : Appends out_before out_now (flat_map text_in rows)
 
-  -- items were taken up to a cause to stop, at most so many, they lead to this state, they are counted, and their texts went out
+  -- TellsItems: items, at most `most`, were read until the run stopped. They lead to this state and are counted, and their texts are
+  -- written.
   pub record TellsItems (reached : S) (before now out_before out_now : Option (List ℕ)) (failed : Bool) (most : ℕ) (old new : Counted) (fault : Option PcapError) : Type 0 where
     pub rows : List (Row V)
     pub run : TakesItems f q before now failed most (map item_in rows) fault
@@ -86,7 +87,8 @@ module _ {S V : Type 0} (f : Format S V) (q : S) (size : V → ℕ) (IsTold : �
     pub counts : Counts old new rows
     pub out : Appends out_before out_now (flat_map text_in rows)
 
-  -- items were taken, which lead to this state, all but the last are counted, and their texts went out, and the last one's ended so
+  -- TellsTorn: the items read lead to this state. All but the last are counted and their texts are written, and the last one's text ended
+  -- with this exit.
   pub record TellsTorn (reached : S) (before now out_before out_now : Option (List ℕ)) (old new : Counted) (exit : Exit) : Type 0 where
     pub rows : List (Row V)
     pub next : V

@@ -1,4 +1,4 @@
-//! A line for each flaw of a block.
+//! Lines for the flaws of blocks.
 
 ghost use Rattle.std.specs.Prelude.{◌≡◌, map, IfOk, string_bytes};
 ghost use Rattle.pcap_core.specs.Faults.{Invalid};
@@ -15,22 +15,22 @@ use pcap_tolerant_captures::{LentAsIs, PcapNgReaderAsIs};
 use std::alloc::{AllocError, Global};
 use std::io::Write;
 
-/// Writes a line for each flaw of a block's body: what stands before each line, the block's number, where it stands, the rule's number
-/// and message, and the code of the option whose value it is.
+/// A writer of a line for each flaw of a block's body. The line has the prefix, the block's number and offset, the rule's number and
+/// message, and the code of the option with the flaw, if any.
 #[derive(Clone, Copy, Debug, Drop)]
 pub struct BlockFlawLines<'a> {
-    /// What stands before each line.
+    /// The text before each line.
     pub prefix: &'a str,
 }
 
-// Where the block of this number stands.
+// Returns the text that says where the block with this number is.
 fn place_of(alloc: Global, prefix: &str, number: u64, place: u64) -> Result<String, AllocError>
     ensures { IfOk result (λ text. string_bytes text ≡ block_place prefix.now number place) }
 {
     format!(in alloc; "{prefix}block {number} at byte {place}")
 }
 
-// In which option it is.
+// Returns the text that names the option with the flaw, if any.
 fn option_of(alloc: Global, code: Option<u16>) -> Result<String, AllocError>
     ensures { IfOk result (λ text. string_bytes text ≡ option_text code) }
 {
@@ -40,7 +40,7 @@ fn option_of(alloc: Global, code: Option<u16>) -> Result<String, AllocError>
     }
 }
 
-// The line of a rule of this number and message.
+// Returns the line of a rule with this number and message.
 fn rule_line(
     alloc: Global,
     place: &str,
@@ -53,7 +53,7 @@ fn rule_line(
     format!(in alloc; "{place} breaks rule {number}{option}: {message}\n")
 }
 
-/// The line of a rule that is broken in an option, or in none.
+/// Returns the line of a rule that is broken in an option, or in none if `option` is empty.
 pub(crate) fn rule_flaw(
     alloc: Global,
     place: &str,
@@ -65,7 +65,7 @@ pub(crate) fn rule_flaw(
     rule_line(alloc, place, rule.number(), option, rule.text())
 }
 
-// The line of what stands against an option, or against none.
+// Returns the line of a fault in an option, or in none.
 fn broken_line(
     alloc: Global,
     place: &str,
@@ -81,7 +81,7 @@ fn broken_line(
     }
 }
 
-// The line of a flaw.
+// Returns the line of a flaw.
 fn line_of(alloc: Global, place: &str, flaw: Flaw) -> Result<String, AllocError>
     ensures { IfOk result (λ line. string_bytes line ≡ said_line place.now (said_of flaw)) }
 {
@@ -89,7 +89,7 @@ fn line_of(alloc: Global, place: &str, flaw: Flaw) -> Result<String, AllocError>
     broken_line(alloc, place, within.as_str(), flaw.broken)
 }
 
-// The lines of the flaws.
+// Returns the lines of the flaws.
 fn lines_of(alloc: Global, place: &str, flaws: &[Flaw]) -> Result<String, AllocError>
     ensures { IfOk result (λ lines. string_bytes lines ≡ said_lines place.now (map said_of flaws.now)) }
 {
@@ -103,7 +103,7 @@ fn lines_of(alloc: Global, place: &str, flaws: &[Flaw]) -> Result<String, AllocE
     Ok(lines)
 }
 
-// Writes the lines of the flaws of the block of this number.
+// Writes the lines of the flaws of the block with this number.
 fn put_flaws<W: Write>(
     alloc: Global,
     output: &mut W,

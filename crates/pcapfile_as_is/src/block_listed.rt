@@ -1,4 +1,4 @@
-//! A line for each packet in a block as it stands.
+//! Lines for the packets in blocks, read leniently.
 
 ghost use Rattle.std.specs.Prelude.{◌≡◌, ◌++◌, map, codes, IfOk, OnOk, string_bytes, option_map};
 ghost use Rattle.std.specs.Fmt.{decimal};
@@ -28,24 +28,24 @@ use std::alloc::{AllocError, Global};
 use std::io::Write;
 use std::slice;
 
-/// Room for a line whose packet has a few flaws, in bytes.
+/// The size of a line whose packet has a few flaws, in bytes.
 const LINE: usize = 2 * ROOM;
 
-/// Writes a line for each packet in a block: what `pcapfile list` writes of it, by its interface where that is known, and behind
-/// that ` !` and the number of each rule that its body breaks, ` !utf8` for what is no UTF-8, and ` !short` for a value that is too
-/// short. A packet for which its block has no room has the line `index refused` with the mark of its rule. Other blocks have no
-/// line and no number.
+/// A writer of a line for each packet in a block, read leniently. The line is that of `pcapfile list`, with the time by the packet's
+/// interface if that is known. After it come marks: ` !` and the number of each rule that the body breaks, ` !utf8` for a string that
+/// isn't UTF-8, and ` !short` for a value that is too short. If a block has no room for its packet, the line is `index refused` with
+/// the mark of its rule. Other blocks have no line and no number.
 #[derive(Clone, Copy, Debug, Drop)]
 pub struct BlockPacketLines;
 
-// What the body of a block that holds a packet is as it stands, where it has room for the packet, and what is wrong with it.
+// The body of a block that holds a packet, if the block has room for the packet, and the flaws of the body.
 #[derive(Drop)]
 struct BodyAsIs<'a> {
     body: Option<ParsedBlock<'a>>,
     flaws: Vec<Flaw>,
 }
 
-// What was read of a block of one kind, with its packet as the body that it is.
+// Converts a block of one kind, read leniently, to a body with its flaws.
 macro_rules! body_of_kind {
     ($read:ident, $Read:ident, $Body:ident) => {{
         let $Read { packet, flaws } = $read;
@@ -78,7 +78,7 @@ fn of_simple(read: SimpleAsIs<'_>) -> BodyAsIs<'_>
     body_of_kind!(read, SimpleAsIs, SimplePacket)
 }
 
-// The body of the block that a reader lends, where that holds a packet.
+// Returns the body of the block that a reader lends, if the block holds a packet.
 fn body_lent<T>(
     reader: &PcapNgReaderAsIs<T>,
     header: BlockHeader,
@@ -98,7 +98,7 @@ fn body_lent<T>(
     }
 }
 
-// The interface of this number, where one is known by it.
+// Returns the interface with this number, if it is known.
 fn interface_known<T>(
     reader: &PcapNgReaderAsIs<T>,
     number: u32,
@@ -111,7 +111,7 @@ fn interface_known<T>(
     }
 }
 
-// The packet that a body is, where this is the first interface, if it is known.
+// Returns the packet in a body, given the first interface, if that is known.
 fn packet_of<'a>(
     first: Option<&InterfaceDescriptionBlock<'static>>,
     body: &'a Option<ParsedBlock<'_>>,
@@ -127,7 +127,7 @@ fn packet_of<'a>(
     }
 }
 
-// The mark of a flaw.
+// Returns the mark of a flaw.
 fn mark_made(alloc: Global, broken: Broken) -> Result<String, AllocError>
     ensures { IfOk result (λ mark. string_bytes mark ≡ mark_of (fault_of broken)) }
 {
@@ -141,7 +141,7 @@ fn mark_made(alloc: Global, broken: Broken) -> Result<String, AllocError>
     }
 }
 
-// Puts the end of a line behind its front, which marks these flaws.
+// Appends the end of a line, with the marks of these flaws.
 fn push_ending(alloc: Global, line: &mut Vec<u8>, flaws: &[Flaw]) -> Result<(), AllocError>
     ensures { OnOk result (line.new.items ≡ line.old.items ++ ending (map said_of flaws.now)) }
 {
@@ -154,7 +154,7 @@ fn push_ending(alloc: Global, line: &mut Vec<u8>, flaws: &[Flaw]) -> Result<(), 
     line.extend_from_slice(b"\n")
 }
 
-// The line of the packet of this number, which came by this interface, if it is known.
+// Returns the line of the packet with this number and this interface, if that is known.
 fn packet_line(
     alloc: Global,
     number: u64,
@@ -173,7 +173,7 @@ fn packet_line(
     Ok(line)
 }
 
-// The line of the packet of this number for which its block has no room.
+// Returns the line of the packet with this number if its block has no room for it.
 fn refused_line(alloc: Global, number: u64, flaws: &[Flaw]) -> Result<Vec<u8>, AllocError>
     ensures { IfOk result (λ line. line.items ≡ decimal number ++ (codes " refused" ++ ending (map said_of flaws.now))) }
 {
@@ -182,7 +182,7 @@ fn refused_line(alloc: Global, number: u64, flaws: &[Flaw]) -> Result<Vec<u8>, A
     Ok(line)
 }
 
-// The line of the packet of this number in a body.
+// Returns the line of the packet with this number in a body.
 fn line_of<T>(
     alloc: Global,
     number: u64,
@@ -203,7 +203,7 @@ fn line_of<T>(
     }
 }
 
-// Writes that line.
+// Writes the line of the packet with this number in a body.
 fn put_line_of<T, W: Write>(
     alloc: Global,
     output: &mut W,
@@ -219,7 +219,7 @@ fn put_line_of<T, W: Write>(
     put_line(output, line.as_slice())
 }
 
-// Writes that line, and tells whether the body has a flaw.
+// Writes that line, and returns whether the body has a flaw.
 fn put_held<T, W: Write>(
     alloc: Global,
     output: &mut W,

@@ -1,4 +1,4 @@
-//! Blocks that are mended and written.
+//! Mending blocks and writing them.
 
 ghost use Rattle.std.specs.Prelude.{◌≡◌, IfOk};
 ghost use Rattle.pcap_ng.specs.RawBlocks.{raw_in};
@@ -17,26 +17,26 @@ use pcapfile_mended::{Mended, mend};
 use std::alloc::{AllocError, Global};
 use std::io::Write;
 
-/// The longest body that has a text: its length with the 12 bytes around it has 32 bits.
+/// The longest body of a block that can be written: with the 12 bytes around it, its length fits in 32 bits.
 const LONGEST_BODY: usize = 4_294_967_283;
 
-/// What is said of most blocks that have another body.
+/// The message for most blocks with a changed body.
 const OPTIONS_LEFT: &str = "options that break rules are left out";
 
-/// Writes each block mended, and says what it changed.
+/// A writer that mends each block, writes it, and reports its changes.
 #[derive(Debug, Drop)]
 pub struct BlockRepairs<E> {
-    /// What stands before each line that is said.
+    /// The text before each line of the report.
     pub prefix: String,
-    /// Where it is said. That something can't be said stops nothing.
+    /// The output of the report. A failed write there stops nothing.
     pub notes: E,
-    /// Room for a block's body.
+    /// The buffer for a block's body.
     pub body: Vec<u8>,
-    /// Room for a block's text.
+    /// The buffer for a block's bytes.
     pub text: Vec<u8>,
 }
 
-// The block that a reader lends.
+// Returns the block that a reader lends.
 fn block_in<'a, T>(reader: &'a PcapNgReaderAsIs<T>, lent: &LentAsIs) -> RawBlock<'a>
     ensures { raw_of result ≡ raw_in (lent_item reader.now lent.now).block }
 {
@@ -47,7 +47,7 @@ fn block_in<'a, T>(reader: &'a PcapNgReaderAsIs<T>, lent: &LentAsIs) -> RawBlock
     }
 }
 
-// Makes the text of what becomes of a block. There is none where its body has no length of 32 bits.
+// Mends a block and puts its bytes into `text`. Returns an error if its length needs more than 32 bits.
 fn make_text(
     alloc: Global,
     block: RawBlock<'_>,
@@ -62,7 +62,7 @@ fn make_text(
     mend(alloc, block, body, text)
 }
 
-// Writes what becomes of a block by way of the rooms.
+// Mends a block and writes it, by way of the buffers.
 fn put_mended<W: Write>(
     alloc: Global,
     output: &mut W,
@@ -77,12 +77,12 @@ fn put_mended<W: Write>(
     Ok(mended)
 }
 
-// Whether the body of a section states how long the section is.
+// Returns whether the body of a section header states the length of the section.
 fn states_length(body: &[u8]) -> bool {
     body.len() >= 16 && body[8..16] != [255; 8]
 }
 
-// What is said of a section that has another body now, where the old one stated a length, and had flaws or none.
+// Returns the message for a section header with a changed body, by whether the old body stated a length and had flaws.
 fn section_change(is_stated: bool, has_flaws: bool) -> &'static str {
     if !is_stated {
         return OPTIONS_LEFT;
@@ -93,7 +93,7 @@ fn section_change(is_stated: bool, has_flaws: bool) -> &'static str {
     "the length of its section is stated no more"
 }
 
-// What is said of a block that has another body now, where the old one had flaws or none.
+// Returns the message for a block with a changed body, by whether the old body had flaws.
 fn change_of(block: RawBlock<'_>, has_flaws: bool) -> &'static str {
     match block.type_ {
         BlockType::SectionHeader => section_change(states_length(block.body), has_flaws),
@@ -105,7 +105,7 @@ fn change_of(block: RawBlock<'_>, has_flaws: bool) -> &'static str {
 }
 
 impl<E: Write> BlockRepairs<E> {
-    // Says what became of the block of this number, which stands behind so many bytes.
+    // Reports the change of the block with this number, at this offset.
     fn tell(&mut self, number: u64, place: u64, mended: Mended, change: &str)
         ensures { self.new.prefix ≡ self.old.prefix }
     {

@@ -1,4 +1,4 @@
-//! What is written of each block.
+//! Writers of a text for each block.
 
 ghost use Rattle.std.specs.Prelude.{◌≡◌, ℕ, List};
 ghost use Rattle.pcap_tolerant_captures.specs.Blocks.{Item};
@@ -12,7 +12,7 @@ use pcap_tolerant_captures::{LentAsIs, PcapNgReaderAsIs};
 use std::alloc::Global;
 use std::io::Write;
 
-/// What writes a text for each block.
+/// A writer of a text for each block that is read leniently.
 pub trait BlockTeller {
     ghost Setting: { Type 0 };
 
@@ -20,9 +20,8 @@ pub trait BlockTeller {
 
     ghost is_told: { Setting → ℕ → ℕ → Item → WasTold → List ℕ → Type 0 };
 
-    /// Writes the text of the block that a reader lends, which stands behind so many bytes of its capture, and tells whether it has a
-    /// number and a flaw. The number is the one that it has, if it has one. An error of the output is `Io`; `Memory` where the text
-    /// can't be made.
+    /// Writes the text of the block that a reader lends, at the offset `place` of its capture. Returns whether the block has a number and
+    /// a flaw; `number` is its number if it has one. Returns `Io` if the output fails, and `Memory` if there is no memory for the text.
     fn put<T, W: Write>(
         &mut self,
         alloc: Global,

@@ -1,4 +1,4 @@
-//! Blocks as they stand that are taken off a stream, and told one after the other.
+//! Reading blocks leniently from a stream, and writing a text for each.
 
 ghost use Rattle.std.specs.Prelude.{◌≡◌, ◌<◌, ◌^◌, false, true, MatchResult, IfOk, IfErr, IfNone, IfSome};
 ghost use Rattle.pcap_tolerant_captures.specs.Blocks.{as_is_format};
@@ -14,8 +14,8 @@ use pcap_tolerant_captures::PcapNgReaderAsIs;
 use std::alloc::Global;
 use std::io::{Read, Write};
 
-/// Writes the text of each block of a reader, `most` of them at most, counts it, and gives what refuses the next one. The errors
-/// are those of the teller: the block that it could not tell is taken and not counted, and the reader goes on behind it.
+/// Writes the text of each block of a reader, up to `most`, counts it, and returns the error of the next block, if any. Fails with the
+/// errors of the teller: the block that it could not write is consumed and not counted, and the reader goes on after it.
 pub fn tell_blocks<P: BlockTeller, T: Read + Drop, W: Write>(
     alloc: Global,
     teller: &mut P,

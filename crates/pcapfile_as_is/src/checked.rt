@@ -1,4 +1,4 @@
-//! What a check of a capture as it stands found.
+//! The results of checking a capture leniently.
 
 ghost use Rattle.std.specs.Prelude.{◌≡◌};
 ghost use Rattle.pcapfile_as_is.specs.CheckedAsIs.{line_as_is, status_as_is};
@@ -6,19 +6,19 @@ ghost use Rattle.pcapfile_as_is.specs.CheckedAsIs.{line_as_is, status_as_is};
 use pcapfile_run::Checked;
 use std::fmt;
 
-/// What a check of a capture as it stands found.
+/// The result of checking a capture leniently.
 #[derive(Debug, Drop)]
 pub struct CheckedAsIs {
-    /// How many packets or blocks it has, and what ends them.
+    /// The number of its packets or blocks, and the reason why no more follow.
     pub checked: Checked,
-    /// How many of them have a flaw.
+    /// The number of packets or blocks with a flaw.
     pub flawed: u64,
-    /// How many bytes between them are left out.
+    /// The number of bytes between them that are left out.
     pub left_out: u64,
 }
 
 impl CheckedAsIs {
-    /// The status with which a process ends that checked this capture.
+    /// Returns the exit status of a process that checked this capture.
     pub fn status(&self) -> u8
         ensures { result ≡ status_as_is self.now }
     {
@@ -28,7 +28,7 @@ impl CheckedAsIs {
     }
 }
 
-/// A line without its newline: that of the check, how many have flaws, and how many bytes are left out, if any are.
+/// Writes a line without a newline: that of the check, the number of items with flaws, and the number of bytes left out, if any.
 impl fmt::Display for CheckedAsIs {
     ghost output = { line_as_is };
 

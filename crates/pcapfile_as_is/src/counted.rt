@@ -1,4 +1,4 @@
-//! Packets and blocks as they stand that are counted.
+//! Counting packets and blocks that are read leniently.
 
 ghost use Rattle.std.specs.Prelude.{◌≡◌, ◌+◌};
 ghost use Rattle.pcap_tolerant.specs.AsIs.{breaks_one};
@@ -6,27 +6,27 @@ ghost use Rattle.pcapfile_as_is.specs.Counts.{counted, one_if};
 
 use pcap_tolerant::HeadAsIs;
 
-/// How many packets or blocks there were, and where the next one stands. The largest number of 64 bits stands for all above it.
+/// The number of packets or blocks so far, and the offset of the next one. The greatest 64-bit number represents all above it.
 #[derive(Clone, Copy, Debug, PartialEq, Eq)]
 pub struct Counted {
-    /// How many packets or blocks.
+    /// The number of packets or blocks.
     pub items: u64,
-    /// How many of them have a flaw.
+    /// The number of packets or blocks with a flaw.
     pub flawed: u64,
-    /// How many bytes stand before the next one.
+    /// The number of bytes before the next one.
     pub bytes: u64,
 }
 
-/// What was told of a packet or a block.
+/// The facts about a packet or block that are counted.
 #[derive(Clone, Copy, Debug, PartialEq, Eq)]
 pub struct Told {
-    /// Whether it has a number, and counts among those of its capture.
+    /// Whether it has a number, and counts among the items of its capture.
     pub has_number: bool,
     /// Whether it has a flaw.
     pub has_flaw: bool,
 }
 
-// One where something holds.
+// Returns 1 if the condition holds, and 0 otherwise.
 fn count_if(holds: bool) -> u64
     ensures { result ≡ one_if holds }
 {
@@ -34,7 +34,7 @@ fn count_if(holds: bool) -> u64
 }
 
 impl Counted {
-    /// One packet more, of this head.
+    /// Counts one more packet, with this header.
     pub fn add(&mut self, head: &HeadAsIs)
         ensures items { self.new.items ≡ counted (self.old.items + 1) }
         ensures flawed { self.new.flawed ≡ counted (self.old.flawed + one_if (breaks_one head.now.flaws)) }
@@ -47,7 +47,7 @@ impl Counted {
         self.add_item(16 + u64::from(head.incl_len), told);
     }
 
-    /// One packet or block more, of so many bytes, of which this was told.
+    /// Counts one more packet or block, of this many bytes, with these facts.
     pub fn add_item(&mut self, bytes: u64, told: Told)
         ensures items { self.new.items ≡ counted (self.old.items + one_if told.has_number) }
         ensures flawed { self.new.flawed ≡ counted (self.old.flawed + one_if told.has_flaw) }

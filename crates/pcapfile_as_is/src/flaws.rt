@@ -1,4 +1,4 @@
-//! A line for each rule that a packet breaks.
+//! Lines for the rules that packets break.
 
 ghost use Rattle.std.specs.Prelude.{◌≡◌, [], IfOk, string_bytes, if◌then◌else◌};
 ghost use Rattle.pcapfile_as_is.specs.FlawLines.{place_text, flaw_text, flaws_text};
@@ -12,22 +12,22 @@ use pcap_tolerant::{Flaws, PacketAsIs};
 use std::alloc::{AllocError, Global};
 use std::io::Write;
 
-/// Writes a line for each rule that a packet breaks: what stands before each line, the packet's number, where it stands, and the
-/// rule's number and message.
+/// A writer of a line for each rule that a packet breaks. The line has the prefix, the packet's number and offset, and the rule's number
+/// and message.
 #[derive(Clone, Copy, Debug, Drop)]
 pub struct FlawLines<'a> {
-    /// What stands before each line.
+    /// The text before each line.
     pub prefix: &'a str,
 }
 
-// Where the packet of this number stands.
+// Returns the text that says where the packet with this number is.
 fn place_of(alloc: Global, prefix: &str, number: u64, place: u64) -> Result<String, AllocError>
     ensures { IfOk result (λ text. string_bytes text ≡ place_text prefix.now number place) }
 {
     format!(in alloc; "{prefix}packet {number} at byte {place}")
 }
 
-// The line of a rule.
+// Returns the line of a rule.
 fn flaw_line(
     alloc: Global,
     prefix: &str,
@@ -41,7 +41,7 @@ fn flaw_line(
     rule_flaw(alloc, place.as_str(), "", rule)
 }
 
-// The line of a rule, where it is broken.
+// Returns the line of a rule if it is broken, or else no line.
 fn line_if(
     alloc: Global,
     prefix: &str,
@@ -58,7 +58,7 @@ fn line_if(
     Ok(String::new(alloc))
 }
 
-// The lines of the rules that are broken.
+// Returns the lines of the rules that are broken.
 fn flaw_lines(
     alloc: Global,
     prefix: &str,

@@ -1,4 +1,4 @@
-//! Bytes that are left out of captures, since they are no packets or blocks.
+//! Bytes of captures that are left out, because they are no packets or blocks.
 
 ghost use Rattle.std.specs.Prelude.{◌≡◌, ◌+◌, ◌-◌, max, Some, IfOk, string_bytes};
 ghost use Rattle.capcopy_run.specs.Lines.{WritesLine};
@@ -12,49 +12,49 @@ use std::alloc::{AllocError, Global};
 use std::fmt;
 use std::io::Write;
 
-/// What bytes are that are left out.
+/// The kind of bytes that are left out.
 #[derive(Clone, Copy, Debug, PartialEq, Eq)]
 pub enum Scrap {
-    /// No packets.
+    /// Corrupt bytes between packet records.
     NoPackets,
-    /// No blocks.
+    /// Corrupt bytes between blocks.
     NoBlocks,
-    /// The beginning of a packet.
+    /// The beginning of a truncated packet record.
     PacketFront,
-    /// The beginning of a block.
+    /// The beginning of a truncated block.
     BlockFront,
 }
 
-/// What was left out of a capture so far.
+/// The bytes of a capture that were left out so far.
 #[derive(Clone, Copy, Debug, PartialEq, Eq)]
 pub struct LeftOut {
-    /// How many bytes.
+    /// The number of bytes.
     pub bytes: u64,
-    /// What the last of them are.
+    /// The kind of the last of them.
     pub scrap: Scrap,
-    /// The rule that what stands first among these breaks, if it breaks one.
+    /// The rule that is broken at the beginning of those last bytes, if any.
     pub rule: Option<Rule>,
 }
 
-/// Bytes in a row that are left out of a capture.
+/// A gap: consecutive bytes that are left out of a capture.
 #[derive(Clone, Copy, Debug, PartialEq, Eq)]
 pub struct Gap {
-    /// How many bytes stand before them.
+    /// Its offset in the capture.
     pub place: u64,
-    /// How many they are.
+    /// Its number of bytes.
     pub bytes: u64,
-    /// What they are.
+    /// The kind of its bytes.
     pub scrap: Scrap,
-    /// The rule that what stands first among them breaks, if it breaks one.
+    /// The rule that its first bytes break, if any.
     pub rule: Option<Rule>,
 }
 
-/// How far a capture is read.
+/// The position up to which a capture was read.
 #[derive(Clone, Copy, Debug, PartialEq, Eq)]
 pub struct Place {
-    /// What was counted of it. What is left out counts among its bytes.
+    /// The counts of its items. Bytes that are left out count among its bytes.
     pub counted: Counted,
-    /// How many bytes of it are left out.
+    /// The number of its bytes that are left out.
     pub left_out: u64,
 }
 
@@ -72,7 +72,7 @@ impl Scrap {
 }
 
 impl Place {
-    /// The place behind the opening of a capture, which has so many bytes.
+    /// Returns the position after the opening of a capture, which has this many bytes.
     pub fn new(bytes: u64) -> Place
         ensures items { result.counted.items ≡ 0 }
         ensures flawed { result.counted.flawed ≡ 0 }
@@ -89,7 +89,7 @@ impl Place {
         }
     }
 
-    /// Passes what is left out so far, and gives what of it is left out behind what was passed before, if anything is.
+    /// Advances past the bytes left out so far, and returns those that were left out since the last call as a gap, if any.
     pub fn pass(&mut self, left_out: LeftOut) -> Option<Gap>
         ensures gap { result ≡ gap_behind self.old left_out }
         ensures items { self.new.counted.items ≡ self.old.counted.items }
@@ -113,7 +113,7 @@ impl Place {
     }
 }
 
-/// How many bytes stand where, what they are, and that they are left out.
+/// Writes the number of bytes, their offset and kind, and that they are left out.
 impl fmt::Display for Gap {
     ghost output = { λ gap. Some (gap_text gap) };
 
@@ -127,7 +127,7 @@ impl fmt::Display for Gap {
     }
 }
 
-// By which rule bytes are left out, where they break one.
+// Returns the text with the rule that the bytes break, if any.
 fn reason_of(alloc: Global, rule: Option<Rule>) -> Result<String, AllocError>
     ensures { IfOk result (λ text. string_bytes text ≡ reason_text rule) }
 {
@@ -138,7 +138,7 @@ fn reason_of(alloc: Global, rule: Option<Rule>) -> Result<String, AllocError>
     format!(in alloc; " by rule {number}: {message}")
 }
 
-// The line of a gap.
+// Returns the line of a gap.
 fn line_of(alloc: Global, prefix: &str, gap: &Gap) -> Result<String, AllocError>
     ensures { IfOk result (λ line. string_bytes line ≡ gap_line prefix.now gap.now) }
 {
@@ -146,8 +146,8 @@ fn line_of(alloc: Global, prefix: &str, gap: &Gap) -> Result<String, AllocError>
     format!(in alloc; "{prefix}{gap}{reason}\n")
 }
 
-/// Writes the line of bytes that are left out behind what stands before each line, with the rule that they break, if they break one.
-/// An error of the output is `Io`; `Memory` where the line can't be made.
+/// Writes the line of a gap after the prefix, with the rule that its bytes break, if any. Returns `Io` if the output fails, and `Memory`
+/// if there is no memory for the line.
 pub fn put_gap<W: Write>(alloc: Global, output: &mut W, prefix: &str, gap: &Gap) -> Result<(), Exit>
     ensures { WritesLine (λ line. line ≡ gap_line prefix.now gap.now) (W.contents output.old) (W.contents output.new) result }
 {

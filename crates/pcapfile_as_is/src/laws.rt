@@ -1,4 +1,4 @@
-//! Laws of repaired packets and of mended blocks. Each contract is the law.
+//! Laws of repaired packets and mended blocks. The contract of each function is the law.
 
 ghost use Rattle.std.specs.Prelude.{◌≡◌, ◌<◌, ◌^◌, ℕ, List, [], map, All, false};
 ghost use Rattle.pcap_core.specs.Answer.{Order};
@@ -22,21 +22,22 @@ pub fn repaired_packets_are_whole()
     ensures { (r : TsResolution) (packet : AsIs) → packet.head.seconds < 2 ^ 32 → IsWhole (repaired_of r packet) }
 {}
 
-/// A packet that breaks no rule is repaired to what it is.
+/// Repairing a packet that breaks no rule leaves it unchanged.
 pub fn sound_packets_stay()
     ensures { (limit : ℕ) (order : Order) (r : TsResolution) (packet : AsIs) (s rest : List ℕ) → AsIsText limit order r packet s rest
         → breaks_one packet.flaws ≡ false → repaired_of r packet ≡ strict_of r packet }
 {}
 
-/// A header and repaired packets, written one after the other, are read by the strict reading whole, with no packet refused.
+/// Strict reading accepts a repaired capture whole: a header that can be written and read again, and the repaired packets after it.
+/// It refuses no packet.
 pub fn repaired_captures_are_read()
     ensures { (header : PcapHeader) (packets : List AsIs) → IsWholeHeader header → All (λ packet. packet.head.seconds < 2 ^ 32) packets →
         CaptureFront packet_limit header (map (cut (resolution_of header.magic_number)) (map (repaired_of (resolution_of header.magic_number)) packets))
         (capture header (map (repaired_of (resolution_of header.magic_number)) packets)) [] }
 {}
 
-/// Where what becomes of each block of a capture is put, one behind the other, the strict reading takes it whole: exactly the blocks
-/// that are left, each with its type, its order and the body that it has then, and no block is refused.
+/// Strict reading accepts the mended blocks of a capture, written one after the other, as a whole capture. It returns exactly the blocks
+/// that are left, each with its type, its byte order and its mended body, and refuses no block.
 pub fn mended_captures_are_read()
     ensures { (mended : List (Item × Becomes)) (s left : List ℕ) → IsBytes s → Front as_is_format opening (map block_of mended) s left → All IsMendedSo mended →
         AreRead mended }

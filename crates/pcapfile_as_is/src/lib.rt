@@ -1,5 +1,5 @@
-//! Captures as strangers write them, at the shell: what is wrong with the packets of classic ones and the blocks of PcapNg, lists of
-//! packets, and captures without flaws that are made of them.
+//! Lenient handling of malformed captures for the program `pcapfile`: reports of flaws of packets and PcapNg blocks, lists of packets,
+//! and repaired captures without flaws.
 #![tactic(auto)]
 
 mod block_flaws;

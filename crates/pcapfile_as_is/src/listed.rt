@@ -1,4 +1,4 @@
-//! A line for each packet as it stands.
+//! Lines for packets that are read leniently.
 
 ghost use Rattle.std.specs.Prelude.{◌≡◌, ◌≤◌, ◌+◌, ◌++◌, [], length, drop, if◌then◌else◌};
 ghost use Rattle.pcap_tolerant.specs.AsIs.{as_it_is};
@@ -11,12 +11,12 @@ use pcap_tolerant::{Flaws, PacketAsIs};
 use std::alloc::Global;
 use std::io::Write;
 
-/// Writes a line for each packet: its number, its time in seconds and nanoseconds, its stored and original length, and behind
-/// them ` !` and the number of each rule that it breaks.
+/// A writer of a line for each packet: its number, its time in seconds and nanoseconds, its stored and original length, and then ` !`
+/// and the number of each rule that it breaks.
 #[derive(Clone, Copy, Debug, Drop)]
 pub struct PacketLines;
 
-// Puts the mark of a rule before the text that begins at `end`, where it is broken, and returns where it begins then.
+// Puts the mark of a rule, if it is broken, before the text that begins at `end`, and returns the new beginning.
 fn put_mark(room: &mut [u8; ROOM], end: usize, is_broken: bool, mark: &str) -> usize
     requires { (length mark.now ≡ 3) × (3 ≤ end) × (end ≤ 126) }
     ensures start { (result ≤ end) × (end ≤ result + 3) }
@@ -28,7 +28,7 @@ fn put_mark(room: &mut [u8; ROOM], end: usize, is_broken: bool, mark: &str) -> u
     end
 }
 
-// Makes the end of a line, which marks the rules that are broken, and returns where it begins.
+// Writes the end of a line, with marks for the broken rules, and returns where it begins.
 fn put_marks(room: &mut [u8; ROOM], flaws: Flaws) -> usize
     ensures start { (113 ≤ result) × (result ≤ 126) }
     ensures text { drop result room.new ≡ marks_text flaws }
@@ -40,7 +40,7 @@ fn put_marks(room: &mut [u8; ROOM], flaws: Flaws) -> usize
     put_mark(room, start, flaws.fraction_too_large, " !2")
 }
 
-// Makes the line of the packet of this number at the end of the room, and returns where it begins.
+// Writes the line of the packet with this number into the end of the buffer, and returns where the line begins.
 fn make_line(
     room: &mut [u8; ROOM],
     ts_resolution: TsResolution,

@@ -1,4 +1,4 @@
-//! Packets without a flaw that are made of packets as they stand.
+//! Repairing packets, so that they have no flaw.
 
 ghost use Rattle.std.specs.Prelude.{◌≡◌};
 ghost use Rattle.pcap_classic.specs.PacketText.{content_of};
@@ -13,10 +13,10 @@ use pcap_tolerant::PacketAsIs;
 /// The longest packet that breaks no rule, in bytes.
 const PACKET_LIMIT: u32 = 262144;
 
-/// The latest time that a packet can have in either resolution: its seconds and nanoseconds.
+/// The latest time that a packet can have at either timestamp resolution, in seconds and nanoseconds.
 const LATEST: (u32, u32) = (4_294_967_295, 999_999_000);
 
-// The time of a repaired packet: its seconds and nanoseconds.
+// Returns the time of a repaired packet in seconds and nanoseconds.
 fn time_of(packet: &PacketAsIs<'_>, ts_resolution: TsResolution) -> (u32, u32)
     ensures { result ≡ repaired_time ts_resolution (as_it_is packet.now).head }
 {
@@ -35,11 +35,11 @@ fn time_of(packet: &PacketAsIs<'_>, ts_resolution: TsResolution) -> (u32, u32)
     (seconds as u32, time.subsec_nanos())
 }
 
-/// The packet that breaks no rule and is most like this one. One that breaks none stays what it is.
+/// Returns the packet closest to this one that breaks no rule. A packet that breaks none is unchanged.
 ///
-/// A fraction of a second that is too large is carried into the seconds, and where these have no room the time is the latest
-/// that there is. Of more than 262144 bytes the first so many are kept. An original length above 262144 is that, and one below
-/// the stored length is the stored length.
+/// A fraction of a second that is too large is carried into the seconds. If these don't fit, the time is the latest possible one.
+/// A packet of more than 262144 bytes is cut to its first 262144 bytes. The original length is reduced to at most 262144, and raised
+/// to at least the stored length.
 pub fn repaired<'a>(packet: &PacketAsIs<'a>, ts_resolution: TsResolution) -> Packet<'a>
     ensures { content_of result ≡ repaired_of ts_resolution (as_it_is packet.now) }
 {

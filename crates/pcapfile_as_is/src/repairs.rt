@@ -1,4 +1,4 @@
-//! Packets that are repaired and written.
+//! Repairing packets and writing them.
 
 ghost use Rattle.std.specs.Prelude.{◌≡◌, OnOk};
 ghost use Rattle.pcap_core.specs.Codec.{number_bytes};
@@ -18,20 +18,20 @@ use pcap_tolerant::PacketAsIs;
 use std::alloc::{AllocError, Global};
 use std::io::Write;
 
-/// Writes each packet repaired, in the order of its capture's numbers, and says what it changed.
+/// A writer that repairs each packet, writes it in the byte order of its capture, and reports its changes.
 #[derive(Debug, Drop)]
 pub struct Repairs<E> {
-    /// The order of the numbers.
+    /// The byte order of the capture.
     pub order: Endianness,
-    /// What stands before each line that is said.
+    /// The text before each line of the report.
     pub prefix: String,
-    /// Where it is said. That something can't be said stops nothing.
+    /// The output of the report. A failed write there stops nothing.
     pub notes: E,
-    /// Room for a packet's bytes.
+    /// The buffer for a packet's bytes.
     pub room: Vec<u8>,
 }
 
-// Puts the bytes of a packet into the room.
+// Puts the bytes of a packet into the buffer.
 fn put_bytes(
     room: &mut Vec<u8>,
     order: Endianness,
@@ -49,7 +49,7 @@ fn put_bytes(
     room.extend_from_slice(packet.data_.as_slice())
 }
 
-// Writes a packet by way of the room.
+// Writes a packet by way of the buffer.
 fn put_made<W: Write>(
     output: &mut W,
     room: &mut Vec<u8>,
@@ -65,7 +65,7 @@ fn put_made<W: Write>(
 }
 
 impl<E: Write> Repairs<E> {
-    // Says what the packet of this number, which stands behind so many bytes, became.
+    // Reports the changes of the packet with this number, at this offset.
     fn tell(&mut self, number: u64, place: u64, packet: &PacketAsIs<'_>, made: &Packet<'_>)
         ensures order { self.new.order ≡ self.old.order }
         ensures prefix { self.new.prefix ≡ self.old.prefix }

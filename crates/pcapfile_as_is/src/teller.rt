@@ -1,4 +1,4 @@
-//! What is written of each packet.
+//! Writers of a text for each packet.
 
 ghost use Rattle.std.specs.Prelude.{◌≡◌, ℕ, List};
 ghost use Rattle.pcap_classic.specs.declared.common.TsResolution.{TsResolution as Resolution};
@@ -11,7 +11,7 @@ use pcap_tolerant::PacketAsIs;
 use std::alloc::Global;
 use std::io::Write;
 
-/// What writes a text for each packet.
+/// A writer of a text for each packet that is read leniently.
 pub trait Teller {
     ghost Setting: { Type 0 };
 
@@ -19,8 +19,8 @@ pub trait Teller {
 
     ghost text: { Setting → Resolution → ℕ → ℕ → AsIs → List ℕ };
 
-    /// Writes the text of the packet of this number, which stands behind so many bytes of its capture. An error of the output is
-    /// `Io`; `Memory` where the text can't be made.
+    /// Writes the text of the packet with this number, at the offset `place` of its capture. Returns `Io` if the output fails, and `Memory`
+    /// if there is no memory for the text.
     fn put<W: Write>(
         &mut self,
         alloc: Global,

@@ -1,4 +1,4 @@
-//! Packets as they stand that are taken off a stream, and told one after the other.
+//! Reading packets leniently from a stream, and writing a text for each.
 
 ghost use Rattle.std.specs.Prelude.{◌≡◌, ◌<◌, ◌^◌, false, true, MatchResult, IfOk, IfErr, IfNone, IfSome};
 ghost use Rattle.pcap_classic.specs.Magic.{resolution_of};
@@ -15,8 +15,8 @@ use pcap_tolerant::ReaderAsIs;
 use std::alloc::Global;
 use std::io::{Read, Write};
 
-/// Writes the text of each packet of a reader, `most` of them at most, counts it, and gives what refuses the next one. The errors
-/// are those of the teller: the packet that it could not tell is taken and not counted, and the reader goes on behind it.
+/// Writes the text of each packet of a reader, up to `most`, counts it, and returns the error of the next packet, if any. Fails with the
+/// errors of the teller: the packet that it could not write is consumed and not counted, and the reader goes on after it.
 pub fn tell_packets<P: Teller, T: Read + Drop, W: Write>(
     alloc: Global,
     teller: &mut P,

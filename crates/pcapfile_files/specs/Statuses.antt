@@ -1,9 +1,9 @@
--- The statuses with which the program ends.
+-- This file defines the exit statuses of the program `pcapfile`.
 use Rattle.std.specs.Prelude.{ℕ}
 use Rattle.std.specs.declared.io.ErrorKind.{ErrorKind}
 use Rattle.std.specs.declared.io.ErrorKind.TheVariants.{BrokenPipe, OutOfMemory}
 
--- the status of a read or write that failed in this way: 4 where memory ran out, 141 where nobody reads the output any more, else 3
+-- The exit status for a read or write that failed with this kind: 4 when out of memory, 141 when nobody reads the output any more, else 3.
 abbrev pub failed_status : ErrorKind → ℕ
 failed_status OutOfMemory = 4
 failed_status BrokenPipe = 141

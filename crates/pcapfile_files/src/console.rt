@@ -1,4 +1,4 @@
-//! Standard error: how far captures are read, and what is wrong with them.
+//! Standard error: the progress line and messages about captures.
 
 ghost use Rattle.std.specs.Prelude.{None};
 
@@ -10,23 +10,23 @@ use std::io;
 use std::io::{Stderr, Write};
 use std::rc::Rc;
 
-/// How far captures are read, for each of them.
+/// The progress of the captures being read, shared by all of them.
 pub(crate) type Shared = Rc<Cell<Progress>>;
 
-/// Standard error, and what else the program is given.
+/// Standard error, and the runtime that the program gets from the host.
 #[derive(Drop)]
 pub struct Console {
     rt: HostRuntime,
-    /// How far captures are read, where that is said.
+    /// The progress of the captures being read, if the program shows it.
     progress: Option<Shared>,
-    /// Whether a capture is cut short or refused.
+    /// Whether a capture was found truncated or malformed.
     has_fault: Cell<bool>,
-    /// Whether the file of which bytes were read last from its beginning is no capture, and that isn't told yet.
+    /// Whether the file whose first bytes were read last is not a capture, and no message has reported that yet.
     is_foreign: Rc<Cell<bool>>,
 }
 
 impl Console {
-    /// A console that says how far captures are read where it is a terminal, but for a quiet one.
+    /// Returns a console that shows progress if standard error is a terminal, unless the console is quiet.
     pub fn new(rt: &HostRuntime, is_quiet: bool) -> Result<Console, AllocError> {
         let progress = match Progress::new(rt) {
             Some(progress) if !is_quiet => Some(Rc::new(rt.alloc(), Cell::new(progress))?),
@@ -40,28 +40,28 @@ impl Console {
         })
     }
 
-    /// What the program is given.
+    /// Returns the runtime that the program gets from the host.
     pub fn rt(&self) -> &HostRuntime {
         &self.rt
     }
 
-    /// Where memory comes from.
+    /// Returns the allocator of the program.
     pub fn alloc(&self) -> Global {
         self.rt.alloc()
     }
 
-    /// What the program is given, for a line on standard error. What was said of how far it is is taken away.
+    /// Clears the progress line and returns the runtime, so that the caller can print a line on standard error.
     pub fn for_line(&self) -> &HostRuntime {
         self.clear();
         &self.rt
     }
 
-    /// Takes away what was said of how far it is.
+    /// Clears the progress line.
     pub fn clear(&self) {
         clear(&self.progress);
     }
 
-    /// That a capture is cut short or refused. A file that doesn't begin as a capture does is none.
+    /// Records that a capture is truncated or malformed. If the file doesn't begin like a capture, it isn't counted.
     pub fn note_fault(&self) {
         if self.is_foreign.get() {
             self.is_foreign.set(false);
@@ -70,17 +70,17 @@ impl Console {
         }
     }
 
-    /// Where it is noted whether a file begins as a capture does.
+    /// Returns the shared flag that records that a file doesn't begin like a capture.
     pub(crate) fn foreign(&self) -> Result<Rc<Cell<bool>>, AllocError> {
         self.is_foreign.clone()
     }
 
-    /// Whether a capture is cut short or refused.
+    /// Returns whether a capture was found truncated or malformed.
     pub fn has_fault(&self) -> bool {
         self.has_fault.get()
     }
 
-    /// Standard error for lines that are said while a capture is read.
+    /// Returns standard error for lines that are printed while a capture is read.
     pub fn notes(&self) -> Result<Notes, AllocError> {
         let progress = match &self.progress {
             Some(progress) => Some(progress.clone()?),
@@ -92,14 +92,14 @@ impl Console {
         })
     }
 
-    /// That from now on it is said how far other captures are read.
+    /// Starts the progress anew, for other captures.
     pub fn begin(&self) {
         if let Some(progress) = &self.progress {
             progress.set(progress.get().anew());
         }
     }
 
-    /// That one more capture is read, of so many bytes, if that is known; and where it is said how far.
+    /// Adds a capture of this many bytes, if known, to the progress. Returns the progress if the program shows it.
     pub(crate) fn add_capture(&self, length: Option<u64>) -> Result<Option<Shared>, AllocError> {
         let Some(progress) = &self.progress else {
             return Ok(None);
@@ -119,7 +119,7 @@ fn clear(progress: &Option<Shared>) {
     }
 }
 
-/// Standard error, where what was said of how far it is is taken away before each line.
+/// Standard error that clears the progress line before each line.
 #[derive(Drop)]
 pub struct Notes {
     stderr: Uninterrupted<Stderr>,

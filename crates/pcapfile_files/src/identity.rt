@@ -1,4 +1,4 @@
-//! Which file a name leads to.
+//! The identity of the file at a path.
 
 use crate::console::Console;
 use crate::input::STANDARD;
@@ -6,13 +6,13 @@ use std::fs;
 use std::fs::Metadata;
 use std::os::unix::fs::MetadataExt;
 
-/// The name of what stands behind standard input.
+/// The path of the file that is standard input.
 const STANDARD_INPUT: &str = "/proc/self/fd/0";
 
-/// The name of what stands behind standard output.
+/// The path of the file that is standard output.
 const STANDARD_OUTPUT: &str = "/proc/self/fd/1";
 
-/// A regular file, whatever it is called.
+/// The identity of a regular file, whatever its name.
 #[derive(Clone, Copy, PartialEq, Eq)]
 pub(crate) struct Identity {
     device: u64,
@@ -20,7 +20,7 @@ pub(crate) struct Identity {
 }
 
 impl Identity {
-    /// That of the regular file of which this is known.
+    /// Returns the identity in this metadata, if it is of a regular file.
     pub(crate) fn of(found: &Metadata) -> Option<Identity> {
         if !found.is_file() {
             return None;
@@ -31,7 +31,7 @@ impl Identity {
         })
     }
 
-    /// That of the regular file to which this path leads, over links too.
+    /// Returns the identity of the regular file at this path. Links are followed.
     pub(crate) fn at(console: &Console, path: &str) -> Option<Identity> {
         match fs::metadata(console.rt(), path) {
             Ok(found) => Identity::of(&found),
@@ -39,12 +39,12 @@ impl Identity {
         }
     }
 
-    /// That of the regular file behind standard output.
+    /// Returns the identity of standard output, if it is a regular file.
     pub(crate) fn of_standard_output(console: &Console) -> Option<Identity> {
         Identity::at(console, STANDARD_OUTPUT)
     }
 
-    /// Whether it is one of the captures of these names.
+    /// Returns whether the file is one of the captures with these names.
     pub(crate) fn is_among(self, console: &Console, names: &[&str]) -> bool {
         for name in names {
             let path = if *name == STANDARD {

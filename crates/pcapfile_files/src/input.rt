@@ -1,4 +1,4 @@
-//! What the program reads.
+//! The captures that the program reads.
 
 ghost use Rattle.std.specs.Prelude.{None};
 
@@ -12,13 +12,13 @@ use std::io;
 use std::io::{BufReader, Read, Stdin};
 use std::rc::Rc;
 
-/// The size of the buffer over a capture, in bytes.
+/// The size of the input buffer of a capture, in bytes.
 const INPUT: usize = 262_144;
 
-/// The name of standard input among files.
+/// The file name that means standard input or standard output.
 pub const STANDARD: &str = "-";
 
-/// A stream behind a buffer. A read that a signal interrupts is repeated.
+/// Returns a buffered reader of a stream. It repeats a read that a signal interrupts.
 pub fn buffered<R: Read + Drop>(
     alloc: Global,
     stream: R,
@@ -26,7 +26,7 @@ pub fn buffered<R: Read + Drop>(
     BufReader::with_capacity(alloc, INPUT, Uninterrupted::new(stream))
 }
 
-/// A file, or standard input.
+/// The stream of a capture: a file, or standard input.
 #[derive(Drop)]
 pub(crate) enum Stream {
     Standard(Stdin),
@@ -44,21 +44,21 @@ impl Read for Stream {
     }
 }
 
-/// A capture that is read while it is said how far.
+/// A capture whose progress is shown while it is read.
 #[derive(Drop)]
 pub struct Watched {
     stream: Stream,
     length: Option<u64>,
     walk: Walk,
     progress: Option<Shared>,
-    /// Whether nothing was read of it yet.
+    /// Whether no bytes have been read from it yet.
     is_new: bool,
-    /// Where it is noted whether it begins as a capture does.
+    /// The shared flag that records that the capture doesn't begin like one.
     is_foreign: Rc<Cell<bool>>,
 }
 
 impl Watched {
-    /// How many bytes it has, where it is a file.
+    /// Returns the length of the capture in bytes, if it is a regular file.
     pub fn length(&self) -> Option<u64> {
         self.length
     }
@@ -90,7 +90,7 @@ fn open_stream(rt: &HostRuntime, name: &str) -> io::Result<Stream> {
     Ok(Stream::File(File::open(rt, name)?))
 }
 
-// How many bytes a stream has, where it is a file.
+// Returns the length of a stream in bytes, if it is a regular file.
 fn length_of(stream: &Stream) -> io::Result<Option<u64>> {
     match stream {
         Stream::Standard(_) => Ok(None),
@@ -105,13 +105,13 @@ fn length_of(stream: &Stream) -> io::Result<Option<u64>> {
     }
 }
 
-/// Opens the capture of a name, and says from now on how far it is read.
+/// Opens the capture with this name and starts to show its progress.
 pub fn open_watched(console: &Console, name: &str) -> io::Result<Watched> {
     console.begin();
     open_further(console, name)
 }
 
-/// Opens the capture of a name, which is read beside others: it is said how far all of these are read.
+/// Opens the capture with this name beside others. The progress shown is that of all of them.
 pub fn open_further(console: &Console, name: &str) -> io::Result<Watched> {
     let stream = open_stream(console.rt(), name)?;
     let length = length_of(&stream)?;

@@ -1,5 +1,5 @@
-//! What all words of the program `pcapfile` share: captures that are read and files that are written, how far they are read, and
-//! what is said of them on standard error.
+//! The parts that all words of the program `pcapfile` share: reading captures, writing files, showing progress, and printing
+//! messages on standard error.
 #![tactic(auto)]
 
 mod console;

@@ -1,14 +1,14 @@
-//! Names of files that are made of one name and a number.
+//! File names made of one name and a number.
 
 use crate::console::Console;
 use crate::input::STANDARD;
 use std::os::unix::fs::MetadataExt;
 use std::{fs, io};
 
-/// The folder of devices.
+/// The folder of device files.
 const DEVICES: &str = "/dev";
 
-/// Why no files are named by this name and a number, where none are.
+/// Returns the reason why no numbered files can be made from this name, or `None` if they can.
 pub fn unnumbered(console: &Console, name: &str) -> Option<&'static str> {
     if name == STANDARD {
         return Some("parts are several files, and standard output is one");
@@ -33,7 +33,7 @@ pub fn unnumbered(console: &Console, name: &str) -> Option<&'static str> {
     None
 }
 
-// Whether a folder is that of devices, or stands there on the same file system.
+// Returns whether a folder is `/dev`, or is inside it on the same file system.
 fn is_of_devices(console: &Console, folder: &str) -> io::Result<bool> {
     let path = fs::canonicalize(console.rt(), folder)?;
     let is_there = match path.as_str().strip_prefix(DEVICES) {

@@ -1,4 +1,4 @@
-//! Files that have their name once all of them is there.
+//! Output files that get their final name when they are complete.
 
 ghost use Rattle.std.specs.Prelude.{None};
 
@@ -15,10 +15,10 @@ use std::fs::{File, Metadata, OpenOptions};
 use std::io::{Stdout, Write};
 use std::{fs, io};
 
-/// The size of the buffer before an output, in bytes.
+/// The size of the output buffer, in bytes.
 pub const OUTPUT: usize = 65_536;
 
-/// A file, or standard output.
+/// The output of a word of the program: a file, or standard output.
 #[derive(Drop)]
 pub enum Output {
     Standard(Stdout),
@@ -43,26 +43,26 @@ impl Write for Output {
     }
 }
 
-// A file that gets its name once all of it is there.
+// A file that gets its final name when it is complete.
 #[derive(Drop)]
 struct Unfinished<'a> {
-    // How it is called in what is said of it.
+    // The name that messages use for it.
     name: &'a str,
-    // The path that it gets.
+    // Its final path.
     path: &'a str,
-    // The path that it has meanwhile.
+    // Its path while it is written.
     part: String,
-    // What is known of the file that it replaces.
+    // The metadata of the file that it replaces, if there is one.
     replaced: &'a Option<Metadata>,
 }
 
 impl Unfinished<'_> {
-    // Makes it.
+    // Creates the file.
     fn create(&self, console: &Console) -> Result<File, Refusal> {
         part::create(console.rt(), self.part.as_str(), self.replaced.is_some())
     }
 
-    // Says why it can't be made, and gives the status.
+    // Prints why the file can't be created, and returns the exit status.
     fn tell_refusal(&self, console: &Console, refusal: &Refusal) -> io::Result<u8> {
         let part = Shown(self.part.as_str());
         match refusal {
@@ -80,7 +80,7 @@ impl Unfinished<'_> {
         Ok(FAILED)
     }
 
-    // Gives it its name where the status that was told is 0, and takes it away else. Gives the status.
+    // Gives the file its final name if the status is 0, and deletes it otherwise. Returns the exit status.
     fn finish(&self, console: &Console, file: &File, told: io::Result<u8>) -> io::Result<u8> {
         let told = match told {
             Ok(0) => match self.replace(console, file) {
@@ -89,7 +89,7 @@ impl Unfinished<'_> {
             },
             failed => failed,
         };
-        // What made this fail has been told.
+        // The failure has already been reported.
         let _ = fs::remove_file(console.rt(), self.part.as_str());
         told
     }
@@ -102,7 +102,7 @@ impl Unfinished<'_> {
     }
 }
 
-// Whether the file of this path is one of the captures of these names.
+// Returns whether the file at this path is one of the captures with these names.
 fn is_read(console: &Console, path: &str, read: &[&str]) -> bool {
     match Identity::at(console, path) {
         Some(file) => file.is_among(console, read),
@@ -110,16 +110,16 @@ fn is_read(console: &Console, path: &str, read: &[&str]) -> bool {
     }
 }
 
-// Says that an output is one of the captures that are read, and gives the status.
+// Prints that an output is one of the captures being read, and returns the exit status.
 fn tell_read(console: &Console, name: &str) -> io::Result<u8> {
     let name = Shown(name);
     eprintln!(console.for_line(); "pcapfile: {name}: is a capture that is read")?;
     Ok(FAILED)
 }
 
-/// Writes what has this name by `write`, unless it would replace one of the captures that are read, and gives the status that this
-/// gives. A link is followed. A file is written under another name in the same folder, and has its own once all of it is there; then
-/// it has the owner, the group and the access of the one that it replaces.
+/// Writes the output with this name by calling `write`, and returns the exit status. Refuses to replace a capture that is being
+/// read. Follows links. A regular file is written under another name in the same folder, and renamed when it is complete. It then
+/// has the owner, group and permissions of the file that it replaces, as far as the system allows.
 pub fn write_named<F: FnOnce(Uninterrupted<Output>) -> io::Result<u8>>(
     console: &Console,
     name: &str,
@@ -174,7 +174,7 @@ fn write_unfinished<F: FnOnce(Uninterrupted<Output>) -> io::Result<u8>>(
         return tell_read(console, unfinished.part.as_str());
     }
     if unfinished.replaced.is_some() {
-        // A file that may not be written is not replaced.
+        // A file without write permission is not replaced.
         let mut options = OpenOptions::new();
         if let Err(error) = options.write(true).open(console.rt(), unfinished.path) {
             return tell_io(console, unfinished.name, &error);

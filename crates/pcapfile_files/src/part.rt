@@ -1,4 +1,4 @@
-//! The files as which outputs are written until all of them is there.
+//! The temporary files that hold outputs until they are complete.
 
 use std::alloc::{AllocError, Global};
 use std::fs::{File, Metadata, OpenOptions, Permissions, TryLockError};
@@ -6,24 +6,24 @@ use std::io::ErrorKind;
 use std::os::unix::fs::{MetadataExt, OpenOptionsExt, PermissionsExt, fchown};
 use std::{fs, io};
 
-/// What stands behind the name that such a file gets.
+/// The suffix of the name of a temporary file.
 const SUFFIX: &str = ".part";
 
-/// The most bytes of the name of a file in its folder.
+/// The greatest length of a file name, in bytes.
 const LONGEST: usize = 255;
 
-/// The access to a file that is new, but for what the user's mask takes away.
+/// The permissions of a new file, before the user's mask is applied.
 const NEW: u32 = 0o666;
 
-/// The access to a file that is to replace another one, while it is written.
+/// The permissions of a file that will replace another one, while it is written.
 const PRIVATE: u32 = 0o600;
 
-/// Why an output can't be written.
+/// The reason why an output can't be written.
 #[derive(Drop)]
 pub(crate) enum Refusal {
-    /// Another run writes it.
+    /// Another run is writing it.
     Held,
-    /// What has the name of the unfinished file is not to be replaced.
+    /// A file with the temporary name exists, and must not be replaced.
     InTheWay,
     Io(io::Error),
 }
@@ -34,7 +34,7 @@ impl From<io::Error> for Refusal {
     }
 }
 
-/// The path of a file that is to get this one. It stands in the same folder, and where its name would be too long that is shortened.
+/// Returns the path of the temporary file for this path. It is in the same folder, and its name is shortened if it would be too long.
 pub(crate) fn part_path(alloc: Global, path: &str) -> Result<String, AllocError> {
     let (folder, name) = match path.rsplit_once('/') {
         Some((folder, name)) => (Some(folder), name),
@@ -47,7 +47,7 @@ pub(crate) fn part_path(alloc: Global, path: &str) -> Result<String, AllocError>
     }
 }
 
-// As many characters of a name as have at most so many bytes.
+// Returns the longest beginning of a name, in whole characters, that has at most this many bytes.
 fn beginning(name: &str, most: usize) -> &str {
     for less in 0..4 {
         if let Some(kept) = name.get(..most.saturating_sub(less).min(name.len())) {
@@ -57,7 +57,7 @@ fn beginning(name: &str, most: usize) -> &str {
     ""
 }
 
-/// Makes the file of this path, which nobody else writes until it is closed. One that a run left there that was ended is taken away.
+/// Creates the file at this path, and locks it against other runs until it is closed. Deletes a file that an interrupted run left.
 pub(crate) fn create(rt: &HostRuntime, path: &str, is_private: bool) -> Result<File, Refusal> {
     match create_locked(rt, path, is_private) {
         Err(Refusal::Io(error)) if error.kind() == ErrorKind::AlreadyExists => {}
@@ -77,7 +77,7 @@ fn create_locked(rt: &HostRuntime, path: &str, is_private: bool) -> Result<File,
         .create_new(true)
         .mode(if is_private { PRIVATE } else { NEW });
     let file = options.open(rt, path)?;
-    // Where files can't be locked, none that is left there is taken away.
+    // On a file system without locks, leftover files are never deleted.
     if let Err(TryLockError::WouldBlock) = file.try_lock() {
         return Err(Refusal::Held);
     }
@@ -87,7 +87,7 @@ fn create_locked(rt: &HostRuntime, path: &str, is_private: bool) -> Result<File,
     Ok(file)
 }
 
-// Takes away a file that no run holds. A run holds what it writes, and takes away only what it holds.
+// Deletes a leftover file that no run has locked. A run locks what it writes, and deletes only what it has locked.
 fn remove_left(rt: &HostRuntime, path: &str) -> Result<(), Refusal> {
     let found = match fs::symlink_metadata(rt, path) {
         Ok(found) => found,
@@ -114,7 +114,7 @@ fn remove_left(rt: &HostRuntime, path: &str) -> Result<(), Refusal> {
     }
 }
 
-// Whether the file that is open is the one of this path.
+// Returns whether the open file is the one at this path.
 fn is_at(rt: &HostRuntime, path: &str, file: &File) -> io::Result<bool> {
     let open = file.metadata()?;
     match fs::symlink_metadata(rt, path) {
@@ -124,8 +124,8 @@ fn is_at(rt: &HostRuntime, path: &str, file: &File) -> io::Result<bool> {
     }
 }
 
-/// Gives a file the owner, the group and the access of the one that it replaces. Where it can't have its owner or group, nobody gets
-/// more access than before.
+/// Gives a file the owner, group and permissions of the file that it replaces. If the owner or group can't be set, the permissions
+/// are reduced so that nobody gets more access than before.
 pub(crate) fn keep_access(file: &File, replaced: &Metadata) -> io::Result<()> {
     let has_group = fchown(file, None, Some(replaced.gid())).is_ok();
     let has_owner = fchown(file, Some(replaced.uid()), None).is_ok();
@@ -133,8 +133,8 @@ pub(crate) fn keep_access(file: &File, replaced: &Metadata) -> io::Result<()> {
     file.set_permissions(Permissions::from_mode(mode))
 }
 
-// The access to a file that replaces one of this mode. Who loses the owner's or the group's access may be one of the others now, and
-// the other way round.
+// Returns the permissions of a file that replaces one with this mode. If the owner or group was not set, a user who had the access of
+// the owner or group may now have that of the others, or the reverse.
 fn kept_mode(mode: u32, has_owner: bool, has_group: bool) -> u32 {
     if has_owner && has_group {
         return mode & 0o7777;

@@ -1,4 +1,4 @@
-//! Where the name of an output leads.
+//! The destination of the name of an output.
 
 use crate::console::Console;
 use crate::identity::Identity;
@@ -7,25 +7,25 @@ use std::fs::Metadata;
 use std::io::ErrorKind;
 use std::{fs, io};
 
-/// The most links that a name goes over.
+/// The most links that the program follows for one name.
 const LINKS: usize = 40;
 
-/// The system's error of a name that goes over more.
+/// The system's error number for too many links.
 const TOO_MANY_LINKS: i32 = 40;
 
-/// Where the name of an output leads.
+/// The destination of the name of an output.
 #[derive(Drop)]
 pub(crate) enum Place {
-    /// A regular file, or none yet: its path behind all links, and what is known of it where it is there.
+    /// A regular file, or no file yet: its path with links resolved, and its metadata if it exists.
     Regular(String, Option<Metadata>),
-    /// What is no regular file, as a device or a pipe.
+    /// A special file, such as a device or a pipe.
     Special,
-    /// The file that standard output is.
+    /// The file that standard output is redirected to.
     Standard,
 }
 
 impl Place {
-    /// The place of an output of this name.
+    /// Returns the destination of an output with this name.
     pub(crate) fn of(console: &Console, name: &str) -> io::Result<Place> {
         let found = match fs::metadata(console.rt(), name) {
             Ok(found) => Some(found),
@@ -44,7 +44,7 @@ impl Place {
     }
 }
 
-// The path to which this one leads over links, whether a file is there or not.
+// Returns the path with links resolved, whether or not a file exists there.
 fn behind_links(console: &Console, name: &str) -> io::Result<String> {
     let mut path = String::from_str(console.alloc(), name)?;
     for _ in 0..LINKS {
@@ -62,7 +62,7 @@ fn behind_links(console: &Console, name: &str) -> io::Result<String> {
     Err(io::Error::from_raw_os_error(TOO_MANY_LINKS))
 }
 
-// The path to which a link leads that stands at this one.
+// Returns the path that a link at `path` points to.
 fn beside(alloc: Global, path: &str, led: &str) -> Result<String, AllocError> {
     match path.rsplit_once('/') {
         Some((folder, _)) if !led.starts_with('/') => format!(in alloc; "{folder}/{led}"),

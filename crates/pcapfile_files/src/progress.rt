@@ -1,33 +1,33 @@
-//! How far captures are read, on standard error.
+//! The progress line on standard error.
 
 use std::io::IsTerminal;
 use std::time::Instant;
 
-/// How long captures are read before it is said how far, and how long it then takes until that is said again, in milliseconds.
+/// The time before the first progress line and between two of them, in milliseconds.
 const SPAN: u64 = 1000;
 
 const MILLION: u64 = 1_000_000;
 
-/// How far captures are read.
+/// The progress of the captures being read.
 #[derive(Clone, Copy)]
 pub(crate) struct Progress {
     rt: HostRuntime,
-    /// When they were opened.
+    /// The time when they were opened.
     begun: Instant,
-    /// How many bytes they have, where that is known.
+    /// The total length of the captures in bytes, if known.
     length: Option<u64>,
-    /// How many bytes were read.
+    /// The number of bytes read.
     bytes: u64,
-    /// How many packets these hold.
+    /// The number of packets in these bytes.
     packets: u64,
-    /// How many milliseconds they had been read when this was said last, or 0.
+    /// The milliseconds from the opening to the last progress line, or 0 if there was none.
     said: u64,
-    /// Whether the line stands there.
+    /// Whether the progress line is on the screen.
     is_shown: bool,
 }
 
 impl Progress {
-    /// That of no capture yet. None where standard error is no terminal, or the time isn't known.
+    /// Returns the progress before any capture is read, or `None` if standard error is not a terminal or the time isn't known.
     pub(crate) fn new(rt: &HostRuntime) -> Option<Progress> {
         if !rt.stderr().is_terminal() {
             return None;
@@ -43,7 +43,7 @@ impl Progress {
         })
     }
 
-    /// That of other captures, of which none is read yet.
+    /// Returns the progress for other captures, before any of them is read.
     pub(crate) fn anew(self) -> Progress {
         Progress {
             begun: Instant::now(&self.rt).unwrap_or(self.begun),
@@ -55,7 +55,7 @@ impl Progress {
         }
     }
 
-    /// That one more capture is read, of so many bytes, if that is known.
+    /// Adds a capture of this many bytes, if the length is known.
     pub(crate) fn add_length(&mut self, length: Option<u64>) {
         self.length = match (self.length, length) {
             (Some(before), Some(length)) => Some(before.saturating_add(length)),
@@ -63,8 +63,8 @@ impl Progress {
         };
     }
 
-    /// That so many bytes more were read, in which so many packets begin, and none at the end of a capture. It is said in a line that
-    /// the next one replaces.
+    /// Adds bytes that were read, and packets that begin in them, and shows the progress if it is time. A call with 0 bytes marks the end
+    /// of a capture and clears the line. Each progress line replaces the one before.
     pub(crate) fn add(&mut self, bytes: usize, packets: u64) {
         self.bytes = self.bytes.saturating_add(bytes as u64);
         self.packets = self.packets.saturating_add(packets);
@@ -82,7 +82,7 @@ impl Progress {
         }
     }
 
-    // Says it. That it can't be said stops nothing.
+    // Shows the progress line. An error in writing it is ignored.
     fn say(&mut self, millis: u64) {
         let (read, packets) = (self.bytes / MILLION, self.packets);
         let rate = self.bytes.saturating_mul(1000) / millis.max(1) / MILLION;
@@ -100,7 +100,7 @@ impl Progress {
         };
     }
 
-    /// Takes the line away.
+    /// Clears the progress line.
     pub(crate) fn clear(&mut self) {
         if self.is_shown {
             self.is_shown = false;

@@ -1,22 +1,22 @@
-//! Text from outside, as it is shown to people.
+//! Untrusted text, escaped for display.
 
 use std::fmt;
 use std::fmt::Write;
 
-/// The end of a name that isn't UTF-8, whose bytes that are none stand there as `\x` and two digits. No name has it, so none is taken
-/// for another.
+/// The marker at the end of a name that was not UTF-8, in which each invalid byte is written as `\x` and two digits. No file name
+/// contains it, so such a name is never mistaken for another one.
 pub const NOT_UTF8: char = '\0';
 
-/// A name or another text from outside, of which no character acts on a terminal or a line: each that would is escaped.
+/// An untrusted name or text that is displayed with escapes for characters that would act on a terminal or break a line.
 #[derive(Clone, Copy)]
 pub struct Shown<'a>(pub &'a str);
 
-/// A line of JSON, in whose texts each such character is escaped, as JSON has it.
+/// A line of JSON that is displayed with JSON escapes for the same characters.
 #[derive(Clone, Copy)]
 pub struct ShownJson<'a>(pub &'a str);
 
-// Whether a character is shown by an escape: control characters, the ends of lines and paragraphs, and what turns the direction of
-// text round.
+// Returns whether a character is displayed as an escape: control characters, line and paragraph separators, marks that change
+// the direction of text, and the byte order mark.
 fn is_escaped(c: char) -> bool {
     c.is_control()
         || matches!(

@@ -1,19 +1,19 @@
-//! Standard streams that the program was started without.
+//! Standard streams that were closed when the program started.
 
 use std::fs::{File, OpenOptions};
 use std::io;
 use std::os::fd::{AsFd, IntoRawFd};
 
-/// What has no bytes, and where bytes go nowhere.
+/// The null device.
 const NOTHING: &str = "/dev/null";
 
-/// The system's error of a descriptor that is closed.
+/// The system's error number for a closed descriptor.
 const CLOSED: i32 = 9;
 
-/// Keeps the descriptors of standard streams that are closed, so that no file that is opened later gets one of them. A read or a
-/// write of such a stream fails as before.
+/// Occupies the descriptors of closed standard streams, so that no file opened later gets one of them. Reading or writing such a stream
+/// still fails.
 pub fn keep_standard_streams(rt: &HostRuntime) -> io::Result<()> {
-    // The system gives the lowest descriptor that is free, and these are taken in order.
+    // The system assigns the lowest free descriptor, so the streams are checked in order.
     if is_closed(&rt.stdin()) {
         keep_open(OpenOptions::new().write(true).open(rt, NOTHING)?);
     }

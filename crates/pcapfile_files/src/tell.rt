@@ -1,4 +1,4 @@
-//! What is said of a file on standard error, and the status that it gives.
+//! Messages about files on standard error, and the exit statuses that go with them.
 
 ghost use Rattle.std.specs.Prelude.{◌≡◌};
 ghost use Rattle.std.specs.IoError.{error_kind};
@@ -11,22 +11,22 @@ use pcap_file::PcapError;
 use std::io;
 use std::io::ErrorKind;
 
-/// The status of a capture that is cut short or refused.
+/// The exit status when a capture is truncated or malformed.
 pub const AT_FAULT: u8 = 1;
 
-/// The status of words that are not understood.
+/// The exit status when the program does not understand its arguments.
 pub const USAGE: u8 = 2;
 
-/// The status of a program that could not read its words or write its answer.
+/// The exit status when the program can't read its arguments or write its output.
 pub const FAILED: u8 = 3;
 
-/// The status where memory ran out.
+/// The exit status when the program is out of memory.
 const NO_MEMORY: u8 = 4;
 
-/// The status where nobody reads the output any more, which a shell has of a program that ends by SIGPIPE.
+/// The exit status when nobody reads the output any more: the one that a shell gives to a program ended by SIGPIPE.
 pub const UNREAD: u8 = 141;
 
-/// The status of a read or write that failed, or for which memory ran out.
+/// Returns the exit status for a failed read or write: 4 when out of memory, 141 when nobody reads the output any more, else 3.
 pub fn status_of(error: &io::Error) -> u8
     ensures { result ≡ failed_status (error_kind error.now) }
 {
@@ -37,7 +37,7 @@ pub fn status_of(error: &io::Error) -> u8
     }
 }
 
-/// Says why a file can't be read or written, and gives the status. Where nobody reads the output any more nothing is said.
+/// Prints why a file can't be read or written, and returns the exit status. Prints nothing if nobody reads the output any more.
 pub fn tell_io(console: &Console, name: &str, error: &io::Error) -> io::Result<u8> {
     let shown = Shown(name);
     match error.kind() {
@@ -55,7 +55,7 @@ pub fn tell_io(console: &Console, name: &str, error: &io::Error) -> io::Result<u
     Ok(status_of(error))
 }
 
-/// Says why a capture is refused, or can't be read or written, and gives the status.
+/// Prints why a capture is refused or can't be read or written, and returns the exit status.
 pub fn tell_error(console: &Console, name: &str, error: &PcapError) -> io::Result<u8> {
     let shown = Shown(name);
     match error {
@@ -73,7 +73,7 @@ pub fn tell_error(console: &Console, name: &str, error: &PcapError) -> io::Resul
     Ok(AT_FAULT)
 }
 
-/// Says how the run over a file ended, where it didn't reach the capture's end, and gives the status.
+/// Prints how the run over a file ended if it did not reach the end of the capture, and returns the exit status.
 pub fn tell_exit(console: &Console, name: &str, exit: &Exit) -> io::Result<u8> {
     let shown = Shown(name);
     match exit {
@@ -88,7 +88,7 @@ pub fn tell_exit(console: &Console, name: &str, exit: &Exit) -> io::Result<u8> {
     Ok(exit.status())
 }
 
-/// Says why nothing more of a capture is written, and gives the status. An error of the output is given.
+/// Prints why the program stopped writing a capture, and returns the exit status. An error of the output is returned as an error.
 pub fn tell_unwritten(console: &Console, name: &str, exit: Exit) -> io::Result<u8> {
     match exit {
         Exit::Io(PcapError::IoError(error)) => Err(error),

@@ -1,19 +1,19 @@
-//! Packets that are counted in passing.
+//! Counting packets while bytes are read.
 
 ghost use Rattle.std.specs.Prelude.{◌≤◌};
 
 use pcap_core::Endianness;
 
-/// How many bytes a packet's head has, or fewer the front of a block or a capture.
+/// The size of the header of a packet record, in bytes. Headers of blocks and captures are read up to `FRONT`.
 const HEAD: usize = 16;
 
-/// How many bytes are looked at of a block, or at the beginning.
+/// The number of bytes read from the header of a block, or from the beginning of a capture.
 const FRONT: usize = 12;
 
-/// How many bytes of a classic capture's header stand behind these.
+/// The number of bytes of a classic capture's header after these.
 const REST_OF_HEADER: u64 = 12;
 
-/// The longest packet or block, in bytes. What states more makes no sense.
+/// The greatest length of a packet or block in bytes. A greater length is taken for corrupt.
 const LONGEST: u32 = 16_777_216;
 
 const SECTION: u32 = 0x0A0D_0D0A;
@@ -24,7 +24,7 @@ const MICROSECONDS: u32 = 0xA1B2_C3D4;
 
 const NANOSECONDS: u32 = 0xA1B2_3C4D;
 
-/// What stands where the next head is.
+/// The item at the next header.
 #[derive(Clone, Copy)]
 enum Next {
     /// The beginning of a capture.
@@ -33,23 +33,23 @@ enum Next {
     Packet(Endianness),
     /// A block.
     Block(Endianness),
-    /// What makes no sense.
+    /// Corrupt bytes.
     Nothing,
 }
 
-/// Counts packets in the bytes of a capture, piece by piece. Where these make no sense it counts no further.
+/// Counts packets in the bytes of a capture, piece by piece. It stops counting at corrupt bytes.
 #[derive(Clone, Copy)]
 pub(crate) struct Walk {
     next: Next,
-    /// The bytes that came of the next head.
+    /// The bytes of the next header that have been read.
     head: [u8; HEAD],
-    /// How many these are.
+    /// The number of these bytes.
     held: usize,
-    /// How many bytes stand before the next head.
+    /// The number of bytes before the next header.
     skipped: u64,
 }
 
-/// Whether a file of which these bytes come first begins as a capture does: with the magic number of one, as far as that came.
+/// Returns whether these first bytes of a file match the magic number of a capture, as far as they go.
 pub(crate) fn begins_capture(bytes: &[u8]) -> bool {
     let front = &bytes[..bytes.len().min(4)];
     let magics = [
@@ -63,7 +63,7 @@ pub(crate) fn begins_capture(bytes: &[u8]) -> bool {
 }
 
 impl Walk {
-    /// A walk that stands at the beginning of a capture.
+    /// Returns a walk at the beginning of a capture.
     pub(crate) fn new() -> Walk {
         Walk {
             next: Next::Beginning,
@@ -73,7 +73,7 @@ impl Walk {
         }
     }
 
-    /// Walks over the bytes that come next, and tells how many packets begin there.
+    /// Walks over the next bytes, and returns the number of packets that begin there.
     pub(crate) fn pass(&mut self, bytes: &[u8]) -> u64 {
         let mut packets: u64 = 0;
         let mut left = bytes;
@@ -88,7 +88,7 @@ impl Walk {
         packets
     }
 
-    // Skips bytes, or takes what they have of a head. Tells whether that is now a packet's and whole, and what follows.
+    // Skips bytes or reads bytes of a header. Returns whether that completes the header of a packet, and the bytes after it.
     fn step<'a>(&mut self, bytes: &'a [u8]) -> (bool, &'a [u8]) {
         if self.skipped > 0 {
             let len = bytes
@@ -121,7 +121,7 @@ impl Walk {
         self.held = self.held.saturating_add(came.len());
     }
 
-    // Reads the head that is held, and tells whether it is a packet's.
+    // Reads the complete header, and returns whether it belongs to a packet.
     fn read_head(&mut self) -> bool {
         match self.next {
             Next::Beginning => self.begin(),
@@ -174,14 +174,14 @@ impl Walk {
         matches!(type_, 2 | 3 | 6)
     }
 
-    // Counts no further.
+    // Stops counting.
     fn give_up(&mut self) -> bool {
         self.next = Next::Nothing;
         self.skipped = u64::MAX;
         false
     }
 
-    // The number of the head that begins at this byte.
+    // Returns the number at this offset in the header.
     fn number(&self, at: usize, order: Endianness) -> u32
         requires { at ≤ 12 }
     {

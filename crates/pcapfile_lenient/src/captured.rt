@@ -1,4 +1,4 @@
-//! Captures that are read as they came, or as they are repaired.
+//! Captures that are read unchanged or repaired.
 
 ghost use Rattle.std.specs.Prelude.{None};
 
@@ -8,17 +8,17 @@ use pcapfile_files::{Console, Watched, open_watched};
 use std::io;
 use std::io::Read;
 
-/// A capture that is read.
+/// A capture that is read unchanged or repaired.
 #[derive(Drop)]
 pub enum Captured {
-    /// As it came.
+    /// The unchanged capture.
     Whole(Watched),
-    /// What it becomes where it is repaired.
+    /// The repaired capture.
     Repaired(Repaired),
 }
 
 impl Captured {
-    /// The capture of this name and stream, which is repaired where it is asked for as it stands. The errors are those of a repair.
+    /// Returns the capture with this name and stream. It is repaired if `is_as_it_stands` is set. The errors are those of a repair.
     pub fn new(
         console: &Console,
         name: &str,
@@ -31,13 +31,13 @@ impl Captured {
         Ok(Captured::Whole(stream))
     }
 
-    /// Opens the capture of a name, and says from now on how far it is read.
+    /// Opens the capture with this name, and starts to show its progress.
     pub fn open(console: &Console, name: &str, is_as_it_stands: bool) -> ResultParsing<Captured> {
         let stream = open_watched(console, name)?;
         Captured::new(console, name, stream, is_as_it_stands)
     }
 
-    /// How many bytes it has, where it is a file, and is read as it came.
+    /// Returns the length of the capture in bytes, if it is a regular file that is read unchanged.
     pub fn length(&self) -> Option<u64> {
         match self {
             Captured::Whole(stream) => stream.length(),

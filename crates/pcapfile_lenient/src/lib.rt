@@ -1,5 +1,5 @@
-//! Lenient reading for the words of the program `pcapfile`: the packets or blocks of a capture in which garbage is left out, and
-//! the capture without flaws that it becomes.
+//! Lenient reading for the words of the program `pcapfile`: the packets or blocks of a capture without its corrupt bytes, and
+//! the repaired capture, which has no flaws.
 #![tactic(auto)]
 
 mod captured;

@@ -1,4 +1,4 @@
-//! Captures without flaws that are made of others, as these are read.
+//! Captures that are repaired while they are read.
 
 ghost use Rattle.std.specs.Prelude.{None};
 
@@ -12,49 +12,49 @@ use std::alloc::{AllocError, Global};
 use std::io;
 use std::io::{BufWriter, ErrorKind, Read, Write};
 
-/// How many bytes are made at once, and those of a packet or a block more.
+/// The number of bytes that are produced at once, to which the rest of the last packet or block is added.
 const ENOUGH: usize = 65_536;
 
-/// Standard error for lines that are said while a capture is read.
+/// Buffered standard error, for lines that are printed while a capture is read.
 type Lines = BufWriter<Notes>;
 
-/// Packets that are repaired.
+/// The packets that are repaired.
 #[derive(Drop)]
 struct Packets {
     rows: PacketRows,
     repairs: Repairs<Lines>,
 }
 
-/// Blocks that are mended.
+/// The blocks that are mended.
 #[derive(Drop)]
 struct Blocks {
     rows: BlockRows,
     repairs: BlockRepairs<Lines>,
 }
 
-/// What is repaired.
+/// The items that are repaired.
 #[derive(Drop)]
 enum Making {
     Packets(Packets),
     Blocks(Blocks),
 }
 
-/// The capture without flaws that another one becomes. What is changed or left out is said on standard error.
+/// A capture repaired while it is read, which has no flaws. It reports on standard error what it changes or leaves out.
 #[derive(Drop)]
 pub struct Repaired {
     alloc: Global,
-    /// What makes more of it. None behind its end, and behind what ended it before.
+    /// The producer of more bytes. It is `None` after the end, and after an error that ended the capture early.
     making: Option<Making>,
-    /// The bytes that were made last.
+    /// The bytes that were produced last.
     made: Vec<u8>,
-    /// How many of them were read.
+    /// The number of these bytes that were read.
     given: usize,
-    /// How far the other one is read, and of how many bytes it was said that they are left out.
+    /// The position in the original capture, and the number of left-out bytes that were reported.
     place: Place,
 }
 
 impl Packets {
-    // Makes the next packet, if one follows in its row.
+    // Produces the next packet, if one follows in its row.
     fn make(
         self,
         alloc: Global,
@@ -70,7 +70,7 @@ impl Packets {
 }
 
 impl Blocks {
-    // Makes the next block, if one follows in its row.
+    // Produces the next block, if one follows in its row.
     fn make(
         self,
         alloc: Global,
@@ -86,7 +86,7 @@ impl Blocks {
 }
 
 impl Making {
-    // Makes the next packet or block, if one follows in its row.
+    // Produces the next packet or block, if one follows in its row.
     fn make(
         self,
         alloc: Global,
@@ -99,7 +99,7 @@ impl Making {
         }
     }
 
-    // The rows of which it is made.
+    // Returns the rows that the items come from.
     fn rows(&self) -> &Rows {
         match self {
             Making::Packets(packets) => packets.rows.rows(),
@@ -107,9 +107,9 @@ impl Making {
         }
     }
 
-    // Says what is left out.
+    // Reports the bytes that are left out.
     fn say_left_out(&mut self, gap: &Gap) {
-        // That something can't be said stops nothing.
+        // A failed message doesn't stop the repair.
         let _ = match self {
             Making::Packets(packets) => {
                 let prefix = packets.repairs.prefix.as_str();
@@ -122,13 +122,13 @@ impl Making {
         };
     }
 
-    // Says how many packets or blocks are changed.
+    // Reports the number of packets or blocks that are changed.
     fn say_changed(&mut self, counted: &Counted) {
         let (changed, of) = (counted.flawed, counted.items);
         if changed == 0 {
             return;
         }
-        // That something can't be said stops nothing.
+        // A failed message doesn't stop the repair.
         match self {
             Making::Packets(packets) => {
                 let prefix = packets.repairs.prefix.as_str();
@@ -146,7 +146,7 @@ impl Making {
         }
     }
 
-    // Says on standard error what there is to say.
+    // Writes the buffered messages to standard error.
     fn flush(&mut self) {
         let _ = match self {
             Making::Packets(packets) => packets.repairs.notes.flush(),
@@ -156,7 +156,7 @@ impl Making {
 }
 
 impl Repaired {
-    /// The capture that another one of this name becomes. The errors are those of what stands at its front.
+    /// Returns the repaired form of the capture with this name. The errors are those of the beginning of the capture.
     pub fn new(console: &Console, name: &str, stream: Watched) -> ResultParsing<Repaired> {
         let alloc = console.alloc();
         let shown = Shown(name);
@@ -188,7 +188,7 @@ impl Repaired {
         }
     }
 
-    // The capture whose first bytes are made, of so many of the other one.
+    // Returns a capture whose first bytes are produced, from this many bytes of the original.
     fn with(alloc: Global, making: Making, made: Vec<u8>, bytes: u64) -> Repaired {
         Repaired {
             alloc,
@@ -199,7 +199,7 @@ impl Repaired {
         }
     }
 
-    /// The bytes of it that come next. None where it is at its end.
+    /// Returns the next bytes of the repaired capture, or none at its end.
     pub fn next_bytes(&mut self) -> io::Result<&[u8]> {
         if self.given >= self.made.len() {
             self.make_more()?;
@@ -207,12 +207,12 @@ impl Repaired {
         Ok(self.made.get(self.given..).unwrap_or_default())
     }
 
-    /// Passes so many of these bytes.
+    /// Consumes this many of these bytes.
     pub fn pass(&mut self, bytes: usize) {
         self.given = self.given.saturating_add(bytes);
     }
 
-    // Makes more of it, in place of what was made before.
+    // Produces more bytes, and replaces those produced before.
     fn make_more(&mut self) -> io::Result<()> {
         self.made.clear();
         self.given = 0;
@@ -258,9 +258,9 @@ impl Read for Repaired {
     }
 }
 
-// What ended it, behind all that there is to say.
+// Returns the error that ended the capture, after it has written all buffered messages.
 fn given_up(notes: &mut Lines, stop: Stop) -> Exit {
-    // That something can't be said stops nothing.
+    // A failed message doesn't stop the repair.
     let _ = notes.flush();
     match stop {
         Stop::Unread(error) => Exit::from(error),

@@ -1,4 +1,4 @@
-//! Packets or blocks of a capture of which garbage is left out.
+//! Rows of packets or blocks in a capture, without the corrupt bytes between them.
 
 ghost use Rattle.std.specs.Prelude.{None};
 
@@ -11,39 +11,39 @@ use std::alloc::{AllocError, Global};
 use std::io;
 use std::io::Read;
 
-/// The longest packet that is read as it stands, in bytes.
+/// The longest packet that lenient reading returns, in bytes.
 pub(crate) const LIMIT: u32 = 16_777_216;
 
 /// The first bytes of a section header.
 const SECTION: [u8; 4] = [0x0A, 0x0D, 0x0D, 0x0A];
 
-/// What stands in a capture.
+/// The kind of the items in a capture.
 #[derive(Drop)]
 enum Kind {
-    /// Packets under the header of a parser.
+    /// Packets, read by a parser with the capture's header.
     Packets(PcapParser),
-    /// Blocks behind those of a parser.
+    /// Blocks, read by a parser with the section and interfaces before them.
     Blocks(PcapNgParserAsIs),
 }
 
-/// What stands at the front of bytes.
+/// The item at the front of bytes.
 #[derive(Clone, Copy)]
 enum Front {
-    /// A packet or a block of so many bytes.
+    /// A packet or block of this many bytes.
     Item(usize),
-    /// The beginning of one that may be one: so many bytes are missing, at least.
+    /// The beginning of a possible item, with at least this many bytes missing.
     Missing(usize),
-    /// What can't be trusted to be one, and the rule that it breaks, if it breaks one.
+    /// Corrupt bytes, and the rule that they break, if any.
     Garbage(Option<Rule>),
 }
 
-/// The packets or blocks that stand in a row. A read gives no byte where the row ends, which it does at garbage and at the end of the
-/// capture; garbage is passed, and the next read goes on behind it.
+/// The packets or blocks of a capture that follow each other in a row. A read returns no byte at the end of a row, which is at corrupt
+/// bytes or at the end of the capture. Corrupt bytes are skipped, and the next read goes on after them.
 #[derive(Drop)]
 pub struct Rows {
     kind: Kind,
     window: Window,
-    /// How many of the bytes that are shown belong to a packet or a block.
+    /// The number of buffered bytes that belong to a packet or block.
     ready: usize,
     left_out: LeftOut,
     /// Whether nothing follows.
@@ -51,7 +51,7 @@ pub struct Rows {
 }
 
 impl Kind {
-    // What stands at the front of these bytes. A section or an interface that does is in force behind it.
+    // Returns the item at the front of these bytes. A section or interface there is in force afterwards.
     fn front(&mut self, bytes: &[u8]) -> Result<Front, AllocError> {
         let left = match self {
             Kind::Packets(parser) => match next_packet_as_is(parser, bytes, LIMIT) {
@@ -71,7 +71,7 @@ impl Kind {
         }
     }
 
-    // What the last bytes are, to which so many are missing, at least.
+    // Classifies the last bytes of the capture, when at least `missing` bytes are missing from an item.
     fn last(&self, bytes: &[u8], missing: usize) -> Front {
         match self {
             Kind::Packets(parser) => match broken_by(parser, bytes) {
@@ -87,7 +87,7 @@ impl Kind {
         }
     }
 
-    // What is looked for behind garbage.
+    // Returns the items to look for after corrupt bytes.
     fn sought(&self) -> Sought<'_> {
         match self {
             Kind::Packets(parser) => Sought::Packets(parser),
@@ -95,7 +95,7 @@ impl Kind {
         }
     }
 
-    // What garbage is.
+    // Returns the word for corrupt bytes.
     fn garbage(&self) -> Scrap {
         match self {
             Kind::Packets(_) => Scrap::NoPackets,
@@ -103,7 +103,7 @@ impl Kind {
         }
     }
 
-    // What the last bytes are where one is cut short.
+    // Returns the word for the last bytes if an item is truncated.
     fn torn(&self) -> Scrap {
         match self {
             Kind::Packets(_) => Scrap::PacketFront,
@@ -113,13 +113,13 @@ impl Kind {
 }
 
 impl Rows {
-    /// The packets that are shown next, under the header of a parser.
+    /// Returns the rows of the packets that the window shows next, read by a parser with the header.
     pub(crate) fn of_packets(parser: PcapParser, window: Window) -> Rows {
         Rows::new(Kind::Packets(parser), window, 0)
     }
 
-    /// The blocks from the first section header on that stands in what is shown next. What is before it is left out. The errors are
-    /// those of what is shown first, where there is none.
+    /// Returns the rows of the blocks from the first section header in the window on, and leaves out what is before it. If there is none,
+    /// the errors are those of the first bytes.
     pub(crate) fn of_blocks(alloc: Global, mut window: Window) -> ResultParsing<Rows> {
         let refusal = match open(alloc, &mut window) {
             Ok((parser, len)) => return Ok(Rows::new(Kind::Blocks(parser), window, len)),
@@ -153,17 +153,17 @@ impl Rows {
         }
     }
 
-    /// What was left out so far.
+    /// Returns what was left out so far.
     pub fn left_out(&self) -> LeftOut {
         self.left_out
     }
 
-    /// Whether the capture is at its end.
+    /// Returns whether the capture is at its end.
     pub fn is_at_end(&self) -> bool {
         self.is_at_end
     }
 
-    // Finds the next packet or block. Where the row ends none is ready.
+    // Finds the next packet or block. At the end of a row none is ready.
     fn find_next(&mut self) -> io::Result<()> {
         for _ in 0..u64::MAX {
             match self.kind.front(self.window.shown())? {
@@ -182,7 +182,7 @@ impl Rows {
         Ok(())
     }
 
-    // Passes what is no packet or block, since it breaks this rule, if it breaks one.
+    // Skips corrupt bytes that break this rule, if any.
     fn pass_garbage(&mut self, rule: Option<Rule>) -> io::Result<()> {
         let passed = self.window.pass_to(self.kind.sought())?;
         let scrap = self.kind.garbage();
@@ -191,7 +191,7 @@ impl Rows {
         Ok(())
     }
 
-    // Passes the last bytes of the capture, if any are left: so many are missing to a packet or a block, at least.
+    // Skips the last bytes of the capture, if any, when at least `missing` bytes are missing from an item.
     fn pass_end(&mut self, missing: usize) -> io::Result<()> {
         let last = self.window.shown();
         if let Front::Garbage(rule) = self.kind.last(last, missing) {
@@ -230,7 +230,7 @@ impl Read for Rows {
     }
 }
 
-// The rule that the packet at the front of these bytes breaks, if it breaks one.
+// Returns the rule that the packet at the front of these bytes breaks, if any.
 fn broken_by(parser: &PcapParser, bytes: &[u8]) -> Option<Rule> {
     match parser.next_packet(bytes) {
         Ok(_) => None,
@@ -238,7 +238,7 @@ fn broken_by(parser: &PcapParser, bytes: &[u8]) -> Option<Rule> {
     }
 }
 
-// The parser behind the section header that is shown first, and how many bytes this has.
+// Returns a parser after the first section header in the window, and the length of this header.
 fn open(alloc: Global, window: &mut Window) -> ResultParsing<(PcapNgParserAsIs, usize)> {
     for _ in 0..u64::MAX {
         match first_section(alloc, window.shown()) {
@@ -253,7 +253,7 @@ fn open(alloc: Global, window: &mut Window) -> ResultParsing<(PcapNgParserAsIs, 
     Err(PcapError::IncompleteBuffer(1))
 }
 
-// The parser behind the section header at the front of these bytes, and how many bytes this has.
+// Returns a parser after the section header at the front of these bytes, and the length of this header.
 fn first_section(alloc: Global, bytes: &[u8]) -> ResultParsing<(PcapNgParserAsIs, usize)> {
     if bytes.len() >= SECTION.len() && !bytes.starts_with(&SECTION) {
         return Err(PcapError::from(Rule::SectionMissing));

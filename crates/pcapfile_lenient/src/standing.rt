@@ -1,4 +1,4 @@
-//! What stands in captures: packets or blocks in rows, between which garbage is left out.
+//! The items of a capture: packets or blocks in rows, without the corrupt bytes between them.
 
 ghost use Rattle.std.specs.Prelude.{◌≡◌, ◌<◌, ◌^◌, false};
 ghost use Rattle.pcap_tolerant.specs.ReaderAsIs.{is_done, has_failed};
@@ -17,10 +17,10 @@ use pcapfile_run::Format;
 use std::alloc::Global;
 use std::io::Write;
 
-/// How many bytes the header of a classic capture has.
+/// The length of the header of a classic capture, in bytes.
 pub const HEADER: usize = 24;
 
-/// The first byte of a capture of blocks.
+/// The first byte of a PcapNg capture.
 const FIRST_OF_BLOCKS: u8 = 10;
 
 /// Packets in rows.
@@ -39,28 +39,28 @@ pub struct BlockRows {
     ghost unfailed: { has_failed_in_blocks reader ≡ false },
 }
 
-/// What stands in a capture.
+/// The items of a capture.
 #[derive(Drop)]
 pub enum Standing {
-    /// Packets, behind a header of these bytes.
+    /// Packets, after a header of these bytes.
     Packets(Vec<u8>, PacketRows),
     /// Blocks.
     Blocks(BlockRows),
-    /// Neither: as a capture of this format it is refused.
+    /// Neither packets nor blocks: this error refuses it as a capture of this format.
     Neither(Format, PcapError),
 }
 
-/// Why no more of a capture was told.
+/// The reason why no more of a capture was reported.
 #[derive(Drop)]
 pub enum Stop {
-    /// It can't be read further.
+    /// The capture can't be read further.
     Unread(PcapError),
-    /// It can't be told.
+    /// The report can't be made or written.
     Untold(Exit),
 }
 
 impl PacketRows {
-    /// Tells the packets up to where their row ends, so many at most, and counts them.
+    /// Reports the packets to `teller` up to the end of their row, `most` at most, and counts them.
     pub fn tell<P: Teller, W: Write>(
         self,
         alloc: Global,
@@ -80,19 +80,19 @@ impl PacketRows {
         }
     }
 
-    /// What they stand in.
+    /// Returns the rows that the packets come from.
     pub fn rows(&self) -> &Rows {
         self.reader.get_ref()
     }
 
-    /// The order of their numbers.
+    /// Returns the byte order of the capture.
     pub fn endianness(&self) -> Endianness {
         self.reader.endianness()
     }
 }
 
 impl BlockRows {
-    /// Tells the blocks up to where their row ends, so many at most, and counts them.
+    /// Reports the blocks to `teller` up to the end of their row, `most` at most, and counts them.
     pub fn tell<P: BlockTeller, W: Write>(
         self,
         alloc: Global,
@@ -112,14 +112,14 @@ impl BlockRows {
         }
     }
 
-    /// What they stand in.
+    /// Returns the rows that the blocks come from.
     pub fn rows(&self) -> &Rows {
         self.reader.get_ref()
     }
 }
 
 impl Standing {
-    /// What stands in the capture of a stream. The errors are those of reads and of memory.
+    /// Returns the items of the capture in a stream. The errors are those of reads and of memory.
     pub fn open(alloc: Global, stream: Watched) -> ResultParsing<Standing> {
         let mut window = Window::new(alloc, buffered(alloc, stream)?);
         window.show(HEADER)?;
@@ -129,7 +129,7 @@ impl Standing {
         }
     }
 
-    // The packets under this header.
+    // Returns the packets under this header.
     fn of_packets(
         alloc: Global,
         header: PcapHeader,
@@ -144,8 +144,8 @@ impl Standing {
         Ok(Standing::Packets(opening, PacketRows { reader }))
     }
 
-    // The blocks. Where no section header stands in the capture, and it doesn't begin as one of blocks, this error of what is shown
-    // first as a header refuses it.
+    // Returns the blocks. If the capture has no section header, and doesn't begin as a PcapNg capture, it is refused with `error`, the
+    // error of its first bytes as a classic header.
     fn of_blocks(alloc: Global, error: PcapError, window: Window) -> ResultParsing<Standing> {
         let is_of_blocks = window.shown().first() == Some(&FIRST_OF_BLOCKS);
         let rows = match Rows::of_blocks(alloc, window) {
@@ -160,7 +160,7 @@ impl Standing {
     }
 }
 
-// A copy of what was counted.
+// Returns a copy of these counts.
 fn counts(counted: &Counted) -> Counted
     ensures items { result.items < 2 ^ 64 }
     ensures flawed { result.flawed < 2 ^ 64 }

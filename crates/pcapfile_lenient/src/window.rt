@@ -1,4 +1,4 @@
-//! Bytes of a capture that are looked at before they are read.
+//! Looking ahead at the bytes of a capture before they are read.
 
 use capcopy_run::Uninterrupted;
 use pcap_file::PcapParser;
@@ -10,51 +10,51 @@ use std::alloc::Global;
 use std::io;
 use std::io::{BufRead, BufReader};
 
-/// How many packets or blocks without a fault have to stand in a row, so that they count for found again.
+/// The number of packets or blocks without a fault in a row that resynchronization needs.
 const IN_A_ROW: usize = 2;
 
-/// The most bytes that such a row may have to be found for sure: two packets that break no rule have no more.
+/// The most bytes needed to be sure of such a row: two packets that break no rule have no more.
 const ROW: usize = 524_320;
 
-/// How many bytes are looked at at once.
+/// The number of bytes that are looked at at once.
 const WINDOW: usize = 2_097_152;
 
-/// A capture, off a buffer.
+/// A buffered capture.
 type Input = BufReader<Uninterrupted<Watched>>;
 
-/// What is looked for behind garbage.
+/// The items to look for after corrupt bytes.
 #[derive(Clone, Copy)]
 pub(crate) enum Sought<'a> {
-    /// Packets under the header of a parser.
+    /// Packets, read by a parser with the capture's header.
     Packets(&'a PcapParser),
-    /// Blocks behind those of a parser.
+    /// Blocks, read by a parser with the section and interfaces before them.
     Blocks(&'a PcapNgParserAsIs),
     /// A section header.
     Section,
 }
 
-/// What was passed before something stood again.
+/// The result of skipping bytes up to an item.
 #[derive(Clone, Copy)]
 pub(crate) struct Passed {
-    /// How many bytes.
+    /// The number of skipped bytes.
     pub(crate) bytes: u64,
-    /// Whether it stands behind them. Else the input is at its end.
+    /// Whether an item follows them. If not, the input is at its end.
     pub(crate) is_found: bool,
 }
 
-/// The next bytes of an input: as many as were asked for, or more, up to its end.
+/// A window over the next bytes of an input: as many as were requested, or more, up to the end of the input.
 #[derive(Drop)]
 pub(crate) struct Window {
     input: Input,
     room: Vec<u8>,
-    /// How many bytes of the room were passed.
+    /// The number of bytes in the buffer that were consumed.
     passed: usize,
-    /// Whether nothing follows them.
+    /// Whether nothing follows the bytes in the buffer.
     is_all: bool,
 }
 
 impl Sought<'_> {
-    // Where it stands first.
+    // Returns the first offset at which these items are found.
     fn first(self, bytes: &[u8]) -> Option<usize> {
         match self {
             Sought::Packets(parser) => first_packets(parser, bytes, IN_A_ROW),
@@ -65,7 +65,7 @@ impl Sought<'_> {
 }
 
 impl Window {
-    /// A window of which nothing was asked yet.
+    /// Returns a window over an input from which nothing was read yet.
     pub(crate) fn new(alloc: Global, input: Input) -> Window {
         Window {
             input,
@@ -75,17 +75,17 @@ impl Window {
         }
     }
 
-    /// The bytes that are shown.
+    /// Returns the bytes in the window.
     pub(crate) fn shown(&self) -> &[u8] {
         self.room.get(self.passed..).unwrap_or_default()
     }
 
-    /// Passes so many of them.
+    /// Consumes this many of these bytes.
     pub(crate) fn pass(&mut self, bytes: usize) {
         self.passed = self.passed.saturating_add(bytes);
     }
 
-    /// Shows so many bytes more, if these follow, and tells whether they do.
+    /// Extends the window by this many bytes, and returns whether there are as many.
     pub(crate) fn show(&mut self, more: usize) -> io::Result<bool> {
         self.let_go();
         let wanted = self.shown().len().saturating_add(more);
@@ -100,14 +100,14 @@ impl Window {
         Ok(false)
     }
 
-    /// Passes bytes up to the first from which this stands. So many are looked at at once that it is the first of all, but of blocks
-    /// that are longer.
+    /// Skips bytes up to the first place where these items are found. It looks at enough bytes at once to be sure that the place is the
+    /// first one, except for longer blocks.
     pub(crate) fn pass_to(&mut self, sought: Sought<'_>) -> io::Result<Passed> {
         let mut bytes: u64 = 0;
         for _ in 0..u64::MAX {
             let is_all = !self.show(WINDOW.saturating_sub(self.shown().len()))?;
             let shown = self.shown();
-            // From here on a row may go on behind what is looked at.
+            // From here on, a row may go on after the bytes in the window.
             let sure = if is_all {
                 shown.len()
             } else {
@@ -130,7 +130,7 @@ impl Window {
         })
     }
 
-    // Takes what the input's buffer has, and tells whether anything came.
+    // Moves the bytes of the input's buffer into the window, and returns whether there were any.
     fn take(&mut self) -> io::Result<bool> {
         if self.is_all {
             return Ok(false);
@@ -143,7 +143,7 @@ impl Window {
         Ok(len > 0)
     }
 
-    // Lets the bytes go that were passed, once these are more than the others: so no more bytes are ever moved than were passed.
+    // Drops the consumed bytes once they outnumber the rest, so that a move never copies more bytes than were consumed.
     fn let_go(&mut self) {
         let len = self.room.len();
         if self.passed >= len {

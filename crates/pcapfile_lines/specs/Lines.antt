@@ -1,4 +1,4 @@
--- Lines of packets in several forms.
+-- This file defines the lines of packets in several forms.
 use Rattle.std.specs.Prelude.{◌≡◌, ◌⊎◌, ◌^◌, ◌+ℤ◌, ◌*ℤ◌, ℕ, ℤ, pos, negsuc, List, [], ◌++◌, codes, nat_lt, if◌then◌else◌, false, Option, None, Some, option_map}
 use Rattle.std.specs.Fmt.{decimal}
 use Rattle.jiff_core.specs.declared.civil.datetime.DateTime.{DateTime}
@@ -13,17 +13,17 @@ use Rattle.pcapfile_lines.specs.declared.form.Form.{Form}
 use Rattle.pcapfile_lines.specs.declared.form.Form.TheVariants.{Utc, Csv, Json}
 use Rattle.pcapfile_lines.specs.declared.seen.Seen.{Seen}
 
--- the seconds since 1970, where they are a number of 64 bits, and the nanoseconds behind them
+-- The seconds since 1970, if they are a natural number of 64 bits, and the nanoseconds after them.
 abbrev pub instant_at : ℤ → ℕ → Option (ℕ × ℕ)
 instant_at (pos seconds) nanoseconds = if nat_lt seconds (2 ^ 64) then Some (seconds, nanoseconds) else None
 instant_at (negsuc before) nanoseconds = None
 
--- those of a time, if there is one
+-- The seconds and nanoseconds of a time, if there is one.
 abbrev pub instant_in : Option Timestamp → Option (ℕ × ℕ)
 instant_in (Some time) = instant_at time.seconds time.nanoseconds
 instant_in None = None
 
--- the columns of a packet; of one whose body is refused none is known
+-- The columns of a packet. All are unknown for a packet with a malformed body.
 abbrev pub columns_of : Option Seen → Columns
 columns_of (Some seen) = record {
   seconds = option_map (λ i. i.0) (instant_in seen.time);
@@ -34,72 +34,72 @@ columns_of (Some seen) = record {
 }
 columns_of None = record { seconds = None; nanoseconds = None; captured = None; original = None; interface = None }
 
--- a column, which is empty where its number isn't known
+-- The text of a column, empty if its number isn't known.
 abbrev pub column_text : Option ℕ → List ℕ
 column_text (Some n) = decimal n
 column_text None = []
 
--- the line of a table
+-- The line of a packet in a CSV table.
 abbrev pub csv_line : ℕ → Columns → List ℕ
 csv_line index c =
     decimal index ++ (codes "," ++ (column_text c.seconds ++ (codes "," ++ (column_text c.nanoseconds ++ (codes "," ++ (column_text c.captured
     ++ (codes "," ++ (column_text c.original ++ (codes "," ++ (column_text c.interface ++ codes "\n"))))))))))
 
--- a number of JSON, or null where it isn't known
+-- A JSON number, or null if the number isn't known.
 abbrev pub number_or_null : Option ℕ → Data
 number_or_null (Some n) = number (unsigned n)
 number_or_null None = null
 
--- the members for a packet's number and time
+-- Adds the members for a packet's number and time.
 abbrev pub with_time : ℕ → Columns → Members → Members
 with_time index c members =
     put (codes "nanoseconds") (number_or_null c.nanoseconds) (put (codes "seconds") (number_or_null c.seconds) (put (codes "index") (number (unsigned index)) members))
 
--- the members for its lengths and its interface
+-- Adds the members for its lengths and its interface.
 abbrev pub with_sizes : Columns → Members → Members
 with_sizes c members =
     put (codes "interface") (number_or_null c.interface) (put (codes "original") (number_or_null c.original) (put (codes "captured") (number_or_null c.captured) members))
 
--- the object of a packet
+-- The JSON object of a packet.
 abbrev pub packet_data : ℕ → Columns → Data
 packet_data index c = object (with_sizes c (with_time index c no_members))
 
--- the object in a line
+-- The line of a packet as a JSON object.
 abbrev pub json_line : ℕ → Columns → List ℕ
 json_line index c = compact_text (packet_data index c) ++ codes "\n"
 
--- the nanoseconds from 1970 to a time
+-- The nanoseconds from 1970 to a time.
 abbrev pub nanoseconds_of : Timestamp → ℤ
 nanoseconds_of time = time.seconds *ℤ pos 1_000_000_000 +ℤ pos time.nanoseconds
 
--- so many nanoseconds from 1970 in UTC: what a clock there shows, with nine digits behind the point, and Z
+-- ShowsInstant n text: `text` is n nanoseconds from 1970 in UTC: date and time with nine digits after the point, and Z.
 abbrev pub ShowsInstant : ℤ → List ℕ → Type 0
 ShowsInstant n text = (shown : DateTime) × (civil_nanos shown ≡ n) × (text ≡ datetime_text false 84 (Some 9) shown ++ zulu_text false)
 
--- a time in UTC; a hyphen where it is in no year of the calendar, and where there is none
+-- IsUtcText time text: `text` is the time in UTC, or a hyphen if there is no time or its year is not in the calendar.
 abbrev pub IsUtcText : Option Timestamp → List ℕ → Type 0
 IsUtcText None text = text ≡ codes "-"
 IsUtcText (Some time) text =
     ShowsInstant (nanoseconds_of time) text
     ⊎ ((IsTimestampNanos (nanoseconds_of time) → ⊥) × (text ≡ codes "-"))
 
--- the end of a line: the number of an interface, if there is one
+-- The end of a line is the number of an interface, if there is one.
 abbrev pub interface_text : Option ℕ → List ℕ
 interface_text (Some n) = codes " " ++ decimal n
 interface_text None = []
 
--- the line of a packet with this time and this end
+-- The line of a packet with this time and this end.
 abbrev pub utc_line : ℕ → List ℕ → ℕ → ℕ → List ℕ → List ℕ
 utc_line index time captured original interface =
     decimal index ++ (codes " " ++ (time ++ (codes " " ++ (decimal captured ++ (codes "/" ++ (decimal original ++ (interface ++ codes "\n")))))))
 
--- the line of a packet with its time in UTC, or that its body is refused
+-- IsUtcLine: the line of a packet with its time in UTC, or with the word refused if its body is malformed.
 abbrev pub IsUtcLine : ℕ → Option Seen → List ℕ → Type 0
 IsUtcLine index (Some seen) line =
     (time : List ℕ) × IsUtcText seen.time time × (line ≡ utc_line index time seen.captured seen.original (interface_text seen.interface))
 IsUtcLine index None line = line ≡ decimal index ++ codes " refused\n"
 
--- the line of a packet in this form
+-- IsLineIn form index packet line: `line` is the line of a packet in this form.
 abbrev pub IsLineIn : Form → ℕ → Option Seen → List ℕ → Type 0
 IsLineIn Utc index packet line = IsUtcLine index packet line
 IsLineIn Csv index packet line = line ≡ csv_line index (columns_of packet)

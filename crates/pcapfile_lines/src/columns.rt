@@ -1,4 +1,4 @@
-//! What a line says in columns.
+//! The columns of a packet in a CSV line.
 
 ghost use Rattle.std.specs.Prelude.{◌≡◌, Some, None, IfOk, string_bytes};
 ghost use Rattle.pcapfile_lines.specs.Lines.{columns_of as columns_told, column_text, csv_line, instant_in};
@@ -8,25 +8,25 @@ use pcap_times::Timestamp;
 use std::alloc::{AllocError, Global};
 use std::fmt;
 
-/// The first line of a table: the names of the columns.
+/// The first line of a CSV table: the names of the columns.
 pub const HEADING: &str = "index,seconds,nanoseconds,captured,original,interface\n";
 
-/// A packet's columns behind its number. What isn't known is none.
+/// A packet's columns after its number. Unknown values are `None`.
 #[derive(Clone, Copy)]
 pub(crate) struct Columns {
     /// Whole seconds since 1970.
     pub(crate) seconds: Option<u64>,
-    /// Nanoseconds behind these.
+    /// The nanoseconds after these.
     pub(crate) nanoseconds: Option<u32>,
-    /// How many bytes are stored.
+    /// The number of stored bytes.
     pub(crate) captured: Option<u64>,
-    /// How many bytes there were on the wire.
+    /// The number of bytes on the wire.
     pub(crate) original: Option<u32>,
     /// The number of the interface.
     pub(crate) interface: Option<u32>,
 }
 
-/// A column, which is empty where the number isn't known.
+/// A column, empty if the number isn't known.
 #[derive(Clone, Copy)]
 struct Column(Option<u64>);
 
@@ -41,7 +41,7 @@ impl fmt::Display for Column {
     }
 }
 
-// The seconds and nanoseconds of a time, where its seconds since 1970 are a number of 64 bits.
+// Returns the seconds and nanoseconds of a time, if its seconds since 1970 fit in 64 bits and aren't negative.
 fn instant_at(time: Option<Timestamp>) -> Option<(u64, u32)>
     ensures { result ≡ instant_in time }
 {
@@ -52,7 +52,7 @@ fn instant_at(time: Option<Timestamp>) -> Option<(u64, u32)>
     }
 }
 
-/// The columns of a packet. None is one whose body is refused.
+/// Returns the columns of a packet. `None` means a packet with a malformed body.
 pub(crate) fn columns_of(packet: Option<Seen>) -> Columns
     ensures { result ≡ columns_told packet }
 {
@@ -78,7 +78,7 @@ pub(crate) fn columns_of(packet: Option<Seen>) -> Columns
     }
 }
 
-// A column of a number of 32 bits.
+// Returns the column of a 32-bit number.
 fn short(number: Option<u32>) -> Column
     ensures { result.0 ≡ number }
 {
@@ -88,7 +88,7 @@ fn short(number: Option<u32>) -> Column
     }
 }
 
-/// The line of a table.
+/// Returns the line of a packet in a CSV table.
 pub(crate) fn csv(alloc: Global, index: u64, columns: Columns) -> Result<String, AllocError>
     ensures { IfOk result (λ line. string_bytes line ≡ csv_line index columns) }
 {

@@ -1,4 +1,4 @@
-//! Forms of lines.
+//! The forms of lines.
 
 ghost use Rattle.std.specs.Prelude.{IfOk, string_bytes};
 ghost use Rattle.pcapfile_lines.specs.Lines.{IsLineIn};
@@ -9,18 +9,18 @@ use crate::seen::Seen;
 use crate::utc::utc;
 use std::alloc::{AllocError, Global};
 
-/// A form of lines.
+/// The form of the line of a packet.
 #[derive(Clone, Copy, Debug, PartialEq, Eq)]
 pub enum Form {
     /// `index time captured/original interface`, with the time in UTC.
     Utc,
-    /// Columns with commas between them, as `HEADING` names them.
+    /// Columns separated by commas, as `HEADING` names them.
     Csv,
-    /// An object of JSON with the same members.
+    /// A JSON object with the same members.
     Json,
 }
 
-/// The line of the packet of this number. None is one whose body is refused.
+/// Returns the line of the packet with this number. `None` means a packet with a malformed body.
 pub fn line_of(
     alloc: Global,
     form: Form,

@@ -1,4 +1,4 @@
-//! What a line says as an object of JSON.
+//! The line of a packet as a JSON object.
 
 ghost use Rattle.std.specs.Prelude.{◌≡◌, IfOk, OnOk, string_bytes};
 ghost use Rattle.serde_json.specs.View.{members_view, view};
@@ -8,7 +8,7 @@ use crate::columns::Columns;
 use serde_json::{Map, Value, put};
 use std::alloc::{AllocError, Global};
 
-// A number, or null.
+// Returns a JSON number, or null.
 fn number(number: Option<u64>) -> Value
     ensures { view result ≡ number_or_null number }
 {
@@ -18,7 +18,7 @@ fn number(number: Option<u64>) -> Value
     }
 }
 
-// A number of 32 bits, or null.
+// Returns a 32-bit JSON number, or null.
 fn short(number: Option<u32>) -> Value
     ensures { view result ≡ number_or_null number }
 {
@@ -28,7 +28,7 @@ fn short(number: Option<u32>) -> Value
     }
 }
 
-// The packet's number and its time.
+// Adds the packet's number and its time.
 fn put_time(
     map: &mut Map<String, Value>,
     alloc: Global,
@@ -42,7 +42,7 @@ fn put_time(
     put(map, alloc, "nanoseconds", short(columns.nanoseconds))
 }
 
-// Its lengths and its interface.
+// Adds its lengths and its interface.
 fn put_sizes(
     map: &mut Map<String, Value>,
     alloc: Global,
@@ -55,7 +55,7 @@ fn put_sizes(
     put(map, alloc, "interface", short(columns.interface))
 }
 
-// The object of a packet.
+// Returns the object of a packet.
 fn object(alloc: Global, index: u64, columns: Columns) -> Result<Value, AllocError>
     ensures { IfOk result (λ value. view value ≡ packet_data index columns) }
 {
@@ -65,7 +65,7 @@ fn object(alloc: Global, index: u64, columns: Columns) -> Result<Value, AllocErr
     Ok(Value::Object(map))
 }
 
-/// The object in a line.
+/// Returns the line of a packet as a JSON object.
 pub(crate) fn json(alloc: Global, index: u64, columns: Columns) -> Result<String, AllocError>
     ensures { IfOk result (λ line. string_bytes line ≡ json_line index columns) }
 {

@@ -1,16 +1,16 @@
-//! What is seen of packets.
+//! The properties of packets that lines show.
 
 use pcap_times::Timestamp;
 
-/// What is seen of a packet.
+/// The properties of a packet that lines show.
 #[derive(Clone, Copy, Debug, PartialEq, Eq)]
 pub struct Seen {
-    /// Its time, where it has one.
+    /// Its time, if it has one.
     pub time: Option<Timestamp>,
-    /// How many bytes are stored of it.
+    /// The number of its stored bytes.
     pub captured: u64,
-    /// How many bytes it had on the wire.
+    /// Its length on the wire, in bytes.
     pub original: u32,
-    /// The number of its interface, of PcapNg.
+    /// The number of its interface, in a PcapNg capture.
     pub interface: Option<u32>,
 }

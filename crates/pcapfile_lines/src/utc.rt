@@ -13,10 +13,10 @@ use std::alloc::{AllocError, Global};
 /// The nanoseconds in a second.
 const BILLION: i128 = 1_000_000_000;
 
-/// More seconds than the calendar has before and behind 1970.
+/// A number of seconds greater than the calendar has before or after 1970.
 const MOST: i128 = 1_000_000_000_000;
 
-/// The same time as an instant of the calendar. None where its year is none of -9999 to 9999.
+/// Returns the time as an instant of the calendar, or `None` if its year isn't within -9999 to 9999.
 pub fn instant_of(time: Timestamp) -> Option<Instant>
     ensures { MatchOption result (IsTimestampNanos (nanoseconds_of time) → ⊥) (λ instant. instant.nanosecond ≡ nanoseconds_of time) }
 {
@@ -26,7 +26,7 @@ pub fn instant_of(time: Timestamp) -> Option<Instant>
     Instant::from_nanosecond(time.seconds * BILLION + i128::from(time.nanoseconds)).ok()
 }
 
-// An instant as RFC 3339 has it, with nine digits behind the point.
+// Returns an instant in RFC 3339 form, with nine digits after the point.
 #[tactic(auto, using(crate::proofs::Times::printer_shows))]
 fn instant_text(alloc: Global, instant: Instant) -> Result<String, AllocError>
     ensures { IfOk result (λ text. ShowsInstant instant.nanosecond (string_bytes text)) }
@@ -37,7 +37,7 @@ fn instant_text(alloc: Global, instant: Instant) -> Result<String, AllocError>
     String::from_str(alloc, text.as_str())
 }
 
-// The same of a time; a hyphen where there is none.
+// Returns a time in that form, or a hyphen if there is no time or it isn't in the calendar.
 #[tactic(auto, using(crate::proofs::Times::instant_shows))]
 fn text_of(alloc: Global, time: Option<Timestamp>) -> Result<String, AllocError>
     ensures { IfOk result (λ text. IsUtcText time (string_bytes text)) }
@@ -51,7 +51,7 @@ fn text_of(alloc: Global, time: Option<Timestamp>) -> Result<String, AllocError>
     }
 }
 
-// The end of a line: the number of an interface, if it has one.
+// Returns the end of a line: the number of an interface, if there is one.
 fn interface_of(alloc: Global, interface: Option<u32>) -> Result<String, AllocError>
     ensures { IfOk result (λ text. string_bytes text ≡ interface_text interface) }
 {
@@ -61,7 +61,7 @@ fn interface_of(alloc: Global, interface: Option<u32>) -> Result<String, AllocEr
     }
 }
 
-// The line of a packet with this time and this end.
+// Returns the line of a packet with this time and this end.
 fn line_with(
     alloc: Global,
     index: u64,
@@ -76,7 +76,7 @@ fn line_with(
     format!(in alloc; "{index} {time} {captured}/{original}{interface}\n")
 }
 
-/// The line of a packet. None is one whose body is refused.
+/// Returns the line of a packet. `None` means a packet with a malformed body.
 pub(crate) fn utc(alloc: Global, index: u64, packet: Option<Seen>) -> Result<String, AllocError>
     ensures { IfOk result (λ line. IsUtcLine index packet (string_bytes line)) }
 {

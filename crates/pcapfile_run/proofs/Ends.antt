@@ -1,4 +1,4 @@
--- Why no item follows, by what stopped a run.
+-- This file proves why no item follows, given what stopped a run.
 use Rattle.std.proofs.Common.{◌≡◌, ◌≤◌, ◌+◌, ◌⊎◌, ℕ, List, [], ◌++◌, length, Bool, true, false, Option, Some, None, inl, inr, sym, ap, ◌∙◌, subst, arith, length-append, append_assoc}
 use Rattle.std.specs.Prelude.{⊤, IfNone}
 use Rattle.pcap_core.specs.declared.errors.PcapError.{PcapError}
@@ -25,12 +25,12 @@ abbrev pub IsNothing : Option Rule → Type 0
 IsNothing None = ⊤
 IsNothing (Some rule) = ⊥
 
--- where no rule is found, none is named
+-- If no rule is found in an error, the error names none.
 pub none_named : (r : Option Rule) (e : PcapError) → ((rule : Rule) → Names rule e → r ≡ Some rule) → IfNone r ((rule : Rule) → Names rule e → ⊥)
 none_named None e found = λ rule named. absurd (subst IsNothing (found rule named) tt)
 none_named (Some rule) e found = tt
 
--- a fault of the rule that an error names
+-- The fault shown is that of the rule that the error names.
 named_fault : (Stands : Fault → Type 0) (rule : Rule) (e : PcapError) → Names rule e → Shows Stands e → Stands (Invalid rule)
 named_fault Stands rule (errors.InvalidField message) named (other, message_is, stands) =
     subst (λ (r : Rule). Stands (Invalid r)) (one_message {a = other} {b = rule} (sym message_is ∙ named)) stands
@@ -48,25 +48,25 @@ io_no_growth : (e : PcapError) → IsIo e → IsMemory e → ⊥
 io_no_growth (errors.IoError x) io memory = memory
 io_no_growth _ io memory = io
 
--- a fault that no rule names, nor a short read
+-- The fault shown is a string that isn't UTF-8, if the error names no rule and is not of a read.
 other_fault : (Stands : Fault → Type 0) (e : PcapError) → (IsIo e → ⊥) → ((rule : Rule) → Names rule e → ⊥) → Shows Stands e → Stands Utf8
 other_fault Stands (errors.InvalidField message) no_io unnamed stands = absurd (unnamed stands.0 stands.1)
 other_fault Stands (errors.IoError x) no_io unnamed stands = absurd (no_io tt)
 other_fault Stands (errors.Utf8Error x) no_io unnamed stands = stands
 other_fault Stands _ no_io unnamed stands = absurd stands
 
--- true is not false
+-- True is not false.
 abbrev pub IsFalse : Bool → Type 0
 IsFalse true = ⊥
 IsFalse false = ⊤
 
 module _ {V : Type 0} (IsSaid : List ℕ → Verdict V → Type 0) (rest : List ℕ) where
-  -- a refusal that is not of a read shows a fault
+  -- An error that is neither of a read nor of memory shows a fault.
   shown : (e : PcapError) → (IsIo e → ⊥) → (IsMemory e → ⊥) → (failed : Bool) → HasCause IsSaid (Some rest) failed e → Shows (IsFaultOf IsSaid (Some rest)) e
   shown e no_io no_growth failed cause =
       elim cause [ read_failed io is ↦ absurd (no_io io) | no_memory memory is ↦ absurd (no_growth memory) | torn io is short ↦ absurd (no_io io) | refused stands is ↦ stands ]
 
-  -- what ends early
+  -- An error of a read that didn't fail is for bytes that are missing.
   short_of : (e : PcapError) → IsIo e → (failed : Bool) → failed ≡ false → HasCause IsSaid (Some rest) failed e → IsTorn IsSaid rest ⊎ IsFaultOf IsSaid (Some rest) Io
   short_of (errors.IoError x) io failed unfailed cause = elim cause [
     | read_failed io is ↦ absurd (subst IsFalse is (subst IsFalse (sym unfailed) tt))
@@ -84,7 +84,7 @@ module _ {V : Type 0} (IsSaid : List ℕ → Verdict V → Type 0) (rest : List 
     | inr (inr all) ↦ (all.0, short_of e io failed unfailed all.1)
   ]
 
-  -- the fault of a refusal, behind all items of the front
+  -- The fault of an error after all items of the front.
   module _ (more : List V) (e : PcapError) (no_io : IsIo e → ⊥) (no_growth : IsMemory e → ⊥) (failed : Bool) where
     fault_shown : (IsIo e × (failed ≡ true)) ⊎ (IsMemory e × (failed ≡ false)) ⊎ ((more ≡ []) × HasCause IsSaid (Some rest) failed e)
         → (more ≡ []) × Shows (IsFaultOf IsSaid (Some rest)) e
@@ -94,7 +94,7 @@ module _ {V : Type 0} (IsSaid : List ℕ → Verdict V → Type 0) (rest : List 
       | inr (inr all) ↦ (all.0, shown e no_io no_growth failed all.1)
     ]
 
-  -- what stopped a run that ended so
+  -- The reason why a run stopped that ended with this fault.
   pub stops_at : (more : List V) (n m before most : ℕ) → n ≡ before + m → m ≤ most → (fault : Option PcapError) (failed : Bool) (end : End)
       → EndsFront IsSaid rest more failed m most fault → EndIs fault failed n (before + most) end → StopsAt IsSaid more rest m most end
   stops_at more n m before most count within None failed Whole ends is =
@@ -112,11 +112,11 @@ module _ {V : Type 0} (IsSaid : List ℕ → Verdict V → Type 0) (rest : List 
   stops_at more n m before most count within _ _ _ ends is = absurd is
 
 module _ {V : Type 0} (MayGrow : Type 0) (IsSaid : List ℕ → Verdict V → Type 0) (s : List ℕ) where
-  -- why a call found no opening
+  -- The reason why a call found no opening.
   abbrev pub Unopened : Bool → PcapError → Type 0
   Unopened failed e = (IsIo e × (failed ≡ true)) ⊎ (IsIo e × (failed ≡ false) × IsShort IsSaid s) ⊎ (MayGrow × IsMemory e) ⊎ Shows (IsFaultOf IsSaid (Some s)) e
 
-  -- that shows a fault, where it is neither for a read nor for want of memory
+  -- It shows a fault, if the error is neither of a read nor of memory.
   unopened_fault : (failed : Bool) (e : PcapError) → (IsIo e → ⊥) → (IsMemory e → ⊥) → Unopened failed e → Shows (IsFaultOf IsSaid (Some s)) e
   unopened_fault failed e no_io no_growth why =
       elim why [ inl io ↦ absurd (no_io io.0) | inr (inl short) ↦ absurd (no_io short.0) | inr (inr (inl memory)) ↦ absurd (no_growth memory.1) | inr (inr (inr stands)) ↦ stands ]
@@ -131,7 +131,7 @@ module _ {V : Type 0} (MayGrow : Type 0) (IsSaid : List ℕ → Verdict V → Ty
       elim why [ inl io ↦ absurd io.0 | inr (inl short) ↦ absurd short.0 | inr (inr (inl grows)) ↦ grows.0 | inr (inr (inr stands)) ↦ absurd stands ]
   unopened_memory failed _ memory why = absurd memory
 
-  -- why there is no opening, where a call was refused so
+  -- The reason why there is no opening, given the error of a call.
   pub fails_at : (e : PcapError) (failed : Bool) (end : End) → Unopened failed e → FaultIs e failed end → FailsAt MayGrow IsSaid s end
   fails_at e failed Short why is = unopened_short failed e is.0 is.1 why
   fails_at e failed (Breaks rule) why is =
@@ -141,7 +141,7 @@ module _ {V : Type 0} (MayGrow : Type 0) (IsSaid : List ℕ → Verdict V → Ty
   fails_at e failed Memory why is = unopened_memory failed e is why
   fails_at e failed _ why is = absurd is
 
--- items that were passed behind what was counted, as a check tells them
+-- The items after what was counted, as a check reports them.
 module _ {S V : Type 0} (f : Format S V) (laws : IsLawful f) (q : S) (s opening after : List ℕ) (joined : s ≡ opening ++ after) (now : Option (List ℕ)) (failed : Bool) (most before bytes_before : ℕ) (fault : Option PcapError) (checked : Checked) where
   checked_left : (vs : List V) (left : Option (List ℕ)) (took : TakesTexts f q vs (Some after) left) → length vs ≤ most → Stops (f.says (state_after f q vs)) left now failed (length vs) most fault
       → bytes_before ≡ counted (length opening) → checked.items ≡ before + length vs → checked.bytes ≡ counted (bytes_before + length took.bytes) → EndIs fault failed checked.items (before + most) checked.end
@@ -165,7 +165,7 @@ module _ {S V : Type 0} (f : Format S V) (laws : IsLawful f) (q : S) (s opening 
         stops = stops_at (f.says (state_after f q vs)) reads.rest reads.more checked.items (length vs) before most items within fault failed checked.end reads.ends end;
       }
 
-  -- as a walk counted them
+  -- The items as a walk counted them.
   pub items_checked : (m n : ℕ) → CountsItems f q (Some after) now failed most 0 m bytes_before n fault → bytes_before ≡ counted (length opening) → checked.items ≡ before + m → checked.bytes ≡ n
       → EndIs fault failed checked.items (before + most) checked.end → ChecksItems f q s after before most checked
   items_checked m n counts first items bytes end =

@@ -1,4 +1,4 @@
--- Packets of blocks that are listed.
+-- This file proves how the packets of blocks are listed.
 use Rattle.std.proofs.Common.{◌≡◌, ℕ, List, Option, None, Some, Result, IfSome, subst}
 use Rattle.std.specs.Io.KnownBytes.{Keeps}
 use Rattle.std.proofs.KnownBytes.{Appends-nil}
@@ -20,7 +20,7 @@ use Rattle.pcapfile_run.specs.FileLines.{ListsAs, format_at, IsLineIf, IsNumbere
 use Rattle.pcapfile_run.specs.Numbered.{number_behind, numbered_behind}
 use Rattle.pcapfile_run.specs.StoredBlocks.{stored_blocks}
 
--- the line of a block behind n packets is that of its number
+-- The line of a block after n packets has the number that follows from n.
 pub stored_written : (form : Option Form) (index n m : ℕ) (item : Item) (interfaces : List Interface) (before now : Option (List ℕ)) (result : Result (Unit {0}) Exit) → m ≡ number_behind (is_packet_item item) n
     → interfaces ≡ interfaces_at item.after → WritesLine (IsLineIf form (is_packet_item item) interfaces m item.block) before now result
     → WritesLine (IsNumberedLine form index (numbered_behind is_packet_item n item)) before now result
@@ -28,13 +28,13 @@ stored_written form index n m item interfaces before now result counts described
     let numbered = subst (λ (k : ℕ). WritesLine (IsLineIf form (is_packet_item item) interfaces k item.block) before now result) counts writes in
     subst (λ (l : List Interface). WritesLine (IsLineIf form (is_packet_item item) l (number_behind (is_packet_item item) n) item.block) before now result) described numbered
 
--- a capture whose first block was taken, and whose packets were listed
+-- A capture whose first block was read, and whose packets were listed.
 pub stored_known : (form : Option Form) (q : State) (bytes known before : Option (List ℕ)) → Takes OpeningSays bytes known q → (most : ℕ) (now after : Option (List ℕ)) (result : Result (Unit {0}) Exit)
     → ListsItems (IsNumberedLine form) numbered_blocks (q, 0) known now before after most result → IfSome bytes (λ s. ListsUntil (stored_lines form) most s now before after (exit_of result))
 stored_known form q bytes known before took most now after result run =
     lists_known (stored_lines form) opening_stable q stored_blocks.lawful bytes known before before took (Appends-nil before) most now after result run
 
--- a capture of this format that was listed behind its first byte, which was only looked at
+-- A capture of this format, whose first byte was looked at, and which was then listed.
 pub lists_told : (form : Option Form) (format : Format) (most : ℕ) (before mid now out_before out_now : Option (List ℕ)) (exit : Exit) → Keeps before mid → IfSome before (λ s. format ≡ format_at s)
     → IfSome mid (λ s. ListsAs form format most s now out_before out_now exit) → IfSome before (λ s. ListsAs form (format_at s) most s now out_before out_now exit)
 lists_told form format most None mid now out_before out_now exit kept told lists = tt

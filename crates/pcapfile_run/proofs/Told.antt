@@ -1,4 +1,4 @@
--- Captures that are checked.
+-- This file proves the results of checking captures.
 use Rattle.std.proofs.Common.{◌≡◌, ◌<◌, ◌+◌, ◌^◌, ℕ, List, [], length, Bool, true, Option, Some, None, Err, inl, inr, refl, sym, subst, arith}
 use Rattle.std.specs.Prelude.{⊤, IfSome}
 use Rattle.pcap_core.specs.declared.errors.PcapError.{PcapError}
@@ -28,14 +28,14 @@ use Rattle.pcap_walk.specs.CountedItems.{CountsItems}
 use Rattle.pcapfile_run.specs.Passing.{counted}
 use Rattle.pcapfile_run.proofs.Ends.{fails_at, items_checked}
 
--- what a check tells
+-- The result of a check.
 abbrev pub packets_told : ℕ → ℕ → End → Checked
 packets_told items bytes end = record { format = Pcap; items = items; bytes = bytes; end = end }
 
 abbrev pub blocks_told : ℕ → ℕ → End → Checked
 blocks_told items bytes end = record { format = PcapNg; items = items; bytes = bytes; end = end }
 
--- the header is refused
+-- The header is refused.
 pub packets_refused : (known now : Option (List ℕ)) (failed : Bool) (e : PcapError) (end : End) → ReadsTold HeaderSays (λ (header : PcapHeader). header) known now failed (Err e) → FaultIs e failed end
     → IfSome known (λ s. ChecksPackets s (packets_told 0 0 end))
 packets_refused None now failed e end reads is = tt
@@ -64,14 +64,14 @@ packets_behind header s after took now failed m n fault end counts is =
       ),
     )
 
--- the header is read, and then packets are counted
+-- The header is read, and then packets are counted.
 pub packets_passed : (header : PcapHeader) (known after now : Option (List ℕ)) (failed : Bool) (m n : ℕ) (fault : Option PcapError) (end : End) → Takes HeaderSays known after header
     → CountsItems (reader_format packet_limit header) tt after now failed most_passed 0 m 24 n fault → EndIs fault failed m most_passed end → IfSome known (λ s. ChecksPackets s (packets_told m n end))
 packets_passed header None after now failed m n fault end took counts is = tt
 packets_passed header (Some s) None now failed m n fault end took counts is = absurd took.2
 packets_passed header (Some s) (Some after) now failed m n fault end took counts is = packets_behind header s after took now failed m n fault end counts is
 
--- the first block is refused
+-- The first block is refused.
 pub blocks_refused : (known : Option (List ℕ)) (e : PcapError) (end : End) → RefusesOpening known e → FaultIs e true end → IfSome known (λ s. ChecksBlocks s (blocks_told 0 0 end))
 blocks_refused None e end why is = tt
 blocks_refused (Some s) e end why is = (
@@ -83,7 +83,7 @@ blocks_refused (Some s) e end why is = (
   }),
 )
 
--- the first block is read, and then blocks are counted
+-- The first block is read, and then blocks are counted.
 pub blocks_passed : (known after now : Option (List ℕ)) (text : List ℕ) (first : State) (before : ℕ) → before ≡ length text → before < 2 ^ 64 → (failed : Bool) (m n : ℕ) (fault : Option PcapError) (end : End)
     → TakesText OpeningSays known after text first → CountsItems block_format first after now failed most_passed 0 m before n fault → EndIs fault failed (m + 1) 18446744073709551615 end
     → IfSome known (λ s. ChecksBlocks s (blocks_told (m + 1) n end))

@@ -1,4 +1,4 @@
--- What a check of a capture says of its bytes.
+-- This file defines the results of checking a capture.
 use Rattle.std.specs.Prelude.{⊤, ◌≡◌, ◌<◌, ◌≤◌, ◌+◌, ◌⊎◌, ℕ, List, [], ◌++◌, length, Bool, true, false, Option, None, Some}
 use Rattle.pcap_core.specs.declared.errors.PcapError.{PcapError}
 use Rattle.pcap_core.specs.declared.rules.Rule.{Rule}
@@ -20,7 +20,7 @@ use Rattle.pcapfile_run.specs.declared.checked.End.TheVariants.{Whole, Most, Sho
 use Rattle.pcapfile_run.specs.declared.checked.Format.TheVariants.{Pcap, PcapNg}
 use Rattle.pcapfile_run.specs.Passing.{counted}
 
--- the end of a run that stopped with this fault, which says whether a read failed; what can't be read is told with the fault itself
+-- FaultIs error failed end: a run that stopped with this error, and in which a read failed or not, has this end. `Unread` holds the error.
 abbrev pub FaultIs : PcapError → Bool → End → Type 0
 FaultIs e failed Short = IsIo e × (failed ≡ false)
 FaultIs e failed (Breaks rule) = Names rule e
@@ -29,15 +29,15 @@ FaultIs e failed (Unread error) = (error ≡ e) × IsIo e × (failed ≡ true)
 FaultIs e failed Memory = IsMemory e
 FaultIs e failed end = ⊥
 
--- the end of a run of so many items that stopped without a fault, whole or at the most that it may give, or with one
+-- EndIs fault failed n most end: a run of n items has this end: `Whole` or `Most` without a fault, or else that of its fault.
 abbrev pub EndIs : Option PcapError → Bool → ℕ → ℕ → End → Type 0
 EndIs None failed n most Whole = n < most
 EndIs None failed n most Most = most ≤ n
 EndIs None failed n most end = ⊥
 EndIs (Some e) failed n most end = FaultIs e failed end
 
--- why a capture has no opening, where finding it takes memory only under this condition: bytes are missing, or there is a fault,
--- or it can't be read or held
+-- FailsAt MayGrow IsSaid s end: the reason why s has no opening. Bytes are missing, or there is a fault, or the input can't be read, or
+-- there is no memory, if finding the opening may need any.
 abbrev pub FailsAt : {V : Type 0} → Type 0 → (List ℕ → Verdict V → Type 0) → List ℕ → End → Type 0
 FailsAt MayGrow IsSaid s Whole = ⊥
 FailsAt MayGrow IsSaid s Most = ⊥
@@ -47,8 +47,8 @@ FailsAt MayGrow IsSaid s NotUtf8 = IsFaultOf IsSaid (Some s) Utf8
 FailsAt MayGrow IsSaid s (Unread error) = IsIo error
 FailsAt MayGrow IsSaid s Memory = MayGrow
 
--- why no item follows n items, behind which are more of the front and then a rest: there are no more, and nothing is left, or it
--- lacks bytes or has a fault; or these are the most; or it can't be read or held
+-- StopsAt: the reason why no item follows n items. The front has no more items, and its rest is empty, lacks bytes or has a fault; or
+-- n is the most; or the input can't be read; or there is no memory.
 abbrev pub StopsAt : {V : Type 0} → (List ℕ → Verdict V → Type 0) → List V → List ℕ → ℕ → ℕ → End → Type 0
 StopsAt IsSaid more rest n most Whole = (more ≡ []) × (rest ≡ [])
 StopsAt IsSaid more rest n most Most = n ≡ most
@@ -58,7 +58,7 @@ StopsAt IsSaid more rest n most NotUtf8 = (more ≡ []) × IsFaultOf IsSaid (Som
 StopsAt IsSaid more rest n most (Unread error) = IsIo error
 StopsAt IsSaid more rest n most Memory = ⊤
 
--- s is what is counted, the texts of more items, and a rest that no item begins; so many items were counted before the first
+-- ChecksItems: s is the counted bytes, more items, and a rest that no item begins; `before` items were counted before the first.
 pub record ChecksItems {S V : Type 0} (f : Format S V) (q : S) (s after : List ℕ) (before most : ℕ) (checked : Checked) : Type 0 where
   pub items : List V
   pub more : List V
@@ -72,24 +72,24 @@ pub record ChecksItems {S V : Type 0} (f : Format S V) (q : S) (s after : List �
   pub count : checked.items ≡ before + length items
   pub stops : StopsAt (f.says (state_after f q items)) more rest (length items) most checked.end
 
--- nothing is counted, since s has no opening
+-- FailsOpening: nothing is counted, since s has no opening.
 pub record FailsOpening {V : Type 0} (MayGrow : Type 0) (IsSaid : List ℕ → Verdict V → Type 0) (s : List ℕ) (checked : Checked) : Type 0 where
   pub items : checked.items ≡ 0
   pub bytes : checked.bytes ≡ 0
   pub fails : FailsAt MayGrow IsSaid s checked.end
 
--- the most items of a capture that are counted behind its opening
+-- The most items of a capture that are counted after its opening.
 abbrev pub most_passed : ℕ
 most_passed = 18446744073709551614
 
--- what a check of a classic capture tells: its header, and then its packets
+-- ChecksPackets s checked: the result of checking a classic capture, with its header and then its packets.
 abbrev pub ChecksPackets : List ℕ → Checked → Type 0
 ChecksPackets s checked =
     (checked.format ≡ Pcap)
     × (FailsOpening ⊥ HeaderSays s checked
     ⊎ ((header : PcapHeader) × (after : List ℕ) × HeaderText header s after × ChecksItems (format_under packet_limit header) tt s after 0 most_passed checked))
 
--- and of a capture of blocks: its first section header, which is counted, and then its blocks
+-- ChecksBlocks s checked: the result of checking a PcapNg capture, with its first section header, which is counted, and then its blocks.
 abbrev pub ChecksBlocks : List ℕ → Checked → Type 0
 ChecksBlocks s checked =
     (checked.format ≡ PcapNg)

@@ -1,4 +1,4 @@
--- What the word list writes of captures in files.
+-- This file defines the lines that the word `list` writes for captures in files.
 use Rattle.std.specs.Prelude.{◌≡◌, ◌≢◌, ◌<◌, ◌^◌, ◌⊎◌, ◌==◌, if◌then◌else◌, ⊤, ℕ, pos, List, [], ◌∷◌, ◌++◌, length, Bool, true, false, Option, None, Some, codes}
 use Rattle.std.specs.List.{slice_get}
 use Rattle.std.specs.Fmt.{decimal}
@@ -26,75 +26,75 @@ use Rattle.pcapfile_run.specs.BlockPackets.{InBlock, packet_in}
 use Rattle.pcapfile_run.specs.FormedLines.{IsLineOfBlock, packets_as}
 use Rattle.pcapfile_run.specs.Numbered.{Numbered, numbered}
 
--- the block holds a packet
+-- is_packet_item item: the block holds a packet.
 abbrev pub is_packet_item : Item → Bool
 is_packet_item item = is_packet item.block.type_
 
--- blocks, of which those that hold packets are numbered
+-- The format of blocks in which those that hold packets are numbered.
 unfoldable pub numbered_blocks : Format (State × ℕ) (Numbered Item)
 numbered_blocks = numbered block_format is_packet_item
 
--- a time in seconds and nanoseconds, where its seconds are a number of 64 bits, and else a hyphen
+-- ShowsTime time text: `text` is the time in seconds and nanoseconds, or a hyphen if the seconds are no natural number of 64 bits.
 abbrev pub ShowsTime : Timestamp → List ℕ → Type 0
 ShowsTime time text =
     ((s : ℕ) × (s < 2 ^ 64) × (time.seconds ≡ pos s) × (text ≡ decimal s ++ (codes "." ++ nine_digits time.nanoseconds)))
     ⊎ (((s : ℕ) → s < 2 ^ 64 → time.seconds ≢ pos s) × (text ≡ codes "-"))
 
--- the time at which this interface's clock has counted so many units; a hyphen where there is no interface
+-- IsTimeText interface units text: `text` is the time at this count of the interface's clock, or a hyphen if there is no interface.
 abbrev pub IsTimeText : Option Interface → ℕ → List ℕ → Type 0
 IsTimeText (Some interface) units text = (time : Timestamp) × IsTimeAt interface units time × ShowsTime time text
 IsTimeText None units text = text ≡ codes "-"
 
--- what a line tells last, before its end: the stored and the original length of a packet, and its interface
+-- The end of a line gives the stored and the original length of a packet, and its interface.
 abbrev pub lengths_text : ℕ → ℕ → ℕ → List ℕ → List ℕ
 lengths_text stored original interface ending = codes " " ++ (decimal stored ++ (codes "/" ++ (decimal original ++ (codes " " ++ (decimal interface ++ ending)))))
 
--- the line of the packet of this number with this end: its number, its time, its lengths and its interface
+-- The line of a packet with this ending gives its number, its time, its lengths and its interface.
 abbrev pub stored_line : ℕ → List ℕ → ℕ → ℕ → ℕ → List ℕ → List ℕ
 stored_line number time stored original interface ending = decimal number ++ (codes " " ++ (time ++ lengths_text stored original interface ending))
 
--- the time of a packet that came by this interface, if it is described; a hyphen where it has none
+-- IsUnitsText: the text is the time of a packet of this interface, or a hyphen if it has none or its interface isn't described.
 abbrev pub IsUnitsText : Option Interface → Option ℕ → List ℕ → Type 0
 IsUnitsText interface (Some units) text = IsTimeText interface units text
 IsUnitsText interface None text = text ≡ codes "-"
 
--- the line with this end of a packet in a block that came by this interface, if it is described
+-- IsPacketText: the line, with this ending, of a packet of this interface, if that is described.
 abbrev pub IsPacketText : Option Interface → ℕ → InBlock → List ℕ → List ℕ → Type 0
 IsPacketText interface number packet ending line =
     (time : List ℕ) × IsUnitsText interface packet.units time
     × (line ≡ stored_line number time (length packet.bytes) packet.original_len packet.interface ending)
 
--- the line of a packet in a block, where these interfaces are described; none where there is no packet
+-- IsPacketLine: the line of a packet in a block, given the interfaces of its section; empty if there is no packet.
 abbrev pub IsPacketLine : List Interface → ℕ → Option InBlock → List ℕ → Type 0
 IsPacketLine interfaces number (Some packet) line = IsPacketText (slice_get interfaces packet.interface) number packet (codes "\n") line
 IsPacketLine interfaces number None line = line ≡ []
 
--- the line of the packet that a body is
+-- IsBodyLine: the line of the packet in a body.
 abbrev pub IsBodyLine : List Interface → ℕ → Body → List ℕ → Type 0
 IsBodyLine interfaces number body line = IsPacketLine interfaces number (packet_in interfaces body) line
 
--- the line of the packet that a block holds, or that its body is refused
+-- IsStoredLine: the line of the packet in a block, which has the word refused if the body is malformed.
 abbrev pub IsStoredLine : List Interface → ℕ → Framed → List ℕ → Type 0
 IsStoredLine interfaces number block line =
     ((body : Body) × (rest : List ℕ) × SaysOfBody block (whole body rest) × IsBodyLine interfaces number body line)
     ⊎ ((fault : Fault) × SaysOfBody block (faulty fault) × (line ≡ decimal number ++ codes " refused\n"))
 
--- that line in this form, if one is asked for
+-- IsStoredIn: that line, or the line in this form if there is one.
 abbrev pub IsStoredIn : Option Form → List Interface → ℕ → Framed → List ℕ → Type 0
 IsStoredIn (Some form) interfaces number block line = IsLineOfBlock form interfaces number block line
 IsStoredIn None interfaces number block line = IsStoredLine interfaces number block line
 
--- the line of a block, which has none where it holds no packet
+-- IsLineIf: the line of a block, empty if it holds no packet.
 abbrev pub IsLineIf : Option Form → Bool → List Interface → ℕ → Framed → List ℕ → Type 0
 IsLineIf form true interfaces number block line = IsStoredIn form interfaces number block line
 IsLineIf form false interfaces number block line = line ≡ []
 
--- the line of a numbered block, whatever its index among all blocks
+-- IsNumberedLine: the line of a numbered block, whatever its index among all blocks.
 abbrev pub IsNumberedLine : Option Form → ℕ → Numbered Item → List ℕ → Type 0
 IsNumberedLine form index numbered line =
     IsLineIf form (is_packet_item numbered.item) (interfaces_at numbered.item.after) numbered.number numbered.item.block line
 
--- captures of blocks: a line for each that holds a packet
+-- A PcapNg capture is listed as a line for each block that holds a packet.
 abbrev pub stored_lines : Option Form → Kind State (State × ℕ) (Numbered Item)
 stored_lines form = record {
   opens = OpeningSays;
@@ -105,12 +105,12 @@ stored_lines form = record {
   IsLine = IsNumberedLine form;
 }
 
--- the format of a capture by its first byte: a section header begins with 10, in either order
+-- The format of a capture follows from its first byte: a section header begins with 10, in either byte order.
 abbrev pub format_at : List ℕ → CaptureFormat
 format_at [] = Pcap
 format_at (byte ∷ bytes) = if byte == 10 then PcapNg else Pcap
 
--- what a run that ended so has taken and written of a capture of this format: in this form, if one is asked for
+-- ListsAs: what a run that ended with this exit has read and written of a capture of this format, in this form if there is one.
 abbrev pub ListsAs : Option Form → CaptureFormat → ℕ → List ℕ → Option (List ℕ) → Option (List ℕ) → Option (List ℕ) → Exit → Type 0
 ListsAs None Pcap = ListsUntil packet_lines
 ListsAs (Some form) Pcap = ListsUntil (packets_as form)

@@ -1,4 +1,4 @@
--- What the word list writes of captures in other forms.
+-- This file defines the lines that the word `list` writes for captures in other forms.
 use Rattle.std.specs.Prelude.{◌≡◌, ◌+◌, ◌/◌, ◌%◌, ◌⊎◌, ⊤, ℕ, pos, List, [], length, Option, None, Some}
 use Rattle.std.specs.List.{slice_get}
 use Rattle.pcap_core.specs.Answer.{whole, faulty}
@@ -19,7 +19,7 @@ use Rattle.pcapfile_lines.specs.declared.seen.Seen.{Seen}
 use Rattle.pcapfile_lines.specs.Lines.{IsLineIn}
 use Rattle.pcapfile_run.specs.BlockPackets.{InBlock, packet_in}
 
--- what is seen of the packet of a header: a fraction that passes a second is carried
+-- The properties of the packet with this header. A fraction of a second or more is carried to the seconds.
 abbrev pub seen_header : PacketHeader → Seen
 seen_header header = record {
   time = Some (record { seconds = pos (header.ts_sec + header.ts_nsec / 1_000_000_000); nanoseconds = header.ts_nsec % 1_000_000_000 });
@@ -28,42 +28,42 @@ seen_header header = record {
   interface = None;
 }
 
--- the line of a packet of a classic capture
+-- IsPacketIn form index packet line: `line` is the line of a packet of a classic capture.
 abbrev pub IsPacketIn : Form → ℕ → Captured → List ℕ → Type 0
 IsPacketIn form index packet line = IsLineIn form index (Some (seen_header packet.header)) line
 
--- classic captures: a line of this form for each packet
+-- A classic capture is listed as a line in this form for each packet.
 abbrev pub packets_as : Form → Kind PcapHeader (Unit {0}) Captured
 packets_as form = packets_in ⊤ (IsPacketIn form)
 
--- the time at which this interface's clock has counted so many units; none where there is no interface
+-- IsClockTime interface units time: `time` is the time at this count of the interface's clock, or none if there is no interface.
 abbrev pub IsClockTime : Option Interface → ℕ → Option Timestamp → Type 0
 IsClockTime (Some interface) units (Some time) = IsTimeAt interface units time
 IsClockTime None units None = ⊤
 IsClockTime _ units _ = ⊥
 
--- the time of a packet that came by the interface of this number; none where it has none
+-- IsTimeIn: the time of a packet of the interface with this number, or none if the packet has none.
 abbrev pub IsTimeIn : List Interface → ℕ → Option ℕ → Option Timestamp → Type 0
 IsTimeIn interfaces number (Some units) time = IsClockTime (slice_get interfaces number) units time
 IsTimeIn interfaces number None time = time ≡ None
 
--- what is seen of a packet in a block, where these interfaces are described
+-- IsSeen interfaces packet seen: `seen` are the properties of a packet in a block, given the interfaces of its section.
 pub record IsSeen (interfaces : List Interface) (packet : InBlock) (seen : Seen) : Type 0 where
   pub time : IsTimeIn interfaces packet.interface packet.units seen.time
   pub captured : seen.captured ≡ length packet.bytes
   pub original : seen.original ≡ packet.original_len
   pub interface : seen.interface ≡ Some packet.interface
 
--- the line of a packet in a block; none where there is no packet
+-- IsLineOfPacket: the line of a packet in a block; empty if there is no packet.
 abbrev pub IsLineOfPacket : Form → List Interface → ℕ → Option InBlock → List ℕ → Type 0
 IsLineOfPacket form interfaces number (Some packet) line = (seen : Seen) × IsSeen interfaces packet seen × IsLineIn form number (Some seen) line
 IsLineOfPacket form interfaces number None line = line ≡ []
 
--- the line of the packet that a body is
+-- IsLineOfBody: the line of the packet in a body.
 abbrev pub IsLineOfBody : Form → List Interface → ℕ → Body → List ℕ → Type 0
 IsLineOfBody form interfaces number body line = IsLineOfPacket form interfaces number (packet_in interfaces body) line
 
--- the line of the packet that a block holds, or that its body is refused
+-- IsLineOfBlock: the line of the packet in a block, which says so if the body is malformed.
 abbrev pub IsLineOfBlock : Form → List Interface → ℕ → Framed → List ℕ → Type 0
 IsLineOfBlock form interfaces number block line =
     ((body : Body) × (rest : List ℕ) × SaysOfBody block (whole body rest) × IsLineOfBody form interfaces number body line)

@@ -1,4 +1,4 @@
--- Items of a lawful format that are numbered.
+-- This file proves that numbered items of a lawful format are a lawful format.
 use Rattle.std.proofs.Common.{ℕ, List, take, Bool, Option, None, Some, inl, inr, ◌⊎◌}
 use Rattle.std.specs.Prelude.{IfSome}
 use Rattle.pcap_core.specs.declared.errors.PcapError.{PcapError}
@@ -12,7 +12,7 @@ use Rattle.pcap_core.proofs.Verdicts.{one_made}
 use Rattle.pcapfile_run.specs.Numbered.{numbered, numbered_behind}
 
 module _ {S V : Type 0} (f : Format S V) (is_one : V → Bool) where
-  -- they are a lawful format
+  -- Numbered items are a lawful format.
   pub numbered_lawful : IsLawful f → IsLawful (numbered f is_one)
   numbered_lawful laws = record {
     one = λ q s. one_made (numbered_behind is_one q.1) (f.says q.0 s) (laws.one q.0 s);
@@ -29,7 +29,7 @@ module _ {S V : Type 0} (f : Format S V) (is_one : V → Bool) where
   }
 
   module _ (q : S) (n : ℕ) where
-    -- what refuses it is the same
+    -- An error of an item is an error of the numbered item.
     short_numbered : (s : List ℕ) → IsShort (f.says q) s → IsShort ((numbered f is_one).says (q, n)) s
     short_numbered s x = record { n = x.n; lack = x.lack }
 

@@ -1,4 +1,4 @@
--- Blocks, of which those that hold packets are numbered.
+-- This file defines blocks in which those that hold packets are numbered.
 use Rattle.std.specs.Prelude.{refl}
 use Rattle.pcap_ng.specs.Blocks.{block_format}
 use Rattle.pcap_ng.proofs.BlockFormat.{blocks_lawful}
@@ -7,7 +7,7 @@ use Rattle.pcapfile_run.specs.FileLines.{is_packet_item, numbered_blocks}
 use Rattle.pcapfile_run.specs.Numbered.{number_behind, numbered_behind}
 use Rattle.pcapfile_run.specs.NumberedLaws.{numbered_lawful, cause_numbered, asked_numbered}
 
--- they are blocks, of which it is kept how many hold packets
+-- Numbered blocks are blocks, with the number of packets so far as the kept value.
 pub stored_blocks : AreBlocks numbered_blocks (λ q n. (q, n)) (numbered_behind is_packet_item) (λ n item. number_behind (is_packet_item item) n)
 unfolding numbered_blocks block_format
 stored_blocks = record {

@@ -1,4 +1,4 @@
-//! Packets that blocks hold.
+//! The packets in blocks.
 
 ghost use Rattle.std.specs.Prelude.{◌≡◌, map, option_map, slice_get};
 ghost use Rattle.pcap_blocks.specs.InterfaceDescription.{interface_of};
@@ -8,20 +8,20 @@ ghost use Rattle.pcapfile_run.specs.BlockPackets.{in_block, packet_in, snaplen_o
 
 use pcap_file::pcapng::{BlockType, InterfaceDescriptionBlock, ParsedBlock};
 
-/// A packet that a block holds.
+/// A packet in a block.
 #[derive(Clone, Copy)]
 pub struct BlockPacket<'a> {
-    /// The number of its interface among those of its section. A simple packet came by the first, number 0.
+    /// The number of its interface in its section. It is 0 for a simple packet, which belongs to the first interface.
     pub interface: u32,
-    /// Its time in the units of that interface's clock. A simple packet has none.
+    /// Its timestamp in units of the interface's clock. A simple packet has none.
     pub units: Option<u64>,
     /// Its length on the wire, in bytes.
     pub original_len: u32,
-    /// The bytes that are stored of it, without padding.
+    /// Its stored bytes, without padding.
     pub bytes: &'a [u8],
 }
 
-/// Whether blocks of this type hold a packet.
+/// Returns whether a block of this type holds a packet.
 pub fn holds_packet(type_: BlockType) -> bool
     ensures { result ≡ is_packet type_ }
 {
@@ -31,7 +31,7 @@ pub fn holds_packet(type_: BlockType) -> bool
     )
 }
 
-/// The interface of this number among these. None past their end.
+/// Returns the interface with this number, or `None` past the end of `interfaces`.
 pub fn interface_at<'a>(
     interfaces: &'a [InterfaceDescriptionBlock<'static>],
     number: u32,
@@ -41,7 +41,7 @@ pub fn interface_at<'a>(
     interfaces.get(number as usize)
 }
 
-// The snaplen of the first of these interfaces, in bytes, or 0 where there is none.
+// Returns the snapshot length of the first interface in bytes, or 0 if there is no interface.
 fn first_snaplen(interfaces: &[InterfaceDescriptionBlock<'static>]) -> u32
     ensures { result ≡ snaplen_of (slice_get (map interface_of interfaces.now) 0) }
 {
@@ -51,7 +51,7 @@ fn first_snaplen(interfaces: &[InterfaceDescriptionBlock<'static>]) -> u32
     }
 }
 
-/// The packet that the body of a block is, where these are the interfaces of its section. None of a body that is no packet.
+/// Returns the packet in the body of a block, where `interfaces` are those of its section. Returns `None` if the body is no packet.
 pub fn packet_in_body<'a>(
     interfaces: &[InterfaceDescriptionBlock<'static>],
     parsed: &'a ParsedBlock<'_>,

@@ -10,11 +10,11 @@ use pcap_walk::{Counting, Walked, count_blocks, count_packets};
 use std::alloc::Global;
 use std::io::BufRead;
 
-/// The most items that are counted behind the opening of a capture.
+/// The most items that are counted after the opening of a capture.
 const MOST: u64 = 18_446_744_073_709_551_614;
 
-/// Checks a classic capture that comes off a stream: how many packets stand one after the other behind its header, how many
-/// bytes header and packets take, and why no other packet follows. Only a packet that the input's buffer cuts off is held in memory.
+/// Checks a classic capture read from a stream: counts the packet records of its front and the bytes of header and records, and finds
+/// why no other record follows. Only a packet that is cut by the end of the input's buffer is held in memory.
 pub fn check_packets<R: BufRead + Drop>(alloc: Global, mut input: R) -> Checked
     ensures { IfSome (R.remaining input) (λ s. ChecksPackets s result) }
 {
@@ -46,10 +46,10 @@ pub fn check_packets<R: BufRead + Drop>(alloc: Global, mut input: R) -> Checked
     }
 }
 
-/// Checks a capture of blocks that comes off a stream: how many blocks stand one after the other, the first section header among
-/// them, how many bytes they take, and why no other block follows. The body of a block is checked where it stays in force, which
-/// is that of a section header and of an interface description. One block at a time is held in memory, where it is no enhanced packet or
-/// the input's buffer cuts it off, beside the section and interfaces in force.
+/// Checks a PcapNg capture read from a stream: counts the blocks of its front, with the first section header, and their bytes, and
+/// finds why no other block follows. It checks the bodies only of section headers and interface descriptions, since these stay in
+/// force. It holds the current section and interfaces in memory, and at most one block. An enhanced packet block is held only if the
+/// end of the input's buffer cuts it.
 pub fn check_blocks<R: BufRead + Drop>(alloc: Global, mut input: R) -> Checked
     ensures { IfSome (R.remaining input) (λ s. ChecksBlocks s result) }
 {

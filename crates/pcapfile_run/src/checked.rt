@@ -1,4 +1,4 @@
-//! What a check of a capture found.
+//! The results of checking a capture.
 
 ghost use Rattle.std.specs.Prelude.{◌≡◌, true, false, IfSome, IfNone};
 ghost use Rattle.pcap_core.specs.declared.rules.Rule.{Rule};
@@ -15,40 +15,40 @@ use std::fmt;
 pub enum Format {
     /// A classic capture.
     Pcap,
-    /// A capture of blocks.
+    /// A PcapNg capture.
     PcapNg,
 }
 
-/// Why no item follows those that were passed.
+/// The reason why no item follows those that were counted.
 #[derive(Debug, Drop)]
 pub enum End {
-    /// Nothing is left.
+    /// The end of the capture: nothing is left.
     Whole,
-    /// As many items were passed as are counted.
+    /// The greatest number of items was counted.
     Most,
-    /// Bytes are missing: the capture ends inside its opening or an item, or the body of a block that stays in force ends inside
-    /// a value.
+    /// The capture is truncated: it ends inside a classic header, a packet record or a later block, or the body of a later section
+    /// header or interface description ends inside a value.
     Short,
-    /// What stands there breaks this rule.
+    /// The bytes there break this rule.
     Breaks(Rule),
-    /// A string that stands there isn't UTF-8.
+    /// A string there isn't UTF-8.
     NotUtf8,
-    /// It can't be read.
+    /// The input can't be read. A PcapNg capture truncated in its first block also has this end, with kind `UnexpectedEof`.
     Unread(PcapError),
-    /// It can't be held in memory.
+    /// The program is out of memory.
     Memory,
 }
 
-/// What a check of a capture found.
+/// The result of checking a capture.
 #[derive(Debug, Drop)]
 pub struct Checked {
     /// The capture's format.
     pub format: Format,
-    /// How many packets, or blocks with the first section header, stand in front of its end.
+    /// The number of packets, or of blocks with the first section header, before the end.
     pub items: u64,
-    /// How many bytes these take, with the header of a classic capture: the place of what follows.
+    /// The number of bytes of these items, and of the header of a classic capture: the offset of what follows.
     pub bytes: u64,
-    /// What follows.
+    /// The reason why no item follows.
     pub end: End,
 }
 
@@ -62,7 +62,7 @@ impl Format {
         }
     }
 
-    // What its items are called.
+    // Returns the name of its items.
     fn items(self) -> &'static str
         ensures { result.now ≡ items_name self }
     {
@@ -74,7 +74,7 @@ impl Format {
 }
 
 impl Checked {
-    /// The status with which a process ends that checked this capture.
+    /// Returns the exit status of a process that checked this capture.
     pub fn status(&self) -> u8
         ensures { result ≡ status_of self.now.end }
     {
@@ -87,7 +87,7 @@ impl Checked {
     }
 }
 
-// What a line says of an end that stands at this byte.
+// The text of a line about an end at this byte.
 #[derive(Clone, Copy)]
 struct Ending<'a> {
     end: &'a End,
@@ -118,7 +118,7 @@ impl fmt::Display for Ending<'_> {
     }
 }
 
-/// A line without its newline: the format, how many items, and how many bytes they take, or what refuses the item at which byte.
+/// Writes a line without a newline: the format, the number of items, and their bytes or the error at the next byte.
 impl fmt::Display for Checked {
     ghost output = { line_of };
 
@@ -134,7 +134,7 @@ impl fmt::Display for Checked {
     }
 }
 
-/// Why a run ended with this fault, or without one behind so many items of at most so many.
+/// Returns the reason why a run ended with this fault, or without one after `items` items of at most `most`.
 pub fn end_of(fault: Option<PcapError>, read_failed: bool, items: u64, most: u64) -> End
     ensures { EndIs fault read_failed items most result }
 {
@@ -145,7 +145,7 @@ pub fn end_of(fault: Option<PcapError>, read_failed: bool, items: u64, most: u64
     }
 }
 
-// Why a run ended with this fault.
+// Returns the reason why a run ended with this fault.
 fn end_at(error: PcapError, read_failed: bool) -> End
     ensures { FaultIs error read_failed result }
 {

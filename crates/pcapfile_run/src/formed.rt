@@ -1,4 +1,4 @@
-//! Lines of packets in a form that is asked for.
+//! Lines of packets in a given form.
 
 ghost use Rattle.std.specs.Prelude.{map, IfOk, string_bytes};
 ghost use Rattle.pcap_blocks.specs.InterfaceDescription.{interface_of};
@@ -16,7 +16,7 @@ use pcapfile_lines::{Form, line_of};
 use std::alloc::{AllocError, Global};
 use std::io::Write;
 
-// The line of the packet of this number that a body is. It is empty for any other body.
+// Returns the line of the packet in a body, with this number. The line is empty if the body is no packet.
 fn body_line(
     alloc: Global,
     form: Form,
@@ -33,7 +33,7 @@ fn body_line(
     line_of(alloc, form, number, Some(seen))
 }
 
-// The line of the packet of this number that a block holds.
+// Returns the line of the packet in a block, with this number.
 fn block_line(
     alloc: Global,
     form: Form,
@@ -50,7 +50,7 @@ fn block_line(
     }
 }
 
-/// Writes that line.
+/// Writes the line of the packet in a block, with this number.
 pub(crate) fn write_formed<W: Write>(
     alloc: Global,
     output: &mut W,

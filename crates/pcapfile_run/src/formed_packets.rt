@@ -1,4 +1,4 @@
-//! The packets of a classic capture, a line each in a form that is asked for.
+//! Listing the packets of a classic capture, one line each in a given form.
 
 ghost use Rattle.std.specs.Prelude.{⊤, Some, IfSome};
 ghost use Rattle.capcopy_run.specs.Exits.{exit_of};
@@ -14,7 +14,7 @@ use pcapfile_lines::{Form, line_of};
 use std::alloc::Global;
 use std::io::{BufRead, Write};
 
-// Lines of a form.
+// A writer of lines in a form.
 #[derive(Drop)]
 struct FormedLines {
     form: Form,
@@ -41,7 +41,7 @@ impl PacketLine for FormedLines {
     }
 }
 
-/// Writes a line of this form for each packet of a classic capture, and `most` lines at most.
+/// Writes a line in this form for each packet of a classic capture, up to `most` lines.
 pub(crate) fn list_packets<R: BufRead, W: Write>(
     alloc: Global,
     form: Form,

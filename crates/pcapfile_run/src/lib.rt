@@ -1,4 +1,4 @@
-//! What the program `pcapfile` does, over any input.
+//! The actions of the program `pcapfile`, over any input.
 #![tactic(auto)]
 
 mod block_packet;

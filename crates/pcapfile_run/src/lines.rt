@@ -1,4 +1,4 @@
-//! Lines of packets that blocks hold, made from their end to their beginning.
+//! Lines of packets in blocks, built from the end to the beginning.
 
 ghost use Rattle.std.specs.Prelude.{◌≡◌, ◌≢◌, ◌≤◌, ◌+◌, ◌<◌, ◌^◌, ◌++◌, ℕ, List, pos, length, drop, map, codes, option_map, MatchOption};
 ghost use Rattle.std.specs.Fmt.{decimal};
@@ -11,14 +11,14 @@ use crate::block_packet::{BlockPacket, interface_at, packet_in_body};
 use capcopy_run::{ROOM, put_byte, put_nine_digits, put_number, put_word};
 use pcap_file::pcapng::{InterfaceDescriptionBlock, ParsedBlock, Timestamp};
 
-// The seconds of a time, where they are a number of 64 bits.
+// Returns the seconds of a time, if they fit in 64 bits and aren't negative.
 fn seconds_of(time: Timestamp) -> Option<u64>
     ensures { MatchOption result ((s : ℕ) → s < 2 ^ 64 → time.seconds ≢ pos s) (λ s. (s < 2 ^ 64) × (time.seconds ≡ pos s)) }
 {
     u64::try_from(time.seconds).ok()
 }
 
-// Puts a time before the text that begins at `end`, and returns where it begins then.
+// Puts a time before the text that begins at `end`, and returns the new beginning.
 fn put_time(room: &mut [u8; ROOM], end: usize, time: Timestamp) -> usize
     requires { (41 ≤ end) × (end ≤ 126) }
     ensures start { (result ≤ end) × (end ≤ result + 41) }
@@ -32,7 +32,7 @@ fn put_time(room: &mut [u8; ROOM], end: usize, time: Timestamp) -> usize
     put_number(room, start, seconds)
 }
 
-// Puts the time before the text that begins at `end` at which an interface's clock has counted so many units.
+// Puts the time that is `units` units of an interface's clock before the text that begins at `end`.
 fn put_time_at(
     room: &mut [u8; ROOM],
     end: usize,
@@ -50,7 +50,7 @@ fn put_time_at(
     }
 }
 
-// Puts the lengths of a packet and its interface before the text that begins at `end`, and returns where it begins then.
+// Puts the lengths of a packet and its interface number before the text that begins at `end`, and returns the new beginning.
 fn put_lengths(
     room: &mut [u8; ROOM],
     end: usize,
@@ -70,7 +70,7 @@ fn put_lengths(
     put_byte(room, start, b' ')
 }
 
-// Puts the number of a packet before the line that goes on at `end`, and returns where it begins then.
+// Puts the number of a packet before the rest of the line, which begins at `end`, and returns the new beginning.
 fn put_packet_number(room: &mut [u8; ROOM], end: usize, number: u64) -> usize
     requires { (21 ≤ end) × (end ≤ 126) }
     ensures start { result ≤ end }
@@ -80,7 +80,7 @@ fn put_packet_number(room: &mut [u8; ROOM], end: usize, number: u64) -> usize
     put_number(room, start, number)
 }
 
-// Puts the time of a packet before the text that begins at `end`, where it came by this interface, if that is described.
+// Puts the time of a packet of this interface, if that is described, before the text that begins at `end`.
 fn put_packet_time(
     room: &mut [u8; ROOM],
     end: usize,
@@ -98,10 +98,10 @@ fn put_packet_time(
     }
 }
 
-/// Puts the line of the packet of this number before the end of that line, which begins at `end`, and returns where the line begins:
-/// the number, the time by the packet's interface, if that is described, the stored and the original length, and the interface's
-/// number. A hyphen stands where the packet has no time, its interface isn't described, and where the seconds since 1970 are no
-/// number of 64 bits.
+/// Puts the line of a packet with this number before the line's ending, which begins at `end`, and returns where the line begins.
+/// The line has the number, the time by the interface's clock, the stored and the original length, and the interface's number.
+/// The time is a hyphen if the packet has none, if its interface isn't described, or if the seconds since 1970 are negative or need
+/// more than 64 bits.
 pub fn put_packet(
     room: &mut [u8; ROOM],
     end: usize,
@@ -120,8 +120,8 @@ pub fn put_packet(
     put_packet_number(room, start, number)
 }
 
-/// Makes the line of the packet of this number that a body is, at the end of the room, and returns where it begins. It is empty
-/// for any other body.
+/// Writes the line of the packet in a body, with this number, into the end of the buffer, and returns where the line begins. The line
+/// is empty if the body is no packet.
 pub(crate) fn make_body_line(
     room: &mut [u8; ROOM],
     number: u64,
@@ -139,7 +139,7 @@ pub(crate) fn make_body_line(
     put_packet(room, end, number, interface, packet)
 }
 
-/// Makes the line of the packet of this number whose body is refused, at the end of the room, and returns where it begins.
+/// Writes the line of a packet with this number and a malformed body into the end of the buffer, and returns where the line begins.
 pub(crate) fn make_refused_line(room: &mut [u8; ROOM], number: u64) -> usize
     ensures within { result ≤ 126 }
     ensures line { drop result room.new ≡ decimal number ++ codes " refused\n" }

@@ -1,4 +1,4 @@
-//! Lists of packets of captures of either format.
+//! Listing the packets of captures of either format.
 
 ghost use Rattle.std.specs.Prelude.{◌≡◌, IfOk, IfSome};
 ghost use Rattle.std.specs.Io.KnownBytes.{Keeps};
@@ -15,11 +15,11 @@ use std::alloc::Global;
 use std::io;
 use std::io::{BufRead, Write};
 
-/// The first byte of a capture of blocks, in either order. No classic capture begins with it.
+/// The first byte of a PcapNg capture, in either byte order. No classic capture begins with it.
 const FIRST_OF_BLOCKS: u8 = 10;
 
-/// The format of the capture that the input holds, by its first byte, which is not taken. An input without a byte is told as a
-/// classic capture, whose reading then refuses it. The errors are those of the input.
+/// Returns the format of the capture in the input, by its first byte, which stays in the input. An empty input counts as a classic
+/// capture, and reading it then fails. Returns the errors of the input.
 pub fn format_of<R: BufRead>(input: &mut R) -> io::Result<Format>
     ensures keeps { Keeps (R.remaining input.old) (R.remaining input.new) }
     ensures tells { IfOk result (λ format. IfSome (R.remaining input.old) (λ s. format ≡ format_at s)) }
@@ -39,7 +39,7 @@ fn exit_at(done: Result<(), Exit>) -> Exit
     }
 }
 
-// Writes the lines of a classic capture, in this form if one is asked for.
+// Writes the lines of a classic capture, in this form if there is one.
 fn list_classic<R: BufRead, W: Write>(
     alloc: Global,
     form: Option<Form>,
@@ -56,7 +56,7 @@ fn list_classic<R: BufRead, W: Write>(
     }
 }
 
-// Writes the lines of a capture of this format, in this form if one is asked for.
+// Writes the lines of a capture of this format, in this form if there is one.
 fn list_as<R: BufRead, W: Write>(
     alloc: Global,
     form: Option<Form>,
@@ -73,17 +73,16 @@ fn list_as<R: BufRead, W: Write>(
     }
 }
 
-/// Writes a line for each packet of the capture that the input holds, of either format, with `most` packets or blocks at most.
+/// Writes a line for each packet of the capture in the input, of either format, from at most `most` packets or blocks.
 ///
-/// In a form they are those of `pcapfile_lines`, where a fraction of a second that passes a second is carried. Without one, those of a
-/// classic capture are the lines of `list` of `capcopy_run`: `index sec.nsec stored/original`. Those of a capture of
-/// blocks have the number of the packet's interface behind them: `index sec.nsec stored/original interface`. The time is that
-/// which the interface's clock shows; a hyphen stands in its place where the packet has none, as a simple packet, where its
-/// interface is not described, and where the seconds since 1970 are no number of 64 bits. A packet whose body is refused has
-/// the line `index refused`.
+/// With a form, the lines are those of `pcapfile_lines`, and a fraction of a second or more is carried. Without a form, the lines of a
+/// classic capture are those of the word `list` of `capcopy_run`: `index sec.nsec stored/original`. Those of a PcapNg capture also
+/// have the number of the packet's interface: `index sec.nsec stored/original interface`. The time is that of the interface's clock.
+/// It is a hyphen if the packet has none, such as a simple packet, if its interface isn't described, or if the seconds since 1970 are
+/// negative or need more than 64 bits. A packet with a malformed body has the line `index refused`.
 ///
-/// What refuses the rest is told after the lines of the packets before it. The output is flushed each time before the input is
-/// asked for more.
+/// Returns an error for a malformed or truncated rest after the lines of the packets before it. Flushes the output each time before it
+/// reads more of the input.
 pub fn list<R: BufRead, W: Write>(
     alloc: Global,
     form: Option<Form>,

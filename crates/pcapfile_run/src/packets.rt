@@ -1,4 +1,4 @@
-//! The packets of a capture of blocks, a line each.
+//! Listing the packets of a PcapNg capture, one line each.
 
 ghost use Rattle.std.specs.Prelude.{◌≡◌, ◌≤◌, ℕ, drop, map, Option, IfSome, MatchResult};
 ghost use Rattle.pcap_blocks.specs.InterfaceDescription.{interface_of};
@@ -26,7 +26,7 @@ use pcapfile_lines::Form;
 use std::alloc::Global;
 use std::io::{BufRead, Write};
 
-// Makes the line of the packet of this number that a block holds, and returns where it begins.
+// Writes the line of the packet in a block, with this number, into the end of the buffer, and returns where the line begins.
 fn make_line(
     alloc: Global,
     room: &mut [u8; ROOM],
@@ -45,7 +45,7 @@ fn make_line(
     }
 }
 
-// Writes that line.
+// Writes the line of the packet in a block, with this number.
 fn write_plain<W: Write>(
     alloc: Global,
     output: &mut W,
@@ -60,7 +60,7 @@ fn write_plain<W: Write>(
     put_line(output, &room[start..])
 }
 
-// Writes the line of that packet in this form, if one is asked for.
+// Writes the line of the packet in a block, in this form if there is one.
 fn write_packet<W: Write>(
     alloc: Global,
     output: &mut W,
@@ -78,7 +78,7 @@ fn write_packet<W: Write>(
     }
 }
 
-// Writes the line of a block behind so many packets, and counts the packet that it holds.
+// Writes the line of the next block, if it holds a packet, and counts the packet.
 fn write_block<W: Write>(
     alloc: Global,
     output: &mut W,
@@ -98,7 +98,7 @@ fn write_block<W: Write>(
     write_packet(alloc, output, form, *packets, interfaces, block)
 }
 
-// Lines of packets in this form, if one is asked for, and how many packets there were.
+// A writer of lines of packets, in this form if there is one, and the number of packets so far.
 #[derive(Drop)]
 struct StoredLines {
     form: Option<Form>,
@@ -150,7 +150,7 @@ impl BlockLine for StoredLines {
     }
 }
 
-/// Writes a line for each packet of a capture of blocks, in this form if one is asked for, of which `most` blocks are taken at most behind the first.
+/// Writes a line for each packet of a PcapNg capture, in this form if there is one. It reads at most `most` blocks after the first.
 pub(crate) fn list_stored<R: BufRead, W: Write>(
     alloc: Global,
     form: Option<Form>,

@@ -1,4 +1,4 @@
-//! What is seen of packets of either format.
+//! The properties of packets that lines show, for either format.
 
 ghost use Rattle.std.specs.Prelude.{◌≡◌, map, option_map};
 ghost use Rattle.pcap_blocks.specs.InterfaceDescription.{interface_of};
@@ -13,7 +13,7 @@ use pcapfile_lines::Seen;
 /// The nanoseconds in a second.
 const BILLION: u32 = 1_000_000_000;
 
-/// What is seen of the packet of this header. A fraction that passes a second is carried.
+/// Returns the properties of the packet with this header. A fraction of a second or more is carried to the seconds.
 pub(crate) fn seen_of_header(header: PacketHeader) -> Seen
     ensures { result ≡ seen_header header }
 {
@@ -29,7 +29,7 @@ pub(crate) fn seen_of_header(header: PacketHeader) -> Seen
     }
 }
 
-// The time at which an interface's clock has counted so many units, where the interface is described.
+// Returns the time that is `units` units of an interface's clock, if the interface is described.
 fn time_by(interface: Option<&InterfaceDescriptionBlock<'static>>, units: u64) -> Option<Timestamp>
     ensures { IsClockTime (option_map (λ i. interface_of i.now) interface.entry) units result }
 {
@@ -39,7 +39,7 @@ fn time_by(interface: Option<&InterfaceDescriptionBlock<'static>>, units: u64) -
     }
 }
 
-// The time of a packet in a block, where these interfaces are described.
+// Returns the time of a packet in a block, given the interfaces of its section.
 fn time_of(
     interfaces: &[InterfaceDescriptionBlock<'static>],
     packet: BlockPacket,
@@ -52,7 +52,7 @@ fn time_of(
     }
 }
 
-/// What is seen of a packet in a block, where these interfaces are described.
+/// Returns the properties of a packet in a block, given the interfaces of its section.
 pub(crate) fn seen_in_block(
     interfaces: &[InterfaceDescriptionBlock<'static>],
     packet: BlockPacket,
