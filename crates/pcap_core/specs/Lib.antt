@@ -7,3 +7,4 @@ pub mod Link
 pub mod Laws
 pub mod Errors
 pub mod Padded
+pub mod LinkField

@@ -6,8 +6,10 @@ mod common;
 mod errors;
 pub mod fields;
 mod link;
+mod link_field;
 pub mod rules;
 
 pub use common::{CowBytes, Endianness};
 pub use errors::{PcapError, ResultParsing};
 pub use link::DataLink;
+pub use link_field::LinkField;

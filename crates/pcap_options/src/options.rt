@@ -43,6 +43,18 @@ impl<'a> UnknownOption<'a> {
         }
     }
 
+    /// Makes an option with this code and length in bytes, which owns its value.
+    pub fn from_vec(code: u16, len: u16, value: Vec<u8>) -> Self
+        ensures option { unknown_entry result ≡ record { code = code; value = Unknown len value.items } }
+        ensures owned { UnknownIsOwned result }
+    {
+        UnknownOption {
+            code,
+            length: len,
+            value: CowBytes::Owned(value),
+        }
+    }
+
     /// Returns the option's code.
     pub fn code(&self) -> u16
         ensures { result ≡ (unknown_entry self.now).code }
