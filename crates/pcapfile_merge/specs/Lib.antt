@@ -10,6 +10,7 @@ pub mod Merges
 pub mod Merging
 pub mod Packets
 pub mod Passing
+pub mod Reordered
 pub mod Sources
 pub mod Taking
 pub mod TakingBlocks

@@ -1,8 +1,10 @@
 -- What is taken from a reader of blocks.
-use Rattle.std.specs.Prelude.{◌≡◌, ◌⊎◌, ◌<◌, ◌≤◌, ◌+◌, ◌-◌, ◌^◌, ℕ, List, length, true, false, Option, None, Some, codes}
+use Rattle.std.specs.Prelude.{◌≡◌, ◌⊎◌, ◌<◌, ◌≤◌, ◌+◌, ◌-◌, ◌^◌, ℕ, List, length, map, true, false, Option, None, Some, codes}
 use Rattle.std.specs.List.{AllByRecursion, slice_get}
+use Rattle.pcap_core.specs.declared.common.Endianness.{Endianness}
 use Rattle.pcap_core.specs.declared.common.Endianness.TheVariants.{Little}
 use Rattle.pcap_core.specs.declared.errors.PcapError.{PcapError}
+use Rattle.pcap_core.specs.Errors.{IsMemory}
 use Rattle.pcap_core.specs.Answer.{lacks, faulty, Refuses}
 use Rattle.pcap_items.specs.Format.{state_after}
 use Rattle.pcap_items.specs.Takes.{TakesTexts}
@@ -11,6 +13,7 @@ use Rattle.pcap_blocks.specs.declared.block_type.BlockType.{BlockType}
 use Rattle.pcap_blocks.specs.EnhancedPacket.{Enhanced}
 use Rattle.pcap_blocks.specs.InterfaceDescription.{Interface}
 use Rattle.pcap_blocks.specs.ParsedBlock.{Body, EnhancedBody}
+use Rattle.pcap_blocks.specs.StoredPacket.{Stored}
 use Rattle.pcap_written.specs.declared.unwritable.Unput.{Unput}
 use Rattle.pcap_written.specs.Plain.{plain_packet}
 use Rattle.pcap_written.specs.Puts.{IsShownAs, RefusesPut}
@@ -30,6 +33,7 @@ use Rattle.pcapfile_merge.specs.declared.packet.Pending.{Pending}
 use Rattle.pcapfile_merge.specs.declared.reader.Interfaces.{Interfaces}
 use Rattle.pcapfile_merge.specs.declared.reader.Interfaces.TheVariants.{Closed, Open}
 use Rattle.pcapfile_merge.specs.Packets.{Packet}
+use Rattle.pcapfile_merge.specs.Reordered.{NeedReordering, little_entry}
 use Rattle.pcapfile_merge.specs.Taking.{packet_in}
 
 -- A packet of an interface has this time, and this many units of its clock; a packet without a time has none.
@@ -38,34 +42,44 @@ IsTimeBy by (Some counted) (Some time) units = IsTimeAt by counted time × (unit
 IsTimeBy by (Some counted) None units = ⊥
 IsTimeBy by None time units = (time ≡ None) × (units ≡ 0)
 
--- An enhanced packet with another interface number.
-abbrev pub numbered : ℕ → Enhanced → Enhanced
-numbered number enhanced = record { interface_id = number; packet = enhanced.packet }
+-- A stored packet of a section of this order, as a little-endian section has it.
+abbrev pub little_packet : Endianness → Stored → Stored
+little_packet order packet = record {
+  timestamp = packet.timestamp;
+  captured_len = packet.captured_len;
+  original_len = packet.original_len;
+  bytes = packet.bytes;
+  options = map (little_entry order) packet.options;
+}
+
+-- An enhanced packet of a section of this order, as a little-endian section has it, with another interface number.
+abbrev pub numbered : Endianness → ℕ → Enhanced → Enhanced
+numbered order number enhanced = record { interface_id = number; packet = little_packet order enhanced.packet }
 
 -- The enhanced packet that a body is, if it is one.
 abbrev pub enhanced_in : Body → Option Enhanced
 enhanced_in (EnhancedBody enhanced) = Some enhanced
 enhanced_in _ = None
 
--- The block written for a packet, with this interface number. An enhanced packet keeps its time, lengths, bytes and all options. Any
--- other packet keeps its units, its length on the wire and its bytes.
-abbrev pub block_under : ℕ → ℕ → InBlock → Option Enhanced → Body
-block_under number units packet (Some enhanced) = EnhancedBody (numbered number enhanced)
-block_under number units packet None = EnhancedBody (plain_packet number units packet.original_len packet.bytes)
+-- The block written for a packet of a section of this order, with this interface number. An enhanced packet keeps its time, lengths, bytes
+-- and all options, with their numbers in little-endian order. Any other packet keeps its units, its length on the wire and its bytes.
+abbrev pub block_under : Endianness → ℕ → ℕ → InBlock → Option Enhanced → Body
+block_under order number units packet (Some enhanced) = EnhancedBody (numbered order number enhanced)
+block_under order number units packet None = EnhancedBody (plain_packet number units packet.original_len packet.bytes)
 
--- The packet that a merge makes of one in a block with this body. Its time is that of its interface's clock, and its block gets the
--- number of its interface, which is counted from `base` on.
-pub record IsMerged (base : ℕ) (interfaces : List Interface) (body : Body) (packet : InBlock) (p : Packet) : Type 0 where
+-- The packet that a merge makes of one in a block of this order with this body. Its time is that of its interface's clock, and its block
+-- gets the number of its interface, which is counted from `base` on.
+pub record IsMerged (order : Endianness) (base : ℕ) (interfaces : List Interface) (body : Body) (packet : InBlock) (p : Packet) : Type 0 where
   pub by : Interface
   pub described : slice_get interfaces packet.interface ≡ Some by
   pub units : ℕ
   pub time : IsTimeBy by packet.units p.time units
-  pub text : p.text ≡ little_text (block_under (base + packet.interface) units packet (enhanced_in body))
+  pub text : p.text ≡ little_text (block_under order (base + packet.interface) units packet (enhanced_in body))
 
 -- A block gives this packet, or none if it holds none.
 abbrev pub GivesOf : ℕ → List Interface → Framed → Option Packet → Type 0
 GivesOf base interfaces block (Some p) =
-    (is_packet block.type_ ≡ true) × (packet : InBlock) × (holds : HoldsPacket interfaces block packet) × IsMerged base interfaces holds.body packet p
+    (is_packet block.type_ ≡ true) × (packet : InBlock) × (holds : HoldsPacket interfaces block packet) × IsMerged block.endianness base interfaces holds.body packet p
 GivesOf base interfaces block None = is_packet block.type_ ≡ false
 
 -- GivesIn base item packet: the same for a block of a capture.
@@ -81,11 +95,12 @@ pub data IsUnfit (base : ℕ) (interfaces : List Interface) (packet : InBlock) (
   -- It doesn't fit into a block.
   too_long : 4294967260 < length packet.bytes → HasMessage (codes "Block: a packet that is too long") e → IsUnfit base interfaces packet e
 
--- Why an enhanced packet can't be written with this number: its options can't be written, the program is out of memory, or its block is
--- too long.
-pub data IsUnmade (number : ℕ) (enhanced : Enhanced) (e : PcapError) : Type 0 where
-  unput : (why : Unput) → RefusesPut (FlawIn Little (EnhancedBody (numbered number enhanced))) why → IsShownAs why e → IsUnmade number enhanced e
-  block_long : 4294967260 < length (little_text (EnhancedBody (numbered number enhanced))) → HasMessage (codes "Block: a packet that is too long") e → IsUnmade number enhanced e
+-- Why an enhanced packet of a section of this order can't be written with this number: there is no memory for an option with its numbers
+-- in little-endian order, its options can't be written, the program is out of memory, or its block is too long.
+pub data IsUnmade (order : Endianness) (number : ℕ) (enhanced : Enhanced) (e : PcapError) : Type 0 where
+  unordered : NeedReordering order enhanced.packet.options → IsMemory e → IsUnmade order number enhanced e
+  unput : (why : Unput) → RefusesPut (FlawIn Little (EnhancedBody (numbered order number enhanced))) why → IsShownAs why e → IsUnmade order number enhanced e
+  block_long : 4294967260 < length (little_text (EnhancedBody (numbered order number enhanced))) → HasMessage (codes "Block: a packet that is too long") e → IsUnmade order number enhanced e
 
 -- Why a block that was taken ends a capture that is merged. `Behind` says that packets were given before it.
 pub data EndsBlock (Behind : Type 0) (base : ℕ) (interfaces : List Interface) (block : Framed) (e : PcapError) : Type 0 where
@@ -97,7 +112,7 @@ pub data EndsBlock (Behind : Type 0) (base : ℕ) (interfaces : List Interface) 
   packet_unfit : (packet : InBlock) → HoldsPacket interfaces block packet → IsUnfit base interfaces packet e → EndsBlock Behind base interfaces block e
   -- It is an enhanced packet that can't be written with its number.
   packet_unmade : (packet : InBlock) (holds : HoldsPacket interfaces block packet) (enhanced : Enhanced) → enhanced_in holds.body ≡ Some enhanced
-      → IsUnmade (base + packet.interface) enhanced e → EndsBlock Behind base interfaces block e
+      → IsUnmade block.endianness (base + packet.interface) enhanced e → EndsBlock Behind base interfaces block e
 
 -- The next block ends a capture that is merged: it is refused, or it is taken and ends the capture.
 abbrev pub EndsAt : Type 0 → ℕ → Source → Source → PcapError → Type 0

@@ -11,6 +11,7 @@ mod merging;
 mod packet;
 mod parts;
 mod reader;
+mod reordered;
 mod source;
 mod stored;
 

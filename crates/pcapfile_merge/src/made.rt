@@ -5,6 +5,7 @@ ghost use Rattle.pcap_blocks.specs.EnhancedPacket.{enhanced_of};
 ghost use Rattle.pcapfile_merge.specs.Making.{MakesText};
 
 use crate::packet::{MOST, Pending};
+use crate::reordered::renumbered;
 use pcap_file::pcapng::EnhancedPacketBlock;
 use pcap_file::{Endianness, PcapError, ResultParsing};
 use pcap_written::encode;
@@ -31,17 +32,19 @@ impl Made {
         }
     }
 
-    // Makes the little-endian block of an enhanced packet with all its options and with the interface number of `said`.
+    // Makes the little-endian block of an enhanced packet of a section of this order, with all its options and with the interface number
+    // of `pending`.
     pub(crate) fn put(
         &mut self,
+        alloc: Global,
+        order: Endianness,
         packet: EnhancedPacketBlock<'_>,
         pending: Pending,
     ) -> ResultParsing<Pending>
-        ensures makes { MakesText pending (enhanced_of packet.entry) self.new result }
+        ensures makes { MakesText order pending (enhanced_of packet.entry) self.new result }
         ensures few { IfOk result (λ made. made.len ≤ 4294967260) }
     {
-        let mut packet = packet;
-        packet.interface_id = pending.number;
+        let packet = renumbered(alloc, order, pending.number, packet)?;
         if let Err(unput) = encode(Endianness::Little, &mut self.body, &mut self.text, &packet) {
             return Err(PcapError::from(unput));
         }

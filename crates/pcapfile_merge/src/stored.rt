@@ -200,7 +200,7 @@ fn pending_in_block(
     let pending = pending_in_body(interfaces, base, &parsed)?;
     match enhanced_of_body(parsed) {
         None => Ok(pending),
-        Some(packet) => made.put(packet, pending),
+        Some(packet) => made.put(alloc, block.endianness(), packet, pending),
     }
 }
 
