@@ -6,6 +6,7 @@ use Rattle.std.proofs.Math.Seq.{drop-append_seam, take-append_seam, take-length}
 use Rattle.std.proofs.lemmas.Bool.{true≢false}
 use Rattle.std.proofs.lemmas.List.{length-take, take_min}
 use Rattle.pcap_times.specs.declared.clock.Timestamp.{Timestamp}
+use Rattle.pcap_core.specs.declared.common.Endianness.{Endianness}
 use Rattle.pcap_core.specs.declared.errors.PcapError.{PcapError}
 use Rattle.pcap_core.specs.Answer.{Order, number_in, whole}
 use Rattle.pcap_core.specs.Padded.{Behind}
@@ -109,7 +110,7 @@ made_lent made body is = ap (λ (b : Bool). if b then made.text.items else body)
 module _ (base : ℕ) (interfaces : List Interface) (block : Framed) (packet : InBlock) (is : is_packet block.type_ ≡ true) (holds : HoldsPacket interfaces block packet) where
   -- The case of a packet whose block is made from its bytes.
   pub plain_given : (pending : Pending) (body : List ℕ) → body ≡ block.body → IsSaid base interfaces packet pending
-      → block_under (base + packet.interface) pending.units packet (enhanced_in holds.body) ≡ EnhancedBody (plain_packet (base + packet.interface) pending.units packet.original_len packet.bytes)
+      → block_under block.endianness (base + packet.interface) pending.units packet (enhanced_in holds.body) ≡ EnhancedBody (plain_packet (base + packet.interface) pending.units packet.original_len packet.bytes)
       → GivesOf base interfaces block (Some (packet_in (bytes_within body pending) pending))
   unfolding AreThere
   plain_given pending body same said plain =
@@ -117,7 +118,7 @@ module _ (base : ℕ) (interfaces : List Interface) (block : Framed) (packet : I
       let number = base + packet.interface in
       let bytes : bytes_within body pending ≡ packet.bytes =
       ap (λ (l : List ℕ). bytes_within l pending) same ∙ ap (λ (n : ℕ). take n (drop pending.start block.body)) said.len ∙ ap (λ (n : ℕ). take (length packet.bytes) (drop n block.body)) said.start ∙ there in
-      let text : text_by pending.is_made pending (bytes_within body pending) ≡ little_text (block_under number pending.units packet (enhanced_in holds.body)) =
+      let text : text_by pending.is_made pending (bytes_within body pending) ≡ little_text (block_under block.endianness number pending.units packet (enhanced_in holds.body)) =
       ap (λ (b : Bool). text_by b pending (bytes_within body pending)) said.unmade
       ∙ ap (λ (l : List ℕ). plain_text pending.number pending.units pending.original_len l) bytes
       ∙ ap (λ (n : ℕ). plain_text n pending.units pending.original_len packet.bytes) said.number
@@ -126,19 +127,19 @@ module _ (base : ℕ) (interfaces : List Interface) (block : Framed) (packet : I
       (is, packet, holds, record { by = said.by; described = said.described; units = pending.units; time = said.time; text = text })
 
   -- The case of a packet whose own block was made.
-  made_given : (said pending : Pending) (made : Made) (enhanced : Enhanced) → IsSaid base interfaces packet said → enhanced_in holds.body ≡ Some enhanced → IsMade said enhanced made pending
+  made_given : (said pending : Pending) (made : Made) (enhanced : Enhanced) → IsSaid base interfaces packet said → enhanced_in holds.body ≡ Some enhanced → IsMade block.endianness said enhanced made pending
       → GivesOf base interfaces block (Some (packet_in (bytes_within (lent_by made block.body) pending) pending))
   made_given said pending made enhanced tells is_one makes =
       let number = base + packet.interface in
       let items = made.text.items in
       let all : bytes_within (lent_by made block.body) pending ≡ items =
       ap (λ (l : List ℕ). bytes_within l pending) (made_lent made block.body makes.is_lent) ∙ ap (λ (n : ℕ). take n (drop pending.start items)) makes.len ∙ ap (λ (n : ℕ). take (length items) (drop n items)) makes.start ∙ take-length items in
-      let text : text_by pending.is_made pending (bytes_within (lent_by made block.body) pending) ≡ little_text (block_under number said.units packet (enhanced_in holds.body)) =
+      let text : text_by pending.is_made pending (bytes_within (lent_by made block.body) pending) ≡ little_text (block_under block.endianness number said.units packet (enhanced_in holds.body)) =
       ap (λ (b : Bool). text_by b pending (bytes_within (lent_by made block.body) pending)) makes.is_made
       ∙ all
       ∙ makes.text
-      ∙ ap (λ (n : ℕ). little_text (EnhancedBody (numbered n enhanced))) tells.number
-      ∙ ap (λ (o : Option Enhanced). little_text (block_under number said.units packet o)) (sym is_one) in (
+      ∙ ap (λ (n : ℕ). little_text (EnhancedBody (numbered block.endianness n enhanced))) tells.number
+      ∙ ap (λ (o : Option Enhanced). little_text (block_under block.endianness number said.units packet o)) (sym is_one) in (
         is,
         packet,
         holds,
@@ -152,15 +153,20 @@ module _ (base : ℕ) (interfaces : List Interface) (block : Framed) (packet : I
       )
 
   -- The case of a packet whose own block was not made.
-  unmade_ends : (said : Pending) (enhanced : Enhanced) (e : PcapError) → IsSaid base interfaces packet said → enhanced_in holds.body ≡ Some enhanced → IsUnmade said.number enhanced e → EndsBlock ⊥ base interfaces block e
-  unmade_ends said enhanced e tells is_one unmade = packet_unmade packet holds enhanced is_one (subst (λ (n : ℕ). IsUnmade n enhanced e) tells.number unmade)
+  unmade_ends : (said : Pending) (enhanced : Enhanced) (e : PcapError) → IsSaid base interfaces packet said → enhanced_in holds.body ≡ Some enhanced → IsUnmade block.endianness said.number enhanced e → EndsBlock ⊥ base interfaces block e
+  unmade_ends said enhanced e tells is_one unmade = packet_unmade packet holds enhanced is_one (subst (λ (n : ℕ). IsUnmade block.endianness n enhanced e) tells.number unmade)
+
+  made_or_ends_there : (said : Pending) (made : Made) (enhanced : Enhanced) (result : Result Pending PcapError) → IsSaid base interfaces packet said → enhanced_in holds.body ≡ Some enhanced → MakesText block.endianness said enhanced made result
+      → TellsPending base interfaces block made result
+  made_or_ends_there said made enhanced (Ok pending) tells is_one makes = made_given said pending made enhanced tells is_one makes
+  made_or_ends_there said made enhanced (Err e) tells is_one makes = unmade_ends said enhanced e tells is_one makes
 
   -- The block of an enhanced packet was made, or it ended the capture.
-  pub made_or_ends : (said : Pending) (made : Made) (enhanced : Enhanced) (result : Result Pending PcapError) → IsSaid base interfaces packet said → enhanced_in holds.body ≡ Some enhanced → MakesText said enhanced made result
-      → TellsPending base interfaces block made result
-  made_or_ends said made enhanced (Ok pending) tells is_one makes = made_given said pending made enhanced tells is_one makes
-  made_or_ends said made enhanced (Err e) tells is_one makes = unmade_ends said enhanced e tells is_one makes
+  pub made_or_ends : (order : Endianness) (said : Pending) (made : Made) (enhanced : Enhanced) (result : Result Pending PcapError) → order ≡ block.endianness → IsSaid base interfaces packet said
+      → enhanced_in holds.body ≡ Some enhanced → MakesText order said enhanced made result → TellsPending base interfaces block made result
+  made_or_ends order said made enhanced result same tells is_one makes =
+      made_or_ends_there said made enhanced result tells is_one (subst (λ (e : Endianness). MakesText e said enhanced made result) same makes)
 
 -- If a body is no enhanced packet, the block is made from the packet's bytes.
-pub none_plain : (packet : InBlock) (found : Option Enhanced) → found ≡ None → (number units : ℕ) → block_under number units packet found ≡ EnhancedBody (plain_packet number units packet.original_len packet.bytes)
-none_plain packet found none number units = ap (block_under number units packet) none
+pub none_plain : (packet : InBlock) (found : Option Enhanced) → found ≡ None → (order : Endianness) (number units : ℕ) → block_under order number units packet found ≡ EnhancedBody (plain_packet number units packet.original_len packet.bytes)
+none_plain packet found none order number units = ap (block_under order number units packet) none

@@ -6,6 +6,7 @@ pub mod Given
 pub mod Lying
 pub mod MergeLaws
 pub mod Merges
+pub mod Reversing
 pub mod ShownTaken
 pub mod Steps
 pub mod StoredGiven

@@ -1,5 +1,5 @@
 -- Packets of blocks that a reader takes from its buffer.
-use Rattle.std.proofs.Common.{◌≡◌, ◌+◌, ℕ, List, [], length, take, false, Option, None, Some, Result, Ok, refl, sym, ap, ◌∙◌, subst}
+use Rattle.std.proofs.Common.{◌≡◌, ◌+◌, ℕ, List, [], length, map, take, false, Option, None, Some, Result, Ok, refl, sym, ap, ◌∙◌, subst}
 use Rattle.std.specs.Prelude.{◌==◌}
 use Rattle.std.specs.Io.Buffered.{reader_buffer, reader_capacity, reader_inner, reader_remaining}
 use Rattle.std.specs.declared.io.buffered.BufReader.{BufReader}
@@ -33,6 +33,7 @@ use Rattle.pcapfile_merge.specs.declared.reader.Interfaces.{Interfaces}
 use Rattle.pcapfile_merge.specs.declared.stored.Said.{Said}
 use Rattle.pcapfile_merge.specs.BufferedBlocks.{PlainText, lent_by, source_at, text_in}
 use Rattle.pcapfile_merge.specs.Passing.{TellsStored, TellsTaken, bytes_within, in_said}
+use Rattle.pcapfile_merge.specs.Reordered.{little_entry}
 use Rattle.pcapfile_merge.specs.Taking.{packet_in}
 use Rattle.pcapfile_merge.specs.TakingBlocks.{GivesOf, IsGoing, IsTimeBy, numbered}
 use Rattle.pcapfile_merge.proofs.Bodies.{nothing_made, plain_given}
@@ -76,11 +77,11 @@ plain_alone e packet s rest n text size =
     }
 
 -- The block of an enhanced packet without options is made from its numbers and bytes.
-plain_enhanced : (number units : ℕ) (enhanced : Enhanced) → enhanced.packet.options ≡ [] → length enhanced.packet.bytes ≡ enhanced.packet.captured_len → units ≡ enhanced.packet.timestamp
-    → EnhancedBody (numbered number enhanced) ≡ EnhancedBody (plain_packet number units enhanced.packet.original_len enhanced.packet.bytes)
-plain_enhanced number units enhanced none captured counted =
+plain_enhanced : (order : Endianness) (number units : ℕ) (enhanced : Enhanced) → enhanced.packet.options ≡ [] → length enhanced.packet.bytes ≡ enhanced.packet.captured_len → units ≡ enhanced.packet.timestamp
+    → EnhancedBody (numbered order number enhanced) ≡ EnhancedBody (plain_packet number units enhanced.packet.original_len enhanced.packet.bytes)
+plain_enhanced order number units enhanced none captured counted =
     let packet = enhanced.packet in
-    ap (λ (o : List Entry). EnhancedBody (record { interface_id = number; packet = record { timestamp = packet.timestamp; captured_len = packet.captured_len; original_len = packet.original_len; bytes = packet.bytes; options = o } })) none
+    ap (λ (o : List Entry). EnhancedBody (record { interface_id = number; packet = record { timestamp = packet.timestamp; captured_len = packet.captured_len; original_len = packet.original_len; bytes = packet.bytes; options = map (little_entry order) o } })) none
     ∙ ap (λ (n : ℕ). EnhancedBody (record { interface_id = number; packet = record { timestamp = packet.timestamp; captured_len = n; original_len = packet.original_len; bytes = packet.bytes; options = [] } })) (sym captured)
     ∙ ap (λ (t : ℕ). EnhancedBody (plain_packet number t packet.original_len packet.bytes)) (sym counted)
 
@@ -146,7 +147,7 @@ module _ {R A : Type 0} (remaining : R → Option (List ℕ)) (choice : Interfac
         let said = subst (λ (p : InBlock). TellsStored base interfaces p (Ok pending)) is (tells bytes says.stored_is) in
         let units = units_of said.by enhanced.packet.timestamp pending.time pending.units said.time in
         plain_given base interfaces item_there.block stored refl holds pending body same said
-        (plain_enhanced (base + enhanced.interface_id) pending.units enhanced text.plain text.text.packet_is.captured units)
+        (plain_enhanced item_there.block.endianness (base + enhanced.interface_id) pending.units enhanced text.plain text.text.packet_is.captured units)
 
     -- A packet that is whole in the buffer was taken.
     pub shown_taken : (pending : Pending) (made : Made) → made.is_lent ≡ false

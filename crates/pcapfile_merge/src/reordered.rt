@@ -38,10 +38,23 @@ pub(crate) fn renumbered<'a>(
 {
     let mut packet = packet;
     packet.interface_id = number;
-    if order.is_big() {
-        reverse_numbers(alloc, packet.options.as_mut_slice())?;
-    }
+    put_in_little(alloc, order, packet.options.as_mut_slice())?;
     Ok(packet)
+}
+
+// Puts the options of an enhanced packet of a section of this order into little-endian order.
+fn put_in_little(
+    alloc: Global,
+    order: Endianness,
+    options: &mut [EnhancedPacketOption<'_>],
+) -> ResultParsing<()>
+    ensures { MatchResult result (λ done. map enhanced_entry options.new ≡ map (little_entry order) (map enhanced_entry options.old))
+        (λ e. IsMemory e × NeedReordering order (map enhanced_entry options.old)) }
+{
+    match order {
+        Endianness::Big => reverse_numbers(alloc, options),
+        Endianness::Little => Ok(()),
+    }
 }
 
 // Reverses the bytes of each number in the options of an enhanced packet.

@@ -39,7 +39,7 @@ returns-in-None-clause-tells c =
     let there = packet_there (number_in block.endianness) block.type_ interfaces block.body says.0 body c.requires.packet says.1 in
     let holds : HoldsPacket interfaces block there.0 = record { body = body; rest = says.0; says = says.1; packet_is = there.1 } in
     let said = subst (λ (o : Option InBlock). TellsIfPacket c.args.base interfaces o (Ok pending)) there.1 c.in_ok-pending.ensures.tells in
-    plain_given c.args.base interfaces block there.0 c.requires.packet holds pending _ (nothing_made c.args.made.now block.body c.requires.unmade) said (none_plain there.0 _ (sym c.in-None.ensures) _ _)
+    plain_given c.args.base interfaces block there.0 c.requires.packet holds pending _ (nothing_made c.args.made.now block.body c.requires.unmade) said (none_plain there.0 _ (sym c.in-None.ensures) _ _ _)
 
 pub returns-in-Some-clause-tells : goal.returns-in-Some-clause-tells
 returns-in-Some-clause-tells c =
@@ -51,4 +51,4 @@ returns-in-Some-clause-tells c =
     let there = packet_there (number_in block.endianness) block.type_ interfaces block.body says.0 body c.requires.packet says.1 in
     let holds : HoldsPacket interfaces block there.0 = record { body = body; rest = says.0; says = says.1; packet_is = there.1 } in
     let said = subst (λ (o : Option InBlock). TellsIfPacket c.args.base interfaces o (Ok pending)) there.1 c.in_ok-pending.ensures.tells in
-    made_or_ends c.args.base interfaces block there.0 c.requires.packet holds pending c.put.new.self (enhanced_of c.in-Some.packet) c.put.result said (sym c.in-Some.ensures) c.put.ensures.makes
+    made_or_ends c.args.base interfaces block there.0 c.requires.packet holds c.endianness.result pending c.put.new.self (enhanced_of c.in-Some.packet) c.put.result c.endianness.ensures said (sym c.in-Some.ensures) c.put.ensures.makes
