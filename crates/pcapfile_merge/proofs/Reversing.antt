@@ -3,6 +3,7 @@ use Rattle.std.proofs.Common.{◌≡◌, ◌+◌, ◌<◌, ◌≤◌, ℕ, List,
 use Rattle.std.specs.List.{Any}
 use Rattle.std.proofs.lemmas.List.{drop-set-lt, drop_more, get_or-map, length-map, length-set, map-id, map_push, take_all, take_more, take_more_set}
 use Rattle.std.proofs.lemmas.Grind.{drop_more_same}
+use Rattle.pcap_core.specs.declared.common.Endianness.{Endianness}
 use Rattle.pcap_core.specs.declared.common.Endianness.TheVariants.{Big, Little}
 use Rattle.pcap_options.specs.declared.enhanced_option.EnhancedPacketOption.{EnhancedPacketOption}
 use Rattle.pcap_options.specs.EnhancedOption.{enhanced_entry}
@@ -70,5 +71,5 @@ reversed_all old now i all done =
     ap (map enhanced_entry) (sym (take_all i now all)) ∙ done.front ∙ ap in_little (take_all i old (subst (λ (n : ℕ). n ≤ i) done.same_length all))
 
 -- The options of a little-endian section stay.
-pub little_stays : (options : List Entry) → options ≡ map (little_entry Little) options
-little_stays options = sym (map-id options)
+pub little_stays : (order : Endianness) → order ≡ Little → (options : List Entry) → options ≡ map (little_entry order) options
+little_stays order is options = sym (ap (λ (e : Endianness). map (little_entry e) options) is ∙ map-id options)
