@@ -44,12 +44,12 @@ module _ (old now : List EnhancedPacketOption) (i : ℕ) (so_far : Reversed old 
       let lies : i < i + 1 = omega arith in
       record {
         front =
-          ap (map enhanced_entry) (take_more_set now i y within)
-          ∙ map_push enhanced_entry (take i now) y
-          ∙ ap (λ (es : List Entry). es ++ enhanced_entry y ∷ []) so_far.front
-          ∙ ap (λ (e : Entry). in_little (take i old) ++ e ∷ []) entry
-          ∙ sym pushed
-          ∙ ap in_little (sym (take_more old i x within_old));
+            ap (map enhanced_entry) (take_more_set now i y within)
+            ∙ map_push enhanced_entry (take i now) y
+            ∙ ap (λ (es : List Entry). es ++ enhanced_entry y ∷ []) so_far.front
+            ∙ ap (λ (e : Entry). in_little (take i old) ++ e ∷ []) entry
+            ∙ sym pushed
+            ∙ ap in_little (sym (take_more old i x within_old));
         back = drop-set-lt (i + 1) now i y lies ∙ drop_more_same now old i so_far.back;
         same_length = length-set now i y ∙ so_far.same_length;
       }
