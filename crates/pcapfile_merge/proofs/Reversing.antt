@@ -1,7 +1,7 @@
 -- Options whose numbers are reversed one option after another.
-use Rattle.std.proofs.Common.{◌≡◌, ◌+◌, ◌<◌, ◌≤◌, ℕ, List, [], ◌∷◌, ◌++◌, length, map, take, drop, set, get_or, arith, refl, sym, ap, ◌∙◌, subst}
+use Rattle.std.proofs.Common.{◌≡◌, ◌+◌, ◌<◌, ℕ, List, [], ◌∷◌, ◌++◌, length, map, take, drop, set, get_or, arith, refl, sym, ap, ◌∙◌, subst}
 use Rattle.std.specs.List.{Any}
-use Rattle.std.proofs.lemmas.List.{drop-set-lt, drop_more, get_or-map, length-map, length-set, map-id, map_push, take_all, take_more, take_more_set}
+use Rattle.std.proofs.lemmas.List.{drop-set-lt, drop_more, get_or-map, length-map, length-set, map-id, map_push, take_more, take_more_set}
 use Rattle.std.proofs.lemmas.Grind.{drop_more_same}
 use Rattle.pcap_core.specs.declared.common.Endianness.{Endianness}
 use Rattle.pcap_core.specs.declared.common.Endianness.TheVariants.{Big, Little}
@@ -34,13 +34,13 @@ module _ (old now : List EnhancedPacketOption) (i : ℕ) (so_far : Reversed old 
       ap (λ (l : List EnhancedPacketOption). get_or l 0 d) rest
 
   -- One more option is reversed.
-  pub reversed_more : (x y : EnhancedPacketOption) → x ≡ get_or now i x → enhanced_entry y ≡ little_entry Big (enhanced_entry x) → Reversed old (set now i y) (i + 1)
+  pub reversed_more : (d y : EnhancedPacketOption) → enhanced_entry y ≡ little_entry Big (enhanced_entry (get_or now i d)) → Reversed old (set now i y) (i + 1)
   unfolding in_little
-  reversed_more x y is turned =
-      let there = get_or old i x in
+  reversed_more d y turned =
+      let there = get_or old i d in
       let pushed : in_little (take i old ++ there ∷ []) ≡ in_little (take i old) ++ little_entry Big (enhanced_entry there) ∷ [] =
       ap (map (little_entry Big)) (map_push enhanced_entry (take i old) there) ∙ map_push (little_entry Big) (map enhanced_entry (take i old)) (enhanced_entry there) in
-      let entry : enhanced_entry y ≡ little_entry Big (enhanced_entry there) = turned ∙ ap (λ (o : EnhancedPacketOption). little_entry Big (enhanced_entry o)) (is ∙ same_there x) in
+      let entry : enhanced_entry y ≡ little_entry Big (enhanced_entry there) = turned ∙ ap (λ (o : EnhancedPacketOption). little_entry Big (enhanced_entry o)) (same_there d) in
       let lies : i < i + 1 = omega arith in
       record {
         front =
@@ -49,26 +49,17 @@ module _ (old now : List EnhancedPacketOption) (i : ℕ) (so_far : Reversed old 
             ∙ ap (λ (es : List Entry). es ++ enhanced_entry y ∷ []) so_far.front
             ∙ ap (λ (e : Entry). in_little (take i old) ++ e ∷ []) entry
             ∙ sym pushed
-            ∙ ap in_little (sym (take_more old i x within_old));
+            ∙ ap in_little (sym (take_more old i d within_old));
         back = drop-set-lt (i + 1) now i y lies ∙ drop_more_same now old i so_far.back;
         same_length = length-set now i y ∙ so_far.same_length;
       }
 
   -- If the next option has numbers, some option had.
-  pub some_numbers : (x : EnhancedPacketOption) → x ≡ get_or now i x → HasNumbers (enhanced_entry x) → Any HasNumbers (map enhanced_entry old)
-  some_numbers x is has = (
-    i,
-    enhanced_entry x,
-    subst (λ (n : ℕ). i < n) (sym (length-map old enhanced_entry)) within_old,
-    get_or-map enhanced_entry old i x (enhanced_entry x) within_old ∙ ap enhanced_entry (sym (is ∙ same_there x)),
-    has,
-  )
-
--- All options are reversed.
-pub reversed_all : (old now : List EnhancedPacketOption) (i : ℕ) → length now ≤ i → Reversed old now i → map enhanced_entry now ≡ map (little_entry Big) (map enhanced_entry old)
-unfolding in_little
-reversed_all old now i all done =
-    ap (map enhanced_entry) (sym (take_all i now all)) ∙ done.front ∙ ap in_little (take_all i old (subst (λ (n : ℕ). n ≤ i) done.same_length all))
+  pub some_numbers : (d : EnhancedPacketOption) → HasNumbers (enhanced_entry (get_or now i d)) → Any HasNumbers (map enhanced_entry old)
+  some_numbers d has =
+      let x = enhanced_entry (get_or now i d) in
+      let there : get_or (map enhanced_entry old) i x ≡ x = get_or-map enhanced_entry old i d x within_old ∙ ap enhanced_entry (sym (same_there d)) in
+      (i, x, subst (λ (n : ℕ). i < n) (sym (length-map old enhanced_entry)) within_old, there, has)
 
 -- The options of a little-endian section stay.
 pub little_stays : (order : Endianness) → order ≡ Little → (options : List Entry) → options ≡ map (little_entry order) options
