@@ -1,5 +1,5 @@
 -- Numbers in options that the library keeps as bytes, and those options in little-endian order ('Enhanced Packet Block').
-use Rattle.std.specs.Prelude.{◌≡◌, ◌==◌, ◌||◌, ◌++◌, if◌then◌else◌, ℕ, List, length, map, reverse, take, drop, slice_index, Option, None, Some, IsSome}
+use Rattle.std.specs.Prelude.{◌==◌, ◌||◌, ◌++◌, if◌then◌else◌, ℕ, List, length, reverse, take, drop, slice_index, Option, None, Some, IsSome}
 use Rattle.std.specs.List.{Any}
 use Rattle.pcap_core.specs.declared.common.Endianness.{Endianness}
 use Rattle.pcap_core.specs.declared.common.Endianness.TheVariants.{Big, Little}
