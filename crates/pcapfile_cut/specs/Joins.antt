@@ -10,8 +10,8 @@ use Rattle.pcapfile_cut.specs.declared.wanted.Wanted.TheVariants.{All}
 use Rattle.pcapfile_cut.specs.Cuts.{CutsBehind}
 use Rattle.pcapfile_cut.specs.Openings.{bytes_of, header_of}
 
--- The join of one part: if its header is malformed or has other bytes, nothing is written. Otherwise its packets are written, read under
--- the first part's header.
+-- The join of one part: nothing is written if its header can't be read, is malformed or has other bytes than the first. Otherwise its
+-- packets are written, read under the first part's header.
 abbrev pub JoinsPart : Opening → Option (List ℕ) → Option (List ℕ) → Option (List ℕ) → Option (List ℕ) → Joined → Type 0
 JoinsPart first before now out out_now (Unopened e) = ((failed : Bool) × ReadsTold HeaderSays header_of before now failed (Err e)) × Keeps out out_now
 JoinsPart first before now out out_now OtherHeader = ((other : Opening) × Consumes before now (bytes_of other) × (bytes_of other ≢ bytes_of first)) × Keeps out out_now

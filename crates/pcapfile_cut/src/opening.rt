@@ -22,8 +22,8 @@ pub struct Opening {
 impl Opening {
     ghost use Rattle.pcapfile_cut.specs.Openings.{bytes_of, header_of};
 
-    /// Reads the header of a capture from a stream that hasn't failed, and sets `read_failed` if a read fails. It reads exactly
-    /// 24 bytes.
+    /// Reads the header of a capture from a stream that hasn't failed, and sets `read_failed` if a read fails. On success it
+    /// has read exactly 24 bytes.
     ///
     /// `InvalidField` if the magic number is none of the four. `IoError` if a read failed, or the stream ended early.
     pub fn read<R: Read>(input: &mut R, read_failed: &mut bool) -> ResultParsing<Opening>

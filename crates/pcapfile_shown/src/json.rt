@@ -126,7 +126,7 @@ fn counts(alloc: Global, spread: &Spread) -> Result<Value, AllocError>
     Ok(Value::Array(values))
 }
 
-// Returns the spread of packets over time: an object with the width of a span in nanoseconds, the number of the first span
+// Returns the spread of packets over time as an object. It has the width of a span in nanoseconds, the number of the first span
 // counted from 1970, and the number of packets in each span.
 fn over_time(alloc: Global, spread: &Spread) -> Result<Value, AllocError>
     ensures { IfOk result (λ v. (instants : List ℕ) → Rows instants spread.now → view v ≡ spread_data instants spread.now) }
