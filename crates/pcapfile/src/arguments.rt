@@ -5,7 +5,7 @@ use std::alloc::{AllocError, Global};
 use std::env::{Env, FillError};
 use std::str;
 
-/// How many bytes the first buffer for an argument has. For a longer argument the program doubles it.
+/// The length of the first buffer for an argument, in bytes. For a longer argument the program doubles it.
 const ROOM: usize = 256;
 
 /// Returns all arguments, beginning with the name of the program. Each byte that isn't UTF-8 is written as `\x` and two

@@ -86,7 +86,7 @@ pub record EndsRefused (header : PcapHeader) (left now mid out_now : Option (Lis
   pub no_write_failed : outcome.write_failed ≡ false
   pub went : Keeps mid out_now
 
--- How a cut ended after these packets; it ended with an error only if it had to go on.
+-- The end of a cut after these packets; it ended with an error only if it had to go on.
 abbrev pub Ends : PcapHeader → Wanted → List Stored → Option (List ℕ) → Option (List ℕ) → Option (List ℕ) → Option (List ℕ) → Outcome → Type 0
 Ends header wanted packets left now mid out_now outcome =
     EndsWhole wanted left now mid out_now outcome

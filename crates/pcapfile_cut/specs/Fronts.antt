@@ -37,7 +37,7 @@ pub record TearsNext (header : PcapHeader) (wanted : Wanted) (packets more : Lis
   pub others : List Captured
   pub next : packets_of more ≡ ends.torn.packet ∷ others
 
--- Why a cut stopped with an error: a read failed, memory ran out, or the front is complete and the rest is truncated or malformed.
+-- The reason for an error: a read failed, memory ran out, or the front is complete and the rest is truncated or malformed.
 abbrev pub StopsFront : PcapHeader → List Captured → List ℕ → Bool → PcapError → Type 0
 StopsFront header more rest failed e =
     (IsIo e × (failed ≡ true)) ⊎ (IsMemory e × (failed ≡ false)) ⊎ ((more ≡ []) × HasCause (PacketIsSaid header) (Some rest) failed e)

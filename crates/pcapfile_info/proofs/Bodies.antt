@@ -50,7 +50,7 @@ interface_kept types.InterfaceStatistics described interfaces block is = absurd 
 interface_kept types.SystemdJournalExport described interfaces block is = absurd cc
 interface_kept (types.Unknown n) described interfaces block is = absurd cc
 
--- What always holds also holds of each error.
+-- A fact that always holds also holds of each error.
 pub err_says : {A E : Type 0} (P : Type 0) → P → (result : Result A E) → IfErr result (λ _. P)
 err_says P p (Ok x) = tt
 err_says P p (Err e) = p

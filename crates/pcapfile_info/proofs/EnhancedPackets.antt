@@ -34,7 +34,7 @@ packet_said e section interfaces order len body t says =
     let text = subst (λ (o : Endianness). FrameText o (enhanced_frame e len body) t []) (sym order) says.frame in
     omega (arith, enhanced_long e len body t [] text)
 
--- What the totals use of an enhanced packet follows from the clocks of its section.
+-- The data of an enhanced packet follow from the clocks of its section.
 pub packet_seen : (clocks : Clocks) (section : Section) (interfaces : List Interface) → AreInForce clocks (within section interfaces) → (described : ℕ) (packet : EnhancedNumbers) (seen : Seen) (s rest : List ℕ) → (text : PacketText clocks.order packet s rest)
     → Sees (place_of described (length clocks.clocks.items) packet.interface) packet.stored packet.original seen → IsClocked (slice_get clocks.clocks.items packet.interface) packet.units seen.time
     → IsBlockSight described (packet_item clocks.order text.frame.0 text.body (within section interfaces)) (Packet seen)

@@ -46,7 +46,7 @@ pub order_within : (section : Section) (interfaces : List Interface) → order_a
 unfolding order_at
 order_within section interfaces = refl
 
--- After a section header there are no clocks.
+-- After a section header its order is in force, with no clocks.
 pub section_followed : (order : Endianness) (clocks : List Clock) (section : Section) (interfaces : List Interface) → order ≡ or_big (magic_order section.magic) → clocks ≡ [] → (before : State)
     → LeadsOn types.SectionHeader before (within section interfaces) → OrderAndClocks order clocks (within section interfaces)
 section_followed order clocks section interfaces named none before leads =
@@ -64,7 +64,7 @@ last_is before interfaces one last split at =
     some_in : (a b : Interface) → Some a ≡ Some b → a ≡ b
     some_in a b e = cc
 
--- The last interface as the specification sees it.
+-- The last parsed interface gives the last interface of the specification.
 pub last_seen : (interfaces : List InterfaceDescriptionBlock) (last : InterfaceDescriptionBlock) → Some last ≡ slice_get interfaces (length interfaces - 1)
     → slice_get (map interface_of interfaces) (length (map interface_of interfaces) - 1) ≡ Some (interface_of last)
 last_seen interfaces last at =
@@ -103,7 +103,7 @@ module _ (section : Section) (interfaces : List Interface) (b : Framed) (after :
       (y.0, sym (good_in (within section (interfaces ++ y.0 ∷ [])) after (leads_as (within section interfaces) after m.0 (InterfaceBody y.0) y.1 m.3)))
   type_leads _ is m = m
 
--- A block that was read leads on.
+-- A block that was read leads from the state before it to the state after it.
 pub taken_leads : (section : Section) (interfaces : List Interface) (item : Item) (t rest : List ℕ) → block_format.says (within section interfaces) t (whole item rest) → LeadsOn item.block.type_ (within section interfaces) item.after
 unfolding block_format
 taken_leads section interfaces item t rest says = type_leads section interfaces item.block item.after item.block.type_ refl says.means

@@ -1,4 +1,4 @@
--- What the totals use of packets and blocks.
+-- The data of packets and blocks that the totals use.
 use Rattle.std.specs.Prelude.{◌≡◌, ◌+◌, ◌-◌, ◌⊎◌, ◌&&◌, ℕ, List, length, Option, None, Some, nat_lt, nat_le, if◌then◌else◌}
 use Rattle.std.specs.List.{slice_get}
 use Rattle.pcap_core.specs.Answer.{whole, faulty}
@@ -25,7 +25,7 @@ use Rattle.pcapfile_info.specs.declared.seen.Sight.TheVariants as sights
 abbrev pub captured_as : PacketHeader → List ℕ → Captured
 captured_as header bytes = record { header = header; bytes = bytes }
 
--- What the totals use of a packet of a classic capture, which comes from its one interface.
+-- The data of a packet of a classic capture, which comes from its one interface.
 abbrev pub captured_seen : Captured → Seen
 captured_seen packet = record {
   interface = Some 0;
@@ -58,7 +58,7 @@ abbrev pub IsUnitsSeen : List Interface → ℕ → Option ℕ → Option Timest
 IsUnitsSeen interfaces number (Some units) time = IsTimeSeen (slice_get interfaces number) units time
 IsUnitsSeen interfaces number None time = time ≡ None
 
--- What the totals use of a packet in a block, or of a block without one; the last of the described interfaces are those of the section.
+-- The sight of a packet in a block, or of a block without one; the last of the described interfaces are those of the section.
 abbrev pub IsInBlockSight : ℕ → List Interface → Option InBlock → Sight → Type 0
 IsInBlockSight described interfaces (Some packet) (sights.Packet seen) =
     Sees (place_of described (length interfaces) packet.interface) (length packet.bytes) packet.original_len seen
@@ -66,17 +66,17 @@ IsInBlockSight described interfaces (Some packet) (sights.Packet seen) =
 IsInBlockSight described interfaces (Some packet) sight = ⊥
 IsInBlockSight described interfaces None sight = sight ≡ sights.Other
 
--- What the totals use of a body.
+-- The sight of a body.
 abbrev pub IsBodySight : ℕ → List Interface → Body → Sight → Type 0
 IsBodySight described interfaces body sight = IsInBlockSight described interfaces (packet_in interfaces body) sight
 
--- What the totals use of a block of a packet type: its packet, or that its body is malformed.
+-- The sight of a block of a packet type: its packet, or that its body is malformed.
 abbrev pub IsStoredSight : ℕ → List Interface → Framed → Sight → Type 0
 IsStoredSight described interfaces block sight =
     ((body : Body) × (rest : List ℕ) × SaysOfBody block (whole body rest) × IsBodySight described interfaces body sight)
     ⊎ ((fault : Fault) × SaysOfBody block (faulty fault) × (sight ≡ sights.Refused))
 
--- What the totals use of a block of this type, after this many described interfaces.
+-- The sight of a block of this type, after this many described interfaces.
 abbrev pub IsSightOf : BlockType → ℕ → List Interface → Framed → Sight → Type 0
 IsSightOf types.SectionHeader described interfaces block sight = sight ≡ sights.Section
 IsSightOf types.InterfaceDescription described interfaces block sight = sight ≡ sights.Interface
@@ -88,6 +88,6 @@ IsSightOf type described interfaces block sight = sight ≡ sights.Other
 abbrev pub IsFramedSight : ℕ → List Interface → Framed → Sight → Type 0
 IsFramedSight described interfaces block sight = IsSightOf block.type_ described interfaces block sight
 
--- What the totals use of a block after this many described interfaces, under the state after it.
+-- The sight of a block after this many described interfaces, under the state after it.
 abbrev pub IsBlockSight : ℕ → Item → Sight → Type 0
 IsBlockSight described item sight = IsFramedSight described (interfaces_at item.after) item.block sight

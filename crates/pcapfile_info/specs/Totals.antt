@@ -73,7 +73,7 @@ pub record AllAre (sights : List Sight) (totals : Totals) : Type 0 where
   pub refused : totals.refused ≡ 0
   pub sections : totals.sections ≡ 0
 
--- Packets of one interface are counted together with one more packet.
+-- The counts before the copy have one more packet of the one interface.
 abbrev pub AddsAlone : Seen → Totals → Totals → Type 0
 AddsAlone seen old new = (sights : List Sight) → AllAre sights old → AllAre (sights ++ Packet seen ∷ []) new
 

@@ -1,4 +1,4 @@
-//! What the totals use of each block.
+//! The data of blocks that the totals use.
 
 ghost use Rattle.std.specs.Prelude.{◌≡◌, map, option_map, slice_get, MatchResult};
 ghost use Rattle.pcap_core.specs.Errors.{IsMemory};

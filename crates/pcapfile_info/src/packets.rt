@@ -1,4 +1,4 @@
-//! What the totals use of packets of classic captures.
+//! The data of classic packet records that the totals use.
 
 ghost use Rattle.std.specs.Prelude.{◌≡◌, []};
 ghost use Rattle.pcap_file.specs.Placed.{carried, time_in};

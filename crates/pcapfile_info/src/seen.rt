@@ -1,8 +1,8 @@
-//! What the totals use of items.
+//! The data of items that the totals use.
 
 use pcap_file::pcapng::Timestamp;
 
-/// What the totals use of a packet.
+/// The data of a packet that the totals use.
 #[derive(Clone, Copy, Debug, PartialEq, Eq)]
 pub struct Seen {
     /// The index of its interface among all interfaces described in the capture, in order. `None` if its interface isn't
@@ -10,13 +10,13 @@ pub struct Seen {
     pub interface: Option<usize>,
     /// The packet's time. `None` for a simple packet, which has none, and if its interface isn't described.
     pub time: Option<Timestamp>,
-    /// How many bytes of the packet are stored.
+    /// The number of stored bytes of the packet.
     pub stored: u64,
     /// The packet's original length, in bytes.
     pub original: u32,
 }
 
-/// What the totals use of an item: a packet record or a block.
+/// The data of an item that the totals use. An item is a packet record or a block.
 #[derive(Clone, Copy, Debug, PartialEq, Eq)]
 pub enum Sight {
     /// A packet.

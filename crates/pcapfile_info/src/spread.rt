@@ -2,7 +2,7 @@
 
 ghost use Rattle.std.specs.Prelude.{◌+◌, ◌*◌, ◌^◌, ◌<◌, ◌≤◌};
 
-/// How many spans a row has.
+/// The number of spans in a row.
 pub const SPANS: usize = 64;
 
 /// The number of packets in each of a row of consecutive time spans of one width. Span 0 begins in 1970.
@@ -14,7 +14,7 @@ pub struct Spread {
     pub first: u64,
     /// The number of the last span that has a packet, less than 64 after the first.
     pub last: u64,
-    /// How many packets each span has, at the index span number modulo 64.
+    /// The number of packets in each span, at the index span number modulo 64.
     pub packets: [u64; SPANS],
     ghost wide: { 0 < width },
     ghost ordered: { first ≤ last },

@@ -8,7 +8,7 @@ use crate::seen::Seen;
 use crate::spread::Spread;
 use pcap_file::pcapng::Timestamp;
 
-/// How many classes of lengths there are.
+/// The number of classes of lengths.
 pub const CLASSES: usize = 10;
 
 /// The least length of each class, in bytes.

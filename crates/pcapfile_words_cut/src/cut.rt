@@ -21,7 +21,7 @@ pub struct Cutting<'a> {
     pub from: &'a str,
     /// The name of the part, or the pattern for the names of several parts.
     pub out: &'a str,
-    /// How to cut the capture.
+    /// The way to cut it.
     pub way: Way,
     /// Whether the program cuts what `repair` would write.
     pub as_is: bool,
@@ -45,9 +45,9 @@ pub enum Way {
 struct Place {
     /// The length of the opening, in bytes.
     opening: u64,
-    /// How many bytes after the opening were read.
+    /// The number of bytes after the opening that were read.
     passed: u64,
-    /// How many bytes follow the opening; 0 if that isn't known.
+    /// The number of bytes after the opening; 0 if that isn't known.
     length: u64,
 }
 

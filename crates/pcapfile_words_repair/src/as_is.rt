@@ -19,7 +19,7 @@ pub(crate) struct Telling {
     standing: Option<Standing>,
     /// The capture's format.
     pub(crate) format: Format,
-    /// How far the capture has been reported.
+    /// The position up to which the capture has been reported.
     pub(crate) place: Place,
     /// The error that ended the capture early: `IncompleteBuffer` if it is truncated there.
     pub(crate) fault: Option<PcapError>,
