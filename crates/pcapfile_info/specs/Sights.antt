@@ -34,6 +34,7 @@ captured_seen packet = record {
   original = packet.header.orig_len;
 }
 
+-- The sight of a packet of a classic capture.
 abbrev pub IsPacketSight : ℕ → Captured → Sight → Type 0
 IsPacketSight described packet sight = sight ≡ sights.Packet (captured_seen packet)
 
@@ -85,6 +86,7 @@ IsSightOf types.Packet described interfaces block sight = IsStoredSight describe
 IsSightOf types.SimplePacket described interfaces block sight = IsStoredSight described interfaces block sight
 IsSightOf type described interfaces block sight = sight ≡ sights.Other
 
+-- The sight of a block, by its type.
 abbrev pub IsFramedSight : ℕ → List Interface → Framed → Sight → Type 0
 IsFramedSight described interfaces block sight = IsSightOf block.type_ described interfaces block sight
 

@@ -35,6 +35,7 @@ IsFirst Comes times (Some first) = Contains times first × All (λ time. Comes t
 abbrev pub times_of : List Seen → List Timestamp
 times_of = filter_map (λ packet. packet.time)
 
+-- The nanoseconds from 1970 to a time with these seconds and nanoseconds: 0 before 1970, and at most 2^64 - 1.
 abbrev pub nanoseconds_of : ℤ → ℕ → ℕ
 nanoseconds_of (pos seconds) nanoseconds = counted (seconds * 10 ^ 9 + nanoseconds)
 nanoseconds_of (negsuc before) nanoseconds = 0

@@ -18,10 +18,12 @@ packet_in _ = None
 abbrev pub packets_of : List Sight → List Seen
 packets_of = filter_map packet_in
 
+-- The item is a packet with a malformed body.
 abbrev pub is_refused : Sight → Bool
 is_refused Refused = true
 is_refused _ = false
 
+-- The item is a section header.
 abbrev pub is_section : Sight → Bool
 is_section Section = true
 is_section _ = false

@@ -101,6 +101,7 @@ abbrev pub TellsSpread : Option Spread → Data → Type 0
 TellsSpread None shown = shown ≡ null
 TellsSpread (Some spread) shown = (instants : List ℕ) → Rows instants spread → shown ≡ spread_data instants spread
 
+-- A text as JSON.
 abbrev pub text_data : String Global → Data
 text_data text = string (string_bytes text)
 

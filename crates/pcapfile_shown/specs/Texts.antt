@@ -19,6 +19,7 @@ hundredths_text n = decimal (n / 100) ++ (codes "." ++ zero_padded 2 (n % 100))
 abbrev pub bar_length : ℕ → ℕ → ℕ
 bar_length count largest = if largest == 0 then 0 else min 40 ((count * 40 + largest - 1) / largest)
 
+-- The nanoseconds from 1970 to a time with these seconds and nanoseconds, if the seconds are a 64-bit number.
 abbrev pub since_1970_at : ℤ → ℕ → Option ℕ
 since_1970_at (pos seconds) nanoseconds = if nat_lt seconds (2 ^ 64) then Some (seconds * 1000000000 + nanoseconds) else None
 since_1970_at (negsuc before) nanoseconds = None
