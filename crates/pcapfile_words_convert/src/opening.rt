@@ -1,4 +1,4 @@
-//! The blocks before the packets of a merge.
+//! The blocks before the packets of a merged capture.
 
 use pcap_file::ResultParsing;
 use pcap_file::pcap::PcapHeader;
@@ -7,7 +7,7 @@ use pcapfile_merge::{Reader, Source};
 use std::alloc::Global;
 use std::io::Write;
 
-/// How many interfaces a capture has.
+/// Returns how many interfaces a capture has.
 pub(crate) fn interfaces_of<R>(reader: &Reader<R>) -> u32 {
     match reader {
         Reader::Packets(_) => 1,
@@ -37,7 +37,7 @@ pub(crate) fn put_opening<R, W: Write + Drop>(
     Ok(writer.into_writer())
 }
 
-// The interface of a classic capture of this header. Its times are in nanoseconds.
+// Returns the interface of a classic capture with this header. Its times are in nanoseconds.
 fn interface_under(
     alloc: Global,
     header: &PcapHeader,
