@@ -231,18 +231,20 @@ def try_foreign(tally):
 
 
 def try_times(tally):
-    """A packet whose body is refused ends no cut by time, and every time of RFC 3339 is understood."""
+    """A cut by time goes on past packets without a known time and counts them, and it accepts every time of RFC 3339."""
     section = block(0x0A0D0D0A, struct.pack("<IHHq", 0x1A2B3C4D, 1, 0, -1)) + block(1, struct.pack("<HHI", 1, 0, 0))
     sound = block(6, struct.pack("<IIIII", 0, 0, 5, 4, 4) + b"data")
     refused = block(6, struct.pack("<IIIII", 0, 0, 5, 400, 400) + b"data")
+    simple = block(3, struct.pack("<I", 4) + b"data")
+    malformed, timeless = "1 packet with a malformed body, which has no known time", "2 packets without a time"
     for times in (["--from", "0"], ["--until", "9"], ["--from", "0", "--until", "9"]):
-        with Folder(tally.program, **{"in": section + sound + refused + sound}) as folder:
+        with Folder(tally.program, **{"in": section + sound + refused + simple + sound + simple}) as folder:
             checked = folder.run("check", "in")[0]
             status, _, said = folder.run("cut", "in", *times, "-o", "out")
             tally.note(
                 f"a packet that is refused, cut {times}",
                 status != checked and f"it ended with {status}, and check with {checked}",
-                said != "pcapfile: in: 1 packets whose body is refused are left out, since their time isn't known\n" and said,
+                said != f"pcapfile: in: left out {malformed}\npcapfile: in: left out {timeless}\n" and said,
                 folder.get("out") != section + sound * 2 and "it has other packets",
             )
     with Folder(tally.program, **{"in": CAPTURE}) as folder:

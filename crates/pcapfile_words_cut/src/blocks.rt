@@ -1,6 +1,6 @@
 //! PcapNg captures that are read part by part.
 
-use crate::source::{Source, nothing};
+use crate::source::{Source, Untimed, nothing};
 use pcap_file::pcapng::{
     BlockHeader, BlockType, InterfaceDescriptionBlock, ParsedBlock, Timestamp,
 };
@@ -23,8 +23,8 @@ pub(crate) struct Blocks<R> {
     in_force: Vec<u8>,
     /// The header of a block that the reader lends and that is in no part yet.
     pending: Option<BlockHeader>,
-    /// The number of malformed packets that were left out because their time isn't known.
-    untimed: u64,
+    /// How many packets were left out because they have no known time.
+    untimed: Untimed,
 }
 
 impl<R: Read + Drop> Blocks<R> {
@@ -36,7 +36,7 @@ impl<R: Read + Drop> Blocks<R> {
             reader,
             in_force,
             pending: None,
-            untimed: 0,
+            untimed: Untimed::default(),
         })
     }
 
@@ -159,14 +159,15 @@ impl<R: Read + Drop> Blocks<R> {
             Ok(parsed) => parsed,
             Err(PcapError::OutOfMemory(error)) => return Err(PcapError::OutOfMemory(error)),
             Err(_) => {
-                self.untimed = self.untimed.saturating_add(1);
+                self.untimed.malformed = self.untimed.malformed.saturating_add(1);
                 return Ok(false);
             }
         };
-        Ok(match time_of(self.reader.interfaces(), &parsed) {
-            Some(time) => times.0 <= time && time < times.1,
-            None => false,
-        })
+        let Some(time) = time_of(self.reader.interfaces(), &parsed) else {
+            self.untimed.without_time = self.untimed.without_time.saturating_add(1);
+            return Ok(false);
+        };
+        Ok(times.0 <= time && time < times.1)
     }
 }
 
@@ -195,7 +196,7 @@ impl<R: Read + Drop> Source for Blocks<R> {
         Ok(self.pending.is_none())
     }
 
-    fn untimed(&self) -> u64 {
+    fn untimed(&self) -> Untimed {
         self.untimed
     }
 

@@ -1,7 +1,7 @@
 //! The word `cut`.
 
 use crate::blocks::Blocks;
-use crate::source::{Packets, Source, flushed};
+use crate::source::{Packets, Source, Untimed, flushed};
 use crate::tell::tell_outcome;
 use pcap_parts::to_next_end;
 use pcapfile_cut::{Outcome, Wanted};
@@ -99,15 +99,31 @@ pub fn cut_file(console: &Console, asked: &Cutting) -> io::Result<u8> {
     }
 }
 
-// Reports how many malformed packets are left out because their time isn't known.
-fn tell_untimed(console: &Console, from: &str, packets: u64) -> io::Result<()> {
-    if packets > 0 {
-        let from = Shown(from);
+// Reports how many packets are left out because they have no known time.
+fn tell_untimed(console: &Console, from: &str, packets: Untimed) -> io::Result<()> {
+    let from = Shown(from);
+    let Untimed {
+        malformed,
+        without_time,
+    } = packets;
+    if malformed > 0 {
+        let s = plural(malformed);
         eprintln!(console.for_line();
-            "pcapfile: {from}: {packets} packets whose body is refused are left out, since their time isn't known"
+            "pcapfile: {from}: left out {malformed} packet{s} with a malformed body, which has no known time"
+        )?;
+    }
+    if without_time > 0 {
+        let s = plural(without_time);
+        eprintln!(console.for_line();
+            "pcapfile: {from}: left out {without_time} packet{s} without a time"
         )?;
     }
     Ok(())
+}
+
+// Returns the ending of a noun that this many things have.
+fn plural(count: u64) -> &'static str {
+    if count == 1 { "" } else { "s" }
 }
 
 // Reports that `--parts` needs a file with a known length, and returns the exit status.

@@ -6,6 +6,15 @@ use std::alloc::Global;
 use std::io;
 use std::io::{BufRead, Write};
 
+/// How many packets a selection by times left out because they have no known time.
+#[derive(Clone, Copy, Default)]
+pub(crate) struct Untimed {
+    /// Packets with a malformed body.
+    pub(crate) malformed: u64,
+    /// Packets that are stored without a time.
+    pub(crate) without_time: u64,
+}
+
 /// A capture that is read part by part.
 pub(crate) trait Source {
     /// Writes a part: the opening at this position, and the wanted packets after it. If other parts follow, the blocks before
@@ -21,8 +30,8 @@ pub(crate) trait Source {
     /// Returns whether all of the capture is in a part.
     fn is_at_end(&mut self) -> io::Result<bool>;
 
-    /// Returns how many malformed packets were left out because their time isn't known.
-    fn untimed(&self) -> u64;
+    /// Returns how many packets were left out because they have no known time.
+    fn untimed(&self) -> Untimed;
 
     /// Returns the length of the next part's opening, in bytes.
     fn opening_len(&self) -> u64;
@@ -63,8 +72,8 @@ impl<R: BufRead + Drop> Source for Packets<R> {
         Ok(self.input.fill_buf()?.is_empty())
     }
 
-    fn untimed(&self) -> u64 {
-        0
+    fn untimed(&self) -> Untimed {
+        Untimed::default()
     }
 
     fn opening_len(&self) -> u64 {
