@@ -1,4 +1,4 @@
-//! `calling_as_is < capture` prints a line for each packet, with the first rule that it breaks, and the places where packets are found
+//! calling_as_is < capture: prints a line for each packet, with the first rule that it breaks, and the places where packets are found
 //! again after corrupt bytes.
 #![tactic(auto)]
 

@@ -1,4 +1,4 @@
-//! `calling_stream < capture` prints a line for each packet of a capture from a stream.
+//! calling_stream < capture: a line for each packet of a capture that comes off a stream.
 #![tactic(auto)]
 
 use pcap_file::{PcapError, PcapReader};

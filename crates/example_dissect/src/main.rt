@@ -1,4 +1,4 @@
-//! `example_dissect < capture` prints a line for each packet of an Ethernet capture: its number and time, its addresses, and the ports of
+//! example_dissect < capture: prints a line for each packet of an Ethernet capture: its number and time, its addresses, and the ports of
 //! TCP and UDP.
 #![tactic(auto)]
 

@@ -1,4 +1,4 @@
-//! `example_feed < capture` prints a line for each packet of a capture that comes in pieces, as from a socket.
+//! example_feed < capture: prints a line for each packet of a capture that comes in pieces, as from a socket.
 //!
 //! The parser returns how many bytes it lacks. The program waits for exactly these bytes before it calls the parser again. So it waits
 //! at most twice for each packet, however few bytes a read gives, and holds no bytes after the packet.

@@ -1,4 +1,4 @@
-//! `example_filter < PcapNg > PcapNg` copies a capture without its enhanced packets of less than 60 bytes on the wire. It copies each
+//! example_filter < PcapNg > PcapNg: copies a capture without its enhanced packets of less than 60 bytes on the wire. It copies each
 //! other block byte for byte.
 #![tactic(auto)]
 

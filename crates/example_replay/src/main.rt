@@ -1,4 +1,4 @@
-//! `example_replay FACTOR < capture` prints each packet when its time has come, FACTOR times as fast as it was captured. At factor 0 it
+//! example_replay FACTOR < capture: prints each packet when its time has come, FACTOR times as fast as it was captured. At factor 0 it
 //! doesn't wait.
 #![tactic(auto)]
 

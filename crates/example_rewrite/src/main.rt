@@ -1,4 +1,4 @@
-//! `example_rewrite < PcapNg > PcapNg` writes a capture again from the values of its blocks, in each section's own byte order. Lists of
+//! example_rewrite < PcapNg > PcapNg: writes a capture again from the values of its blocks, in each section's own byte order. Lists of
 //! options get their end mark, and padding is zero.
 #![tactic(auto)]
 

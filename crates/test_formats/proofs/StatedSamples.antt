@@ -1,4 +1,4 @@
--- What the head of an item states.
+-- The length that the head of an item states.
 use Rattle.std.proofs.Common.{◌≡◌, ℕ, ◌<◌, List, [], ◌++◌, length, drop, refl, sym, ap, subst, ◌∙◌, append-nil, arith, inl, inr, Bool, false, Option, Some, Result, Ok, Err}
 use Rattle.std.proofs.lemmas.List.{drop_at, nil_from_length}
 use Rattle.pcap_core.specs.declared.errors.PcapError.{PcapError}

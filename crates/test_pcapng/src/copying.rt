@@ -114,7 +114,7 @@ fn every_failed_write(rt: HostRuntime) {
     }
 }
 
-// Returns whether at most `most` blocks are copied, and `used` bytes are taken.
+// Returns whether a copy of at most `most` blocks after the first section header takes `used` bytes.
 fn copies_most(alloc: Global, most: u64, used: usize) -> Result<bool, AllocError> {
     let mut stream = Halting::new(alloc, &SECTIONS, 100)?;
     let mut out = Vec::new(alloc);
@@ -164,7 +164,7 @@ const REFUSED_LATER: &str = r#"
     0a0d0d0a 0000000c 00000000 => InvalidField("SectionHeaderBlock: invalid magic number")
 "#;
 
-// Copies an unknown block that breaks the rules of its body, and returns why the block after it isn't copied.
+// Copies a section header and an unknown block, and returns why the block after them isn't copied.
 fn refused_later(alloc: Global, bytes: &[u8]) -> Result<String, Fail> {
     let odd = [0, 0, 0, 0x99, 0, 0, 0, 0x10, 1, 2, 3, 4, 0, 0, 0, 0x10];
     let mut whole = joined(alloc, &SECTION, &odd)?;

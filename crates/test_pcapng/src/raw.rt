@@ -58,7 +58,7 @@ fn is_made_again(alloc: Global, block: &Block<'_>, order: Endianness) -> ResultP
     Ok(are_equal(&made, block))
 }
 
-// Returns how many blocks of a capture do, with the first one. A block that differs is made again.
+// Returns how many blocks of a capture, with the first one, equal those that are made from their values in this byte order.
 fn made_again(alloc: Global, capture: &[u8], order: Endianness) -> ResultParsing<usize> {
     let (_rest, first) = Block::from_slice(order, capture)?;
     let mut same = usize::from(is_made_again(alloc, &first, order)?);
@@ -73,7 +73,7 @@ fn made_again(alloc: Global, capture: &[u8], order: Endianness) -> ResultParsing
     Ok(same)
 }
 
-// Checks all blocks but the first, in each byte order.
+// Checks that three of the four blocks are the same when they are made again in each byte order.
 fn check_made(alloc: Global) -> Result<(), Fail> {
     // a section and its interface in each byte order: a section is made in its own
     let big = made_again(alloc, &SECTIONS, Endianness::Big)?;

@@ -74,8 +74,8 @@ fn refused_runs(rt: HostRuntime) -> Result<(), Fail> {
     every_row(rt.alloc(), TORN, run)
 }
 
-/// For the beginnings of the capture with two sections: from how many bytes on, how many are used, and how many bytes the parser needs
-/// next.
+/// For the beginnings of the capture with two sections: from how many bytes on, how many are used, and how many bytes in all the
+/// parser needs to go on.
 pub const BEGINNINGS: [(usize, usize, usize); 12] = [
     (0, 0, 12),
     (12, 0, 28),

@@ -472,7 +472,7 @@ fn interrupted_reads(rt: HostRuntime) {
     }
 }
 
-// Returns whether a reader of a slice takes the same bytes as a reader of a stream.
+// Returns whether a reader of a slice refuses a wrong magic number after the same bytes as a reader of a stream.
 fn refuses_at_once(alloc: Global, bytes: &[u8]) -> bool {
     let mut left = bytes;
     reads(alloc, &mut left, WRONG_AT_ONCE) && left.len() == 29 - 24 - 1

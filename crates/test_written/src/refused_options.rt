@@ -287,8 +287,8 @@ fn unknown_options_of_other_lengths(rt: HostRuntime) {
     }
 }
 
-// Each of these returns whether a block is refused because of an address, a filter, a hash or a custom value with these bytes, or of this
-// text.
+// Each of these returns whether a block is refused because of an address, a filter, a hash or a custom value with these bytes, or because
+// of this text.
 
 fn refuses_ipv4(alloc: Global, value: &[u8]) -> ResultParsing<bool> {
     let option = InterfaceDescriptionOption::IfIpv4Addr(CowBytes::Borrowed(value));
