@@ -1,4 +1,4 @@
--- The best source so far, and one source more.
+-- The best source so far, and one more source.
 use Rattle.std.proofs.Common.{◌≡◌, ◌+◌, ◌<◌, ◌≤◌, ℕ, List, [], ◌∷◌, ◌++◌, length, take, get_or, arith, Option, None, Some, inl, inr, refl, sym, ap, ◌∙◌, subst}
 use Rattle.std.proofs.lemmas.List.{take_more, take_all, length-take}
 use Rattle.pcapfile_merge.specs.declared.choice.Best.{Best}
@@ -38,7 +38,7 @@ module _ {R : Type 0} (xs : List (Source R)) (x : Source R) where
   pub best_more : (best new : Option Best) → IsBest xs best → BestWith best (length xs) x.taken.next new → IsBest (xs ++ x ∷ []) new
   best_more best new found with_ = best_more_at x.taken.next best new refl found with_
 
--- a turn of the search
+-- One turn of the search finds the best of one more source.
 pub best_turn : {R : Type 0} (xs : List (Source R)) (place : ℕ) (x : Source R) (best new : Option Best) (next : Option Pending) → place < length xs → x ≡ get_or xs place x → next ≡ x.taken.next → IsBest (take place xs) best
     → BestWith best place next new → IsBest (take (place + 1) xs) new
 best_turn xs place x best new next within is next_is found with_ =
@@ -51,6 +51,6 @@ best_turn xs place x best new next within is next_is found with_ =
 pub best_all : {R : Type 0} (xs : List (Source R)) (n : ℕ) (best : Option Best) → length xs ≤ n → IsBest (take n xs) best → IsBest xs best
 best_all xs n best all found = subst (λ (l : List (Source _)). IsBest l best) (take_all n xs all) found
 
--- the place of the best
+-- The best source is at its index.
 pub best_place : {R : Type 0} (xs : List (Source R)) (best : Best) → IsBest xs (Some best) → (p : Packet) × IsFirst xs best.place p
 best_place xs best found = (found.0, found.2)

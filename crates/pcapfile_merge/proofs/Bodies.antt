@@ -1,4 +1,4 @@
--- Where the bytes of a packet stand in the body of its block.
+-- Where the bytes of a packet are in the body of its block.
 use Rattle.std.proofs.Common.{◌≡◌, ◌+◌, ℕ, List, ◌++◌, take, drop, length, Bool, true, false, Option, None, Some, Ok, Err, sym, ap, ◌∙◌, subst, append_assoc}
 use Rattle.std.specs.Prelude.{Result, if◌then◌else◌, unwrap_or}
 use Rattle.std.specs.List.{slice_get}
@@ -35,7 +35,7 @@ use Rattle.pcapfile_merge.specs.TakingBlocks.{EndsBlock, GivesOf, IsTimeBy, IsUn
 dropped : (n : ℕ) (s rest : List ℕ) → Behind n s rest → drop n s ≡ rest
 dropped n s rest behind = ap (drop n) behind.text ∙ ap (λ (k : ℕ). drop k (behind.bytes ++ rest)) (sym behind.length_is) ∙ drop-append_seam behind.bytes rest
 
--- the bytes of a stored packet stand behind so many bytes and its head of 16
+-- The bytes of a stored packet come after the 4 bytes before its head and the head of 16 bytes.
 stored_bytes : (order : Order) (kind : Kind) (packet : Stored) (s mid rest : List ℕ) → Behind 4 s mid → StoredText order kind packet mid rest → take (length packet.bytes) (drop 20 s) ≡ packet.bytes
 stored_bytes order kind packet s mid rest before text =
     let head = text.head in
@@ -54,7 +54,7 @@ AreThere s packet = take (length packet.bytes) (drop (start_of packet) s) ≡ pa
 none_some : {X : Type 0} (o : Option X) (x : X) → o ≡ None → o ≡ Some x → ⊥
 none_some o x none some = let no : ⊥ = cc in no
 
--- the bytes of a packet stand in the body behind its start
+-- The bytes of a packet are in the body after its start.
 body_bytes : (order : Order) (type : BlockType) (interfaces : List Interface) (s rest : List ℕ) (body : Body) (packet : InBlock) → BodySays order type s (whole body rest) → packet_in_body interfaces body ≡ Some packet → AreThere s packet
 unfolding AreThere
 body_bytes order types.SectionHeader interfaces s rest body packet says is = absurd (none_some (packet_in_body interfaces body) packet (ap (packet_in_body interfaces) says.1) is)
@@ -78,7 +78,7 @@ body_bytes order types.EnhancedPacket interfaces s rest body packet says is =
 body_bytes order types.SystemdJournalExport interfaces s rest body packet says is = absurd (none_some (packet_in_body interfaces body) packet (ap (packet_in_body interfaces) says.1) is)
 body_bytes order (types.Unknown n) interfaces s rest body packet says is = absurd (none_some (packet_in_body interfaces body) packet (ap (packet_in_body interfaces) says.1) is)
 
--- the body of a block of a packet's type is that of a packet
+-- The body of a block of a packet type is that of a packet.
 pub packet_there : (order : Order) (type : BlockType) (interfaces : List Interface) (s rest : List ℕ) (body : Body) → is_packet type ≡ true → BodySays order type s (whole body rest) → (packet : InBlock) × (packet_in_body interfaces body ≡ Some packet)
 packet_there order types.Packet interfaces s rest body is says =
     let found = says.0 in
@@ -98,16 +98,16 @@ packet_there order types.InterfaceStatistics interfaces s rest body is says = ab
 packet_there order types.SystemdJournalExport interfaces s rest body is says = absurd (true≢false (sym is))
 packet_there order (types.Unknown n) interfaces s rest body is says = absurd (true≢false (sym is))
 
--- nothing that was made is lent
+-- If no made block is lent, the body is lent.
 pub nothing_made : (made : Made) (body : List ℕ) → made.is_lent ≡ false → lent_by made body ≡ body
 nothing_made made body none = ap (λ (b : Bool). if b then made.text.items else body) none
 
--- the text that was made is lent
+-- If a made block is lent, its text is lent.
 pub made_lent : (made : Made) (body : List ℕ) → made.is_lent ≡ true → lent_by made body ≡ made.text.items
 made_lent made body is = ap (λ (b : Bool). if b then made.text.items else body) is
 
 module _ (base : ℕ) (interfaces : List Interface) (block : Framed) (packet : InBlock) (is : is_packet block.type_ ≡ true) (holds : HoldsPacket interfaces block packet) where
-  -- a packet whose block is made of its bytes
+  -- The case of a packet whose block is made from its bytes.
   pub plain_given : (pending : Pending) (body : List ℕ) → body ≡ block.body → IsSaid base interfaces packet pending
       → block_under (base + packet.interface) pending.units packet (enhanced_in holds.body) ≡ EnhancedBody (plain_packet (base + packet.interface) pending.units packet.original_len packet.bytes)
       → GivesOf base interfaces block (Some (packet_in (bytes_within body pending) pending))
@@ -125,7 +125,7 @@ module _ (base : ℕ) (interfaces : List Interface) (block : Framed) (packet : I
       ∙ ap little_text (sym plain) in
       (is, packet, holds, record { by = said.by; described = said.described; units = pending.units; time = said.time; text = text })
 
-  -- a packet whose own block was made
+  -- The case of a packet whose own block was made.
   made_given : (said pending : Pending) (made : Made) (enhanced : Enhanced) → IsSaid base interfaces packet said → enhanced_in holds.body ≡ Some enhanced → IsMade said enhanced made pending
       → GivesOf base interfaces block (Some (packet_in (bytes_within (lent_by made block.body) pending) pending))
   made_given said pending made enhanced tells is_one makes =
@@ -151,16 +151,16 @@ module _ (base : ℕ) (interfaces : List Interface) (block : Framed) (packet : I
         },
       )
 
-  -- a packet whose own block was not made
+  -- The case of a packet whose own block was not made.
   unmade_ends : (said : Pending) (enhanced : Enhanced) (e : PcapError) → IsSaid base interfaces packet said → enhanced_in holds.body ≡ Some enhanced → IsUnmade said.number enhanced e → EndsBlock ⊥ base interfaces block e
   unmade_ends said enhanced e tells is_one unmade = packet_unmade packet holds enhanced is_one (subst (λ (n : ℕ). IsUnmade n enhanced e) tells.number unmade)
 
-  -- it was made, or it was not
+  -- The block of an enhanced packet was made, or it ended the capture.
   pub made_or_ends : (said : Pending) (made : Made) (enhanced : Enhanced) (result : Result Pending PcapError) → IsSaid base interfaces packet said → enhanced_in holds.body ≡ Some enhanced → MakesText said enhanced made result
       → TellsPending base interfaces block made result
   made_or_ends said made enhanced (Ok pending) tells is_one makes = made_given said pending made enhanced tells is_one makes
   made_or_ends said made enhanced (Err e) tells is_one makes = unmade_ends said enhanced e tells is_one makes
 
--- of a body that is no enhanced packet the block is made of its bytes
+-- If a body is no enhanced packet, the block is made from the packet's bytes.
 pub none_plain : (packet : InBlock) (found : Option Enhanced) → found ≡ None → (number units : ℕ) → block_under number units packet found ≡ EnhancedBody (plain_packet number units packet.original_len packet.bytes)
 none_plain packet found none number units = ap (block_under number units packet) none

@@ -1,4 +1,4 @@
--- The best one of sources, and one source more.
+-- The best of several sources, and one more source.
 use Rattle.std.proofs.Common.{◌≡◌, ℕ, List, [], ◌∷◌, ◌++◌, length, refl, sym, ap, ◌∙◌, subst, append_assoc}
 use Rattle.std.specs.List.{AllByRecursion}
 use Rattle.pcapfile_merge.specs.Choices.{Choice, AllEnded}
@@ -17,7 +17,7 @@ all_become Q T become [] all = tt
 all_become Q T become (x ∷ xs) all = (become x all.0, all_become Q T become xs all.1)
 
 module _ {S P : Type 0} (IsEarlier : P → P → Type 0) (pending : S → List P) where
-  -- the one that was chosen stays
+  -- The chosen source stays chosen if the new one isn't earlier.
   pub chosen_stays : (xs : List S) (x : S) (place : ℕ) (p : P) → Choice IsEarlier pending xs place p → IsNotBefore IsEarlier p (pending x) → Choice IsEarlier pending (xs ++ x ∷ []) place p
   chosen_stays xs x place p chosen not_before = record {
     front = chosen.front;
@@ -30,7 +30,7 @@ module _ {S P : Type 0} (IsEarlier : P → P → Type 0) (pending : S → List P
     not_before = all_push (λ s. IsNotBefore IsEarlier p (pending s)) chosen.back x chosen.not_before not_before;
   }
 
-  -- the last one is chosen where all others come later
+  -- The last source is chosen if all others come later.
   pub chosen_last : (xs : List S) (x : S) (p : P) → pending x ≡ p ∷ [] → AllByRecursion (λ s. ComesLater IsEarlier p (pending s)) xs → Choice IsEarlier pending (xs ++ x ∷ []) (length xs) p
   chosen_last xs x p holds later = record { front = xs; source = x; back = []; place_is = refl; sources_are = refl; holds = holds; later = later; not_before = tt }
 
@@ -49,7 +49,7 @@ module _ {S P : Type 0} (IsEarlier : P → P → Type 0) (pending : S → List P
     not_before_through q p [] earlier not_before = tt
     not_before_through q p (r ∷ held) earlier not_before = through q p r earlier not_before
 
-    -- an earlier one takes the place of that which was chosen
+    -- An earlier source replaces the one that was chosen.
     pub chosen_instead : (xs : List S) (x : S) (place : ℕ) (p q : P) → Choice IsEarlier pending xs place p → pending x ≡ q ∷ [] → IsEarlier q p → Choice IsEarlier pending (xs ++ x ∷ []) (length xs) q
     chosen_instead xs x place p q chosen holds earlier =
         let Later : S → Type 0 = λ s. ComesLater IsEarlier q (pending s) in

@@ -1,4 +1,4 @@
--- Sources of blocks give beginnings of fronts.
+-- Sources of blocks give the first blocks of fronts.
 use Rattle.std.proofs.Common.{◌≡◌, ℕ, List, [], Option, None, Some, sym, subst, ◌∙◌, inl, inr}
 use Rattle.std.specs.Io.KnownBytes.{Consumes, IsAtEnd}
 use Rattle.std.proofs.lemmas.Bool.{true≢false}

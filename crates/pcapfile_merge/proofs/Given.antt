@@ -1,4 +1,4 @@
--- One packet more of a source.
+-- One more packet of a source.
 use Rattle.std.proofs.Common.{◌≡◌, ◌≤◌, ℕ, drop, arith, List, [], ◌∷◌, ◌++◌, map, Bool, false, Option, None, Some, refl, sym, ap, ◌∙◌, subst}
 use Rattle.std.specs.Prelude.{IfSome, Ok}
 use Rattle.std.proofs.lemmas.List.{map-append, append-nil, length-take}
@@ -35,7 +35,7 @@ stood : {V : Type 0} (IsSaid : List ℕ → Verdict V → Type 0) (left now : Op
 stood IsSaid left now failed None fault n is stands = absurd (let no : ⊥ = cc in no)
 stood IsSaid left now failed (Some p) fault n is stands = stands.1
 
--- what holds of the packets of a reader
+-- The facts about the packets that a reader gave.
 Held : {R : Type 0} → (R → Option (List ℕ)) → ℕ → BufferedPackets R → BufferedPackets R → List Packet → Option Pending → Option PcapError → Type 0
 Held remaining base from reader given next fault =
     (captured : List Captured) × (left : Option (List ℕ)) × (given ≡ map (packet_of base) captured) × TakesTexts (reader_format packet_limit (header_of from)) tt captured (left_of remaining from) left
@@ -75,7 +75,7 @@ module _ {R : Type 0} (remaining : R → Option (List ℕ)) (base : ℕ) where
   gave_stored : (from reader : BufferedBlocks R) (given : List Packet) (taken : Taken) → GaveUpTo base (source_of remaining from) (source_of remaining reader) given taken.next taken.fault → GaveStored remaining base from reader given taken
   gave_stored from reader given taken gave = record { mid = gave.0; gave = gave.1; stands = gave.2 }
 
-  -- a reader that held a packet takes the next one
+  -- A reader that held a packet takes the next one.
   pub gave_more : (from old new : Reader R) (given : List Packet) (was now : Taken) (n : Pending) → was.next ≡ Some n → GaveBy remaining base from old given was → TakesNext remaining Closed base old new now
       → GaveBy remaining base from new (given ++ held_by new now.next) now
   gave_more (Packets from) (Packets old) (Packets new) given was now n is gave takes =
@@ -91,7 +91,7 @@ module _ {R : Type 0} (remaining : R → Option (List ℕ)) (base : ℕ) where
   gave_more (Packets from) (Blocks old) new given was now n is gave takes = absurd gave
   gave_more (Blocks from) (Packets old) new given was now n is gave takes = absurd gave
 
-  -- a reader takes its first packet
+  -- A reader takes its first packet.
   pub gave_first : (old new : Reader R) (taken : Taken) → IsReady old → TakesNext remaining Open base old new taken → GaveBy remaining base old new (held_by new taken.next) taken
   gave_first (Packets old) (Packets new) taken ready takes =
       let none = takes_none (reader_format packet_limit (header_of old)) tt (left_of remaining old) in
@@ -103,13 +103,13 @@ module _ {R : Type 0} (remaining : R → Option (List ℕ)) (base : ℕ) where
       gave_stored old new (held_by (Blocks new) taken.next) taken
       (subst (λ (l : List Packet). GaveUpTo base (source_of remaining old) (source_of remaining new) l taken.next taken.fault) (one_taken new taken.next) first)
 
--- a reader that holds a packet has refused nothing, and the packet is short
+-- A reader that holds a packet has refused nothing, and the packet is short.
 pub pending_ready : {R : Type 0} (remaining : R → Option (List ℕ)) (number : ℕ) (header : PcapHeader) (left : Option (List ℕ)) (new : BufferedPackets R) (next : Option Pending) (fault : Option PcapError) → TakesPending remaining number header left new next fault
     → IsReadyIf (Packets new) next × HoldsFew (Packets new) next
 pending_ready remaining number header left new None fault takes = (refl, omega arith)
 pending_ready remaining number header left new (Some pending) fault takes = (takes.1, takes.2)
 
--- what is taken from where a reader stayed is taken from where it was
+-- What a reader takes after it only removed a lent packet, it takes from where it was.
 pub stays_taken : {R : Type 0} (remaining : R → Option (List ℕ)) (choice : Interfaces) (base : ℕ) (old mid new : Reader R) (taken : Taken) → TakesThere remaining base old mid None → TakesNext remaining choice base mid new taken
     → TakesNext remaining choice base old new taken
 stays_taken remaining choice base (Packets old) (Packets mid) (Packets new) taken stays takes =
@@ -121,14 +121,14 @@ stays_taken remaining choice base (Blocks old) (Packets mid) new taken stays tak
 stays_taken remaining choice base (Packets old) (Packets mid) (Blocks new) taken stays takes = absurd takes
 stays_taken remaining choice base (Blocks old) (Blocks mid) (Packets new) taken stays takes = absurd takes
 
--- what lies in the buffer is the next packet
+-- The packet in the buffer is the next packet.
 pub there_next : {R : Type 0} (remaining : R → Option (List ℕ)) (base : ℕ) (old new : Reader R) (pending : Pending) → TakesThere remaining base old new (Some pending) → TakesNext remaining Closed base old new (alone pending)
 there_next remaining base (Packets old) (Packets new) pending there = there
 there_next remaining base (Blocks old) (Blocks new) pending there = there Closed
 there_next remaining base (Packets old) (Blocks new) pending there = absurd there
 there_next remaining base (Blocks old) (Packets new) pending there = absurd there
 
--- a header that came of a buffer is that of the next packet
+-- A header from the buffer is that of the next packet.
 pub packet_there : {R : Type 0} (remaining : R → Option (List ℕ)) (number : ℕ) (old new : BufferedPackets R) (head : PacketHeader) (pending : Pending) → is_done old ≡ false → header_of new ≡ header_of old
     → NextGives ((reader_format packet_limit (header_of old)).says tt) (lent_packet new) (left_of remaining old) (left_of remaining new) (is_done old) (is_done new) (has_failed old) (has_failed new) (Some (Ok head)) → IsOf number head pending
     → TakesPacket remaining number old new (alone pending)

@@ -1,4 +1,4 @@
--- Packets that lie whole in a buffer.
+-- Packets that are whole in a buffer.
 use Rattle.std.proofs.Common.{◌≡◌, ◌+◌, ◌≤◌, ℕ, List, [], ◌++◌, length, take, drop, Bool, true, false, Option, None, Some, sym, ap, subst, ◌∙◌, append_assoc}
 use Rattle.std.specs.Prelude.{◌==◌, if◌then◌else◌, Result, Ok}
 use Rattle.std.specs.Io.Buffered.{reader_buffer, reader_capacity, reader_inner, reader_remaining}
@@ -20,13 +20,13 @@ use Rattle.pcap_classic.specs.StatedPackets.{KnowsHeader}
 use Rattle.pcap_classic.proofs.StatedPackets.{shown_stands}
 use Rattle.pcapfile_merge.specs.Buffered.{LiesWhole, left_behind, lent_at, lent_of}
 
--- the front of what was read ahead is taken
+-- The reader takes the first bytes of what it read ahead.
 pub front_taken : (b : Bool) (n : ℕ) (s : List ℕ) (known : Option (List ℕ)) → Consumes (if b then None else prepend_known s known) (if b then None else prepend_known (drop n s) known) (take n s)
 front_taken true n s known = tt
 front_taken false n s None = tt
 front_taken false n s (Some rest) = ap (λ (l : List ℕ). l ++ rest) (sym (take-append-drop n s)) ∙ append_assoc (take n s) (drop n s) rest
 
--- a header, and as many bytes behind it as it states
+-- A header and as many bytes after it as it states are a whole packet.
 pub lies_whole : (header : PcapHeader) (head : PacketHeader) (n m : ℕ) (s before after : List ℕ) → s ≡ before ++ after → length before ≡ m → m ≡ (reader_format packet_limit header).head tt → KnowsHeader header head n before → n ≤ length after
     → LiesWhole header s head (m + n)
 lies_whole header head n m s before after split count is knows within =
@@ -42,7 +42,7 @@ lies_whole header head n m s before after split count is knows within =
     shown_stands header head (take (m + n) s) stated
 
 module _ {R A : Type 0} (remaining : R → Option (List ℕ)) (header : PcapHeader) (before : Option (List ℕ)) (done failed : Bool) where
-  -- a packet that is lent out of the buffer was taken
+  -- A packet that is lent from the buffer was taken.
   pub shown_given : (shown : Option ℕ) (reader : PcapReader (BufReader R A)) (head : PacketHeader) (n : ℕ) → shown ≡ None → left_behind remaining (lent_of shown) (stream_of reader) ≡ before → reader.header ≡ header → is_done reader ≡ done → done ≡ false
       → LiesWhole reader.header (reader_buffer (stream_of reader)) head n
       → NextGives ((reader_format packet_limit header).says tt) (lent_at (Some n) reader) before (left_behind remaining n (stream_of reader)) done (is_done reader) failed (has_failed reader) (Some (Ok head))
@@ -57,7 +57,7 @@ module _ {R A : Type 0} (remaining : R → Option (List ℕ)) (header : PcapHead
       rw ready (went_on, reader.unfailed went_on, (take n s, said, took))
   shown_given (Some m) reader head n none left same is ready lies = absurd (let no : ⊥ = cc in no)
 
-  -- what a reader gives that holds its packet is given
+  -- What the reader gives and holds is given by the buffered reader.
   pub held_given : (shown : Option ℕ) (mid new : PcapReader (BufReader R A)) (result : Option (Result PacketHeader PcapError)) → shown ≡ None → left_behind remaining (lent_of shown) (stream_of mid) ≡ before → mid.header ≡ header → is_done mid ≡ done
       → has_failed mid ≡ failed
       → NextGives ((reader_format packet_limit mid.header).says tt) (lent_packet new) (reader_remaining remaining (stream_of mid)) (reader_remaining remaining (stream_of new)) (is_done mid) (is_done new) (has_failed mid) (has_failed new) result

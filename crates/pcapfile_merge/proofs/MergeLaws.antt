@@ -1,9 +1,9 @@
--- Laws of merges.
+-- Proofs of the laws of merges.
 use Rattle.std.proofs.Common.{◌≡◌, ◌≢◌, ◌==◌, ℕ, zero, suc, Bool, true, false, List, [], ◌∷◌, ◌++◌, map, length, get_or, if◌then◌else◌, refl, sym, ap, ◌∙◌, subst, arith}
 use Rattle.std.specs.List.{AllByRecursion}
 use Rattle.pcapfile_merge.specs.Merges.{ComesLater, IsNotBefore, Gives, Merges, IsSorted, given_by}
 
--- all parts of a list that is put together
+-- What holds of all items of a joined list holds of all items of its parts.
 all_split : {S : Type 0} (Q : S → Type 0) (xs : List S) (x : S) (ys : List S) → AllByRecursion Q (xs ++ x ∷ ys) → AllByRecursion Q xs × Q x × AllByRecursion Q ys
 all_split Q [] x ys all = (tt, all.0, all.1)
 all_split Q (y ∷ xs) x ys all = let there = all_split Q xs x ys all.1 in ((all.0, there.0), there.1, there.2)
@@ -21,7 +21,7 @@ module _ {P : Type 0} (IsEarlier : P → P → Type 0) (asymmetric : (a b : P) �
   not_before_later p [] later = tt
   not_before_later p (q ∷ ps) later = λ earlier. asymmetric p q later earlier
 
-  -- what the inputs give behind a packet is not before it
+  -- What the inputs give after a packet is not before it.
   next_not_before : (p : P) (inputs : List (List P)) (out : List (ℕ × P)) (left : List (List P)) → AllByRecursion (IsNotBefore IsEarlier p) inputs → Merges IsEarlier inputs out left
       → IsNotBefore IsEarlier p (map (λ (o : ℕ × P). o.1) out)
   next_not_before p inputs [] left all merges = tt
@@ -29,7 +29,7 @@ module _ {P : Type 0} (IsEarlier : P → P → Type 0) (asymmetric : (a b : P) �
       let gives = merges.1 in
       (all_split (IsNotBefore IsEarlier p) gives.front (o.1 ∷ gives.rest) gives.back (subst (AllByRecursion (IsNotBefore IsEarlier p)) gives.inputs_are all)).1
 
-  -- where the inputs are sorted, so is what they give
+  -- If the inputs are sorted, so is what they give.
   pub merges_sorted : (inputs : List (List P)) (out : List (ℕ × P)) (left : List (List P)) → AllByRecursion (IsSorted IsEarlier) inputs → Merges IsEarlier inputs out left
       → IsSorted IsEarlier (map (λ (o : ℕ × P). o.1) out)
   merges_sorted inputs [] left sorted merges = tt
@@ -66,7 +66,7 @@ module _ {P : Type 0} (IsEarlier : P → P → Type 0) where
       let old : get_or inputs place [] ≡ get_or between place [] = rw (gives.inputs_are, gives.left_are) (elsewhere gives.front (o.1 ∷ gives.rest) gives.rest gives.back place other) in
       old ∙ rest
 
-  -- what an input gives, and what is left of it, are its packets, in order
+  -- The packets that an input gave, and then those left in it, are its packets in order.
   pub merges_keep : (place : ℕ) (inputs : List (List P)) (out : List (ℕ × P)) (left : List (List P)) → Merges IsEarlier inputs out left
       → get_or inputs place [] ≡ given_by place out ++ get_or left place []
   merges_keep place inputs [] left merges = ap (λ l. get_or l place []) merges

@@ -4,7 +4,7 @@ use Rattle.std.specs.List.{AllByRecursion, AllZip}
 use Rattle.std.proofs.lemmas.List.{append-nil}
 use Rattle.pcapfile_merge.specs.Merges.{ComesLater, IsNotBefore, Gives, Merges}
 
--- lists of a list's parts
+-- If a mapped list splits at an item, so does the list itself.
 pub map_split : {S T : Type 0} (f : S → T) (ss : List S) (front : List T) (x : T) (back : List T) → map f ss ≡ front ++ x ∷ back
     → (before : List S) × (s : S) × (behind : List S) × (ss ≡ before ++ s ∷ behind) × (map f before ≡ front) × (f s ≡ x) × (map f behind ≡ back)
 map_split f [] [] x back e = absurd (let no : ⊥ = cc in no)
@@ -25,17 +25,17 @@ all_of_map f Q [] all = tt
 all_of_map f Q (s ∷ ss) all = (all.0, all_of_map f Q ss all.1)
 
 module _ {S P : Type 0} (IsEarlier : P → P → Type 0) (gone pending : S → List P) where
-  -- what an input gives from here on begins with the packet that it holds, and is nothing where it holds none
+  -- What an input gives from here on begins with the packet that it holds. If it holds none, it gives nothing.
   abbrev Continues : S → List P → Type 0
   Continues s tail = (after : List P) × (tail ≡ pending s ++ after) × (pending s ≡ [] → after ≡ [])
 
-  -- what inputs gave, and what they give from here on
+  -- What each input gave, and then what it gives from here on.
   abbrev joined : List S → List (List P) → List (List P)
   joined [] tails = []
   joined (s ∷ ss) [] = []
   joined (s ∷ ss) (tail ∷ tails) = (gone s ++ tail) ∷ joined ss tails
 
-  -- the packets that went out are the beginning of a merge, whatever the inputs give from here on
+  -- The written packets are the beginning of a merge, whatever the inputs give from here on.
   abbrev pub GoesOn : List S → List (ℕ × P) → Type 0
   GoesOn ss out = (tails : List (List P)) (more : List (ℕ × P)) (left : List (List P)) → AllZip Continues ss tails → Merges IsEarlier tails more left → Merges IsEarlier (joined ss tails) (out ++ more) left
 
@@ -76,7 +76,7 @@ module _ {S P : Type 0} (IsEarlier : P → P → Type 0) (gone pending : S → L
   joined_join (f ∷ F) s B [] t TB zip = absurd zip
   joined_join (f ∷ F) s B (x ∷ TF) t TB zip = ap (λ l. (gone f ++ x) ∷ l) (joined_join F s B TF t TB zip.1)
 
-  -- what is said of the packet that an input holds holds of all that it gives
+  -- If the packet that an input holds comes later, so does all that the input gives.
   later_there : (p : P) (held tail after : List P) → tail ≡ held ++ after → (held ≡ [] → after ≡ []) → ComesLater IsEarlier p held → ComesLater IsEarlier p tail
   later_there p [] tail after is none later = subst (ComesLater IsEarlier p) (sym (is ∙ none refl)) tt
   later_there p (q ∷ held) tail after is none later = subst (ComesLater IsEarlier p) (sym is) later
@@ -97,7 +97,7 @@ module _ {S P : Type 0} (IsEarlier : P → P → Type 0) (gone pending : S → L
   all_not_before p (f ∷ F) [] zip all = absurd zip
   all_not_before p (f ∷ F) (t ∷ ts) zip all = (not_before_there p (pending f) t zip.0.0 zip.0.1 zip.0.2 all.0, all_not_before p F ts zip.1 all.1)
 
-  -- one packet more
+  -- The merge goes on by one packet.
   pub goes_next : (F : List S) (s t : S) (B : List S) (p : P) (out : List (ℕ × P)) → pending s ≡ p ∷ [] → gone t ≡ gone s ++ p ∷ []
       → AllByRecursion (λ s. ComesLater IsEarlier p (pending s)) F → AllByRecursion (λ s. IsNotBefore IsEarlier p (pending s)) B
       → GoesOn (F ++ s ∷ B) out → GoesOn (F ++ t ∷ B) (out ++ (length F, p) ∷ [])
@@ -133,7 +133,7 @@ module _ {S P : Type 0} (IsEarlier : P → P → Type 0) (gone pending : S → L
   joined_pending [] = refl
   joined_pending (s ∷ ss) = ap (λ l. (gone s ++ pending s) ∷ l) (joined_pending ss)
 
-  -- so far the inputs gave these packets, and each holds one more or none
+  -- So far the inputs gave these packets, and each holds at most one more.
   pub goes_so_far : (ss : List S) (out : List (ℕ × P)) → GoesOn ss out → Merges IsEarlier (map (λ s. gone s ++ pending s) ss) out (map pending ss)
   goes_so_far ss out so_far =
       let whole = so_far (map pending ss) [] (map pending ss) (zip_pending ss) refl in

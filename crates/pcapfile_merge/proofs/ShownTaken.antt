@@ -1,4 +1,4 @@
--- Packets of blocks that are taken where they lie in a buffer.
+-- Packets of blocks that a reader takes from its buffer.
 use Rattle.std.proofs.Common.{◌≡◌, ◌+◌, ℕ, List, [], length, take, false, Option, None, Some, Result, Ok, refl, sym, ap, ◌∙◌, subst}
 use Rattle.std.specs.Prelude.{◌==◌}
 use Rattle.std.specs.Io.Buffered.{reader_buffer, reader_capacity, reader_inner, reader_remaining}
@@ -39,27 +39,27 @@ use Rattle.pcapfile_merge.proofs.Bodies.{nothing_made, plain_given}
 use Rattle.pcapfile_merge.proofs.Lying.{front_taken}
 use Rattle.pcapfile_merge.proofs.Turning.{passed_none}
 
--- what an enhanced packet that lies in a buffer says
+-- What an enhanced packet in the buffer says.
 abbrev pub said_of : EnhancedNumbers → Said
 said_of packet = record { interface = packet.interface; units = Some packet.units; original_len = packet.original; len = packet.stored }
 
--- what is told of what a block says is told of what lies in the buffer
+-- The result for what a block says is the result for the packet in the buffer.
 pub told_there : (base : ℕ) (lent interfaces : List Interface) (said : Said) (packet : EnhancedNumbers) (result : Result Pending PcapError) → lent ≡ interfaces → said ≡ said_of packet
     → ((bytes : List ℕ) → said.len ≡ length bytes → TellsStored base lent (in_said said bytes) result) → (bytes : List ℕ) → packet.stored ≡ length bytes → TellsStored base interfaces (in_said (said_of packet) bytes) result
 told_there base lent interfaces said packet result there is tells =
     let here = subst (λ (l : List Interface). (bytes : List ℕ) → said.len ≡ length bytes → TellsStored base l (in_said said bytes) result) there tells in
     subst (λ (s : Said). (bytes : List ℕ) → s.len ≡ length bytes → TellsStored base interfaces (in_said s bytes) result) is here
 
--- the body of a block stands in it
+-- The body of a block is within its text.
 packet_body : (e : Endianness) (packet : EnhancedNumbers) (s : List ℕ) (text : PlainText e packet s []) → body_in s ≡ text.body
 unfolding frame_format
 packet_body e packet s text = ap (λ (b : Framed). b.body) (held_block e (enhanced_frame e text.frame.0 text.body) s text.frame.1)
 
--- a block of a packet without options is that of a packet
+-- The block of an enhanced packet without options is the block of a packet.
 pub plain_text_of : (e : Endianness) (packet : EnhancedNumbers) (s rest : List ℕ) → PlainText e packet s rest → PacketText e packet s rest
 plain_text_of e packet s rest text = record { body = text.body; frame = text.frame; tells = (text.enhanced, text.after, text.text, text.tells) }
 
--- a block in front of other bytes, alone
+-- A block in front of other bytes is a block by itself.
 pub plain_alone : (e : Endianness) (packet : EnhancedNumbers) (s rest : List ℕ) (n : ℕ) → PlainText e packet s rest → n + length rest ≡ length s → PlainText e packet (take n s) []
 plain_alone e packet s rest n text size =
     let b = enhanced_frame e text.frame.0 text.body in
@@ -75,7 +75,7 @@ plain_alone e packet s rest n text size =
       plain = text.plain;
     }
 
--- an enhanced packet without options is made of its numbers and bytes
+-- The block of an enhanced packet without options is made from its numbers and bytes.
 plain_enhanced : (number units : ℕ) (enhanced : Enhanced) → enhanced.packet.options ≡ [] → length enhanced.packet.bytes ≡ enhanced.packet.captured_len → units ≡ enhanced.packet.timestamp
     → EnhancedBody (numbered number enhanced) ≡ EnhancedBody (plain_packet number units enhanced.packet.original_len enhanced.packet.bytes)
 plain_enhanced number units enhanced none captured counted =
@@ -84,18 +84,18 @@ plain_enhanced number units enhanced none captured counted =
     ∙ ap (λ (n : ℕ). EnhancedBody (record { interface_id = number; packet = record { timestamp = packet.timestamp; captured_len = n; original_len = packet.original_len; bytes = packet.bytes; options = [] } })) (sym captured)
     ∙ ap (λ (t : ℕ). EnhancedBody (plain_packet number t packet.original_len packet.bytes)) (sym counted)
 
--- the units of a time
+-- The units of a time are those that its packet has.
 units_of : (by : Interface) (counted : ℕ) (time : Option Timestamp) (units : ℕ) → IsTimeBy by (Some counted) time units → units ≡ counted
 units_of by counted None units is = absurd is
 units_of by counted (Some time) units is = is.1
 
--- the order of a section's blocks
+-- The byte order of a section's blocks.
 pub order_there : (section there : Section) (interfaces : List Interface) (e : Endianness) → section ≡ there → magic_order section.magic ≡ Some e → e ≡ order_at (within there interfaces)
 unfolding order_at
 order_there section there interfaces e same named = ap or_big (sym named) ∙ ap (λ (s : Section). or_big (magic_order s.magic)) same
 
 module _ {R A : Type 0} (remaining : R → Option (List ℕ)) (choice : Interfaces) (base : ℕ) (a : Source) where
-  -- what a reader took that holds its block was taken
+  -- The buffered reader takes the block that the reader takes and holds.
   pub held_taken : (shown : Option ℕ) (mid reader : PcapNgReader (BufReader R A)) (made : Made) (result : Result (Option Pending) PcapError) → shown ≡ None → source_at remaining shown mid ≡ a
       → TellsTaken choice base (placing.source_of (reader_remaining remaining) mid) (placing.source_of (reader_remaining remaining) reader) (lent_by made (body_of reader)) result
       → TellsTaken choice base a (source_at remaining shown reader) (lent_by made (body_in (text_in shown reader))) result
@@ -148,7 +148,7 @@ module _ {R A : Type 0} (remaining : R → Option (List ℕ)) (choice : Interfac
         plain_given base interfaces item_there.block stored refl holds pending body same said
         (plain_enhanced (base + enhanced.interface_id) pending.units enhanced text.plain text.text.packet_is.captured units)
 
-    -- a packet that lies whole in the buffer was taken
+    -- A packet that is whole in the buffer was taken.
     pub shown_taken : (pending : Pending) (made : Made) → made.is_lent ≡ false
         → ((bytes : List ℕ) → packet.stored ≡ length bytes → TellsStored base (interfaces_in_force reader) (in_said (said_of packet) bytes) (Ok pending))
         → TellsTaken choice base a (source_at remaining (Some n) reader) (lent_by made (body_in (text_in (Some n) reader))) (Ok (Some pending))

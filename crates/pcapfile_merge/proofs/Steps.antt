@@ -1,4 +1,4 @@
--- A merge that goes on.
+-- The steps of a merge that goes on.
 use Rattle.std.proofs.Common.{◌≡◌, ◌+◌, ◌<◌, ℕ, List, [], ◌∷◌, ◌++◌, map, length, get_or, Bool, Option, None, Some, Result, Ok, Err, refl, sym, ap, ◌∙◌, subst, arith, append_assoc}
 use Rattle.std.specs.List.{AllByRecursion}
 use Rattle.std.specs.Io.KnownBytes.{Appends}
@@ -21,7 +21,7 @@ use Rattle.pcapfile_merge.specs.Taking.{packet_in, text_by}
 use Rattle.pcapfile_merge.proofs.Given.{gave_more}
 use Rattle.pcapfile_merge.proofs.Merges.{GoesOn, all_of_map, goes_next, goes_none, goes_so_far, map_join, map_split}
 
--- so many packets went out
+-- A merge that has written n packets so far.
 pub record Going {R : Type 0} (remaining : R → Option (List ℕ)) (starts nows : List (Source R)) (before now : Option (List ℕ)) (n : ℕ) : Type 0 where
   pub inputs : List (Input remaining)
   pub starts_are : map (λ (input : Input remaining). input.start) inputs ≡ starts
@@ -31,12 +31,12 @@ pub record Going {R : Type 0} (remaining : R → Option (List ℕ)) (starts nows
   pub count : length out ≡ n
   pub went_out : Appends before now (texts (packets_in out))
 
--- a packet is held where there is one
+-- If a source has a next packet, it holds one.
 some_held : {R : Type 0} (source : Source R) (next : Option Pending) (p : Packet) → source.taken.next ≡ next → pending_of source ≡ p ∷ [] → (n : Pending) × (source.taken.next ≡ Some n)
 some_held source None p is holds = absurd (let no : ⊥ = cc (ap (held_by source.reader) is, holds) in no)
 some_held source (Some n) p is holds = (n, is)
 
--- the source that is chosen
+-- The source at the chosen index is the chosen source.
 old_there : {R : Type 0} (nows : List (Source R)) (place : ℕ) (p : Packet) (x : Source R) (first : IsFirst nows place p) → x ≡ get_or nows place x → x ≡ first.source
 old_there nows place p x first is =
     is ∙ ap (λ (l : List (Source _)). get_or l place x) first.sources_are ∙ ap (λ (k : ℕ). get_or (first.front ++ first.source ∷ first.back) k x) first.place_is ∙ get_or-append_seam first.front first.source first.back x
@@ -44,7 +44,7 @@ old_there nows place p x first is =
 pub chosen_within : {R : Type 0} (nows : List (Source R)) (place : ℕ) (p : Packet) → IsFirst nows place p → place < length nows
 chosen_within nows place p first = omega (arith, ap length first.sources_are, length-append first.front (first.source ∷ first.back), first.place_is)
 
--- it holds a packet
+-- The chosen source holds a packet.
 pub chosen_holds : {R : Type 0} (nows : List (Source R)) (place : ℕ) (p : Packet) (x : Source R) → IsFirst nows place p → x ≡ get_or nows place x → Holds x.taken.next
 chosen_holds nows place p x first is = some_held x x.taken.next p refl (ap pending_of (old_there nows place p x first is) ∙ first.holds)
 
@@ -84,7 +84,7 @@ module _ {R : Type 0} (remaining : R → Option (List ℕ)) where
     went_out = Appends-nil before;
   }
 
-  -- an input whose source gave a packet and took the next one
+  -- An input whose source gave a packet and took the next one.
   next_input : (s : Input remaining) (new : Source R) (n : Pending) → s.now.taken.next ≡ Some n → Advances remaining s.now new → (t : Input remaining) × (t.start ≡ s.start) × (t.now ≡ new) × (t.gone ≡ s.gone ++ pending_of s.now)
   next_input s new n is advances = (
     record {
@@ -103,7 +103,7 @@ module _ {R : Type 0} (remaining : R → Option (List ℕ)) where
     refl,
   )
 
-  -- one packet more
+  -- The merge goes on by one packet.
   pub going_more : (starts nows : List (Source R)) (before mid now : Option (List ℕ)) (n place : ℕ) (p : Packet) (old new : Source R) → Going remaining starts nows before mid n → IsFirst nows place p → old ≡ get_or nows place old
       → Advances remaining old new → Appends mid now (texts (pending_of old)) → Going remaining starts (set nows place new) before now (n + 1)
   going_more starts nows before mid now n place p old new so_far first old_is advances out =
@@ -152,14 +152,14 @@ module _ {R : Type 0} (remaining : R → Option (List ℕ)) where
     merges = goes_so_far IsEarlier (λ (input : Input remaining). input.gone) held_of so_far.inputs so_far.out so_far.goes;
   }
 
-  -- one packet more of the source at a place
+  -- The merge goes on by one packet of the source at an index.
   pub going_step : (starts nows news : List (Source R)) (before mid now : Option (List ℕ)) (n place : ℕ) (done : Unit {0}) → Going remaining starts nows before mid n → Chooses nows (Some place)
       → MergesAt remaining place nows news mid now (Ok done) → Going remaining starts news before now (n + 1)
   going_step starts nows news before mid now n place done so_far chosen merged =
       subst (λ (l : List (Source R)). Going remaining starts l before now (n + 1)) (sym merged.3)
       (going_more starts nows before mid now n place chosen.0 merged.0 merged.1 so_far chosen.1 merged.2 merged.4.0 merged.4.1)
 
-  -- it ends
+  -- The merge ends.
   pub ends_merge : (starts nows : List (Source R)) (before mid now : Option (List ℕ)) (n most : ℕ) (fault : Option PcapError) → Going remaining starts nows before mid n → EndsMerge nows mid now most n fault
       → MergesRun remaining starts nows before now most (record { packets = n; fault = fault })
   ends_merge starts nows before mid now n most fault so_far ends = record {
@@ -171,7 +171,7 @@ module _ {R : Type 0} (remaining : R → Option (List ℕ)) where
     ends = ends;
   }
 
-  -- a write failed in the next packet
+  -- The merge ends because a write of the next packet failed.
   pub ends_failed : (starts nows news : List (Source R)) (before mid now : Option (List ℕ)) (n place most : ℕ) (e : PcapError) → n < most → Going remaining starts nows before mid n → Chooses nows (Some place)
       → MergesAt remaining place nows news mid now (Err e) → MergesRun remaining starts news before now most (record { packets = n; fault = Some e })
   ends_failed starts nows news before mid now n place most e fewer so_far chosen merged =
@@ -183,7 +183,7 @@ module _ {R : Type 0} (remaining : R → Option (List ℕ)) where
       subst (λ (l : List (Source R)). MergesRun remaining starts l before now most (record { packets = n; fault = Some e })) (sym stays)
       (ends_merge starts nows before mid now n most (Some e) so_far (fewer, merged.4.1, place, chosen.0, first, subst (λ (t : List ℕ). AppendsPart mid now t) text merged.4.2))
 
--- the packet that a source holds went out
+-- The packet that a source holds was written.
 pub held_put : {R : Type 0} (source : Source R) (pending : Pending) (bytes : List ℕ) (made : Bool) (a b : Option (List ℕ)) (result : Result (Unit {0}) PcapError) → source.taken.next ≡ Some pending → bytes ≡ bytes_in source.reader pending
     → pending.is_made ≡ made → WritesAll a b (text_by made pending bytes) result → WritesAll a b (texts (pending_of source)) result
 held_put source pending bytes made a b result is bytes_are is_made out =

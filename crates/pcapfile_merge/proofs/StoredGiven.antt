@@ -1,4 +1,4 @@
--- One packet more of a capture of blocks.
+-- One more packet of a PcapNg capture.
 use Rattle.std.proofs.Common.{◌≡◌, ◌≢◌, ◌≤◌, ℕ, arith, List, [], ◌∷◌, ◌++◌, length, length-append, append-nil, true, false, Option, None, Some, refl, sym, ap, ◌∙◌, subst, inl, inr}
 use Rattle.std.specs.Prelude.{filter_map}
 use Rattle.std.specs.List.{AllByRecursion, AllZip}
@@ -56,7 +56,7 @@ later_first : (more : List Item) → AllByRecursion (λ (later : Item). is_kept 
 later_first [] later = tt
 later_first (m ∷ more) later = (λ is. later.1, later_first more later.1)
 
--- a block more that is neither
+-- One more block that begins no section and describes no interface.
 kept_pushed : (items : List Item) (item : Item) → IsKeptFirst items → is_kept item.block.type_ ≡ false → IsKeptFirst (items ++ item ∷ [])
 kept_pushed [] item first is = (λ packet. tt, tt)
 kept_pushed (i ∷ items) item first is = (λ packet. later_pushed items item (first.0 packet) is, kept_pushed items item first.1 is)
@@ -65,17 +65,17 @@ closed_later : (items : List Item) → AllByRecursion (λ (item : Item). MayPass
 closed_later [] all = tt
 closed_later (i ∷ items) all = (all.0.1, closed_later items all.1)
 
--- blocks more that are neither
+-- More blocks that begin no section and describe no interface.
 kept_joined : (items more : List Item) → IsKeptFirst items → AllByRecursion (λ (item : Item). MayPass Closed item.block.type_) more → IsKeptFirst (items ++ more)
 kept_joined [] more first later = later_first more (closed_later more later)
 kept_joined (i ∷ items) more first later = (λ packet. later_joined items more (first.0 packet) (closed_later more later), kept_joined items more first.1 later)
 
--- before the first packet there may be any
+-- Before the first packet, blocks of any type may come.
 kept_open : (choice : Interfaces) (items : List Item) → AllByRecursion (λ (item : Item). MayPass choice item.block.type_) items → IsKeptFirst items
 kept_open choice [] all = tt
 kept_open choice (i ∷ items) all = (λ packet. absurd (true≢false (sym packet ∙ no_packet choice i.block.type_ all.0)), kept_open choice items all.1)
 
--- blocks that are passed give no packet
+-- Skipped blocks give no packet.
 none_given : (base : ℕ) (choice : Interfaces) (items : List Item) → AllByRecursion (λ (item : Item). MayPass choice item.block.type_) items
     → (packets : List (Option Packet)) × AllZip (GivesIn base) items packets × (filter_map (λ (packet : Option Packet). packet) packets ≡ [])
 none_given base choice [] all = ([], tt, refl)
@@ -87,7 +87,7 @@ module _ (base : ℕ) (a : Source) where
   pub gives_none : IsGoing a → BlocksGave base a a []
   gives_none ready = record { items = []; packets = []; took = takes_none block_format a.state a.left; in_force = refl; goes_on = ready; kept_first = tt; gives = tt; given_are = refl }
 
-  -- blocks were passed
+  -- Some blocks were skipped.
   passes_on : (choice : Interfaces) (mid b : Source) (given : List Packet) (so_far : BlocksGave base a mid given) (passed : Passes choice mid b) → IsKeptFirst (so_far.items ++ passed.items) → BlocksGave base a b given
   passes_on choice mid b given so_far passed kept =
       let none = none_given base choice passed.items passed.may_pass in
@@ -103,7 +103,7 @@ module _ (base : ℕ) (a : Source) where
         given_are = so_far.given_are ∙ sym (filter_map-append (λ (packet : Option Packet). packet) so_far.packets none.0 ∙ ap (λ (l : List Packet). filter_map (λ (packet : Option Packet). packet) so_far.packets ++ l) none.2 ∙ append-nil (filter_map (λ (packet : Option Packet). packet) so_far.packets));
       }
 
-  -- a block gave a packet
+  -- A block gave a packet.
   gives_more : (mid b : Source) (given : List Packet) (item : Item) (p : Packet) → BlocksGave base a mid given → TakesNext mid b item → GivesIn base item (Some p) → BlocksGave base a b (given ++ p ∷ [])
   gives_more mid b given item p so_far next gives =
       let here : Takes (block_format.says (state_after block_format a.state so_far.items)) mid.left b.left item = subst (λ (q : State). Takes (block_format.says q) mid.left b.left item) (sym so_far.in_force) next.took in
@@ -136,11 +136,11 @@ module _ (base : ℕ) (a : Source) where
   pushed_some [] x e = absurd (let no : ⊥ = cc in no)
   pushed_some (y ∷ xs) x e = absurd (let no : ⊥ = cc in no)
 
-  -- what a reader gave, and where it stands
+  -- What a reader gave, and where it is now.
   abbrev pub GaveUpTo : Source → List Packet → Option Pending → Option PcapError → Type 0
   GaveUpTo b given next fault = (mid : Source) × (gave : BlocksGave base a mid given) × StandsBehind base given (length gave.items) mid b next fault
 
-  -- the packet that was taken, or none
+  -- The packet that was taken, if there is one.
   abbrev pub taken_one : (Pending → List ℕ) → Option Pending → List Packet
   taken_one bytes None = []
   taken_one bytes (Some pending) = packet_in (bytes pending) pending ∷ []
@@ -165,7 +165,7 @@ module _ (base : ℕ) (a : Source) where
   unfolding as_much
   ends_far c b xs ys e gave n le ends = far c b n (length gave.items) le ends
 
-  -- a packet more, or none
+  -- A reader takes at most one more packet.
   pub takes_one : (choice : Interfaces) (mid b : Source) (given : List Packet) (so_far : BlocksGave base a mid given) → (choice ≡ Closed → given ≢ [])
       → ((items : List Item) → AllByRecursion (λ (item : Item). MayPass choice item.block.type_) items → IsKeptFirst (so_far.items ++ items))
       → (bytes : Pending → List ℕ) (next : Option Pending) (fault : Option PcapError) → TakesStored choice base mid b bytes next fault → GaveUpTo b (given ++ taken_one bytes next) next fault
@@ -187,7 +187,7 @@ module _ (base : ℕ) (a : Source) where
       (takes.0, as_much takes.0 given (given ++ []) same there, subst (λ (l : List Packet). EndsAt (l ≢ []) base takes.0 b e) same (ends_as (choice ≡ Closed) (given ≢ []) takes.0 b e behind takes.2))
   takes_one choice mid b given so_far behind kept bytes (Some pending) (Some e) takes = absurd takes
 
-  -- the first one
+  -- A reader takes the first packet.
   pub takes_first : (b : Source) → IsGoing a → (bytes : Pending → List ℕ) (next : Option Pending) (fault : Option PcapError) → TakesStored Open base a b bytes next fault → GaveUpTo b (taken_one bytes next) next fault
   unfolding gives_none
   takes_first b ready bytes next fault takes = takes_one Open a b [] (gives_none ready) (λ is. absurd (let no : ⊥ = cc in no)) (λ items may. kept_open Open items may) bytes next fault takes
@@ -196,7 +196,7 @@ module _ (base : ℕ) (a : Source) where
   stood mid b given n None fault pending is stands = absurd (let no : ⊥ = cc in no)
   stood mid b given n (Some p) fault pending is stands = (stands.1, stands.2)
 
-  -- a further one, behind the one that was held
+  -- A reader takes a further packet, after the one that it held.
   pub takes_further : (now b : Source) (given : List Packet) (held : Option Pending) (fault : Option PcapError) (pending : Pending) → held ≡ Some pending → GaveUpTo now given held fault
       → (bytes : Pending → List ℕ) (next : Option Pending) (error : Option PcapError) → TakesStored Closed base now b bytes next error → GaveUpTo b (given ++ taken_one bytes next) next error
   takes_further now b given held fault pending is gave bytes next error takes =

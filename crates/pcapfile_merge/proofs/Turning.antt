@@ -1,4 +1,4 @@
--- Blocks that are passed, one after another.
+-- Blocks that are skipped, one after another.
 use Rattle.std.proofs.Common.{◌≡◌, ◌⊎◌, ◌+◌, ℕ, List, [], ◌∷◌, ◌++◌, length, length-append, arith, refl, sym, ◌∙◌, subst, inl, inr}
 use Rattle.std.specs.Prelude.{Result}
 use Rattle.pcap_core.specs.declared.errors.PcapError.{PcapError}
@@ -20,7 +20,7 @@ use Rattle.pcapfile_merge.specs.Passing.{BarsType, TellsPending}
 use Rattle.pcapfile_merge.specs.TakingBlocks.{EndsAt, EndsBlock, IsGoing, MayPass, Passes, body_refused, interface_behind, packet_unfit, packet_unmade}
 use Rattle.pcapfile_merge.proofs.Choices.{all_push}
 
--- so many blocks were passed
+-- n blocks were skipped.
 pub record Passed (choice : Interfaces) (a b : Source) (n : ℕ) : Type 0 where
   pub passes : Passes choice a b
   pub count : length passes.items ≡ n
@@ -31,7 +31,7 @@ passed_none choice a ready = record {
   count = refl;
 }
 
--- one block more
+-- One more block is skipped.
 pub passed_more : (choice : Interfaces) (a mid b : Source) (n : ℕ) (item : Item) → Passed choice a mid n → TakesNext mid b item → MayPass choice item.block.type_ → Passed choice a b (n + 1)
 passed_more choice a mid b n item so_far next may =
     let passes = so_far.passes in
@@ -47,12 +47,12 @@ passed_more choice a mid b n item so_far next may =
       count = length-append passes.items (item ∷ []) ∙ omega (arith, so_far.count);
     }
 
--- why no packet was reached
+-- Why the reader reached no packet.
 pub barred : (choice : Interfaces) (base : ℕ) (mid b : Source) (e : PcapError) → RefusesNext mid b e ⊎ ((item : Item) × TakesNext mid b item × BarsType choice item.block.type_ e) → EndsAt (choice ≡ Closed) base mid b e
 barred choice base mid b e (inl refused) = inl refused
 barred choice base mid b e (inr bars) = inr (bars.0, bars.1, interface_behind bars.2.0 bars.2.1 bars.2.2)
 
--- a packet's block ends it wherever it stands
+-- A packet's block that ends a capture ends it anywhere.
 pub ends_wherever : (Behind : Type 0) (base : ℕ) (interfaces : List Interface) (block : Framed) (e : PcapError) → EndsBlock ⊥ base interfaces block e → EndsBlock Behind base interfaces block e
 ends_wherever Behind base interfaces block e ends =
     elim ends [
@@ -62,7 +62,7 @@ ends_wherever Behind base interfaces block e ends =
       | packet_unmade packet holds enhanced is_one unmade ↦ packet_unmade packet holds enhanced is_one unmade
     ]
 
--- what is told of a block is told of the same one
+-- A result for a block is a result for an equal block.
 pub tells_there : (base : ℕ) (lent interfaces : List Interface) (framed block : Framed) (made : Made) (result : Result Pending PcapError) → lent ≡ interfaces → framed ≡ block → TellsPending base lent framed made result
     → TellsPending base interfaces block made result
 tells_there base lent interfaces framed block made result there same tells =

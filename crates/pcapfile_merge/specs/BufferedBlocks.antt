@@ -1,4 +1,4 @@
--- Blocks that are lent where they lie in a buffer.
+-- Blocks of a PcapNg capture that a reader lends from its buffer.
 use Rattle.std.specs.Prelude.{◌≡◌, if◌then◌else◌, ℕ, List, [], take, Bool, false, Option, None, Some}
 use Rattle.std.specs.Io.Buffered.{reader_buffer}
 use Rattle.std.specs.declared.io.buffered.BufReader.{BufReader}
@@ -18,12 +18,12 @@ use Rattle.pcapfile_merge.specs.declared.left_out.LeftOut.{LeftOut}
 use Rattle.pcapfile_merge.specs.declared.made.Made.{Made}
 use Rattle.pcapfile_merge.specs.Buffered.{left_behind, lent_of}
 
--- the text that is lent: what the reader lends, or the first so many bytes of its buffer
+-- The text that is lent: from the reader, or the first n bytes of its buffer.
 abbrev pub text_in : {R A : Type 0} → Option ℕ → PcapNgReader (BufReader R A) → List ℕ
 text_in None reader = readers.text_of reader
 text_in (Some n) reader = take n (reader_buffer (readers.stream_of reader))
 
--- what is shown: what is in force, what is left behind the block that is lent, and whether a read failed and something was refused
+-- The reader as a source: its state, what is left after the lent block, whether a read failed, and whether it refused something.
 abbrev pub source_at : {R A : Type 0} → (R → Option (List ℕ)) → Option ℕ → PcapNgReader (BufReader R A) → Source
 source_at remaining shown reader = record {
   state = readers.state_of reader;
@@ -32,11 +32,11 @@ source_at remaining shown reader = record {
   done = readers.is_done reader;
 }
 
--- the text of a block that was made, or else this body
+-- The text of a block that was made, or else this body.
 abbrev pub lent_by : Made → List ℕ → List ℕ
 lent_by made body = if made.is_lent then made.text.items else body
 
--- s is the block of an enhanced packet without options that says so, and then rest
+-- PlainText e packet s rest: s is the block of an enhanced packet without options, with these numbers, and then `rest`.
 pub record PlainText (e : Endianness) (packet : EnhancedNumbers) (s rest : List ℕ) : Type 0 where
   pub body : List ℕ
   pub frame : EnhancedFrame e body s rest
@@ -47,30 +47,30 @@ pub record PlainText (e : Endianness) (packet : EnhancedNumbers) (s rest : List 
   pub plain : enhanced.packet.options ≡ []
 
 module _ {R : Type 0} where
-  -- the body of the block that is lent, or the text of the block that was made
+  -- The body of the lent block, or the text of the block that was made.
   abbrev pub body_of : BufferedBlocks R → List ℕ
   body_of blocks = lent_by blocks.made (body_in (text_in blocks.shown blocks.reader))
 
-  -- the interfaces of the section in force
+  -- The interfaces of the current section.
   abbrev pub interfaces_of : BufferedBlocks R → List Interface
   interfaces_of blocks = readers.interfaces_in_force blocks.reader
 
-  -- what was left out so far
+  -- The counts of the blocks that were left out so far.
   abbrev pub left_out_of : BufferedBlocks R → LeftOut
   left_out_of blocks = blocks.left_out
 
-  -- something was refused
+  -- Whether the reader has refused something.
   abbrev pub is_done : BufferedBlocks R → Bool
   is_done blocks = readers.is_done blocks.reader
 
-  -- what they show
+  -- The buffered blocks as a source of blocks.
   abbrev pub source_of : (R → Option (List ℕ)) → BufferedBlocks R → Source
   source_of remaining blocks = source_at remaining blocks.shown blocks.reader
 
-  -- the block that was lent is let go, and no other was taken
+  -- StaysAt remaining old new: the reader removed the lent block from the buffer and took no other.
   abbrev pub StaysAt : (R → Option (List ℕ)) → BufferedBlocks R → BufferedBlocks R → Type 0
   StaysAt remaining old new = (new.shown ≡ None) × (source_of remaining new ≡ source_of remaining old) × (new.made.is_lent ≡ false)
 
-  -- the first so many bytes of the buffer are the block of an enhanced packet without options that says so
+  -- LiesThere blocks packet n: the first n bytes of the buffer are the block of an enhanced packet without options, with these numbers.
   abbrev pub LiesThere : BufferedBlocks R → EnhancedNumbers → ℕ → Type 0
   LiesThere blocks packet n = PlainText (order_at (readers.state_of blocks.reader)) packet (take n (reader_buffer (readers.stream_of blocks.reader))) []

@@ -1,10 +1,10 @@
--- Which of several inputs gives the next packet.
+-- The choice, among several inputs, of the one that gives the next packet.
 use Rattle.std.specs.Prelude.{◌≡◌, ℕ, List, [], ◌∷◌, ◌++◌, length}
 use Rattle.std.specs.List.{AllByRecursion}
 use Rattle.pcapfile_merge.specs.Merges.{ComesLater, IsNotBefore}
 
 module _ {S P : Type 0} (IsEarlier : P → P → Type 0) (pending : S → List P) where
-  -- The first of the sources whose packet is the earliest stands at this place, and holds this packet.
+  -- The first of the sources whose packet is the earliest is at this place and holds this packet.
   pub record Choice (sources : List S) (place : ℕ) (p : P) : Type 0 where
     pub front : List S
     pub source : S
@@ -15,6 +15,6 @@ module _ {S P : Type 0} (IsEarlier : P → P → Type 0) (pending : S → List P
     pub later : AllByRecursion (λ (s : S). ComesLater IsEarlier p (pending s)) front
     pub not_before : AllByRecursion (λ (s : S). IsNotBefore IsEarlier p (pending s)) back
 
-  -- no source holds a packet
+  -- No source holds a packet.
   abbrev pub AllEnded : List S → Type 0
   AllEnded = AllByRecursion (λ (s : S). pending s ≡ [])

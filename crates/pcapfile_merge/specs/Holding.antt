@@ -1,4 +1,4 @@
--- What a reader of either format holds, and what it takes.
+-- The packet that a reader of either format holds, and the packets that it takes.
 use Rattle.std.specs.Prelude.{◌≡◌, ◌≤◌, ℕ, List, [], ◌∷◌, length, take, drop, Bool, false, Option, None, Some}
 use Rattle.pcap_core.specs.declared.errors.PcapError.{PcapError}
 use Rattle.pcapfile_merge.specs.declared.buffered.BufferedPackets.{BufferedPackets}
@@ -15,78 +15,78 @@ use Rattle.pcapfile_merge.specs.Packets.{Packet}
 use Rattle.pcapfile_merge.specs.Taking.{TakesPacket, packet_in}
 use Rattle.pcapfile_merge.specs.TakingBlocks.{TakesStored}
 
--- the bytes of the packet of which this is said
+-- The bytes of the packet with these facts.
 abbrev pub bytes_in : {R : Type 0} → Reader R → Pending → List ℕ
 bytes_in (Packets reader) pending = packets.data_of reader
 bytes_in (Blocks reader) pending = take pending.len (drop pending.start (blocks.body_of reader))
 
--- the packet that a reader holds, or none
+-- The packet that a reader holds, if there is one.
 abbrev pub held_by : {R : Type 0} → Reader R → Option Pending → List Packet
 held_by reader None = []
 held_by reader (Some pending) = packet_in (bytes_in reader pending) pending ∷ []
 
--- the bytes of the packet that a reader holds
+-- The bytes of the packet that a reader holds.
 abbrev pub bytes_held : {R : Type 0} → Reader R → Option Pending → List ℕ
 bytes_held reader None = []
 bytes_held reader (Some pending) = bytes_in reader pending
 
--- they have room in a block
+-- The bytes that a reader holds fit into a block.
 abbrev pub HoldsFew : {R : Type 0} → Reader R → Option Pending → Type 0
 HoldsFew reader next = length (bytes_held reader next) ≤ 4294967260
 
 abbrev pub HoldsFewBlocks : {R : Type 0} → BufferedBlocks R → Option Pending → Type 0
 HoldsFewBlocks reader next = HoldsFew (Blocks reader) next
 
--- a reader has refused something
+-- Whether a reader has refused something.
 abbrev pub has_refused : {R : Type 0} → Reader R → Bool
 has_refused (Packets reader) = packets.is_done reader
 has_refused (Blocks reader) = blocks.is_done reader
 
--- the same of one that holds a packet
+-- Whether a reader that holds a packet has refused something.
 abbrev pub has_refused_if : {R : Type 0} → Reader R → Option Pending → Bool
 has_refused_if reader None = false
 has_refused_if reader (Some pending) = has_refused reader
 
--- a reader has refused nothing
+-- A reader has refused nothing.
 abbrev pub IsReady : {R : Type 0} → Reader R → Type 0
 IsReady reader = has_refused reader ≡ false
 
--- one that holds a packet has refused nothing
+-- If a reader holds a packet, it has refused nothing.
 abbrev pub IsReadyIf : {R : Type 0} → Reader R → Option Pending → Type 0
 IsReadyIf reader next = has_refused_if reader next ≡ false
 
 abbrev pub IsReadyBlocks : {R : Type 0} → BufferedBlocks R → Option Pending → Type 0
 IsReadyBlocks reader next = IsReadyIf (Blocks reader) next
 
--- a packet is held
+-- A packet is held.
 abbrev pub Holds : Option Pending → Type 0
 Holds next = (pending : Pending) × (next ≡ Some pending)
 
--- a reader of blocks took the next packet, or none, and why
+-- A reader of blocks took the next packet, or took none for the stated reason.
 abbrev pub TakesBlocks : {R : Type 0} → (R → Option (List ℕ)) → Interfaces → ℕ → BufferedBlocks R → BufferedBlocks R → Taken → Type 0
 TakesBlocks remaining choice base old new taken = TakesStored choice base (source_of remaining old) (source_of remaining new) (bytes_in (Blocks new)) taken.next taken.fault
 
--- a reader took the next packet, or none, and why
+-- A reader took the next packet, or took none for the stated reason.
 abbrev pub TakesNext : {R : Type 0} → (R → Option (List ℕ)) → Interfaces → ℕ → Reader R → Reader R → Taken → Type 0
 TakesNext remaining choice base (Packets old) (Packets new) taken = TakesPacket remaining base old new taken
 TakesNext remaining choice base (Blocks old) (Blocks new) taken = TakesBlocks remaining choice base old new taken
 TakesNext remaining choice base _ _ taken = ⊥
 
--- a packet was taken, and nothing refused
+-- A packet taken without an error.
 abbrev pub alone : Pending → Taken
 alone pending = record { next = Some pending; fault = None }
 
--- what lies in the buffer of a classic capture was taken; else the packet that was lent is let go, and no other was taken
+-- The reader of a classic capture took the packet in its buffer, or only removed the lent packet.
 abbrev pub PacketThere : {R : Type 0} → (R → Option (List ℕ)) → ℕ → BufferedPackets R → BufferedPackets R → Option Pending → Type 0
 PacketThere remaining number old new None = (packets.header_of new ≡ packets.header_of old) × packets.StaysAt remaining old new
 PacketThere remaining number old new (Some pending) = TakesPacket remaining number old new (alone pending)
 
--- the same of a capture of blocks
+-- The reader of a PcapNg capture took the packet in its buffer, or only removed the lent block.
 abbrev pub BlockThere : {R : Type 0} → (R → Option (List ℕ)) → ℕ → BufferedBlocks R → BufferedBlocks R → Option Pending → Type 0
 BlockThere remaining base old new None = blocks.StaysAt remaining old new
 BlockThere remaining base old new (Some pending) = (choice : Interfaces) → TakesBlocks remaining choice base old new (alone pending)
 
--- the same of a capture of either format
+-- The reader of either format took the packet in its buffer, or only removed what it had lent.
 abbrev pub TakesThere : {R : Type 0} → (R → Option (List ℕ)) → ℕ → Reader R → Reader R → Option Pending → Type 0
 TakesThere remaining base (Packets old) (Packets new) next = PacketThere remaining base old new next
 TakesThere remaining base (Blocks old) (Blocks new) next = BlockThere remaining base old new next
@@ -95,11 +95,11 @@ TakesThere remaining base _ _ next = ⊥
 abbrev pub HoldsFewPackets : {R : Type 0} → BufferedPackets R → Option Pending → Type 0
 HoldsFewPackets reader next = HoldsFew (Packets reader) next
 
--- where a packet was taken, this refused nothing; else anything may
+-- The error beside a packet that was taken; without a packet, None.
 abbrev pub fault_beside : Option Pending → Option PcapError → Option PcapError
 fault_beside None fault = None
 fault_beside (Some pending) fault = fault
 
--- where a packet was taken, nothing refused the capture
+-- If a packet was taken, it came without an error.
 abbrev pub IsWhole : Taken → Type 0
 IsWhole taken = fault_beside taken.next taken.fault ≡ None

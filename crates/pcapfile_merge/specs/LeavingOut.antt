@@ -1,27 +1,27 @@
--- Blocks that a merge leaves out of a capture, counted by kind (pcapng, section 4).
+-- Counts of the blocks that a merge leaves out of a capture, by kind (pcapng, section 4).
 use Rattle.std.specs.Prelude.{◌+◌, ◌==◌, ℕ, if◌then◌else◌}
 use Rattle.pcap_blocks.specs.declared.block_type.BlockType.{BlockType}
 use Rattle.pcap_blocks.specs.declared.block_type.BlockType.TheVariants as types
 use Rattle.pcapfile_run.specs.Passing.{counted}
 use Rattle.pcapfile_merge.specs.declared.left_out.LeftOut.{LeftOut}
 
--- no block was left out
+-- The counts before any block.
 abbrev pub nothing : LeftOut
 nothing = record { names = 0; statistics = 0; secrets = 0; others = 0 }
 
--- one more block of another type
+-- The counts after one more block of another type.
 abbrev pub with_other : LeftOut → LeftOut
 with_other left_out = record left_out { others = counted (left_out.others + 1) }
 
--- one more block of secrets
+-- The counts after one more block of secrets.
 abbrev pub with_secrets : LeftOut → LeftOut
 with_secrets left_out = record left_out { secrets = counted (left_out.secrets + 1) }
 
--- one more block of a type that has no name: 10 is that of secrets
+-- The counts after one more block of an unnamed type, where 10 is the type of secrets.
 abbrev pub with_unknown : ℕ → LeftOut → LeftOut
 with_unknown number left_out = if number == 10 then with_secrets left_out else with_other left_out
 
--- one more block of this type; sections and interfaces stay
+-- The counts after one more block of this type: sections and interfaces aren't counted.
 abbrev pub with_block : BlockType → LeftOut → LeftOut
 with_block types.SectionHeader left_out = left_out
 with_block types.InterfaceDescription left_out = left_out

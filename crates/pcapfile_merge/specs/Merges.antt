@@ -1,14 +1,14 @@
--- Packets of several inputs that are merged by their times.
+-- Merges, by time, of the packets of several inputs.
 use Rattle.std.specs.Prelude.{⊤, ◌≡◌, ◌==◌, if◌then◌else◌, ℕ, List, [], ◌∷◌, ◌++◌, length}
 use Rattle.std.specs.List.{AllByRecursion}
 
 module _ {P : Type 0} (IsEarlier : P → P → Type 0) where
-  -- an input whose packets are these has none at the time of this one or before it: its first packet comes later
+  -- ComesLater p packets: the first of these packets, if there is one, is later than p.
   abbrev pub ComesLater : P → List P → Type 0
   ComesLater p [] = ⊤
   ComesLater p (q ∷ qs) = IsEarlier p q
 
-  -- an input whose packets are these has none before this one: its first packet is not earlier
+  -- IsNotBefore p packets: the first of these packets, if there is one, is not earlier than p.
   abbrev pub IsNotBefore : P → List P → Type 0
   IsNotBefore p [] = ⊤
   IsNotBefore p (q ∷ qs) = IsEarlier q p → ⊥
@@ -24,17 +24,17 @@ module _ {P : Type 0} (IsEarlier : P → P → Type 0) where
     pub later : AllByRecursion (ComesLater p) front
     pub not_before : AllByRecursion (IsNotBefore p) back
 
-  -- the inputs give these packets, each with the place of its input, one after the other, and these are left
+  -- Merges inputs out left: the inputs give the packets of `out` in turn, each with the index of its input, and `left` is left.
   abbrev pub Merges : List (List P) → List (ℕ × P) → List (List P) → Type 0
   Merges inputs [] left = inputs ≡ left
   Merges inputs (given ∷ out) left = (between : List (List P)) × Gives inputs given.0 given.1 between × Merges between out left
 
-  -- no packet is earlier than the one before it
+  -- No packet is earlier than the one before it.
   abbrev pub IsSorted : List P → Type 0
   IsSorted [] = ⊤
   IsSorted (p ∷ ps) = IsNotBefore p ps × IsSorted ps
 
--- the packets among these that the input of this place gave
+-- The packets among these that the input at this index gave.
 abbrev pub given_by : {P : Type 0} → ℕ → List (ℕ × P) → List P
 given_by place [] = []
 given_by place (given ∷ out) = if given.0 == place then given.1 ∷ given_by place out else given_by place out

@@ -7,21 +7,21 @@ use Rattle.pcap_blocks.specs.ParsedBlock.{EnhancedBody}
 use Rattle.pcap_written.specs.Plain.{plain_packet}
 use Rattle.pcap_file.specs.Converted.{little_text, time_of}
 
--- A packet that is merged: its time where it has one, and the text of the block that goes out.
+-- A packet that is merged: its time, if it has one, and the text of the block that is written.
 pub record Packet : Type 0 where
   pub time : Option Timestamp
   pub text : List ℕ
 
--- the text of a packet without options: the number of its interface among those of all inputs, its time in the units of its interface's
--- clock, its length on the wire and its bytes ('Enhanced Packet Block')
+-- The text of a packet without options: the number of its interface among those of all inputs, its time in units of its interface's
+-- clock, its length on the wire and its bytes ('Enhanced Packet Block').
 abbrev pub plain_text : ℕ → ℕ → ℕ → List ℕ → List ℕ
 plain_text number units original_len bytes = little_text (EnhancedBody (plain_packet number units original_len bytes))
 
--- one time is before another
+-- One time is before another.
 abbrev pub IsTimeBefore : Timestamp → Timestamp → Type 0
 IsTimeBefore t u = (t.seconds <ℤ u.seconds) ⊎ ((t.seconds ≡ u.seconds) × (t.nanoseconds < u.nanoseconds))
 
--- no time is before each time
+-- A missing time is before each time.
 abbrev pub IsBefore : Option Timestamp → Option Timestamp → Type 0
 IsBefore None None = ⊥
 IsBefore None (Some u) = ⊤
@@ -32,11 +32,11 @@ abbrev pub TellsBefore : Option Timestamp → Option Timestamp → Bool → Type
 TellsBefore t u true = IsBefore t u
 TellsBefore t u false = IsBefore t u → ⊥
 
--- a packet is earlier than another one: it is of an earlier time, or of none where the other has one
+-- A packet is earlier than another if its time is earlier, or if it has no time and the other has one.
 abbrev pub IsEarlier : Packet → Packet → Type 0
 IsEarlier p q = IsBefore p.time q.time
 
--- the packet of a classic capture whose interface has this number: its units are nanoseconds
+-- The packet of a classic capture whose interface has this number: its units are nanoseconds.
 abbrev pub packet_of : ℕ → Captured → Packet
 packet_of number captured = record {
   time = Some (exact_time captured);

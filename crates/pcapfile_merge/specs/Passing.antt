@@ -1,4 +1,4 @@
--- What the steps tell by which the next packet of blocks is taken.
+-- The results of the steps that take the next packet from blocks.
 use Rattle.std.specs.Prelude.{⊤, ◌≡◌, ◌⊎◌, ◌+◌, ℕ, List, length, take, drop, true, false, Option, None, Some, Result, Ok, Err, codes}
 use Rattle.std.specs.List.{slice_get}
 use Rattle.pcap_core.specs.declared.errors.PcapError.{PcapError}
@@ -22,26 +22,26 @@ use Rattle.pcapfile_merge.specs.Taking.{packet_in}
 use Rattle.pcapfile_merge.specs.BufferedBlocks.{lent_by}
 use Rattle.pcapfile_merge.specs.TakingBlocks.{EndsBlock, EndsWell, GivesOf, IsTimeBy, IsUnfit, Passes, TakesStored}
 
--- a block of this type isn't passed behind packets
+-- A block of this type can't be skipped after packets.
 abbrev pub BarsType : Interfaces → BlockType → PcapError → Type 0
 BarsType choice type e = (choice ≡ Closed) × (is_kept type ≡ true) × HasMessage (codes "Block: an interface or a section behind packets") e
 
--- blocks were passed up to one of this header that holds a packet, or to none, or this refuses the next one
+-- Blocks were skipped up to one that holds a packet, with this header, or to the end, or the next block was refused.
 abbrev pub PassesTo : Interfaces → Source → Source → (BlockHeader → Item) → Result (Option BlockHeader) PcapError → Type 0
 PassesTo choice a b lent (Ok (Some header)) = (mid : Source) × Passes choice a mid × TakesNext mid b (lent header) × (is_packet (lent header).block.type_ ≡ true)
 PassesTo choice a b lent (Ok None) = (mid : Source) × (passed : Passes choice a mid) × EndsWell mid b (length passed.items)
 PassesTo choice a b lent (Err e) = (mid : Source) × Passes choice a mid × (RefusesNext mid b e ⊎ ((item : Item) × TakesNext mid b item × BarsType choice item.block.type_ e))
 
--- the bytes of the packet of which this is said, in the body of its block
+-- The bytes of the packet with these facts, in the body of its block.
 abbrev pub bytes_within : List ℕ → Pending → List ℕ
 bytes_within body pending = take pending.len (drop pending.start body)
 
--- what is said of the packet that a block holds, whose own block may be made, or why it can't be merged
+-- The result for the packet in a block: its facts, where its own block may be made, or why it can't be merged.
 abbrev pub TellsPending : ℕ → List Interface → Framed → Made → Result Pending PcapError → Type 0
 TellsPending base interfaces block made (Ok pending) = GivesOf base interfaces block (Some (packet_in (bytes_within (lent_by made block.body) pending) pending))
 TellsPending base interfaces block made (Err e) = EndsBlock ⊥ base interfaces block e
 
--- how many bytes stand before those of a packet in the body of its block, which tells its time or doesn't
+-- How many bytes of the body of a block come before those of its packet: the block has a time or has none.
 abbrev pub bytes_before : Option ℕ → ℕ
 bytes_before (Some units) = 20
 bytes_before None = 4
@@ -49,11 +49,11 @@ bytes_before None = 4
 abbrev pub start_of : InBlock → ℕ
 start_of packet = bytes_before packet.units
 
--- the packet of which a block says this, with its bytes
+-- The packet about which its block says this, with its bytes.
 abbrev pub in_said : Said → List ℕ → InBlock
 in_said said bytes = record { interface = said.interface; units = said.units; original_len = said.original_len; bytes = bytes }
 
--- This is said of a packet in a block, where these are the interfaces of its section, and its capture's have numbers from this one on.
+-- The facts about a packet in a block, given the interfaces of its section and the number `base` of its capture's first interface.
 pub record IsSaid (base : ℕ) (interfaces : List Interface) (packet : InBlock) (pending : Pending) : Type 0 where
   pub by : Interface
   pub described : slice_get interfaces packet.interface ≡ Some by
@@ -64,22 +64,22 @@ pub record IsSaid (base : ℕ) (interfaces : List Interface) (packet : InBlock) 
   pub start : pending.start ≡ start_of packet
   pub unmade : pending.is_made ≡ false
 
--- what is said of a packet in a block, or why it can't be merged
+-- The result for a packet in a block: its facts, or why it can't be merged.
 abbrev pub TellsStored : ℕ → List Interface → InBlock → Result Pending PcapError → Type 0
 TellsStored base interfaces packet (Ok pending) = IsSaid base interfaces packet pending
 TellsStored base interfaces packet (Err e) = IsUnfit base interfaces packet e
 
--- the same of a packet where there is one; else nothing is said
+-- The result for an optional packet; without one, nothing is claimed.
 abbrev pub TellsIfPacket : ℕ → List Interface → Option InBlock → Result Pending PcapError → Type 0
 TellsIfPacket base interfaces (Some packet) result = TellsStored base interfaces packet result
 TellsIfPacket base interfaces None (Ok pending) = ⊥
 TellsIfPacket base interfaces None (Err e) = ⊤
 
--- the same of a body
+-- The result for a body.
 abbrev pub TellsBody : ℕ → List Interface → Body → Result Pending PcapError → Type 0
 TellsBody base interfaces body = TellsIfPacket base interfaces (in_blocks.packet_in interfaces body)
 
--- what was taken of a reader that lends this body then, as the call answers
+-- The result of taking a packet from a reader, which then lends this body.
 abbrev pub TellsTaken : Interfaces → ℕ → Source → Source → List ℕ → Result (Option Pending) PcapError → Type 0
 TellsTaken choice base a b body (Ok next) = TakesStored choice base a b (bytes_within body) next None
 TellsTaken choice base a b body (Err e) = TakesStored choice base a b (bytes_within body) None (Some e)

@@ -1,4 +1,4 @@
--- The packets of a source.
+-- The packets that a source gives.
 use Rattle.std.specs.Prelude.{⊤, ◌≡◌, ◌≢◌, ℕ, List, [], ◌∷◌, ◌++◌, map, filter_map, length, Bool, true, false, Option, None, Some}
 use Rattle.std.specs.List.{AllByRecursion, AllZip}
 use Rattle.pcap_core.specs.declared.errors.PcapError.{PcapError}
@@ -26,20 +26,20 @@ use Rattle.pcapfile_merge.specs.Packets.{Packet, packet_of}
 use Rattle.pcapfile_merge.specs.Taking.{EndsThere}
 use Rattle.pcapfile_merge.specs.TakingBlocks.{EndsAt, EndsWell, GivesIn, IsGoing}
 
--- the packet that a source gives next, or none where it has no more
+-- The packet that a source gives next, or none if it has no more.
 abbrev pub pending_of : {R : Type 0} → Source R → List Packet
 pending_of source = held_by source.reader source.taken.next
 
--- a source took the packet behind the one that it held
+-- A source took the packet after the one that it held.
 abbrev pub Advances : {R : Type 0} → (R → Option (List ℕ)) → Source R → Source R → Type 0
 Advances remaining old new = (new.base ≡ old.base) × TakesNext remaining Closed old.base old.reader new.reader new.taken
 
--- a stream stands where one more packet was taken, or where no other follows
+-- The stream is where one more packet was taken, or where no other follows.
 abbrev pub Stands : {V : Type 0} → (List ℕ → Verdict V → Type 0) → Option (List ℕ) → Option (List ℕ) → Bool → Option Pending → Option PcapError → Type 0
 Stands IsSaid left now failed (Some pending) fault = (fault ≡ None) × (now ≡ left)
 Stands IsSaid left now failed None fault = EndsThere IsSaid left now failed fault
 
--- From where a reader stood, these packets of a classic capture were taken, and no more, and then its stream stands there.
+-- From where the reader `from` was, exactly these packets of a classic capture were taken, and then the stream is there.
 pub record GavePackets {R : Type 0} (remaining : R → Option (List ℕ)) (base : ℕ) (from reader : BufferedPackets R) (given : List Packet) (taken : Taken) : Type 0 where
   pub same : header_of reader ≡ header_of from
   pub captured : List Captured
@@ -48,12 +48,12 @@ pub record GavePackets {R : Type 0} (remaining : R → Option (List ℕ)) (base 
   pub took : TakesTexts (reader_format packet_limit (header_of from)) tt captured (left_of remaining from) left
   pub stands : Stands ((reader_format packet_limit (header_of from)).says tt) left (left_of remaining reader) (has_failed reader) taken.next taken.fault
 
--- behind a block that holds a packet no block describes an interface or begins a section
+-- After the first block that holds a packet, no block describes an interface or begins a section.
 abbrev pub IsKeptFirst : List Item → Type 0
 IsKeptFirst [] = ⊤
 IsKeptFirst (item ∷ items) = (is_packet item.block.type_ ≡ true → AllByRecursion (λ (later : Item). is_kept later.block.type_ ≡ false) items) × IsKeptFirst items
 
--- These packets are those that blocks hold, in order, whose texts were taken, and no more.
+-- These packets are exactly those of the blocks whose texts were taken, in order.
 pub record BlocksGave (base : ℕ) (a b : blocks.Source) (given : List Packet) : Type 0 where
   pub items : List Item
   pub packets : List (Option Packet)
@@ -64,24 +64,24 @@ pub record BlocksGave (base : ℕ) (a b : blocks.Source) (given : List Packet) :
   pub gives : AllZip (GivesIn base) items packets
   pub given_are : given ≡ filter_map (λ packet. packet) packets
 
--- a reader stands behind the block that gave the last of these packets, or where the capture ends, behind so many blocks
+-- A reader is after the block that gave the last of these packets, or where the capture ends, after n blocks.
 abbrev pub StandsBehind : ℕ → List Packet → ℕ → blocks.Source → blocks.Source → Option Pending → Option PcapError → Type 0
 StandsBehind base given n mid now (Some pending) fault = (fault ≡ None) × (now ≡ mid) × (given ≢ [])
 StandsBehind base given n mid now None None = EndsWell mid now n
 StandsBehind base given n mid now None (Some e) = EndsAt (given ≢ []) base mid now e
 
--- From where a reader stood, these packets of blocks were taken, and then it stands there.
+-- From where the reader `from` was, these packets of blocks were taken, and then the reader is there.
 pub record GaveStored {R : Type 0} (remaining : R → Option (List ℕ)) (base : ℕ) (from reader : BufferedBlocks R) (given : List Packet) (taken : Taken) : Type 0 where
   pub mid : blocks.Source
   pub gave : BlocksGave base (source_of remaining from) mid given
   pub stands : StandsBehind base given (length gave.items) mid (source_of remaining reader) taken.next taken.fault
 
--- a reader gave these packets from where another one stood, the last of which it holds
+-- A reader gave these packets from where `from` was. If it holds a packet, that is the last of them.
 abbrev pub GaveBy : {R : Type 0} → (R → Option (List ℕ)) → ℕ → Reader R → Reader R → List Packet → Taken → Type 0
 GaveBy remaining base (Packets from) (Packets reader) given taken = GavePackets remaining base from reader given taken
 GaveBy remaining base (Blocks from) (Blocks reader) given taken = GaveStored remaining base from reader given taken
 GaveBy remaining base _ _ given taken = ⊥
 
--- a source gave these packets of a capture from where this reader stood, and holds the next one
+-- A source gave these packets of a capture from where `from` was, and holds the next one, if there is one.
 abbrev pub Gave : {R : Type 0} → (R → Option (List ℕ)) → Reader R → Source R → List Packet → Type 0
 Gave remaining from source gone = GaveBy remaining source.base from source.reader (gone ++ pending_of source) source.taken

@@ -1,4 +1,4 @@
--- What is taken of a reader of blocks.
+-- The packets that are taken from a reader of blocks.
 use Rattle.std.specs.Prelude.{◌≡◌, ◌⊎◌, ◌<◌, ◌≤◌, ◌+◌, ◌-◌, ◌^◌, ℕ, List, length, true, false, Option, None, Some, codes}
 use Rattle.std.specs.List.{AllByRecursion, slice_get}
 use Rattle.pcap_core.specs.declared.common.Endianness.TheVariants.{Little}
@@ -32,29 +32,29 @@ use Rattle.pcapfile_merge.specs.declared.reader.Interfaces.TheVariants.{Closed, 
 use Rattle.pcapfile_merge.specs.Packets.{Packet}
 use Rattle.pcapfile_merge.specs.Taking.{packet_in}
 
--- a packet that came by an interface has this time, and so many units of its clock; one without a time has none
+-- A packet of an interface has this time, and this many units of its clock; a packet without a time has none.
 abbrev pub IsTimeBy : Interface → Option ℕ → Option Timestamp → ℕ → Type 0
 IsTimeBy by (Some counted) (Some time) units = IsTimeAt by counted time × (units ≡ counted)
 IsTimeBy by (Some counted) None units = ⊥
 IsTimeBy by None time units = (time ≡ None) × (units ≡ 0)
 
--- an enhanced packet, of the interface of another number
+-- An enhanced packet with another interface number.
 abbrev pub numbered : ℕ → Enhanced → Enhanced
 numbered number enhanced = record { interface_id = number; packet = enhanced.packet }
 
--- the enhanced packet that a body is, if it is one
+-- The enhanced packet that a body is, if it is one.
 abbrev pub enhanced_in : Body → Option Enhanced
 enhanced_in (EnhancedBody enhanced) = Some enhanced
 enhanced_in _ = None
 
--- the block that goes out of a packet, of the interface of this number: an enhanced one stays what it is, with its time, its lengths, its
--- bytes and all of its options; of any other the units, the length on the wire and the bytes stay
+-- The block written for a packet, with this interface number. An enhanced packet keeps its time, lengths, bytes and all options. Any
+-- other packet keeps its units, its length on the wire and its bytes.
 abbrev pub block_under : ℕ → ℕ → InBlock → Option Enhanced → Body
 block_under number units packet (Some enhanced) = EnhancedBody (numbered number enhanced)
 block_under number units packet None = EnhancedBody (plain_packet number units packet.original_len packet.bytes)
 
--- What a merge makes of a packet in a block of this body, where these are the interfaces of its section, and its capture's have numbers
--- from this one on: its interface is kept apart, its time is that of its interface's clock, and its block goes out under that number.
+-- The packet that a merge makes of one in a block with this body. Its time is that of its interface's clock, and its block gets the
+-- number of its interface, which is counted from `base` on.
 pub record IsMerged (base : ℕ) (interfaces : List Interface) (body : Body) (packet : InBlock) (p : Packet) : Type 0 where
   pub by : Interface
   pub described : slice_get interfaces packet.interface ≡ Some by
@@ -62,56 +62,57 @@ pub record IsMerged (base : ℕ) (interfaces : List Interface) (body : Body) (pa
   pub time : IsTimeBy by packet.units p.time units
   pub text : p.text ≡ little_text (block_under (base + packet.interface) units packet (enhanced_in body))
 
--- a block gives this packet, or none where it holds none
+-- A block gives this packet, or none if it holds none.
 abbrev pub GivesOf : ℕ → List Interface → Framed → Option Packet → Type 0
 GivesOf base interfaces block (Some p) =
     (is_packet block.type_ ≡ true) × (packet : InBlock) × (holds : HoldsPacket interfaces block packet) × IsMerged base interfaces holds.body packet p
 GivesOf base interfaces block None = is_packet block.type_ ≡ false
 
--- the same of a block of a capture
+-- GivesIn base item packet: the same for a block of a capture.
 abbrev pub GivesIn : ℕ → Item → Option Packet → Type 0
 GivesIn base item = GivesOf base (interfaces_at item.after) item.block
 
--- why a packet in a block can't be merged
+-- Why a packet in a block can't be merged.
 pub data IsUnfit (base : ℕ) (interfaces : List Interface) (packet : InBlock) (e : PcapError) : Type 0 where
-  -- its interface isn't described before it
+  -- Its interface isn't described before it.
   not_described : slice_get interfaces packet.interface ≡ None → HasMessage (unplaced_message InterfaceMissing) e → IsUnfit base interfaces packet e
-  -- there are too many interfaces for a number of 32 bits
+  -- The number of its interface doesn't fit into 32 bits.
   too_many : 2 ^ 32 ≤ base + packet.interface → HasMessage (codes "Block: too many interfaces") e → IsUnfit base interfaces packet e
-  -- it has no room in a block
+  -- It doesn't fit into a block.
   too_long : 4294967260 < length packet.bytes → HasMessage (codes "Block: a packet that is too long") e → IsUnfit base interfaces packet e
 
--- why an enhanced packet can't go out under this number: its options have no text, memory ran out, or its block is too long
+-- Why an enhanced packet can't be written with this number: its options can't be written, the program is out of memory, or its block is
+-- too long.
 pub data IsUnmade (number : ℕ) (enhanced : Enhanced) (e : PcapError) : Type 0 where
   unput : (why : Unput) → RefusesPut (FlawIn Little (EnhancedBody (numbered number enhanced))) why → IsShownAs why e → IsUnmade number enhanced e
   block_long : 4294967260 < length (little_text (EnhancedBody (numbered number enhanced))) → HasMessage (codes "Block: a packet that is too long") e → IsUnmade number enhanced e
 
--- why a block that was taken ends a capture that is merged, where packets were given before it only if so
+-- Why a block that was taken ends a capture that is merged. `Behind` says that packets were given before it.
 pub data EndsBlock (Behind : Type 0) (base : ℕ) (interfaces : List Interface) (block : Framed) (e : PcapError) : Type 0 where
-  -- it describes an interface or begins a section behind packets
+  -- It describes an interface or begins a section after packets.
   interface_behind : Behind → is_kept block.type_ ≡ true → HasMessage (codes "Block: an interface or a section behind packets") e → EndsBlock Behind base interfaces block e
-  -- it holds a packet, and its body is refused, or its options can't be kept
+  -- It holds a packet, and its body is refused, or its options can't be kept.
   body_refused : is_packet block.type_ ≡ true → Refuses (GrowsInBody block) (λ n. SaysOfBody block (lacks n)) (λ fault. SaysOfBody block (faulty fault)) e → EndsBlock Behind base interfaces block e
-  -- it holds a packet that can't be merged
+  -- It holds a packet that can't be merged.
   packet_unfit : (packet : InBlock) → HoldsPacket interfaces block packet → IsUnfit base interfaces packet e → EndsBlock Behind base interfaces block e
-  -- it is an enhanced packet that can't go out under its number
+  -- It is an enhanced packet that can't be written with its number.
   packet_unmade : (packet : InBlock) (holds : HoldsPacket interfaces block packet) (enhanced : Enhanced) → enhanced_in holds.body ≡ Some enhanced
       → IsUnmade (base + packet.interface) enhanced e → EndsBlock Behind base interfaces block e
 
--- the next block ends a capture that is merged: it is refused, or it was taken
+-- The next block ends a capture that is merged: it is refused, or it is taken and ends the capture.
 abbrev pub EndsAt : Type 0 → ℕ → Source → Source → PcapError → Type 0
 EndsAt Behind base a b e = RefusesNext a b e ⊎ ((item : Item) × TakesNext a b item × EndsBlock Behind base (interfaces_at item.after) item.block e)
 
--- a block of this type is passed: it holds no packet, and behind packets it describes no interface and begins no section
+-- A block of this type may be skipped: it holds no packet, and after packets it describes no interface and begins no section.
 abbrev pub MayPass : Interfaces → BlockType → Type 0
 MayPass Open type = is_packet type ≡ false
 MayPass Closed type = (is_packet type ≡ false) × (is_kept type ≡ false)
 
--- a reader has refused nothing, and no read of its stream failed
+-- A reader has refused nothing, and no read of its stream failed.
 abbrev pub IsGoing : Source → Type 0
 IsGoing a = (a.done ≡ false) × (a.failed ≡ false)
 
--- blocks were passed
+-- Blocks were skipped.
 pub record Passes (choice : Interfaces) (a b : Source) : Type 0 where
   pub items : List Item
   pub may_pass : AllByRecursion (λ (item : Item). MayPass choice item.block.type_) items
@@ -119,15 +120,15 @@ pub record Passes (choice : Interfaces) (a b : Source) : Type 0 where
   pub in_force : state_after block_format a.state items ≡ b.state
   pub goes_on : IsGoing b
 
--- the most blocks that are passed without a packet
+-- The most blocks that a reader skips without a packet.
 abbrev pub most_passed : ℕ
 most_passed = 2 ^ 64 - 1
 
--- behind so many blocks the stream is at its end, or the most were passed
+-- After n blocks, the stream is at its end, or the reader skipped the most blocks.
 abbrev pub EndsWell : Source → Source → ℕ → Type 0
 EndsWell a b n = TakesNone a b ⊎ ((b ≡ a) × (most_passed ≤ n))
 
--- blocks were passed up to one that gives the packet of which this is said; or to none; or this ends the capture
+-- Blocks were skipped up to one that gives the packet with these facts, or to the end, or an error ended the capture.
 abbrev pub TakesStored : Interfaces → ℕ → Source → Source → (Pending → List ℕ) → Option Pending → Option PcapError → Type 0
 TakesStored choice base a b bytes (Some pending) None = (mid : Source) × Passes choice a mid × (item : Item) × TakesNext mid b item × GivesIn base item (Some (packet_in (bytes pending) pending))
 TakesStored choice base a b bytes None None = (mid : Source) × (passed : Passes choice a mid) × EndsWell mid b (length passed.items)

@@ -1,4 +1,4 @@
-//! Packets of a classic capture that are lent where they lie in a buffer.
+//! Packets of a classic capture, lent from the reader's buffer without a copy.
 
 ghost use Rattle.std.specs.Prelude.{◌≡◌, false, None, Some, Ok, IfSome, MatchOption};
 ghost use Rattle.std.specs.Io.Buffered.{reader_buffer, reader_remaining};
@@ -14,11 +14,11 @@ use pcap_file::{PcapReader, ResultParsing};
 use pcap_items::stream::HasHead;
 use std::io::{BufRead, BufReader, Read};
 
-/// How many bytes the header of a packet has.
+/// The size of the header of a packet record, in bytes.
 const HEAD: usize = 16;
 
-/// A reader of the packets of a classic capture behind a buffer. A packet that lies whole in the buffer is lent from there and
-/// never copied; the one that ends outside of it is held.
+/// A reader of the packets of a classic capture, with a buffer. It lends a packet that is whole in the buffer from there, without a copy.
+/// It holds a packet that ends outside the buffer.
 #[derive(Drop)]
 pub struct BufferedPackets<R> {
     reader: PcapReader<BufReader<R>>,
@@ -26,7 +26,7 @@ pub struct BufferedPackets<R> {
 }
 
 impl<R> BufferedPackets<R> {
-    /// The header of the capture.
+    /// Returns the header of the capture.
     pub fn header(&self) -> &PcapHeader
         ensures { result.now ≡ header_of self.now }
     {
@@ -35,7 +35,7 @@ impl<R> BufferedPackets<R> {
 }
 
 impl<R: Read + Drop> BufferedPackets<R> {
-    /// The packets behind those that a reader took.
+    /// Makes a reader of the packets after those that `reader` took.
     pub fn new(reader: PcapReader<BufReader<R>>) -> BufferedPackets<R>
         ensures header { header_of result ≡ reader.header }
         ensures left { left_of R.remaining result ≡ reader_remaining R.remaining (classic.stream_of reader) }
@@ -48,7 +48,7 @@ impl<R: Read + Drop> BufferedPackets<R> {
         }
     }
 
-    // The header of the next packet, whose data is lent from then on.
+    // Returns the header of the next packet. From then on, the reader lends the data of that packet.
     #[inline(always)]
     pub(crate) fn next_header(&mut self) -> Option<ResultParsing<PacketHeader>>
         requires { is_done self.old ≡ false }
@@ -63,7 +63,8 @@ impl<R: Read + Drop> BufferedPackets<R> {
         }
     }
 
-    // The header of the next packet where it lies whole in the buffer, from which its data is lent from then on. Else nothing is lent.
+    // Returns the header of the next packet if it is whole in the buffer, and lends its data from there. Otherwise it returns None and
+    // lends nothing.
     #[inline(always)]
     pub(crate) fn next_there(&mut self) -> Option<PacketHeader>
         requires { is_done self.old ≡ false }
@@ -80,7 +81,7 @@ impl<R: Read + Drop> BufferedPackets<R> {
         Some(header)
     }
 
-    // The header of the packet that lies whole at the front of the buffer, and how many bytes it has.
+    // Returns the header of the packet that is whole at the start of the buffer, and its size in bytes with the header.
     #[inline(always)]
     fn packet_there(&self) -> Option<(PacketHeader, usize)>
         ensures { IfSome result (λ found. LiesWhole (header_of self.now) (reader_buffer (classic.stream_of self.now.reader)) found.0 found.1) }
@@ -89,7 +90,7 @@ impl<R: Read + Drop> BufferedPackets<R> {
         whole_packet(&reader.header, reader.get_ref().buffer())
     }
 
-    // Takes the packet that is lent out of the buffer.
+    // Removes the lent packet from the buffer.
     #[inline(always)]
     fn let_go(&mut self)
         ensures header { header_of self.new ≡ header_of self.old }
@@ -104,7 +105,7 @@ impl<R: Read + Drop> BufferedPackets<R> {
         self.shown = None;
     }
 
-    // The data of the packet whose header came last.
+    // Returns the data of the packet whose header came last.
     #[inline(always)]
     pub(crate) fn data(&self) -> &[u8]
         ensures { result.now ≡ data_of self.now }
@@ -116,7 +117,7 @@ impl<R: Read + Drop> BufferedPackets<R> {
     }
 }
 
-// The header of the packet that lies whole in front of the bytes, and how many bytes it has.
+// Returns the header of the packet that is whole at the start of the bytes, and its size in bytes with the header.
 #[inline(always)]
 fn whole_packet(header: &PcapHeader, shown: &[u8]) -> Option<(PacketHeader, usize)>
     ensures { IfSome result (λ found. LiesWhole header.now shown.now found.0 found.1) }

@@ -1,4 +1,4 @@
-//! Blocks of a capture that are lent where they lie in a buffer.
+//! Blocks of a PcapNg capture, lent from the reader's buffer without a copy.
 
 ghost use Rattle.std.specs.Prelude.{◌≡◌, false, map, None, IfSome};
 ghost use Rattle.std.specs.Io.Buffered.{reader_remaining};
@@ -17,14 +17,14 @@ use pcap_file::{Endianness, PcapNgReader};
 use std::alloc::Global;
 use std::io::{BufRead, BufReader, Read};
 
-/// How many bytes stand before the body of a block.
+/// The bytes of a block before its body.
 const BEFORE: usize = 8;
 
-/// How many bytes stand before and behind it.
+/// The bytes of a block before and after its body.
 const AROUND: usize = 12;
 
-/// A reader of the blocks of a capture behind a buffer. An enhanced packet without options that lies whole in the buffer is lent from
-/// there and never copied; other blocks are held.
+/// A reader of the blocks of a capture, with a buffer. It lends an enhanced packet without options that is whole in the buffer from
+/// there, without a copy. It holds other blocks.
 #[derive(Drop)]
 pub struct BufferedBlocks<R> {
     pub(crate) reader: PcapNgReader<BufReader<R>>,
@@ -34,14 +34,14 @@ pub struct BufferedBlocks<R> {
 }
 
 impl<R> BufferedBlocks<R> {
-    /// The interfaces of the section in force, so far.
+    /// Returns the interfaces of the current section, so far.
     pub fn interfaces(&self) -> &[InterfaceDescriptionBlock<'static>]
         ensures { map interface_of result.now ≡ interfaces_of self.now }
     {
         self.reader.interfaces()
     }
 
-    /// How many blocks were left out among those that were taken.
+    /// Returns how many of the blocks taken so far were left out.
     pub fn left_out(&self) -> LeftOut
         ensures { result ≡ left_out_of self.now }
     {
@@ -50,7 +50,7 @@ impl<R> BufferedBlocks<R> {
 }
 
 impl<R: Read + Drop> BufferedBlocks<R> {
-    /// The blocks behind those that a reader took.
+    /// Makes a reader of the blocks after those that `reader` took.
     pub fn new(alloc: Global, reader: PcapNgReader<BufReader<R>>) -> BufferedBlocks<R>
         ensures { source_of R.remaining result ≡ readers.source_of (reader_remaining R.remaining) reader }
     {
@@ -62,7 +62,7 @@ impl<R: Read + Drop> BufferedBlocks<R> {
         }
     }
 
-    // Takes the block that is lent out of the buffer.
+    // Removes the lent block from the buffer.
     #[inline(always)]
     pub(crate) fn let_go(&mut self)
         ensures source { source_of R.remaining self.new ≡ source_of R.remaining self.old }
@@ -76,7 +76,8 @@ impl<R: Read + Drop> BufferedBlocks<R> {
         self.made.is_lent = false;
     }
 
-    // What the enhanced packet says that lies whole at the front of the buffer without options, and how many bytes its block has.
+    // Returns the numbers of the enhanced packet without options that is whole at the start of the buffer, and the size of its block in
+    // bytes.
     #[inline(always)]
     pub(crate) fn packet_there(&self) -> Option<(EnhancedNumbers, usize)>
         ensures { IfSome result (λ found. LiesThere self.now found.0 found.1) }
@@ -87,7 +88,7 @@ impl<R: Read + Drop> BufferedBlocks<R> {
         Some((packet, shown.len() - after.len()))
     }
 
-    // The body of the block that is lent, or the text of the block that was made.
+    // Returns the body of the lent block, or the text of the block that was made.
     #[inline(always)]
     pub(crate) fn body(&self) -> &[u8]
         ensures { result.now ≡ body_of self.now }
@@ -105,7 +106,8 @@ impl<R: Read + Drop> BufferedBlocks<R> {
     }
 }
 
-// The enhanced packet without options at the front of a slice, and what follows its block. None where no such block stands whole there.
+// Returns the enhanced packet without options at the start of a slice, and the bytes after its block. Returns None if no such block is
+// whole there.
 #[inline(always)]
 fn plain_at(order: Endianness, slice: &[u8]) -> Option<(&[u8], EnhancedNumbers)>
     ensures { IfSome result (λ x. PlainText order x.1 slice.now x.0.now) }
@@ -116,7 +118,7 @@ fn plain_at(order: Endianness, slice: &[u8]) -> Option<(&[u8], EnhancedNumbers)>
     }
 }
 
-// The same, where numbers are read in this order.
+// Does the same for one byte order.
 #[inline(always)]
 fn plain_in<B: ByteOrder>(order: Endianness, slice: &[u8]) -> Option<(&[u8], EnhancedNumbers)>
     requires { number_in order ≡ B.number_of }

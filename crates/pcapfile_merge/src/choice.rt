@@ -1,4 +1,4 @@
-//! Which of several captures gives the next packet.
+//! The choice of the capture that gives the next packet.
 
 ghost use Rattle.pcapfile_merge.specs.Choosing.{BestWith, Chooses};
 
@@ -6,14 +6,14 @@ use crate::packet::{Pending, is_before};
 use crate::source::Source;
 use pcap_file::pcapng::Timestamp;
 
-/// The place of a source, and the time of its next packet.
+/// The index of a source, and the time of its next packet.
 #[derive(Clone, Copy)]
 pub(crate) struct Best {
     pub(crate) place: usize,
     pub(crate) time: Option<Timestamp>,
 }
 
-// The better one of the best so far and of the source at a place that holds this packet.
+// Returns the source at `place` if its packet `next` is earlier than the best so far, or else the best so far.
 #[inline(always)]
 fn best_with(best: Option<Best>, place: usize, next: Option<Pending>) -> Option<Best>
     ensures { BestWith best place next result }
@@ -31,7 +31,7 @@ fn best_with(best: Option<Best>, place: usize, next: Option<Pending>) -> Option<
     Some(Best { place, time })
 }
 
-/// The place of the first of the sources whose next packet is the earliest. None where no source has a packet.
+/// Returns the index of the first source whose next packet is the earliest, or None if no source has a packet.
 #[inline(always)]
 pub(crate) fn earliest<R>(sources: &[Source<R>]) -> Option<usize>
     ensures { Chooses sources.now result }

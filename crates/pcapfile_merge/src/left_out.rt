@@ -1,28 +1,28 @@
-//! What a merge leaves out of a capture.
+//! Counts of the blocks of a capture that a merge leaves out.
 
 ghost use Rattle.std.specs.Prelude.{◌≡◌};
 ghost use Rattle.pcapfile_merge.specs.LeavingOut.{nothing, with_block};
 
 use pcap_file::pcapng::BlockType;
 
-/// The number of the type of blocks that hold secrets.
+/// The block type of decryption secrets.
 const SECRETS: u32 = 10;
 
-/// How many blocks without a packet were left out of a capture, by what they hold.
+/// How many blocks without a packet a merge left out of a capture, by kind.
 #[derive(Clone, Copy, Debug, PartialEq, Eq)]
 pub struct LeftOut {
-    /// Names of addresses.
+    /// Blocks of name resolution.
     pub names: u64,
-    /// Statistics of an interface.
+    /// Blocks of interface statistics.
     pub statistics: u64,
-    /// Secrets by which packets are decrypted.
+    /// Blocks of decryption secrets.
     pub secrets: u64,
-    /// Anything else.
+    /// All other blocks.
     pub others: u64,
 }
 
 impl LeftOut {
-    // Nothing so far.
+    // Returns the counts before any block.
     pub(crate) fn nothing() -> LeftOut
         ensures { result ≡ nothing }
     {
@@ -34,7 +34,7 @@ impl LeftOut {
         }
     }
 
-    // Counts a block of this type, unless it stays in force.
+    // Counts a block of this type. Sections and interfaces aren't counted.
     pub(crate) fn count(&mut self, type_: BlockType)
         ensures { self.new ≡ with_block type_ self.old }
     {

@@ -1,4 +1,4 @@
-//! Captures that are merged by time.
+//! Merges captures by time.
 #![tactic(auto)]
 
 mod buffered;

@@ -1,4 +1,4 @@
-//! Blocks of packets with options, made as they go out.
+//! Blocks of packets with options, written anew for the output.
 
 ghost use Rattle.std.specs.Prelude.{◌≡◌, ◌≤◌, false, IfOk};
 ghost use Rattle.pcap_blocks.specs.EnhancedPacket.{enhanced_of};
@@ -10,17 +10,17 @@ use pcap_file::{Endianness, PcapError, ResultParsing};
 use pcap_written::encode;
 use std::alloc::Global;
 
-/// The text of a block that was made, and room for its body.
+/// The text of a block that was made, and the buffer for its body.
 #[derive(Drop)]
 pub(crate) struct Made {
-    /// Whether the packet that is held goes out as this text.
+    /// Whether the held packet is written as this text.
     pub(crate) is_lent: bool,
     pub(crate) text: Vec<u8>,
     body: Vec<u8>,
 }
 
 impl Made {
-    // Room in which no block is made yet.
+    // Returns the buffers before any block is made.
     pub(crate) fn new(alloc: Global) -> Made
         ensures { result.is_lent ≡ false }
     {
@@ -31,7 +31,7 @@ impl Made {
         }
     }
 
-    // Makes the little-endian block of an enhanced packet with all its options, under the number of the interface that is said.
+    // Makes the little-endian block of an enhanced packet with all its options and with the interface number of `said`.
     pub(crate) fn put(
         &mut self,
         packet: EnhancedPacketBlock<'_>,

@@ -1,4 +1,4 @@
-//! Captures whose packets are merged.
+//! The merge of the packets of several captures.
 
 ghost use Rattle.std.specs.Prelude.{◌≡◌, ◌≤◌, ◌<◌, length, Some};
 ghost use Rattle.pcap_items.specs.Writing.{WritesAll};
@@ -15,16 +15,16 @@ use pcap_items::stream::put;
 use pcap_written::put_packet;
 use std::io::{Read, Write};
 
-/// How a merge ended.
+/// The outcome of a merge.
 #[derive(Debug, Drop)]
 pub struct Merged {
-    /// How many packets went out.
+    /// How many packets were written.
     pub packets: u64,
-    /// Why a packet was not written.
+    /// The error with which writing failed, if it did.
     pub fault: Option<PcapError>,
 }
 
-/// Merges the packets of sources.
+/// Writes the packets of the sources, merged by time, and at most `most` of them.
 pub fn merge_packets<R: Read + Drop, W: Write>(
     sources: &mut [Source<R>],
     writer: &mut W,
@@ -41,7 +41,7 @@ pub fn merge_packets<R: Read + Drop, W: Write>(
     merged
 }
 
-// Merges the packets of sources, and counts them.
+// Writes the packets of the sources, merged by time, and counts them.
 fn merge_sources<R: Read + Drop, W: Write>(
     sources: &mut [Source<R>],
     writer: &mut W,
@@ -63,7 +63,7 @@ fn merge_sources<R: Read + Drop, W: Write>(
     Ok(())
 }
 
-// Writes the packet of the source at the place that was chosen, and takes its next one.
+// Writes the packet of the chosen source, and takes its next one.
 #[inline(always)]
 fn merge_at<R: Read + Drop, W: Write>(
     sources: &mut [Source<R>],

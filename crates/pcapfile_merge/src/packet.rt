@@ -1,33 +1,33 @@
-//! The packet that a capture gives next.
+//! The next packet of a capture.
 
 ghost use Rattle.pcapfile_merge.specs.Packets.{TellsBefore};
 
 use pcap_file::pcapng::Timestamp;
 use pcap_times::laws::times_are_ordered;
 
-/// The most bytes that the packet of a block may have.
+/// The most bytes that a packet in a block may have.
 pub(crate) const MOST: usize = 4_294_967_260;
 
-/// What a reader says of the packet that it holds.
+/// The facts about the packet that a reader holds.
 #[derive(Clone, Copy)]
 pub(crate) struct Pending {
     /// The number of its interface among those of all captures.
     pub(crate) number: u32,
-    /// Its time, where it has one.
+    /// Its time, if it has one.
     pub(crate) time: Option<Timestamp>,
-    /// Its time in the units of its interface's clock.
+    /// Its time in units of its interface's clock.
     pub(crate) units: u64,
     /// Its length on the wire, in bytes.
     pub(crate) original_len: u32,
-    /// How many bytes stand before its own in the body of its block.
+    /// How many bytes of the body of its block come before its own.
     pub(crate) start: usize,
-    /// How many bytes of it are stored, or how many its block has where that is made.
+    /// The number of its stored bytes, or the size of its block if that is made.
     pub(crate) len: usize,
-    /// Whether its block is made as it goes out.
+    /// Whether its block is made for the output.
     pub(crate) is_made: bool,
 }
 
-/// Whether a packet of the first time goes before one of the second. One without a time goes before each that has one.
+/// Returns whether a packet of the first time goes before one of the second. A packet without a time goes before each that has one.
 #[inline(always)]
 pub(crate) fn is_before(left: Option<Timestamp>, right: Option<Timestamp>) -> bool
     ensures { TellsBefore left right result }

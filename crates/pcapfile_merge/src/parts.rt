@@ -1,8 +1,8 @@
-//! Parts of bytes.
+//! Beginnings and ends of slices of bytes.
 
 ghost use Rattle.std.specs.Prelude.{◌≡◌, take, drop};
 
-// The first so many bytes, or all where there are fewer.
+// Returns the first `n` bytes, or all if there are fewer.
 #[inline(always)]
 pub(crate) fn front(bytes: &[u8], n: usize) -> &[u8]
     ensures { result.now ≡ take n bytes.now }
@@ -10,7 +10,7 @@ pub(crate) fn front(bytes: &[u8], n: usize) -> &[u8]
     &bytes[..n.min(bytes.len())]
 }
 
-// What stands behind them.
+// Returns the bytes after the first `n`.
 #[inline(always)]
 pub(crate) fn behind(bytes: &[u8], n: usize) -> &[u8]
     ensures { result.now ≡ drop n bytes.now }

@@ -1,4 +1,4 @@
-//! A reader of packets of either format, and the packets that it holds.
+//! A reader of packets of either format, and the packet that it holds.
 
 ghost use Rattle.std.specs.Prelude.{◌≡◌, false};
 ghost use Rattle.pcapfile_merge.specs.Buffered.{is_done};
@@ -18,19 +18,19 @@ use std::io::Read;
 
 const BILLION: u32 = 1_000_000_000;
 
-/// A reader of a capture of either format, behind a buffer.
+/// A buffered reader of a capture of either format.
 #[derive(Drop)]
 pub enum Reader<R> {
-    /// That of a classic capture.
+    /// The reader of a classic capture.
     Packets(BufferedPackets<R>),
-    /// That of a capture of blocks.
+    /// The reader of a PcapNg capture.
     Blocks(BufferedBlocks<R>),
 }
 
 impl<R: Read + Drop> Reader<R> {
     ghost use Rattle.pcapfile_merge.specs.Holding.{bytes_in};
 
-    // The bytes of the packet that it holds, or the text of its block where that is made.
+    // Returns the bytes of the held packet, or the text of its block if that is made.
     #[inline(always)]
     pub(crate) fn data(&self, pending: Pending) -> &[u8]
         ensures { result.now ≡ bytes_in self.now pending }
@@ -42,7 +42,7 @@ impl<R: Read + Drop> Reader<R> {
     }
 }
 
-/// What was taken: a packet, or what refuses it, or nothing at the end.
+/// What a reader took: a packet, an error, or nothing at the end.
 #[derive(Drop)]
 pub(crate) struct Taken {
     pub(crate) next: Option<Pending>,
@@ -52,8 +52,8 @@ pub(crate) struct Taken {
 impl<R: Read + Drop> Reader<R> {
     ghost use Rattle.pcapfile_merge.specs.Holding.{IsReady, IsReadyIf, IsWhole, HoldsFew, TakesNext, TakesThere};
 
-    // Takes the next packet where it lies whole in the buffer, whose interface has this number, or is of those that have numbers from it on.
-    // Else the packet that was lent is let go.
+    // Takes the next packet if it is whole in the buffer. `base` is the number of its interface, or of the capture's first. Otherwise it
+    // returns None and only removes the lent packet.
     #[inline(always)]
     pub(crate) fn next_there(&mut self, base: u32) -> Option<Pending>
         requires { IsReady self.old }
@@ -67,7 +67,7 @@ impl<R: Read + Drop> Reader<R> {
         }
     }
 
-    // Takes the next packet, whose interface has this number, or is the first of those that have numbers from it on.
+    // Takes the next packet. `base` is the number of its interface, or of the first interface of its capture.
     pub(crate) fn take_next(&mut self, alloc: Global, base: u32, interfaces: Interfaces) -> Taken
         requires { IsReady self.old }
         ensures takes { TakesNext R.remaining interfaces base self.old self.new result }
@@ -82,14 +82,14 @@ impl<R: Read + Drop> Reader<R> {
     }
 }
 
-/// Whether further interfaces of a capture may be described.
+/// Whether a capture may describe further interfaces.
 #[derive(Clone, Copy)]
 pub(crate) enum Interfaces {
     Open,
     Closed,
 }
 
-// Takes the next packet of a classic capture whose interface has this number, where it lies whole in the buffer. Else nothing is lent.
+// Takes the next packet of a classic capture if it is whole in the buffer. Otherwise it returns None and lends nothing.
 #[inline(always)]
 fn take_packet_there<R: Read + Drop>(
     reader: &mut BufferedPackets<R>,
@@ -104,7 +104,7 @@ fn take_packet_there<R: Read + Drop>(
     Some(pending_of_header(header, number))
 }
 
-// Takes the next packet of a classic capture whose interface has this number.
+// Takes the next packet of a classic capture, whose interface has the number `number`.
 fn take_packet<R: Read + Drop>(reader: &mut BufferedPackets<R>, number: u32) -> Taken
     requires { is_done reader.old ≡ false }
     ensures { TakesPacket R.remaining number reader.old reader.new result }
@@ -125,7 +125,7 @@ fn take_packet<R: Read + Drop>(reader: &mut BufferedPackets<R>, number: u32) -> 
     }
 }
 
-// What is said of the packet of this header.
+// Returns the facts about the packet with this header.
 #[inline(always)]
 fn pending_of_header(header: PacketHeader, number: u32) -> Pending
     ensures { IsOf number header result }

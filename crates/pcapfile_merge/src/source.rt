@@ -24,8 +24,8 @@ pub struct Source<R> {
 impl<R: Read + Drop> Source<R> {
     ghost use Rattle.pcapfile_merge.specs.Sources.{Advances, Gave};
 
-    /// Makes a source of a reader that has refused nothing, and takes its first packet. What refuses that packet ends the
-    /// source (`fault`). Its interfaces have numbers from `base` on.
+    /// Makes a source from a reader without an error, and takes its first packet. If that packet is refused, the source ends with that
+    /// error (`fault`). Its interfaces are numbered from `base` on.
     pub fn new(alloc: Global, reader: Reader<R>, base: u32) -> Source<R>
         requires { IsReady reader }
         ensures base { result.base ≡ base }
@@ -54,7 +54,7 @@ impl<R: Read + Drop> Source<R> {
         }
     }
 
-    // Takes the next packet, wherever it lies.
+    // Takes the next packet, whether or not it is whole in the buffer.
     #[cold]
     #[inline(never)]
     fn advance_any(&mut self)
@@ -70,7 +70,7 @@ impl<R: Read + Drop> Source<R> {
 }
 
 impl<R> Source<R> {
-    // The packet that it gives next. None where it has no more.
+    // Returns the packet that the source gives next, or None if it has no more.
     #[inline(always)]
     pub(crate) fn next(&self) -> Option<Pending>
         ensures { result ≡ self.now.taken.next }
@@ -78,14 +78,14 @@ impl<R> Source<R> {
         self.taken.next
     }
 
-    /// Its reader, which holds the packet that it gives next.
+    /// Returns the reader, which holds the packet that the source gives next.
     pub fn reader(&self) -> &Reader<R>
         ensures { result.now ≡ self.now.reader }
     {
         &self.reader
     }
 
-    /// What refused the packet behind those that it gave. None where the capture ended behind them, or goes on.
+    /// Returns the error of the packet after those that the source gave. Returns None if the capture ended after them or goes on.
     pub fn fault(&self) -> Option<&PcapError>
         ensures { option_map (λ error. error.now) result ≡ self.now.taken.fault }
     {

@@ -1,4 +1,4 @@
-//! The packets of a capture of blocks that is merged.
+//! The packets of a PcapNg capture that is merged.
 
 ghost use Rattle.std.specs.Prelude.{◌≡◌, ◌≤◌, ℕ, List, length, false, true, map, Some, IfOk, IfSome, MatchResult};
 ghost use Rattle.std.specs.Option.{option_map};
@@ -32,13 +32,13 @@ use pcapfile_run::{BlockPacket, holds_packet, interface_at, packet_in_body};
 use std::alloc::Global;
 use std::io::Read;
 
-/// The bytes before those of the packet in the body of a block that tells its time.
+/// The bytes of a body before those of its packet, if the block has a time.
 const TIMED: usize = 20;
 
-/// The bytes before those of the packet in the body of a block that doesn't.
+/// The bytes of a body before those of its packet, if the block has no time.
 const SIMPLE: usize = 4;
 
-// Takes the next packet of a capture of blocks whose interfaces have numbers from this one on, or what refuses it.
+// Takes the next packet of a PcapNg capture whose interfaces are numbered from `base` on, or reports why it can't.
 pub(crate) fn take_blocks<R: Read + Drop>(
     alloc: Global,
     blocks: &mut BufferedBlocks<R>,
@@ -60,8 +60,8 @@ pub(crate) fn take_blocks<R: Read + Drop>(
     }
 }
 
-// Takes the next packet of a capture of blocks whose interfaces have numbers from this one on: that which lies whole in the buffer,
-// or one that is held.
+// Takes the next packet of a PcapNg capture whose interfaces are numbered from `base` on: from the buffer if it is whole there, or else
+// by holding its block.
 fn take_shown<R: Read + Drop>(
     alloc: Global,
     blocks: &mut BufferedBlocks<R>,
@@ -86,8 +86,7 @@ fn take_shown<R: Read + Drop>(
     }
 }
 
-// Takes the next packet of a capture of blocks whose interfaces have numbers from this one on, where it lies whole in the buffer and can be
-// merged. Else nothing is lent.
+// Takes the next packet of a PcapNg capture if it is whole in the buffer and can be merged. Otherwise it returns None and lends nothing.
 #[inline(always)]
 pub(crate) fn take_there<R: Read + Drop>(
     blocks: &mut BufferedBlocks<R>,
@@ -108,7 +107,7 @@ pub(crate) fn take_there<R: Read + Drop>(
     Some(pending)
 }
 
-// Takes the next packet of a capture of blocks whose interfaces have numbers from this one on, which is held.
+// Takes the next packet of a PcapNg capture, and holds its block.
 #[cold]
 #[inline(never)]
 fn take_block<R: Read + Drop>(
@@ -132,7 +131,7 @@ fn take_block<R: Read + Drop>(
     Ok(Some(pending_in_block(alloc, reader.interfaces(), &block, base, made)?))
 }
 
-// Passes blocks up to one that holds a packet, and counts those that are left out.
+// Skips blocks up to one that holds a packet, and counts those that are left out.
 fn pass_to_packet<R: Read + Drop>(
     reader: &mut PcapNgReader<R>,
     interfaces: Interfaces,
@@ -156,7 +155,7 @@ fn pass_to_packet<R: Read + Drop>(
     Ok(None)
 }
 
-// A block that holds no packet is passed, unless it begins a section or describes an interface behind packets.
+// Refuses a block that begins a section or describes an interface after packets. Any other block without a packet may be skipped.
 fn may_pass(type_: BlockType, interfaces: Interfaces) -> ResultParsing<()>
     requires { is_packet type_ ≡ false }
     ensures { MatchResult result (λ done. MayPass interfaces type_) (BarsType interfaces type_) }
@@ -174,7 +173,7 @@ fn may_pass(type_: BlockType, interfaces: Interfaces) -> ResultParsing<()>
     }
 }
 
-// Whether blocks of this type begin a section or describe an interface.
+// Returns whether blocks of this type begin a section or describe an interface.
 fn stays_in_force(type_: BlockType) -> bool
     ensures { result ≡ is_kept type_ }
 {
@@ -184,7 +183,7 @@ fn stays_in_force(type_: BlockType) -> bool
     )
 }
 
-// What is said of the packet that a block holds. That of an enhanced one is made as it goes out.
+// Returns the facts about the packet in a block. If it is an enhanced packet, its block is made for the output.
 fn pending_in_block(
     alloc: Global,
     interfaces: &[InterfaceDescriptionBlock<'static>],
@@ -205,7 +204,7 @@ fn pending_in_block(
     }
 }
 
-// What is said of the packet that a body is.
+// Returns the facts about the packet in a parsed body.
 fn pending_in_body(
     interfaces: &[InterfaceDescriptionBlock<'static>],
     base: u32,
@@ -220,7 +219,7 @@ fn pending_in_body(
     }
 }
 
-// The enhanced packet that a body is, if it is one.
+// Returns the enhanced packet that a body is, or None if it is another block.
 fn enhanced_of_body(parsed: ParsedBlock<'_>) -> Option<EnhancedPacketBlock<'_>>
     ensures { option_map enhanced_of result ≡ enhanced_in (bodies.body_of parsed.entry) }
 {
@@ -230,20 +229,20 @@ fn enhanced_of_body(parsed: ParsedBlock<'_>) -> Option<EnhancedPacketBlock<'_>>
     }
 }
 
-/// What a block says of the packet that it holds.
+/// What a block says about the packet that it holds.
 #[derive(Clone, Copy)]
 struct Said {
-    /// The number of its interface among those of its section.
+    /// The number of its interface in its section.
     interface: u32,
-    /// Its time in the units of that interface's clock, where it has one.
+    /// Its time in units of that interface's clock, if it has one.
     units: Option<u64>,
     /// Its length on the wire, in bytes.
     original_len: u32,
-    /// How many bytes of it are stored.
+    /// The number of its stored bytes.
     len: usize,
 }
 
-// What is said by an enhanced packet that lies in a buffer.
+// Returns what an enhanced packet in the buffer says.
 #[inline(always)]
 fn said_there(packet: EnhancedNumbers) -> Said
     ensures { result ≡ record { interface = packet.interface; units = Some packet.units; original_len = packet.original; len = packet.stored } }
@@ -256,7 +255,7 @@ fn said_there(packet: EnhancedNumbers) -> Said
     }
 }
 
-// What is said of a packet that a block holds.
+// Returns the facts about a packet that a block holds.
 fn pending_of_packet(
     interfaces: &[InterfaceDescriptionBlock<'static>],
     base: u32,
@@ -274,7 +273,7 @@ fn pending_of_packet(
     pending_of(interfaces, base, said)
 }
 
-// What is said of a packet of which its block says this.
+// Returns the facts about a packet from what its block says.
 #[inline(always)]
 fn pending_of(
     interfaces: &[InterfaceDescriptionBlock<'static>],
@@ -305,7 +304,7 @@ fn pending_of(
     })
 }
 
-// The time of a packet that came by this interface, and its units of the interface's clock, which are 0 where it has no time.
+// Returns the time of a packet of this interface, and its units of the interface's clock: 0 if it has no time.
 #[inline(always)]
 fn time_by(
     interface: &InterfaceDescriptionBlock<'static>,
@@ -319,7 +318,7 @@ fn time_by(
     }
 }
 
-// How many bytes stand before those of a packet in the body of its block.
+// Returns how many bytes of the body of a block come before those of its packet.
 #[inline(always)]
 fn start_behind(units: Option<u64>) -> usize
     ensures { result ≡ bytes_before units }

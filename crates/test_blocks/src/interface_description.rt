@@ -6,7 +6,7 @@ use std::alloc::Global;
 use std::test::*;
 use test_support::rows::{every_row, told, whole_list};
 
-// What a body gives.
+// Formats the result of parsing a body.
 fn interface<B: ByteOrder>(alloc: Global, body: &[u8]) -> Result<String, Fail> {
     told(
         alloc,

@@ -1,5 +1,5 @@
-//! Bodies of blocks: rows of bytes with the values or refusals that `pcap_blocks` gives for them, values that outlive their bytes,
-//! what has a name, and times.
+//! Tests of block bodies: rows of bytes with the values or errors that `pcap_blocks` returns for them, owned values, values with names,
+//! and times.
 #![tactic(auto)]
 
 #[cfg(test)]

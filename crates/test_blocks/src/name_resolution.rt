@@ -1,4 +1,4 @@
-//! Name resolution: names, records, bodies.
+//! Name resolution: names, records and bodies.
 
 use byteorder::BigEndian;
 use pcap_blocks::{
@@ -8,7 +8,7 @@ use std::alloc::Global;
 use std::test::*;
 use test_support::rows::{every_row, told, told_alone, whole_list};
 
-// What a slice gives as a name, a record of each kind, and a body.
+// Each of these formats the result of parsing a slice: as a name, as a record of one kind, or as a body.
 
 fn name(alloc: Global, slice: &[u8]) -> Result<String, Fail> {
     told(alloc, str_from_u8_null_terminated(slice))

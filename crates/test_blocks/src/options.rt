@@ -6,7 +6,7 @@ use std::alloc::Global;
 use std::test::*;
 use test_support::rows::{every_row, told_alone};
 
-// Whether options of these bytes have these codes, numbers and values.
+// Each of these returns whether an option with these bytes has the expected codes, numbers and values.
 
 fn is_text(value: &[u8]) -> bool {
     match &CustomUtf8Option::from_slice::<BigEndian>(7, value) {
@@ -39,7 +39,7 @@ fn options_by_themselves(rt: HostRuntime) {
     assert!(rt; is_unknown(&value));
 }
 
-// What a value gives.
+// Formats the result of parsing a value.
 
 fn text(alloc: Global, value: &[u8]) -> Result<String, Fail> {
     told_alone(

@@ -1,4 +1,4 @@
-//! Statistics, journal entries, unknown blocks and the types of blocks.
+//! Statistics, journal entries, unknown blocks and block types.
 
 use byteorder::{BigEndian, ByteOrder, LittleEndian};
 use pcap_blocks::{BlockType, InterfaceStatisticsBlock, SystemdJournalExportBlock, UnknownBlock};
@@ -6,7 +6,7 @@ use std::alloc::Global;
 use std::test::*;
 use test_support::rows::{every_row, told, whole_list};
 
-// What a body gives.
+// Formats the result of parsing a body.
 fn statistics<B: ByteOrder>(alloc: Global, body: &[u8]) -> Result<String, Fail> {
     told(
         alloc,
@@ -47,7 +47,7 @@ fn little_endian_statistics(rt: HostRuntime) -> Result<(), Fail> {
     every_row(rt.alloc(), table, statistics::<LittleEndian>)
 }
 
-// What a journal entry and an unknown block of these bytes are.
+// Each of these formats the journal entry or unknown block with these bytes.
 
 fn journal(alloc: Global, body: &[u8]) -> Result<String, Fail> {
     told(

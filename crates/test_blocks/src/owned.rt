@@ -1,4 +1,4 @@
-//! Values of `pcap_blocks` that outlive the bytes they were read from, and clones of them.
+//! Values of `pcap_blocks` that outlive the bytes they were read from, and their clones.
 
 mod blocks;
 mod large;

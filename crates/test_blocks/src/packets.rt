@@ -8,7 +8,7 @@ use std::alloc::Global;
 use std::test::*;
 use test_support::rows::{every_row, told, whole_list};
 
-// What bodies of packets give, and lists of their options.
+// Each of these formats the result of parsing the body of a packet, or a list of its options.
 
 fn enhanced<B: ByteOrder>(alloc: Global, body: &[u8]) -> Result<String, Fail> {
     told(alloc, EnhancedPacketBlock::from_slice::<B>(alloc, body))
@@ -56,7 +56,7 @@ fn little_endian_packets(rt: HostRuntime) -> Result<(), Fail> {
     every_row(rt.alloc(), row, packet::<LittleEndian>)
 }
 
-// Whether a packet of these bytes lends no data.
+// Returns whether a packet with these bytes lends no data.
 fn lends_nothing(alloc: Global, body: &[u8]) -> bool {
     match &PacketBlock::from_slice::<LittleEndian>(alloc, body) {
         Ok((_, packet)) => packet.data_.is_empty() && packet.data_.is_borrowed(),

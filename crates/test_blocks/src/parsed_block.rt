@@ -1,4 +1,4 @@
-//! Bodies by the type of their block.
+//! Bodies, parsed by the type of their block.
 
 use byteorder::{BigEndian, LittleEndian};
 use pcap_blocks::{BlockType, ParsedBlock};
@@ -6,7 +6,7 @@ use std::alloc::Global;
 use std::test::*;
 use test_support::rows::{bytes, every_row, same, told};
 
-// Whether the body of these digits, in a block of this type, gives what is shown.
+// Checks that the body with these digits, in a block of this type, gives the text `shown`.
 fn is_parsed(alloc: Global, type_: BlockType, digits: &str, shown: &str) -> Result<(), Fail> {
     let body = bytes(alloc, digits)?;
     let block = told(
@@ -81,7 +81,7 @@ fn bodies_by_type(rt: HostRuntime) -> Result<(), Fail> {
     Ok(())
 }
 
-// The section that a body is, in a block of a section header, and in one of a journal entry.
+// Formats the section that a body is, in a section header and in a journal entry.
 
 fn section(alloc: Global, body: &[u8]) -> Result<String, Fail> {
     let type_ = BlockType::SectionHeader;
@@ -103,7 +103,7 @@ fn sections_of_blocks(rt: HostRuntime) -> Result<(), Fail> {
     every_row(rt.alloc(), "01 => None", section_of_a_journal)
 }
 
-// The interface that a body is, in a block of an interface, and in one of a simple packet.
+// Formats the interface that a body is, in an interface description and in a simple packet.
 
 fn interface(alloc: Global, body: &[u8]) -> Result<String, Fail> {
     let type_ = BlockType::InterfaceDescription;

@@ -6,7 +6,7 @@ use std::alloc::Global;
 use std::test::*;
 use test_support::rows::{every_row, told, whole_list};
 
-// What a body gives.
+// Formats the result of parsing a body.
 fn section(alloc: Global, body: &[u8]) -> Result<String, Fail> {
     told(alloc, SectionHeaderBlock::from_slice(alloc, body))
 }
@@ -30,7 +30,7 @@ fn sections(rt: HostRuntime) -> Result<(), Fail> {
     every_row(rt.alloc(), table, section)
 }
 
-// Whether the section of these bytes has a valid magic number, of this order.
+// Returns whether the section with these bytes has a valid magic number, with this byte order.
 fn has_order(alloc: Global, body: &[u8], order: Endianness) -> bool {
     match &SectionHeaderBlock::from_slice(alloc, body) {
         Ok((_, section)) => section.has_valid_magic() && section.endianness() == order,

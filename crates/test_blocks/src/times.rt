@@ -1,4 +1,4 @@
-//! Times of interfaces, with answers that were worked out by hand.
+//! Times of interfaces, with answers that were calculated by hand.
 
 mod clocks;
 mod units;

@@ -1,4 +1,4 @@
-//! What blocks hold under a name, what is stored of a simple packet, and views of newer kinds.
+//! Named values of blocks, the stored bytes of a simple packet, and views of newer kinds.
 
 mod named;
 mod newer;

@@ -1,4 +1,4 @@
-//! The messages of errors, and the errors that others become.
+//! The messages of errors, and conversions between errors.
 
 use pcap_classic::pcap::{Packet, PcapHeader, PcapParser, PcapReader, PcapWriter};
 use pcap_classic::rules::Rule;
@@ -11,7 +11,7 @@ use std::test::Fail;
 use std::{io, str};
 use test_support::captures::BIG_HEAD;
 
-// Whether an error has this message.
+// Returns whether an error has this message.
 fn says(alloc: Global, error: &PcapError, text: &str) -> bool {
     match format!(in alloc; "{error}") {
         Ok(shown) => shown.as_str() == text,
@@ -41,7 +41,7 @@ fn texts(rt: HostRuntime) {
     assert!(rt; says(alloc, &PcapError::WriterFailed, "Writer failed earlier"));
 }
 
-// Whether an error of a stream becomes an `IoError`, and has its message.
+// Returns whether a stream's error becomes an `IoError` with its message.
 fn becomes_io(alloc: Global) -> bool {
     let error = PcapError::from(io::Error::from(ErrorKind::UnexpectedEof));
     matches!(error, PcapError::IoError(_)) && says(alloc, &error, "Error reading bytes")
@@ -52,7 +52,7 @@ fn becomes_memory(alloc: Global) -> bool {
     matches!(error, PcapError::OutOfMemory(_)) && says(alloc, &error, "Out of memory")
 }
 
-// Whether the error of bytes that are no text becomes a `Utf8Error`.
+// Returns whether the error of bytes that aren't UTF-8 becomes a `Utf8Error`.
 fn becomes_utf8(alloc: Global) -> bool {
     match str::from_utf8(&[0xff]) {
         Err(error) => {
@@ -63,7 +63,7 @@ fn becomes_utf8(alloc: Global) -> bool {
     }
 }
 
-// Whether that of owned bytes becomes a `FromUtf8Error`.
+// Returns whether the error of owned bytes that aren't UTF-8 becomes a `FromUtf8Error`.
 fn becomes_from_utf8(alloc: Global, bytes: Vec<u8>) -> bool {
     match String::from_utf8(bytes) {
         Err(error) => {
@@ -94,7 +94,7 @@ fn wrong_magic(rt: HostRuntime) {
     );
 }
 
-// Whether a value is shown as this text.
+// Returns whether a value is formatted as this text.
 fn is_shown<T: Debug>(alloc: Global, value: &T, text: &str) -> bool {
     match format!(in alloc; "{value:?}") {
         Ok(shown) => shown.as_str() == text,
@@ -140,7 +140,7 @@ fn debug_texts_of_packets(rt: HostRuntime) -> Result<(), Fail> {
     Ok(())
 }
 
-// Whether a parser of the capture is shown by its header.
+// Returns whether a parser of the capture is formatted with its header.
 fn shows_a_parser(alloc: Global) -> bool {
     let text =
         "PcapParser { header: PcapHeader { magic_number: 2712847316, version_major: 2, version_minor: 4, ts_correction: 0, ts_accuracy: 0, snaplen: 65535, datalink: ETHERNET } }";
@@ -150,7 +150,7 @@ fn shows_a_parser(alloc: Global) -> bool {
     }
 }
 
-// Whether a value is shown by a text that begins so.
+// Returns whether the text of a value begins so.
 fn begins<T: Debug>(alloc: Global, value: &T, text: &str) -> bool {
     match format!(in alloc; "{value:?}") {
         Ok(shown) => shown.starts_with(text),

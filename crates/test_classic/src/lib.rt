@@ -1,4 +1,4 @@
-//! Calls on slices of classic captures: inputs with the answers that the format gives them.
+//! Calls on slices of classic captures: inputs with the answers that the format defines.
 #![tactic(auto)]
 
 #[cfg(test)]

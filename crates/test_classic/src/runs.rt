@@ -8,7 +8,7 @@ use test_support::rows::{bytes, rows};
 /// A big-endian header in microseconds.
 const HEADER: &str = "a1b2c3d4 0002 0004 00000000 00000000 0000ffff 00000001";
 
-// What the run over these digits comes to: its packets, how many bytes it takes, and what stands after them.
+// Formats the run over these digits: its packets, how many bytes it takes, and what follows them.
 fn run(alloc: Global, digits: &str) -> Result<String, Fail> {
     let bytes = bytes(alloc, digits)?;
     let run = match parse_pcap(alloc, bytes.as_slice()) {

@@ -9,7 +9,7 @@ use std::test::Fail;
 use std::time::Duration;
 use test_support::captures::{BIG_HEAD, LITTLE_HEAD, back, big, capture, front, pattern};
 
-// Whether a call that ended so lacks this many bytes.
+// Returns whether a call that ended so lacks this many bytes.
 fn lacks(error: &Option<PcapError>, n: usize) -> bool {
     match error {
         Some(PcapError::IncompleteBuffer(lack)) => *lack == n,
@@ -17,7 +17,7 @@ fn lacks(error: &Option<PcapError>, n: usize) -> bool {
     }
 }
 
-// Whether a parser of the capture asks for its packet's header, and then for the data.
+// Returns whether a parser of the capture requests its packet's header, and then the data.
 fn asks(bytes: &[u8]) -> bool {
     match PcapParser::new(bytes) {
         Ok((rest, parser)) => {
@@ -40,7 +40,7 @@ fn requests(rt: HostRuntime) -> Result<(), Fail> {
     Ok(())
 }
 
-// Whether this is the run over the first `end` bytes of the big-endian capture.
+// Returns whether this is the run over the first `end` bytes of the big-endian capture.
 fn is_run_of_beginning(run: &ResultParsing<PcapRun>, end: usize) -> bool {
     match run {
         Err(PcapError::IncompleteBuffer(n)) => end < 24 && *n == 24 - end,
@@ -67,7 +67,7 @@ fn every_beginning(rt: HostRuntime) -> Result<(), Fail> {
     Ok(())
 }
 
-// What a capture's header and its packet's say.
+// The fields of a capture's header and of its packet's header.
 #[derive(Clone, Copy)]
 struct Said {
     endianness: Endianness,
@@ -75,7 +75,7 @@ struct Said {
     packet: PacketHeader,
 }
 
-// Whether a run over these bytes has one packet, and it and the capture's header say this.
+// Returns whether a run over these bytes has one packet, and the headers have these fields.
 fn is_run(run: &PcapRun, bytes: &[u8], said: Said) -> bool {
     let header = &run.header;
     let is_header = header.has_valid_magic()
@@ -91,7 +91,7 @@ fn is_run(run: &PcapRun, bytes: &[u8], said: Said) -> bool {
     is_header && is_whole && is_packet
 }
 
-// Whether a packet has this header, and lends these bytes.
+// Returns whether a packet has this header, and lends these bytes.
 fn is_lent(packet: &Packet<'_>, header: PacketHeader, bytes: &[u8]) -> bool {
     packet.header == header && packet.data_.is_borrowed() && packet.data_.as_slice() == bytes
 }
@@ -119,14 +119,14 @@ fn whole_captures(rt: HostRuntime) -> Result<(), Fail> {
     Ok(())
 }
 
-// A packet's head in microseconds: no seconds, and these bytes of fraction, stored and original length.
+// Returns a packet's header in microseconds: 0 seconds, and these bytes of fraction, stored and original length.
 fn head(numbers: [u8; 12]) -> [u8; 16] {
     let mut head = [0; 16];
     head[4..].copy_from_slice(&numbers);
     head
 }
 
-// Whether a packet with this head is refused for this fault.
+// Returns whether a packet with this header is refused with this message.
 fn is_refused(numbers: [u8; 12], text: &str) -> bool {
     match Packet::from_slice::<BigEndian>(&head(numbers), TsResolution::MicroSecond) {
         Err(PcapError::InvalidField(fault)) => fault == text,
@@ -134,7 +134,7 @@ fn is_refused(numbers: [u8; 12], text: &str) -> bool {
     }
 }
 
-// Whether so many bytes are missing of one with this head.
+// Returns whether a packet with this header lacks `lack` bytes.
 fn is_asked(numbers: [u8; 12], lack: usize) -> bool {
     let bytes = head(numbers);
     let packet = Packet::from_slice::<BigEndian>(&bytes, TsResolution::MicroSecond);
@@ -185,7 +185,7 @@ fn heads_of_packets(rt: HostRuntime) {
     }
 }
 
-// Whether one with this head is a packet without bytes, of this original length, at so many nanoseconds.
+// Returns whether a packet with this header has no bytes, this original length and this number of nanoseconds.
 fn is_empty(numbers: [u8; 12], ts_nsec: u32, orig_len: u32) -> bool {
     let bytes = head(numbers);
     match Packet::from_slice::<BigEndian>(&bytes, TsResolution::MicroSecond) {
@@ -216,14 +216,14 @@ fn empty_packets(rt: HostRuntime) {
     assert!(rt; PacketHeader::default() == PacketHeader::new(0, 0, 0, 0));
 }
 
-// Whether a packet has a header with this stored length, and owns these bytes.
+// Returns whether a packet has a header with this stored length, and owns these bytes.
 fn is_own(own: &Packet<'_>, incl_len: u32, bytes: &[u8]) -> bool {
     own.header == PacketHeader::new(1, 2, incl_len, 3)
         && !own.data_.is_borrowed()
         && own.data_.as_slice() == bytes
 }
 
-// Whether a packet of these bytes that states this length owns them as a copy, and where it gives them itself.
+// Returns whether a packet with these bytes and this stated length owns them: as a copy, and if it is given the bytes themselves.
 fn owns(alloc: Global, incl_len: u32, bytes: &[u8]) -> ResultParsing<bool> {
     let packet = Packet {
         header: PacketHeader::new(1, 2, incl_len, 3),
@@ -237,7 +237,7 @@ fn owns(alloc: Global, incl_len: u32, bytes: &[u8]) -> ResultParsing<bool> {
 #[test]
 fn owned_packets(rt: HostRuntime) -> Result<(), Fail> {
     let pattern = pattern(rt.alloc(), 262_144)?;
-    // the stated length, and that of the data
+    // the stated length, and the length of the data
     for (incl_len, len) in [
         (9, 2),
         (0, 5),
@@ -252,7 +252,7 @@ fn owned_packets(rt: HostRuntime) -> Result<(), Fail> {
     Ok(())
 }
 
-// Whether the clone of a packet has the same header and bytes, held in the same way.
+// Returns whether the clone of a packet has the same header and the same bytes, held in the same way.
 fn is_cloned(packet: &Packet<'_>) -> Result<bool, AllocError> {
     let clone = packet.clone()?;
     let is_held = packet.data_.is_borrowed() == clone.data_.is_borrowed();
@@ -270,7 +270,7 @@ fn clones(rt: HostRuntime) -> Result<(), Fail> {
     Ok(())
 }
 
-// Whether this number is this link type, and the other way round.
+// Returns whether this number is this link type, in both directions.
 fn is_link(number: u32, link: DataLink) -> bool {
     DataLink::from(number) == link && u32::from(link) == number
 }

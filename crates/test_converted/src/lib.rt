@@ -1,4 +1,4 @@
-//! Captures that are converted to the other format: what goes out, and how a conversion ends.
+//! Captures converted to the other format: what is written, and how a conversion ends.
 #![tactic(auto)]
 
 #[cfg(test)]

@@ -1,4 +1,4 @@
-//! Blocks that become classic captures.
+//! PcapNg captures converted to classic captures.
 
 use crate::block_rows::{PLACED, UNPLACED};
 use crate::told::{every_row, fault_of, kind_of};
@@ -13,7 +13,7 @@ use test_support::readers::Halting;
 use test_support::rows::bytes;
 use test_support::writers::Narrow;
 
-// A row: what is done with packets that have no place, the most blocks, the header that is written, and the capture.
+// A row: what happens to packets that can't be converted, the most blocks, the header that is written, and the capture.
 #[derive(Drop)]
 struct Row {
     unplaced: IfUnplaced,
@@ -44,7 +44,7 @@ fn row_of(alloc: Global, given: &str) -> Result<Row, Fail> {
     })
 }
 
-// What a row converts to, with what stands behind the header.
+// Converts the capture of a row, and returns what is written after the header.
 fn converted(alloc: Global, row: &Row) -> ResultParsing<(NgConverted, Vec<u8>)> {
     let stream = Halting::new(alloc, row.capture.as_slice(), 5)?;
     let mut reader = PcapNgReader::new(alloc, stream)?;
@@ -53,7 +53,7 @@ fn converted(alloc: Global, row: &Row) -> ResultParsing<(NgConverted, Vec<u8>)> 
     Ok((ended, writer.into_writer()))
 }
 
-// Whether the capture of a row is converted as the row says.
+// Returns whether the capture of a row is converted as the row says.
 fn converts(alloc: Global, given: &str, told: &str) -> Result<bool, Fail> {
     let (ending, packets) = told.split_once('|').ok_or("a row without a bar")?;
     let (ended, out) = converted(alloc, &row_of(alloc, given)?)?;
@@ -74,13 +74,13 @@ fn captures(rt: HostRuntime) -> Result<(), Fail> {
     Ok(())
 }
 
-// Whether so many blocks and packets are counted, and nothing is left out.
+// Returns whether this many blocks and packets are counted, and nothing is left out.
 fn counts(ended: &NgConverted, blocks: u64, packets: u64) -> bool {
     ended.blocks == blocks && ended.packets == packets && ended.left_out == 0
 }
 
-// The first capture, whose blocks end behind 28, 60, 112, 156, 192, 208, 232, 252, 284 and 300 bytes, and its packets, which end behind
-// 21, 41 and 57 bytes.
+// Returns the first capture and its packets. Its blocks end after 28, 60, 112, 156, 192, 208, 232, 252, 284 and 300 bytes, and the
+// packets after 21, 41 and 57 bytes.
 fn three_packets(alloc: Global) -> Result<(Row, Vec<u8>), Fail> {
     let (given, told) = PLACED.trim().split_once("=>").ok_or("no row")?;
     let (_ending, after) = told.split_once('|').ok_or("a row without a bar")?;
@@ -88,7 +88,7 @@ fn three_packets(alloc: Global) -> Result<(Row, Vec<u8>), Fail> {
     Ok((row_of(alloc, given)?, bytes(alloc, packets)?))
 }
 
-// How many blocks, and how many packets, have gone out before the packet of which a byte is the first that fails.
+// Returns how many blocks were taken and how many packets written before the packet in which a write fails after `room` bytes.
 fn written_before(room: usize) -> (u64, u64) {
     match room {
         0..21 => (1, 0),
@@ -97,7 +97,7 @@ fn written_before(room: usize) -> (u64, u64) {
     }
 }
 
-// Whether a writer with so much room behind the header fails once, with a beginning of the packets written, and then refuses.
+// Returns whether a writer with `room` bytes after the header fails once, with a beginning of the packets written, and then refuses.
 fn fails(alloc: Global, row: &Row, packets: &[u8], room: usize) -> ResultParsing<bool> {
     let stream = Halting::new(alloc, row.capture.as_slice(), 100)?;
     let mut reader = PcapNgReader::new(alloc, stream)?;
@@ -124,7 +124,7 @@ fn every_failed_write(rt: HostRuntime) -> Result<(), Fail> {
     Ok(())
 }
 
-// How many blocks behind the section, packets, and bytes of packets the first so many bytes of that capture are.
+// Returns the blocks after the section, the packets, and the bytes of packets in the first `end` bytes of that capture.
 fn converted_of(end: usize) -> (u64, u64, usize) {
     match end {
         0..60 => (0, 0, 0),
@@ -140,7 +140,7 @@ fn converted_of(end: usize) -> (u64, u64, usize) {
     }
 }
 
-// Whether a reader whose read fails behind so many bytes converts what came before.
+// Returns whether a reader whose read fails after `end` bytes converts what came before.
 fn reads(alloc: Global, row: &Row, packets: &[u8], end: usize) -> ResultParsing<bool> {
     let mut stream = Halting::new(alloc, row.capture.as_slice(), 1)?;
     stream.fails_at = end.saturating_add(1);
@@ -158,7 +158,7 @@ fn reads(alloc: Global, row: &Row, packets: &[u8], end: usize) -> ResultParsing<
 #[test]
 fn every_failed_read(rt: HostRuntime) -> Result<(), Fail> {
     let (row, packets) = three_packets(rt.alloc())?;
-    // the call that fails comes after so many bytes, one a call
+    // the call that fails comes after this many bytes, one a call
     for end in 28..301usize {
         assert!(rt;
             reads(rt.alloc(), &row, packets.as_slice(), end)?,

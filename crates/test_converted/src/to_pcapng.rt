@@ -1,4 +1,4 @@
-//! Classic captures that become blocks.
+//! Classic captures converted to PcapNg captures.
 
 use crate::rows::{MOST, REFUSED, WHOLE};
 use crate::told::{every_row, fault_of, kind_of};
@@ -11,14 +11,14 @@ use test_support::readers::Halting;
 use test_support::rows::bytes;
 use test_support::writers::Narrow;
 
-// Whether so many packets went out, and the flags are these.
+// Returns whether this many packets were written, and the flags are these.
 fn tells(copied: &Copied, packets: u64, read_failed: bool, write_failed: bool) -> bool {
     copied.packets == packets
         && copied.read_failed == read_failed
         && copied.write_failed == write_failed
 }
 
-// Whether the capture of a row is converted as the row says.
+// Returns whether the capture of a row is converted as the row says.
 fn converts(alloc: Global, given: &str, told: &str) -> Result<bool, Fail> {
     let (most, digits) = given
         .trim_start()
@@ -49,7 +49,7 @@ fn captures(rt: HostRuntime) -> Result<(), Fail> {
     Ok(())
 }
 
-// The capture of the first row, 71 bytes, and its blocks, 140 bytes.
+// Returns the capture of the first row, 71 bytes, and its blocks, 140 bytes.
 fn two_packets(alloc: Global) -> Result<(Vec<u8>, Vec<u8>), Fail> {
     let (given, told) = WHOLE.trim().split_once("=>").ok_or("no row")?;
     let (_most, digits) = given.split_once(' ').ok_or("a row without a number")?;
@@ -58,7 +58,7 @@ fn two_packets(alloc: Global) -> Result<(Vec<u8>, Vec<u8>), Fail> {
     Ok((bytes(alloc, digits)?, bytes(alloc, blocks)?))
 }
 
-// How many packets, and how many bytes of blocks, the first so many bytes of that capture are.
+// Returns how many packets and how many bytes of blocks the first `end` bytes of that capture give.
 fn converted_of(end: usize) -> (u64, usize) {
     match end {
         0..24 => (0, 0),
@@ -68,7 +68,7 @@ fn converted_of(end: usize) -> (u64, usize) {
     }
 }
 
-// Whether the first so many bytes become the blocks of the packets that are whole in them.
+// Returns whether the first `end` bytes become the blocks of the packets that are whole in them.
 fn begins(alloc: Global, capture: &[u8], blocks: &[u8], end: usize) -> Result<bool, Fail> {
     let mut stream = Halting::new(alloc, front(capture, end), 7)?;
     let mut out = Vec::new(alloc);
@@ -98,7 +98,7 @@ fn every_beginning(rt: HostRuntime) -> Result<(), Fail> {
     Ok(())
 }
 
-// Whether a stream that fails after so many bytes, one a call, becomes the same.
+// Returns whether a stream that fails after `end` bytes, one a call, becomes the same.
 fn stops(alloc: Global, capture: &[u8], blocks: &[u8], end: usize) -> Result<bool, Fail> {
     let mut stream = Halting::new(alloc, capture, 1)?;
     stream.fails_at = end.saturating_add(1);
@@ -123,7 +123,7 @@ fn every_failed_read(rt: HostRuntime) -> Result<(), Fail> {
     Ok(())
 }
 
-// How many packets, and how many bytes of the capture, were taken where so many bytes went out and then a write failed.
+// Returns how many packets and how many bytes of the capture were taken if a write failed after `room` bytes.
 fn taken_behind(room: usize) -> (u64, usize) {
     match room {
         0..60 => (0, 24),
@@ -132,7 +132,7 @@ fn taken_behind(room: usize) -> (u64, usize) {
     }
 }
 
-// An output of so much room, which fails or takes nothing then, and takes at most 7 bytes a call where it is narrow.
+// Returns an output for `room` bytes, which then fails or takes nothing. If it is narrow, it takes at most 7 bytes a call.
 fn output(alloc: Global, room: usize, fails: bool, is_narrow: bool) -> Narrow {
     let mut output = Narrow::new(alloc, room, fails);
     if is_narrow {
@@ -141,7 +141,7 @@ fn output(alloc: Global, room: usize, fails: bool, is_narrow: bool) -> Narrow {
     output
 }
 
-// Whether so many bytes go out into this output, and the error is of this kind.
+// Returns whether the expected bytes are written to this output, and the error is of this kind.
 fn fills(
     alloc: Global,
     capture: &[u8],

@@ -1,11 +1,11 @@
-//! What rows tell of a conversion, and how it ended.
+//! The checks of rows, and how a conversion ended.
 
 use pcap_file::PcapError;
 use std::alloc::Global;
 use std::io::ErrorKind;
 use std::test::Fail;
 
-/// Whether the capture of each row of a table is converted as the row says; else a failure that tells the row.
+/// Checks that the capture of each row of a table is converted as the row says. Otherwise it returns a failure that names the row.
 pub(crate) fn every_row<F: Fn(Global, &str, &str) -> Result<bool, Fail>>(
     alloc: Global,
     table: &str,
@@ -22,7 +22,7 @@ pub(crate) fn every_row<F: Fn(Global, &str, &str) -> Result<bool, Fail>>(
     Ok(())
 }
 
-/// Why it ended: the message of the rule that was broken, or the kind of the error.
+/// Returns why it ended: the message of the broken rule, or the kind of the error.
 pub(crate) fn fault_of(fault: &Option<PcapError>) -> &'static str {
     match fault {
         None => "none",
@@ -33,7 +33,7 @@ pub(crate) fn fault_of(fault: &Option<PcapError>) -> &'static str {
     }
 }
 
-/// The kind of the error inside an `IoError`.
+/// Returns the kind of the error inside an `IoError`.
 pub(crate) fn kind_of(fault: &Option<PcapError>) -> Option<ErrorKind> {
     match fault {
         Some(PcapError::IoError(error)) => Some(error.kind()),

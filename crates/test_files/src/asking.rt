@@ -1,4 +1,4 @@
-//! How often a check asks its input, and how often a cut calls its output.
+//! Counts how often a check reads its input, and how often a cut writes its output.
 
 use pcapfile_cut::{Opening, Wanted, cut_part};
 use pcapfile_run::{check_blocks, check_packets};
@@ -9,14 +9,14 @@ use test_support::captures::{LITTLE_HEAD, SECTIONS, front, little};
 use test_support::readers::Halting;
 use test_support::writers::Narrow;
 
-// Whether a check of packets asks its input once at its end.
+// Returns whether a check of packets reads its input once at the end.
 fn checks_packets(alloc: Global) -> Result<bool, Fail> {
     let mut input = Halting::new(alloc, little(alloc)?.as_slice(), 7)?;
     let checked = check_packets(alloc, BufReader::with_capacity(alloc, 7, &mut input)?);
     Ok(checked.status() == 0 && input.ends == 1)
 }
 
-// Whether a check of blocks does.
+// Returns whether a check of blocks does.
 fn checks_blocks(alloc: Global) -> Result<bool, Fail> {
     let mut input = Halting::new(alloc, &SECTIONS, 7)?;
     let checked = check_blocks(alloc, BufReader::with_capacity(alloc, 7, &mut input)?);
@@ -30,7 +30,7 @@ fn one_end_is_enough(rt: HostRuntime) -> Result<(), Fail> {
     Ok(())
 }
 
-// A capture of six packets without data, whose seconds are 0, 1, 0, 1, 0 and 1.
+// Returns a capture of six packets without data, whose seconds are 0, 1, 0, 1, 0 and 1.
 fn six_packets(alloc: Global) -> Result<Vec<u8>, Fail> {
     let mut bytes = Vec::from_slice(alloc, front(&LITTLE_HEAD, 24))?;
     for second in [0, 1, 0, 1, 0, 1] {
@@ -39,7 +39,7 @@ fn six_packets(alloc: Global) -> Result<Vec<u8>, Fail> {
     Ok(bytes)
 }
 
-// How often a cut of those of the second 1 calls its output, and how often it finds no more input.
+// Returns how often a cut of the packets of second 1 calls its output, and how often it finds no more input.
 fn calls_of_a_cut(alloc: Global) -> Result<(u64, usize), Fail> {
     let mut input = Halting::new(alloc, six_packets(alloc)?.as_slice(), 65536)?;
     let mut output = Narrow::new(alloc, 1000, false);

@@ -1,4 +1,4 @@
-//! The lines of checks.
+//! The lines that `check` writes.
 
 use pcap_file::{PcapError, Rule};
 use pcapfile_run::{Checked, End, Format};
@@ -8,7 +8,7 @@ use std::io::ErrorKind;
 use std::test::*;
 use test_support::rows::same;
 
-// Whether a check of seven blocks and 1234 bytes that ended so has this line.
+// Checks that a check of seven blocks and 1234 bytes with this end has this line.
 fn tells(alloc: Global, end: End, text: &str) -> Result<(), Fail> {
     let checked = Checked {
         format: Format::PcapNg,

@@ -1,13 +1,13 @@
-//! Inputs behind buffers of several sizes.
+//! Inputs with buffers of several sizes.
 
 use std::alloc::Global;
 use std::io::{BufReader, Read};
 use std::test::Fail;
 
-/// The sizes of an input's buffer. The smaller ones cut blocks everywhere.
+/// The sizes of an input's buffer, in bytes. The smaller ones split blocks everywhere.
 pub(crate) const ROOMS: [usize; 4] = [1, 17, 40, 65536];
 
-/// The input behind a buffer of this size.
+/// Returns the input with a buffer of this size.
 pub(crate) fn buffered<R: Read + Drop>(
     alloc: Global,
     room: usize,

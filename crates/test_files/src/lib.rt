@@ -1,4 +1,4 @@
-//! The words of `pcapfile` over inputs and outputs in memory.
+//! Tests of the words of `pcapfile` on inputs and outputs in memory.
 #![tactic(auto)]
 
 #[cfg(test)]

@@ -1,4 +1,4 @@
-//! The word `list` over captures of either format.
+//! The word `list` on captures of either format.
 
 use crate::inputs::{ROOMS, buffered};
 use pcapfile_run::list;
@@ -8,7 +8,7 @@ use test_support::captures::{SECTIONS, front};
 use test_support::readers::Halting;
 use test_support::rows::{bytes, same};
 
-/// The most packets or blocks of a run that asks for all.
+/// The limit of packets or blocks for a run over all.
 const ALL: u64 = 4_294_967_295;
 
 /// Bytes after a big-endian section header, and the lines of their packets, each with a semicolon.
@@ -23,8 +23,8 @@ const ROWS: &str = "
     000000010000001400010000000000050000001400000003000000180000006401020304050000000000001800000001000000140001000000000000000000140000000300000014000000020102000000000014 => 1 - 5/100 0;2 - 2/2 0;
 ";
 
-// The status of a run over this capture, behind a buffer of this size and by so many bytes a read, where these are its lines, each
-// with a semicolon.
+// Returns the status of a run over this capture, with a buffer of this size and `step` bytes a read, after it checks the lines, each with
+// a semicolon.
 fn status(
     alloc: Global,
     capture: &[u8],
@@ -43,7 +43,7 @@ fn status(
     Ok(exit.status())
 }
 
-// Whether the packets behind a section header have these lines, behind each buffer.
+// Checks that the packets after a section header have these lines, with each buffer.
 fn are_listed(alloc: Global, digits: &str, lines: &str) -> Result<(), Fail> {
     let packets = bytes(alloc, digits)?;
     let mut capture = Vec::from_slice(alloc, front(&SECTIONS, 28))?;
@@ -77,7 +77,7 @@ const CAPTURES: &str = "
     a1b2c3d4 0002 0004 00000000 00000000 0000ffff 00000001 6553f100 00000001 00000002 00000003 aabb 00000000 00000000 00000000 00000000 => 1 1700000000.000001000 2/3;2 0.000000000 0/0; => 0
 ";
 
-// Whether the capture of these digits has these lines, and ends with this status.
+// Checks that the capture with these digits has these lines, and ends with this status.
 fn ends(alloc: Global, digits: &str, lines: &str, wanted: &str) -> Result<(), Fail> {
     let capture = bytes(alloc, digits)?;
     let status = status(alloc, capture.as_slice(), 16, 7, lines)?;

@@ -1,4 +1,4 @@
-//! Filters of short tables.
+//! Filters made from short tables.
 
 use pcap_filter::{Filter, FilterError, Instruction, Rule};
 use std::alloc::Global;
@@ -7,7 +7,7 @@ use std::test::*;
 /// An instruction as a table has it: its code, `jt`, `jf` and `k`.
 pub(crate) type Row = (u16, u8, u8, u32);
 
-/// The instructions of a table.
+/// Returns the instructions of a table.
 pub(crate) fn program_of(alloc: Global, rows: &[Row]) -> Result<Vec<Instruction>, Fail> {
     let mut program = Vec::new(alloc);
     for &(code, jt, jf, k) in rows {
@@ -16,7 +16,7 @@ pub(crate) fn program_of(alloc: Global, rows: &[Row]) -> Result<Vec<Instruction>
     Ok(program)
 }
 
-/// The filter of a table that is a valid program.
+/// Returns the filter of a table that is a valid program.
 pub(crate) fn filter_of(alloc: Global, rows: &[Row]) -> Result<Filter, Fail> {
     let program = program_of(alloc, rows)?;
     match Filter::new(alloc, program.as_slice()) {
@@ -25,7 +25,7 @@ pub(crate) fn filter_of(alloc: Global, rows: &[Row]) -> Result<Filter, Fail> {
     }
 }
 
-/// The place and the rule for which a table is refused.
+/// Returns the place and the rule for which a table is refused.
 pub(crate) fn refusal_of(alloc: Global, rows: &[Row]) -> Result<(usize, Rule), Fail> {
     let program = program_of(alloc, rows)?;
     match Filter::new(alloc, program.as_slice()) {

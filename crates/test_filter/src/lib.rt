@@ -1,4 +1,4 @@
-//! Filters: what each operation does, programs of tcpdump, and programs that are refused.
+//! Tests of filters: each operation, programs of tcpdump, and programs that are refused.
 #![tactic(auto)]
 
 #[cfg(test)]

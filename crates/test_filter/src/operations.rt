@@ -1,4 +1,4 @@
-//! What each operation does. Each result is that of libpcap's interpreter for the same program and packet.
+//! The results of each operation. Each is that of libpcap's interpreter for the same program and packet.
 
 use crate::filters::{Row, filter_of};
 use std::alloc::Global;
@@ -7,7 +7,7 @@ use std::test::*;
 /// The packet. Its original length is 1000 bytes.
 const PACKET: [u8; 10] = [0x45, 0xff, 0x80, 0x01, 0x7e, 0x02, 0x03, 0x04, 0xf0, 0x0f];
 
-/// Loads and stores, and the result.
+/// Loads and stores, and their results.
 const LOADS: [([Row; 5], u32); 24] = [
     (
         [
@@ -251,7 +251,7 @@ const LOADS: [([Row; 5], u32); 24] = [
     ),
 ];
 
-/// Calculations, and the result.
+/// Calculations, and their results.
 const CALCULATIONS: [([Row; 5], u32); 31] = [
     (
         [
@@ -565,7 +565,7 @@ const CALCULATIONS: [([Row; 5], u32); 31] = [
     ),
 ];
 
-/// Jumps, and the result.
+/// Jumps, and their results.
 const JUMPS: [([Row; 5], u32); 35] = [
     (
         [
@@ -919,7 +919,7 @@ const JUMPS: [([Row; 5], u32); 35] = [
     ),
 ];
 
-// Whether each program returns what stands beside it.
+// Returns whether each program returns the result in its row.
 fn returns(alloc: Global, rows: &[([Row; 5], u32)]) -> Result<bool, Fail> {
     for (program, wanted) in rows {
         let filter = filter_of(alloc, program)?;

@@ -1,4 +1,4 @@
-//! Programs of tcpdump over packets.
+//! Programs of tcpdump run on packets.
 
 use crate::filters::{Row, filter_of};
 use std::alloc::Global;
@@ -34,7 +34,7 @@ const QUERY: [u8; 42] = [
     0, 0, 1, 2, 3, 4, 5, 6, 7, 8, 0x30, 0x39, 0, 53, 0, 36, 0, 0,
 ];
 
-// What the filter returns for the first bytes of the query, one of which may be another.
+// Returns the filter's result for the first `len` bytes of the query, one of which may be changed.
 fn result(alloc: Global, len: usize, changed: Option<(usize, u8)>) -> Result<u32, Fail> {
     let filter = filter_of(alloc, &DNS)?;
     let mut packet = QUERY;

@@ -24,7 +24,7 @@ const BROKEN: [([Row; 2], usize, Rule); 12] = [
     ([RETURN, (0x00, 0, 0, 0)], 1, Rule::ReturnMissing),
 ];
 
-// Whether each program is refused as the table says.
+// Returns whether each program is refused as the table says.
 fn is_refused(alloc: Global) -> Result<bool, Fail> {
     for (program, place, rule) in &BROKEN {
         if refusal_of(alloc, program)? != (*place, *rule) {

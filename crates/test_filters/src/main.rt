@@ -1,16 +1,16 @@
-//! Runs filters over packets: each line of the input is a program, as `tcpdump -ddd` prints it, with a comma in place of each line's
-//! end; the packet's original length; and its bytes in hexadecimal digits, parted by bars. Each line of the output is what the program
-//! returns, or why it is refused.
+//! Runs filters on packets. Each line of the input is a program, the packet's original length, and its bytes in hexadecimal digits,
+//! separated by bars. The program is printed as by `tcpdump -ddd`, with a comma in place of each line end. Each line of the output is the
+//! program's result, or why it is refused.
 //!
-//! The programs and packets of `stdin` were drawn at random. `stdout` is what libpcap's interpreter gives for them:
-//! `tests/filter/run --write` makes both.
+//! The programs and packets of `stdin` were drawn at random. `stdout` is what libpcap's interpreter gives for them. `tests/filter/run
+//! --write` makes both.
 #![tactic(auto)]
 
 use anyhow::{Context, Result};
 use pcap_filter::{Filter, parse};
 use std::alloc::Global;
 
-// The text of a program whose lines end in commas.
+// Returns the text of a program whose lines end in commas.
 fn lines_of(alloc: Global, program: &str) -> Result<String> {
     let mut text = String::new(alloc);
     for line in program.split(',') {
@@ -20,7 +20,7 @@ fn lines_of(alloc: Global, program: &str) -> Result<String> {
     Ok(text)
 }
 
-// What the program of a line returns for its packet.
+// Returns the result of the program of a line for its packet.
 fn result_of(alloc: Global, line: &str) -> Result<u32> {
     let (program, packet) = line.split_once('|').context("a line has a program")?;
     let (length, digits) = packet.split_once('|').context("a line has a packet")?;

@@ -6,7 +6,7 @@ use pcap_file::{Endianness, PcapError, ResultParsing};
 use std::alloc::Global;
 use test_support::captures::SECTION;
 
-/// The number of the type of section headers.
+/// The block type of section headers.
 const SECTION_HEADER: u32 = 0x0a0d0d0a;
 
 /// A little-endian section header with no options.
@@ -15,7 +15,7 @@ const LITTLE_SECTION: [u8; 28] = [
     0xff, 0xff, 0xff, 0xff, 0xff, 0x1c, 0, 0, 0,
 ];
 
-/// What a body of this type gives, and what its block in a capture gives, where that is another value or refusal.
+/// Returns the result for a body of this type, and the result for its block in a capture if that differs.
 pub(crate) fn parsed<B: ByteOrder>(
     alloc: Global,
     type_: BlockType,
@@ -43,7 +43,8 @@ pub(crate) fn parsed<B: ByteOrder>(
     }
 }
 
-// The order of a block with this body: a section's own, any other's that of its section. None where no block has it.
+// Returns the byte order of a block with this body: a section's own, or else that of its section. Returns None if no block has that
+// order.
 fn order_of(order: Endianness, number: u32, body: &[u8]) -> Option<Endianness> {
     if body.len() % 4 != 0 {
         return None;
@@ -67,7 +68,7 @@ fn push_number(bytes: &mut Vec<u8>, order: Endianness, number: u32) -> ResultPar
     Ok(())
 }
 
-// What the body gives in a block of this type, after a section header in this order.
+// Returns the result for the body in a block of this type, after a section header in this byte order.
 fn in_block(alloc: Global, order: Endianness, number: u32, body: &[u8]) -> ResultParsing<String> {
     let len = u32::try_from(body.len()).unwrap_or(0).saturating_add(12);
     let mut capture = match order {
@@ -81,7 +82,7 @@ fn in_block(alloc: Global, order: Endianness, number: u32, body: &[u8]) -> Resul
     after_section(alloc, capture.as_slice())
 }
 
-// What the body of the first block after a capture's section header gives.
+// Returns the result for the body of the first block after a capture's section header.
 fn after_section(alloc: Global, capture: &[u8]) -> ResultParsing<String> {
     let (rest, mut parser) = PcapNgParser::new(alloc, capture)?;
     let (_rest, block) = parser.next_block(rest)?;
@@ -89,7 +90,7 @@ fn after_section(alloc: Global, capture: &[u8]) -> ResultParsing<String> {
     Ok(format!(in alloc; "{parsed:?}")?)
 }
 
-/// The refusal as text.
+/// Returns the error as text.
 pub(crate) fn refusal(alloc: Global, error: &PcapError) -> ResultParsing<String> {
     let mut told = String::new(alloc);
     match error {

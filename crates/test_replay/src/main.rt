@@ -1,9 +1,9 @@
-//! Replays calls on slices: each line of the input is a call, the order of numbers, the resolution of times, an option's
-//! code and a slice in hexadecimal digits, parted by bars. Each line of the output is what the call gives: the remainder
-//! and the value, how many bytes it lacks, or the refusal.
+//! Replays calls on slices. Each line of the input is a call, the byte order, the timestamp resolution, an option's code and a slice in
+//! hexadecimal digits, separated by bars. Each line of the output is the result: the remainder and the value, how many bytes the slice
+//! lacks, or the error.
 //!
-//! The calls of `stdin` were drawn at random. `stdout` is what a model of the formats, which shares nothing with this
-//! program, gives for them: `tests/model/run` makes it.
+//! The calls of `stdin` were drawn at random. `tests/model/run` makes `stdout` with a model of the formats that shares no code with this
+//! program.
 #![tactic(auto)]
 
 mod framed;
@@ -48,7 +48,7 @@ fn main(rt: HostRuntime) -> io::Result<()> {
     Ok(())
 }
 
-// Prints what a call gives.
+// Prints the result of a call.
 fn replay<B: ByteOrder>(
     rt: &HostRuntime,
     call: &str,
@@ -76,7 +76,7 @@ fn replay<B: ByteOrder>(
     }
 }
 
-// The same of a call that reads options.
+// Does the same for a call that reads options.
 fn replay_options<B: ByteOrder>(
     rt: &HostRuntime,
     call: &str,
@@ -107,7 +107,7 @@ fn replay_options<B: ByteOrder>(
     }
 }
 
-// The same of a call that reads names or records.
+// Does the same for a call that reads names or records.
 fn replay_record<B: ByteOrder>(rt: &HostRuntime, call: &str, slice: &[u8]) -> io::Result<()> {
     match call {
         "Ipv4Record::from_slice" => match Ipv4Record::from_slice(rt.alloc(), slice) {
@@ -130,7 +130,7 @@ fn replay_record<B: ByteOrder>(rt: &HostRuntime, call: &str, slice: &[u8]) -> io
     }
 }
 
-// The same of a body of this type. Its block in a capture has to give the same value.
+// Does the same for a body of this type. Its block in a capture must give the same value.
 fn replay_body<B: ByteOrder>(rt: &HostRuntime, name: &str, slice: &[u8]) -> io::Result<()> {
     let (type_, number) = match name {
         "SectionHeader" => (BlockType::SectionHeader, 0x0a0d0d0a),

@@ -1,10 +1,10 @@
-//! PcapNg captures.
+//! Resumed parsing of PcapNg captures.
 
 use pcap_file::PcapError;
 use pcap_file::run::{Rest, Window, exact_pcapng, pieces_fit, pieces_pcapng};
 use std::alloc::Global;
 
-// A section in each order, with an interface behind each.
+// A section in each byte order, with an interface after each.
 const SECTIONS: [u8; 96] = [
     0x0a, 0x0d, 0x0d, 0x0a, 0, 0, 0, 0x1c, 0x1a, 0x2b, 0x3c, 0x4d, 0, 1, 0, 0, 0xff, 0xff, 0xff,
     0xff, 0xff, 0xff, 0xff, 0xff, 0, 0, 0, 0x1c, 0, 0, 0, 1, 0, 0, 0, 0x14, 0, 1, 0, 0, 0, 4, 0, 0,
@@ -13,14 +13,14 @@ const SECTIONS: [u8; 96] = [
     0, 0, 4, 0, 0x14, 0, 0, 0,
 ];
 
-// A section, and what stands behind it.
+// Returns a section, and `more` after it.
 fn with_section(alloc: Global, more: &[u8]) -> Option<Vec<u8>> {
     let mut bytes = Vec::from_slice(alloc, &SECTIONS[..28]).ok()?;
     bytes.extend_from_slice(more).ok()?;
     Some(bytes)
 }
 
-// How many blocks there are, what is missing after them (none where nothing is), and how many requests that took.
+// Returns how many blocks there are, how many bytes are missing after them (0 if none), and how many requests were made.
 fn shown(alloc: Global, bytes: &[u8]) -> Option<(usize, usize, u64)> {
     let mut window = Window::new(bytes);
     match exact_pcapng(alloc, &mut window) {
@@ -34,7 +34,7 @@ fn shown(alloc: Global, bytes: &[u8]) -> Option<(usize, usize, u64)> {
     }
 }
 
-// The same of what stands behind a section.
+// Does the same for the bytes after a section.
 fn shown_behind(alloc: Global, more: &[u8]) -> Option<(usize, usize, u64)> {
     shown(alloc, with_section(alloc, more)?.as_slice())
 }
@@ -44,7 +44,7 @@ fn requests_are_exact(rt: HostRuntime) {
     for (end, wanted) in [(28, (0, 0, 2)), (96, (3, 0, 8)), (20, (0, 8, 0))] {
         assert_eq!(rt; shown(rt.alloc(), &SECTIONS[..end]), Some(wanted));
     }
-    // a block without a body, and one that states nearly all bytes there may be
+    // a block without a body, and one that states nearly the largest possible length
     for (more, wanted) in [
         ([0, 0, 0, 0xff, 0, 0, 0, 12, 0, 0, 0, 12], (1, 0, 3)),
         (
@@ -56,7 +56,7 @@ fn requests_are_exact(rt: HostRuntime) {
     }
 }
 
-// What the pieces between two cuts hold: the numbers after each, and how many bytes were taken in all.
+// Returns what the pieces between two cuts hold: the numbers after each, and how many bytes were taken in all.
 fn cut(
     alloc: Global,
     bytes: &[u8],
@@ -81,7 +81,7 @@ fn cut(
     ))
 }
 
-// How many blocks after the first end within so many bytes.
+// Returns how many blocks after the first end within the first `bytes` bytes.
 fn ended(bytes: usize) -> usize {
     usize::from(48 <= bytes) + usize::from(76 <= bytes) + usize::from(96 <= bytes)
 }
@@ -107,7 +107,7 @@ fn no_piece_lacks_the_first_block(rt: HostRuntime) {
     assert_eq!(rt; lacks, 12);
 }
 
-// How many bytes of these are shown where no capture begins with them.
+// Returns how many of these bytes the parser requests if no capture begins with them.
 fn shown_of_refused(alloc: Global, bytes: &[u8]) -> Option<usize> {
     let mut window = Window::new(bytes);
     match exact_pcapng(alloc, &mut window) {
@@ -116,7 +116,8 @@ fn shown_of_refused(alloc: Global, bytes: &[u8]) -> Option<usize> {
     }
 }
 
-// The head of a block is twelve bytes. A head that is refused shows no more, and a block no more than it states.
+// Checks how much the parser requests of a refused first block: the twelve bytes of its head, or at most the length that the block
+// states.
 #[test]
 fn nothing_is_asked_for_behind_a_refused_first_block(rt: HostRuntime) {
     let rows: [(&[u8], usize); 4] = [
@@ -124,14 +125,14 @@ fn nothing_is_asked_for_behind_a_refused_first_block(rt: HostRuntime) {
         (&[0, 0, 0, 0x99, 0, 0, 0, 0x0d, 0, 0, 0, 0, 7, 7, 7, 7], 12),
         // it is too short
         (&[0, 0, 0, 0x99, 0, 0, 0, 8, 0, 0, 0, 0, 7, 7, 7, 7], 12),
-        // it is no section
+        // it is no section header
         (
             &[
                 0, 0, 0, 0x99, 0, 0, 0, 0x10, 0, 0, 0, 0, 0, 0, 0, 0x10, 7, 7, 7, 7,
             ],
             16,
         ),
-        // it is torn
+        // it is truncated
         (&[0, 0, 0, 0x99, 0, 0, 0, 0x10, 0, 0, 0, 0, 0], 13),
     ];
     for (bytes, len) in rows {

@@ -1,4 +1,4 @@
-//! How often a parser is asked for an item, however its bytes come.
+//! Counts how often a stream parser calls its format, for all sizes of pieces.
 
 ghost use Rattle.pcap_core.specs.Bytes.{IsOwned};
 ghost use Rattle.pcap_classic.specs.declared.pcap.header.PcapHeader.{PcapHeader};
@@ -13,7 +13,7 @@ use pcap_file::pcap::Packet;
 use pcap_items::run::{PieceParser, feed_pieces, pieces_fit};
 use std::alloc::{AllocError, Global};
 
-// A parser of packets that counts how often it was asked for one.
+// A parser of packets that counts its calls.
 #[derive(Drop)]
 struct Counting {
     parser: PcapParser,
@@ -58,7 +58,7 @@ impl PieceParser for Counting {
     }
 }
 
-// How many packets come in pieces of so many bytes, and how often the parser is asked.
+// Returns how many packets come from pieces of `size` bytes, and how often the parser is called.
 fn asked(alloc: Global, bytes: &[u8], size: usize) -> Option<(usize, usize)> {
     let mut pieces: Vec<&[u8]> = Vec::new(alloc);
     for piece in bytes.chunks(size.max(1)) {
@@ -86,21 +86,21 @@ fn capture(alloc: Global) -> Option<Vec<u8>> {
     Some(bytes)
 }
 
-// The parser is asked behind the header and behind each packet, and once more for a packet whose head came before its end;
-// and it gives each packet at a call of its own. So a packet costs three calls at most.
+// Checks that a packet costs at most three calls. The parser is called after the header, after each packet, and once more for a packet
+// whose header came before its end. Each packet is returned by a call of its own.
 #[test]
 fn no_piece_asks_anew(rt: HostRuntime) {
     let bytes = capture(rt.alloc()).expect(&rt, "memory");
-    // how many bytes there are, how many each piece has, and then how many packets come and how many calls there are
+    // how many bytes there are, the size of each piece, and then how many packets come and how many calls are made
     let rows = [
-        // pieces of one and of four bytes end where each head and each packet does: the calls are behind the header; at the head
-        // of the first packet, at its end and behind it; at the end of the empty one and behind it; and so at the last one
+        // pieces of one and of four bytes end where each header and each packet does: the calls come after the capture's header; at the
+        // header of the first packet, at its end and after it; at the end of the empty one and after it; and likewise at the last one
         (176, 1, (3, 9)),
         (176, 4, (3, 9)),
         (172, 4, (2, 7)),
-        // the same of pieces that end elsewhere
+        // the same for pieces that end elsewhere
         (176, 10, (3, 9)),
-        // all at once: three packets, and behind them
+        // all at once: a call for each of the three packets, and one after them
         (176, 176, (3, 4)),
     ];
     for (end, size, wanted) in rows {
@@ -113,7 +113,7 @@ fn no_piece_asks_anew(rt: HostRuntime) {
     }
 }
 
-// The capture, a head that is refused, and zeros.
+// Returns the capture, a packet header that is refused, and zeros.
 fn refused_capture(alloc: Global) -> Option<Vec<u8>> {
     let mut bytes = capture(alloc)?;
     bytes.resize(192, 0xff).ok()?;
@@ -121,7 +121,7 @@ fn refused_capture(alloc: Global) -> Option<Vec<u8>> {
     Some(bytes)
 }
 
-// A refused head ends the calls, however much comes behind it.
+// Checks that no call follows a refused packet header, for any number of bytes after it.
 #[test]
 fn nothing_is_asked_behind_a_refusal(rt: HostRuntime) {
     let bytes = refused_capture(rt.alloc()).expect(&rt, "memory");
@@ -134,7 +134,7 @@ fn nothing_is_asked_behind_a_refusal(rt: HostRuntime) {
     }
 }
 
-// A parser of packets that has memory for a header and no byte more.
+// A parser of packets whose memory is enough for one header and no more.
 #[derive(Drop)]
 struct Sparing {
     parser: PcapParser,
@@ -180,7 +180,7 @@ impl PieceParser for Sparing {
     }
 }
 
-// Whether pieces of so many bytes, which open no capture, end with what refuses them.
+// Returns whether pieces of `size` bytes, which begin no capture, end with the error that refuses them.
 fn is_refused(alloc: Global, bytes: &[u8], size: usize) -> bool {
     let mut pieces: Vec<&[u8]> = Vec::new(alloc);
     for piece in bytes.chunks(size.max(1)) {
@@ -197,7 +197,7 @@ fn is_refused(alloc: Global, bytes: &[u8], size: usize) -> bool {
     )
 }
 
-// A refused header is asked about once, with its 24 bytes, however much comes behind it.
+// Checks that the parser is called once for a refused header, with its 24 bytes, for any number of bytes after it.
 #[test]
 fn nothing_is_opened_behind_a_refusal(rt: HostRuntime) {
     let alloc = rt.alloc();

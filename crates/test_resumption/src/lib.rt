@@ -1,4 +1,4 @@
-//! Captures that are shown as they are asked for, and captures that come in pieces.
+//! Tests of captures that are supplied as the parser requests them, and of captures that come in pieces.
 #![tactic(auto)]
 
 #[cfg(test)]

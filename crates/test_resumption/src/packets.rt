@@ -1,10 +1,10 @@
-//! Classic captures.
+//! Resumed parsing of classic captures.
 
 use pcap_file::PcapError;
 use pcap_file::run::{Rest, Window, exact_pcap, pieces_fit, pieces_pcap};
 use std::alloc::Global;
 
-// A header, and the head of a packet of 98 bytes.
+// A header, and the header of a packet of 98 bytes.
 const HEAD: [u8; 40] = [
     0xa1, 0xb2, 0xc3, 0xd4, 0, 2, 0, 4, 0, 0, 0, 0, 0, 0, 0, 0, 0, 0, 0xff, 0xff, 0, 0, 0, 1, 0x4f,
     0xa1, 0x1b, 0x29, 0, 2, 0x54, 0x36, 0, 0, 0, 0x62, 0, 0, 0, 0x62,
@@ -16,7 +16,7 @@ const EMPTY_PACKET: [u8; 40] = [
     0, 1, 0, 0, 0, 0, 0, 0, 0, 0, 0, 0, 0, 0,
 ];
 
-// The header and its packet.
+// Returns the header and its packet.
 fn whole(alloc: Global) -> Option<Vec<u8>> {
     let mut bytes = Vec::from_slice(alloc, &HEAD).ok()?;
     for byte in 0..98 {
@@ -25,7 +25,7 @@ fn whole(alloc: Global) -> Option<Vec<u8>> {
     Some(bytes)
 }
 
-// How many packets there are, what is missing after them (none where nothing is), and how many requests that took.
+// Returns how many packets there are, how many bytes are missing after them (0 if none), and how many requests were made.
 fn shown(alloc: Global, bytes: &[u8]) -> Option<(usize, usize, u64)> {
     let mut window = Window::new(bytes);
     match exact_pcap(alloc, &mut window) {
@@ -55,7 +55,7 @@ fn requests_are_exact(rt: HostRuntime) {
     }
 }
 
-// What the pieces between two cuts hold: the numbers after each, and how many bytes were taken in all.
+// Returns what the pieces between two cuts hold: the numbers after each, and how many bytes were taken in all.
 fn cut(
     alloc: Global,
     bytes: &[u8],
@@ -97,20 +97,20 @@ fn every_cutting_gives_the_same(rt: HostRuntime) {
     }
 }
 
-// What pieces give.
+// The result of pieces.
 #[derive(Clone, Copy, Debug, PartialEq)]
 struct Given {
-    // How many pieces there are, and how many of them hold no packet yet.
+    // How many pieces there are, and how many come before the first packet is whole.
     pieces: usize,
     empty: usize,
     // How many packets there are in the end, and how many bytes were taken.
     packets: usize,
     used: usize,
-    // How many bytes are missing behind them, or nothing where the rest is refused.
+    // How many bytes are missing after them, or None if the rest is refused.
     missing: Option<usize>,
 }
 
-// Each byte a piece, with an empty piece before them, behind each so many, and behind the last.
+// Supplies each byte as a piece, with empty pieces before them, after every `run` bytes, and after the last.
 fn bytewise(alloc: Global, bytes: &[u8], run: usize) -> Option<Given> {
     let mut pieces: Vec<&[u8]> = Vec::new(alloc);
     pieces.push(&[]).ok()?;
@@ -137,7 +137,7 @@ fn bytewise(alloc: Global, bytes: &[u8], run: usize) -> Option<Given> {
     })
 }
 
-// Each byte a piece: so many pieces, the first packet with the 138th byte, and so much missing behind it.
+// Returns the result for pieces of one byte: `pieces` pieces, the first packet with the 138th byte, and `missing` bytes after it.
 fn one_packet(pieces: usize, empty: usize, missing: Option<usize>) -> Option<Given> {
     Some(Given {
         pieces,
@@ -148,7 +148,7 @@ fn one_packet(pieces: usize, empty: usize, missing: Option<usize>) -> Option<Giv
     })
 }
 
-// The head ends with the 40th byte, and the packet with the last.
+// Checks pieces of one byte: the header ends with the 40th byte, and the packet with the last.
 #[test]
 fn bytes_are_pieces(rt: HostRuntime) {
     let bytes = whole(rt.alloc()).expect(&rt, "memory");
@@ -175,7 +175,7 @@ fn no_piece_lacks_the_header(rt: HostRuntime) {
     assert_eq!(rt; lacks, 24);
 }
 
-// Nothing is shown behind the 24 bytes of a header that is refused.
+// Checks that the parser requests nothing after the 24 bytes of a refused header.
 #[test]
 fn nothing_is_asked_for_behind_a_refused_header(rt: HostRuntime) {
     let mut window = Window::new(&[0xff; 40]);
@@ -183,7 +183,7 @@ fn nothing_is_asked_for_behind_a_refused_header(rt: HostRuntime) {
     assert_eq!(rt; window.seen().len(), 24);
 }
 
-// The capture's packet, a head, and then so many of this byte.
+// Returns the capture's packet, a packet header, and then `count` times this byte.
 fn whole_and(alloc: Global, head: &[u8], byte: u8, count: usize) -> Option<Vec<u8>> {
     let mut bytes = whole(alloc)?;
     bytes.extend_from_slice(head).ok()?;
@@ -193,7 +193,7 @@ fn whole_and(alloc: Global, head: &[u8], byte: u8, count: usize) -> Option<Vec<u
     Some(bytes)
 }
 
-// Ten bytes of the second packet's data came.
+// Checks the state after ten bytes of the second packet's data.
 #[test]
 fn bytes_end_within_a_packet(rt: HostRuntime) {
     let bytes = whole_and(rt.alloc(), &HEAD[24..], 0, 10).expect(&rt, "memory");
@@ -201,7 +201,7 @@ fn bytes_end_within_a_packet(rt: HostRuntime) {
     assert_eq!(rt; bytewise(rt.alloc(), &bytes, 164), wanted);
 }
 
-// The second packet states a length that none may have, and bytes go on behind its head.
+// Checks a second packet with a length that no packet may have, and bytes after its header.
 #[test]
 fn bytes_go_on_behind_a_refusal(rt: HostRuntime) {
     let bytes = whole_and(rt.alloc(), &[0xff; 16], 0, 30).expect(&rt, "memory");

@@ -33,7 +33,7 @@ pub(crate) fn exact(alloc: Global, bytes: &[u8], told: &mut String) -> ResultPar
     }
 }
 
-// How many requests a caller of the parser makes who shows it exactly what it asks for.
+// Returns how many requests the parser makes of a caller who supplies exactly the bytes requested.
 fn count_requests(alloc: Global, bytes: &[u8]) -> u64 {
     let mut window = Window::new(bytes);
     let shown = window.ask(12);
@@ -67,7 +67,7 @@ fn count_requests(alloc: Global, bytes: &[u8]) -> u64 {
     requests
 }
 
-// How many bytes of the first block are missing. None where it is refused.
+// Returns how many bytes of the first block are missing, or None if it is refused.
 fn missing_of_first(alloc: Global, bytes: &[u8]) -> Option<usize> {
     match PcapNgParser::new(alloc, bytes) {
         Ok(_) => Some(0),
@@ -83,7 +83,7 @@ fn parser_of(alloc: Global, bytes: &[u8]) -> Option<PcapNgParser> {
     }
 }
 
-// How many bytes of a block are missing, none where it is whole. None where these bytes are refused.
+// Returns how many bytes of a block are missing: 0 if it is whole, None if it is refused.
 fn missing_of(parser: &mut PcapNgParser, held: &[u8]) -> Option<usize> {
     match parser.next_block(held) {
         Ok(_) => Some(0),
@@ -176,7 +176,7 @@ fn push_kind(told: &mut String, type_: BlockType) -> ResultParsing<()> {
     Ok(())
 }
 
-// A text as one word, with no space and no colon.
+// Appends a text as one word, without spaces and colons.
 fn push_word(told: &mut String, text: &str) -> ResultParsing<()> {
     for letter in text.chars() {
         match letter {

@@ -1,11 +1,10 @@
-//! Replays whole runs: each line of the input is a call, its argument and a capture in hexadecimal digits, parted by bars.
-//! Each line of the output is what the call gives: the refusal of the header or first block, or else the packets, or the
-//! blocks with the section and interfaces after them, and how they end.
+//! Replays whole runs. Each line of the input is a call, its argument and a capture in hexadecimal digits, separated by bars. Each line
+//! of the output is the result: the error of the header or first block; or else the packets, or the blocks with the section and
+//! interfaces after them, and how they end.
 //!
-//! The argument is the most items of a reader, which has to give the same by short reads, or the lengths of the pieces that
-//! the capture comes in. The captures of `stdin` were drawn at random, whole, torn or damaged.
-//! `stdout` is what a model of the formats, which shares nothing with this program, gives for them: `tests/model/run`
-//! makes it.
+//! The argument is the most items of a reader, which must give the same from short reads, or the lengths of the pieces of the capture.
+//! The captures of `stdin` were drawn at random: whole, truncated or damaged. `tests/model/run` makes `stdout` with a model of the
+//! formats that shares no code with this program.
 #![tactic(auto)]
 
 mod blocks;
@@ -28,7 +27,7 @@ fn main(rt: HostRuntime) -> io::Result<()> {
     Ok(())
 }
 
-// What the call of this line gives.
+// Returns the result of the call on this line.
 fn answer(alloc: Global, line: &str) -> ResultParsing<String> {
     let mut told = String::new(alloc);
     let Some((call, rest)) = line.split_once('|') else {

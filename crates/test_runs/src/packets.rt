@@ -31,7 +31,7 @@ pub(crate) fn exact(alloc: Global, bytes: &[u8], told: &mut String) -> ResultPar
     }
 }
 
-// How many requests a caller of the parser makes who shows it exactly what it asks for.
+// Returns how many requests the parser makes of a caller who supplies exactly the bytes requested.
 fn count_requests(bytes: &[u8]) -> u64 {
     let mut window = Window::new(bytes);
     let shown = window.ask(24);
@@ -66,7 +66,7 @@ fn parser_of(bytes: &[u8]) -> Option<PcapParser> {
     }
 }
 
-// How many bytes of a packet are missing, none where it is whole. None where these bytes are refused.
+// Returns how many bytes of a packet are missing: 0 if it is whole, None if it is refused.
 fn missing_of(parser: &PcapParser, held: &[u8]) -> Option<usize> {
     match parser.next_packet(held) {
         Ok(_) => Some(0),

@@ -1,9 +1,9 @@
-//! Captures in pieces.
+//! Captures that come in pieces.
 
 use pcap_file::ResultParsing;
 use std::alloc::Global;
 
-/// The bytes cut into pieces of these lengths, with commas between them; no piece where that is a dash.
+/// Cuts the bytes into pieces of these lengths, which commas separate. A dash means no piece.
 pub(crate) fn cut<'a>(alloc: Global, bytes: &'a [u8], cuts: &str) -> ResultParsing<Vec<&'a [u8]>> {
     let mut pieces = Vec::new(alloc);
     let mut left = bytes;
@@ -17,7 +17,7 @@ pub(crate) fn cut<'a>(alloc: Global, bytes: &'a [u8], cuts: &str) -> ResultParsi
     Ok(pieces)
 }
 
-/// How many items the pieces up to each hold.
+/// Appends the number of items in the pieces up to each.
 pub(crate) fn push_numbers(told: &mut String, numbers: &[usize]) -> ResultParsing<()> {
     write!(told, " numbers")?;
     for number in numbers {

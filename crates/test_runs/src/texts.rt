@@ -1,12 +1,12 @@
-//! Texts that both formats share.
+//! Texts for both formats.
 
 use pcap_file::run::Rest;
 use pcap_file::{PcapError, ResultParsing};
 
-/// More bytes than these are told by their check sum and number.
+/// Longer byte strings are shown by their checksum and length.
 const FEW: usize = 64;
 
-// The check sum of Ethernet and many others (CRC-32, the lowest bit first).
+// Returns the checksum of Ethernet and many other formats (CRC-32, lowest bit first).
 fn check_sum(bytes: &[u8]) -> u32 {
     let mut sum = u32::MAX;
     for byte in bytes {

@@ -1,5 +1,5 @@
-//! What the test crates share: captures, streams and writers that fail, and tables of bytes with what calls give for them; and what
-//! the programs share whose calls are counted.
+//! Code that the test crates share: captures, failing streams and writers, tables of bytes with the results of calls, and parts of the
+//! programs whose calls are counted.
 #![tactic(auto)]
 
 pub mod captures;

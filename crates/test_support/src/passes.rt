@@ -1,16 +1,15 @@
-//! What the programs share that make one library call over and over, so that its instructions can be counted:
-//! `PROGRAM CALL PASSES < bytes`.
+//! Code shared by the programs that repeat one library call so that its instructions can be counted: `PROGRAM CALL PASSES < bytes`.
 
 use pcap_core::ResultParsing;
 use std::env;
 use std::io::{self, ErrorKind, Read};
 
-/// What such a program is asked to do.
+/// The arguments and input of such a program.
 #[derive(Drop)]
 pub struct Asked {
     /// The name of the call.
     pub call: String,
-    /// How often the call goes over the bytes.
+    /// How often the call is made over the bytes.
     pub passes: u64,
     /// The standard input.
     pub bytes: Vec<u8>,
@@ -21,7 +20,7 @@ fn unknown(message: &'static str) -> io::Error {
 }
 
 impl Asked {
-    /// The words of the program, and all bytes of its standard input.
+    /// Reads the arguments of the program, and all bytes of its standard input.
     pub fn read(rt: &HostRuntime) -> io::Result<Asked> {
         let mut bytes = Vec::new(rt.alloc());
         rt.stdin().read_to_end(&mut bytes)?;
@@ -41,7 +40,7 @@ impl Asked {
     }
 }
 
-/// Prints the sum over the values of all passes, which shows that nothing was left out, or why a call ended before its last pass.
+/// Prints the sum over the values of all passes, which shows that no pass was left out, or why a call ended before its last pass.
 pub fn tell(rt: &HostRuntime, sum: Option<ResultParsing<u64>>) -> io::Result<()> {
     match sum {
         Some(Ok(sum)) => println!(rt; "{sum}"),
@@ -50,8 +49,7 @@ pub fn tell(rt: &HostRuntime, sum: Option<ResultParsing<u64>>) -> io::Result<()>
     }
 }
 
-/// The sum over the values of all passes. Each is made by these lines, which stand in the function that names them, so that the calls
-/// that are counted are its own.
+/// Expands to the sum over the values of all passes. It is a macro so that the counted calls belong to the function that uses it.
 #[macro_export]
 macro_rules! sum_of_passes {
     ($passes:ident $value:block) => {{

@@ -5,33 +5,33 @@ use std::alloc::{AllocError, Global};
 use std::io;
 use std::io::{ErrorKind, Read};
 
-/// Gives its bytes, so many at most in a read, and fails at one of its calls.
+/// A stream that gives its bytes, at most `step` in a read, and fails at one of its calls.
 #[derive(Drop)]
 pub struct Halting {
     /// All its bytes.
     pub bytes: Vec<u8>,
-    /// How many of them it has given.
+    /// How many of the bytes it has given.
     pub taken: usize,
     /// The most bytes of one read.
     pub step: usize,
-    /// The call that fails, counted from 1.
+    /// The number of the call that fails, counted from 1.
     pub fails_at: usize,
-    /// How many calls fail from that one on.
+    /// How many calls fail, from that one on.
     pub fails_for: usize,
-    /// How the call fails.
+    /// The kind of the failure.
     pub kind: ErrorKind,
-    /// How many calls there were.
+    /// How many calls were made.
     pub calls: usize,
-    /// The most room that a call was offered.
+    /// The largest buffer that a call was given, in bytes.
     pub most_room: usize,
-    /// How many calls found nothing left.
+    /// How many calls found no byte left.
     pub ends: usize,
-    /// How many calls were offered room that began with a zero, as new room does.
+    /// How many calls were given a buffer that began with a zero, as a new buffer does.
     pub clear: usize,
 }
 
 impl Halting {
-    /// A stream of these bytes that never fails.
+    /// Makes a stream of these bytes that never fails.
     pub fn new(alloc: Global, bytes: &[u8], step: usize) -> Result<Halting, AllocError> {
         Ok(Halting {
             bytes: Vec::from_slice(alloc, bytes)?,
@@ -47,14 +47,14 @@ impl Halting {
         })
     }
 
-    // Whether this call, the latest one, is to fail.
+    // Returns whether the latest call is to fail.
     fn fails(&self) -> bool {
         self.fails_at > 0
             && self.calls >= self.fails_at
             && self.calls - self.fails_at < self.fails_for
     }
 
-    // Notes what a call finds, and what it is offered.
+    // Records what a call finds, and the buffer that it was given.
     fn note(&mut self, buf: &[u8]) {
         self.calls = self.calls.saturating_add(1);
         self.most_room = self.most_room.max(buf.len());
@@ -82,12 +82,12 @@ impl Read for Halting {
     }
 }
 
-/// Gives the first bytes, so many at most in a read, ends once, and then gives the second ones.
+/// A stream that gives the first bytes, at most `step` in a read, ends once, and then gives the second bytes.
 #[derive(Drop)]
 pub struct EndsOnce<'a> {
-    /// What it gives before it ends.
+    /// The bytes before its end.
     pub first: &'a [u8],
-    /// What it gives after its end.
+    /// The bytes after its end.
     pub second: &'a [u8],
     /// The most bytes of one read.
     pub step: usize,

@@ -1,7 +1,7 @@
-//! Tables of bytes, and of what calls give for them.
+//! Tables of bytes and of the results of calls on them.
 //!
-//! A row of a table is bytes as hexadecimal digits, an arrow, and what a call gives for them as it is shown: the remainder and
-//! the value, or the refusal. These lines were written by hand, from the bytes and the rules of the formats.
+//! A row of a table has bytes as hexadecimal digits, an arrow, and the result of a call as text: the remainder and the value, or the
+//! error. These lines were written by hand, from the bytes and the rules of the formats.
 
 use pcap_core::{PcapError, ResultParsing};
 use std::alloc::Global;
@@ -9,7 +9,7 @@ use std::fmt::Debug;
 use std::io::ErrorKind;
 use std::test::Fail;
 
-/// The rows of a table: the digits, and what a call gives.
+/// Returns the rows of a table: the digits, and the result of a call.
 pub fn rows<'a>(alloc: Global, table: &'a str) -> Result<Vec<(&'a str, &'a str)>, Fail> {
     let mut rows = Vec::new(alloc);
     for line in table.trim().lines() {
@@ -19,7 +19,7 @@ pub fn rows<'a>(alloc: Global, table: &'a str) -> Result<Vec<(&'a str, &'a str)>
     Ok(rows)
 }
 
-/// Whether a call gives for the bytes of each row of a table what the row says; else a failure that tells the row.
+/// Returns whether a call on the bytes of each row gives the result of that row. Otherwise it returns a failure that names the row.
 pub fn every_row<F: Fn(Global, &[u8]) -> Result<String, Fail>>(
     alloc: Global,
     table: &str,
@@ -33,7 +33,7 @@ pub fn every_row<F: Fn(Global, &[u8]) -> Result<String, Fail>>(
     Ok(())
 }
 
-// The same of one row.
+// Does the same for one row.
 fn one_row<F: Fn(Global, &[u8]) -> Result<String, Fail>>(
     alloc: Global,
     row: &str,
@@ -47,7 +47,7 @@ fn one_row<F: Fn(Global, &[u8]) -> Result<String, Fail>>(
     same(told.as_str(), shown.trim())
 }
 
-/// Whether what was told is what should be shown; else a failure that tells both.
+/// Returns a failure with both texts if they differ.
 pub fn same(told: &str, shown: &str) -> Result<(), Fail> {
     if told == shown {
         return Ok(());
@@ -55,8 +55,8 @@ pub fn same(told: &str, shown: &str) -> Result<(), Fail> {
     Err(Fail::new(format_args!("{told} in place of {shown}")))
 }
 
-/// The same of a row in which `..` stands for a list: its members' digits, and behind the arrow their texts, as the rows of a
-/// table have them.
+/// Checks a row in which `..` is replaced by a list: the digits of its members, and after the arrow their texts, as the rows of a table
+/// have them.
 pub fn whole_list<F: Fn(Global, &[u8]) -> Result<String, Fail>>(
     alloc: Global,
     row: &str,
@@ -73,7 +73,7 @@ pub fn whole_list<F: Fn(Global, &[u8]) -> Result<String, Fail>>(
     one_row(alloc, row.as_str(), &call)
 }
 
-// The digits of a list, and its text, from a table with a row for each of its members.
+// Returns the digits of a list, and its text, from a table with a row for each of its members.
 fn list(alloc: Global, table: &str) -> Result<(String, String), Fail> {
     let mut digits = String::new(alloc);
     let mut shown = String::new(alloc);
@@ -87,7 +87,7 @@ fn list(alloc: Global, table: &str) -> Result<(String, String), Fail> {
     Ok((digits, shown))
 }
 
-/// The bytes of these digits; white space parts them for the reader.
+/// Returns the bytes of these digits. White space between them is ignored.
 pub fn bytes(alloc: Global, digits: &str) -> Result<Vec<u8>, Fail> {
     let mut pairs = Vec::new(alloc);
     for digit in digits.bytes() {
@@ -98,7 +98,7 @@ pub fn bytes(alloc: Global, digits: &str) -> Result<Vec<u8>, Fail> {
     Ok(hex::decode(alloc, pairs)?)
 }
 
-/// Whether bytes are those of these digits.
+/// Returns whether the bytes are those of these digits.
 pub fn are_digits(bytes: &[u8], digits: &str) -> bool {
     let mut count = 0usize;
     for digit in digits.bytes() {
@@ -115,7 +115,7 @@ pub fn are_digits(bytes: &[u8], digits: &str) -> bool {
     count % 2 == 0 && count / 2 == bytes.len()
 }
 
-/// What a call gives: the remainder and the value, or why it is refused.
+/// Formats the result of a call: the remainder and the value, or the error.
 pub fn told<T: Debug + Drop>(
     alloc: Global,
     outcome: ResultParsing<(&[u8], T)>,
@@ -126,7 +126,7 @@ pub fn told<T: Debug + Drop>(
     }
 }
 
-/// The same of a call that gives no remainder.
+/// Does the same for a call without a remainder.
 pub fn told_alone<T: Debug + Drop>(
     alloc: Global,
     outcome: ResultParsing<T>,
@@ -137,8 +137,7 @@ pub fn told_alone<T: Debug + Drop>(
     }
 }
 
-// Why a call gives no value: the message of an `InvalidField`, or the kind of the error. Bytes that are too few are an early
-// end.
+// Returns why a call gives no value: the message of an `InvalidField`, or the kind of the error. Too few bytes are an early end.
 fn refusal(error: &PcapError) -> &'static str {
     match error {
         PcapError::InvalidField(message) => *message,

@@ -6,8 +6,8 @@ use std::alloc::Global;
 use std::io;
 use std::io::{ErrorKind, Write};
 
-/// A writer that takes `room` bytes in all, at most `step` in a call, and then fails, flushes too, or takes nothing. One of
-/// its calls is interrupted, a flush too, and one takes nothing.
+/// A writer that takes `room` bytes in all, at most `step` in a call. After that its calls, flushes too, fail or take nothing. One of its
+/// calls is interrupted, which may be a flush, and one takes nothing.
 #[derive(Debug, Drop)]
 pub struct Narrow {
     pub out: Vec<u8>,
@@ -20,7 +20,7 @@ pub struct Narrow {
 }
 
 impl Narrow {
-    /// A writer of this much room, of which no call is interrupted or takes nothing before there is no room.
+    /// Makes a writer for `room` bytes. No call is interrupted or takes nothing before that room is full.
     pub fn new(alloc: Global, room: usize, fails: bool) -> Narrow {
         Narrow {
             out: Vec::new(alloc),
@@ -33,7 +33,7 @@ impl Narrow {
         }
     }
 
-    /// A writer that takes ten bytes at most in a call, of which this one is interrupted, or takes nothing.
+    /// Makes a writer that takes at most ten bytes in a call. The call with this number is interrupted, or takes nothing.
     pub fn halting(alloc: Global, call: u64, is_idle: bool) -> Narrow {
         let mut writer = Narrow::new(alloc, 1000, true);
         writer.step = 10;

@@ -1,4 +1,4 @@
-//! Where packets stand again.
+//! The search for the next packets after corrupt bytes in a classic capture.
 
 use pcap_classic::pcap::PcapParser;
 use pcap_tolerant::resync::resync;
@@ -6,7 +6,7 @@ use std::alloc::Global;
 use std::test::Fail;
 use test_support::captures::{BIG_HEAD, back, big, front};
 
-// The place at which packets stand again in these bytes, under the big-endian header.
+// Finds where packets are found again in these bytes, under the big-endian header.
 fn again(alloc: Global, parts: &[&[u8]], k: usize) -> Result<Option<usize>, Fail> {
     let (_, parser) = PcapParser::new(&BIG_HEAD[..24])?;
     let mut bytes = Vec::new(alloc);
@@ -19,7 +19,7 @@ fn again(alloc: Global, parts: &[&[u8]], k: usize) -> Result<Option<usize>, Fail
 #[test]
 fn behind_garbage(rt: HostRuntime) -> Result<(), Fail> {
     let capture = big(rt.alloc())?;
-    // a packet of 114 bytes
+    // a packet record of 114 bytes
     let packet = back(capture.as_slice(), 24);
     let text = b"garbage of text, which is no packet";
     assert_eq!(rt; again(rt.alloc(), &[packet], 1)?, Some(0));
@@ -41,7 +41,7 @@ fn between_and_before_garbage(rt: HostRuntime) -> Result<(), Fail> {
     let capture = big(rt.alloc())?;
     let packet = back(capture.as_slice(), 24);
     let text = b"garbage of text, which is no packet";
-    // the first packet stands alone, and garbage follows it
+    // the first packet is alone, and corrupt bytes follow it
     assert_eq!(rt;
         again(rt.alloc(), &[packet, text, packet, packet], 1)?,
         Some(0)
@@ -50,7 +50,7 @@ fn between_and_before_garbage(rt: HostRuntime) -> Result<(), Fail> {
         again(rt.alloc(), &[packet, text, packet, packet], 2)?,
         Some(149)
     );
-    // the last packet stands at the end, so that fewer than two are enough
+    // the last packet is at the end, so fewer than two are enough
     assert_eq!(rt; again(rt.alloc(), &[packet, text, packet], 2)?, Some(149));
     assert_eq!(rt; again(rt.alloc(), &[packet, text], 2)?, None);
     Ok(())

@@ -1,9 +1,9 @@
-//! Captures that begin with a section header and go on with garbage, one a row: all their bytes, then where blocks stand again behind
-//! that header, by rows of one, of two and of three blocks, and where a section header does.
+//! Captures of a section header and then corrupt bytes, one a row. After all the bytes, a row has the places where runs of one, two and
+//! three blocks are found after that header, and where a section header is.
 //!
 //! The rows were made by a model of the format in plain Python, and tests/model/run compares them with it.
 
-// Garbage of text, of zeros and of a cut block, in both orders, and blocks behind it.
+// Corrupt bytes of text, of zeros and of a truncated block, in both byte orders, and blocks after them.
 pub(crate) const BEFORE: &str = r#"
     0a0d0d0a 0000001c 1a2b3c4d 00010000 ffffffff ffffffff 0000001c 67617262 61676520 6f662074 6578742c 206e6f20 626c6f63 6b000000 06000000 24000000 00000000 00000000 05000000 01000000 01aa0000 00000000 24000000 06000000 24000000 00000000 00000000 05000000 01000000 01aa0000 00000000 24 => 25, 25, 25, none
     0a0d0d0a 0000001c 1a2b3c4d 00010000 ffffffff ffffffff 0000001c 00000000 00000000 00000000 00000000 00000000 00000000 00000000 00000000 00000000 00000000 00000000 00000000 00000000 00060000 00240000 00000000 00000000 00050000 00010000 0001aa00 00000000 00240000 00060000 00240000 00000000 00000000 00050000 00010000 0001aa00 00000000 0024 => 50, 50, 50, none
@@ -13,7 +13,7 @@ pub(crate) const BEFORE: &str = r#"
     0a0d0d0a 1c000000 4d3c2b1a 01000000 ffffffff ffffffff 1c000000 00000000 00000000 00050000 00010000 00010000 00aa0000 00240000 00060000 00240000 00000000 00000000 00050000 00010000 00010000 00aa0000 00240000 00060000 00240000 00000000 00000000 00050000 00010000 00010000 00aa0000 00240000 00060000 00240000 00000000 00000000 00050000 00010000 00010000 00aa0000 00240000 00 => 29, 29, 29, none
 "#;
 
-// Blocks in front of garbage, between two pieces of it and at the end; and captures in which none stands again.
+// Blocks before corrupt bytes, between two parts of them and at the end, and captures in which no block is found again.
 pub(crate) const BETWEEN: &str = r#"
     0a0d0d0a 0000001c 1a2b3c4d 00010000 ffffffff ffffffff 0000001c 00000001 00000014 00010000 00040000 00000014 00000006 00000024 00000000 00000000 00000005 00000001 00000001 aa000000 00000024 00000006 00000024 00000000 00000000 00000005 00000001 00000001 aa000000 00000024 => 0, 0, 0, none
     0a0d0d0a 0000001c 1a2b3c4d 00010000 ffffffff ffffffff 0000001c 00000001 00000014 00010000 00040000 00000014 67617262 61676520 6f662074 6578742c 206e6f20 626c6f63 6b000000 06000000 24000000 00000000 00000000 05000000 01000000 01aa0000 00000000 24000000 06000000 24000000 00000000 00000000 05000000 01000000 01aa0000 00000000 24 => 0, 45, 45, none
@@ -35,7 +35,7 @@ pub(crate) const BETWEEN: &str = r#"
     0a0d0d0a 1c000000 4d3c2b1a 01000000 ffffffff ffffffff 1c000000 => none, none, none, none
 "#;
 
-// Section headers behind garbage, in the same order and the other one; two that give no order, and one whose lengths differ.
+// Section headers after corrupt bytes, in the same and the other byte order; two without a byte order, and one whose lengths differ.
 pub(crate) const SECTIONS: &str = r#"
     0a0d0d0a 0000001c 1a2b3c4d 00010000 ffffffff ffffffff 0000001c 67617262 61676520 6f662074 6578742c 206e6f20 626c6f63 6b0a0d0d 0a1c0000 004d3c2b 1a010000 00ffffff ffffffff ff1c0000 00676172 62616765 206f6620 74657874 2c206e6f 20626c6f 636b => 25, 25, 25, 25
     0a0d0d0a 0000001c 1a2b3c4d 00010000 ffffffff ffffffff 0000001c 67617262 61676520 6f662074 6578742c 206e6f20 626c6f63 6b0a0d0d 0a1c0000 004d3c2b 1a010000 00ffffff ffffffff ff1c0000 00010000 00140000 00010000 00000004 00140000 00060000 00240000 00000000 00000000 00050000 00010000 00010000 00aa0000 00240000 00 => 25, 25, 25, 25

@@ -1,4 +1,4 @@
-//! Copies of PcapNg captures as they stand: each is a front of what came, byte for byte.
+//! Lenient copies of PcapNg captures: each copy is a front of the input, byte for byte.
 
 use crate::blocks::told_end;
 use crate::run_rows::RUNS;
@@ -12,7 +12,7 @@ use test_support::readers::Halting;
 use test_support::rows::{bytes, rows};
 use test_support::writers::Narrow;
 
-// Why a copy ended, as the rows of runs have it. Where bytes are missing, the stream's end is told.
+// Returns why a copy ended, in the form of the rows of runs. If bytes are missing, it reports the end of the stream.
 fn told_fault(alloc: Global, copied: &NgCopiedAsIs) -> Result<String, Fail> {
     match &copied.fault {
         None => Ok(String::from_str(alloc, "clean")?),
@@ -21,7 +21,7 @@ fn told_fault(alloc: Global, copied: &NgCopiedAsIs) -> Result<String, Fail> {
     }
 }
 
-// Whether a copy whose output has so many bytes took the blocks and ended as the row of a run says.
+// Returns whether a copy with an output of `len` bytes took the blocks and ended as the row of a run says.
 fn is_run(alloc: Global, copied: &NgCopiedAsIs, len: usize, row: &str) -> Result<bool, Fail> {
     let fault = told_fault(alloc, copied)?;
     if copied.blocks == 0 {
@@ -39,7 +39,7 @@ fn is_run(alloc: Global, copied: &NgCopiedAsIs, len: usize, row: &str) -> Result
     )
 }
 
-// Whether a capture that comes by so many bytes is copied as its row says.
+// Returns whether a capture that comes `step` bytes at a time is copied as its row says.
 fn is_copied(alloc: Global, capture: &[u8], row: &str, step: usize) -> Result<bool, Fail> {
     let mut stream = Halting::new(alloc, capture, step)?;
     let mut out = Vec::new(alloc);
@@ -48,7 +48,7 @@ fn is_copied(alloc: Global, capture: &[u8], row: &str, step: usize) -> Result<bo
     Ok(is_front && is_run(alloc, &copied, out.len(), row)?)
 }
 
-// The same through a buffer of so much room.
+// Does the same through a buffer of `room` bytes.
 fn is_copied_through(alloc: Global, capture: &[u8], row: &str, room: usize) -> Result<bool, Fail> {
     let stream = Halting::new(alloc, capture, 100)?;
     let mut reader = BufReader::with_capacity(alloc, room, stream)?;
@@ -76,7 +76,7 @@ fn fronts_go_out(rt: HostRuntime) -> Result<(), Fail> {
     Ok(())
 }
 
-// How many blocks of the two sections lie whole in so many of their bytes, and in how many bytes.
+// Returns how many blocks of the two sections are whole in their first `len` bytes, and the size of those blocks.
 fn whole_in(len: usize) -> (u64, usize) {
     match len {
         0..=27 => (0, 0),
@@ -87,7 +87,7 @@ fn whole_in(len: usize) -> (u64, usize) {
     }
 }
 
-// Whether of the two sections at most so many blocks are copied, and exactly these were taken.
+// Returns whether a copy of at most `most` blocks of the two sections takes exactly `used` bytes.
 fn copies_most(alloc: Global, most: u64, used: usize) -> Result<bool, Fail> {
     let mut stream = Halting::new(alloc, &SECTIONS, 100)?;
     let mut out = Vec::new(alloc);
@@ -104,7 +104,7 @@ fn the_most_blocks(rt: HostRuntime) -> Result<(), Fail> {
     Ok(())
 }
 
-// Whether so many bytes of the two sections are copied up to the last whole block, through a buffer or not.
+// Returns whether the first `len` bytes of the two sections are copied up to the last whole block, with or without a buffer.
 fn copies_front(alloc: Global, len: usize, buffered: bool) -> Result<bool, Fail> {
     let mut stream = Halting::new(alloc, front(&SECTIONS, len), 9)?;
     let mut out = Vec::new(alloc);
@@ -119,7 +119,7 @@ fn copies_front(alloc: Global, len: usize, buffered: bool) -> Result<bool, Fail>
     Ok(is_told && out.as_slice() == front(&SECTIONS, used))
 }
 
-// Whether a writer of so much room takes a front of that length, through a buffer or not.
+// Returns whether a writer with room for `room` bytes takes a front of that length, with or without a buffer.
 fn fills(alloc: Global, room: usize, buffered: bool) -> Result<bool, Fail> {
     let mut stream = Halting::new(alloc, &SECTIONS, 100)?;
     let mut output = Narrow::new(alloc, room, true);

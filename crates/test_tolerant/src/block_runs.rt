@@ -1,4 +1,4 @@
-//! Whole runs over PcapNg captures as they stand.
+//! Lenient runs over whole PcapNg captures.
 
 use crate::blocks::told_end;
 use crate::run_rows::RUNS;
@@ -10,7 +10,7 @@ use std::test::Fail;
 use test_support::captures::{back, front};
 use test_support::rows::{bytes, every_row};
 
-// The place of the first block with a flaw, as the rows have it.
+// Formats the place of the first block with a flaw as the rows have it.
 fn told_first(alloc: Global, first: Option<FlawedAt>) -> Result<String, Fail> {
     match first {
         None => Ok(String::from_str(alloc, "none")?),
@@ -21,7 +21,7 @@ fn told_first(alloc: Global, first: Option<FlawedAt>) -> Result<String, Fail> {
     }
 }
 
-// What follows the blocks.
+// Formats what follows the blocks.
 fn told_rest(alloc: Global, rest: &Rest) -> Result<String, Fail> {
     match rest {
         Rest::Clean => Ok(String::from_str(alloc, "clean")?),
@@ -30,7 +30,7 @@ fn told_rest(alloc: Global, rest: &Rest) -> Result<String, Fail> {
     }
 }
 
-// What is told of a run.
+// Formats the result of a run.
 fn told_run(alloc: Global, run: &NgRunAsIs) -> Result<String, Fail> {
     let blocks = run.blocks.len() + 1;
     let flawed = run.flawed();
@@ -40,7 +40,7 @@ fn told_run(alloc: Global, run: &NgRunAsIs) -> Result<String, Fail> {
     Ok(format!(in alloc; "{blocks} blocks, {flawed} flawed, first {first}, {used} bytes, {rest}")?)
 }
 
-// What is told of the run over a capture, or why there is none.
+// Formats the result of the run over a capture, or why there is none.
 fn told(alloc: Global, capture: &[u8]) -> Result<String, Fail> {
     match parse_pcapng_as_is(alloc, capture) {
         Ok(run) => told_run(alloc, &run),
@@ -53,7 +53,7 @@ fn flawed_blocks_among_others(rt: HostRuntime) -> Result<(), Fail> {
     every_row(rt.alloc(), RUNS, told)
 }
 
-// The same of a capture that comes in these pieces.
+// Does the same for a capture that comes in these pieces.
 fn told_pieces(alloc: Global, pieces: &[&[u8]]) -> Result<String, Fail> {
     if !pieces_fit(pieces) {
         return Err("too long")?;
@@ -64,7 +64,7 @@ fn told_pieces(alloc: Global, pieces: &[&[u8]]) -> Result<String, Fail> {
     }
 }
 
-// The same where each byte is a piece.
+// Does the same with each byte as a piece.
 fn told_bytes(alloc: Global, capture: &[u8]) -> Result<String, Fail> {
     let mut pieces: Vec<&[u8]> = Vec::new(alloc);
     for piece in capture.chunks(1) {
@@ -73,7 +73,7 @@ fn told_bytes(alloc: Global, capture: &[u8]) -> Result<String, Fail> {
     told_pieces(alloc, &pieces)
 }
 
-// The same where the capture is cut at one place: what all such cuttings tell, or the first that tells something else.
+// Does the same for each way to cut the capture in two. Returns the result that all of them have, or the first that differs.
 fn told_cut(alloc: Global, capture: &[u8]) -> Result<String, Fail> {
     let said = told_bytes(alloc, capture)?;
     for at in 0..=capture.len() {
@@ -91,7 +91,7 @@ fn every_cutting_gives_the_same(rt: HostRuntime) -> Result<(), Fail> {
     every_row(rt.alloc(), RUNS, told_cut)
 }
 
-// A section header, interfaces, one of them with a flaw, and packets, and where those behind the header end.
+// A section header, interfaces, one of them with a flaw, and packets, and where the blocks after the header end.
 const CAPTURE: &str = "
     0a0d0d0a 0000001c 1a2b3c4d 00010000 ffffffff ffffffff 0000001c 00000001 00000014 00010000 00040000 00000014
     00000006 00000024 00000000 00000000 00000000 00000001 00000001 aa000000 00000024

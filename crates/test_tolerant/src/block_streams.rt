@@ -1,4 +1,4 @@
-//! Blocks as they stand of streams that give few bytes at once, end early or fail.
+//! Lenient reading of blocks from streams that give few bytes at once, end early or fail.
 
 use crate::block_rows::{ENDS, NUMBERS, OPTIONS};
 use crate::blocks::told_end;
@@ -17,8 +17,7 @@ type Reader = PcapNgReaderAsIs<Halting>;
 const CAPTURE: &str =
     "0a0d0d0a 1c000000 4d3c2b1a 01000000 ffffffff ffffffff 1c000000 01000000 14000000 01000000 00000400 14000000 06000000 24000000 00000000 00000000 07000000 01000000 01000000 aa000000 24000000";
 
-// What is told of a block that the reader lends: its type and what is wrong with it, and of a packet what is wrong with that, and
-// its time.
+// Formats a block that the reader lends: its type and flaw, and of a packet its own flaw and its time.
 fn told_block(alloc: Global, reader: &Reader, lent: &LentAsIs) -> Result<String, Fail> {
     let type_ = lent.header.type_;
     let flaws = &lent.flaws;
@@ -37,8 +36,8 @@ fn told_block(alloc: Global, reader: &Reader, lent: &LentAsIs) -> Result<String,
     }
 }
 
-// What is told of a capture that comes by so many bytes: each block, and why no other follows. Where bytes are missing at its end,
-// the stream's end is told.
+// Formats a capture that comes `step` bytes at a time: each block, and why no other follows. If bytes are missing at its end, it reports
+// the end of the stream.
 fn told(alloc: Global, capture: &[u8], step: usize) -> Result<String, Fail> {
     let stream = Halting::new(alloc, capture, step)?;
     let mut reader = PcapNgReaderAsIs::new(alloc, stream);
@@ -67,7 +66,7 @@ fn is_told(alloc: Global, digits: &str, text: &str, step: usize) -> Result<bool,
     Ok(told.as_str() == text)
 }
 
-// Whether all captures of a table are told as it says, by so many bytes at once.
+// Returns whether all captures of a table are read as it says, `step` bytes at a time.
 fn are_told(alloc: Global, table: &str, step: usize) -> Result<bool, Fail> {
     for (digits, text) in rows(alloc, table)? {
         if !is_told(alloc, digits, text, step)? {
@@ -87,12 +86,12 @@ fn blocks_of_streams(rt: HostRuntime) -> Result<(), Fail> {
     Ok(())
 }
 
-// The bytes of the small capture.
+// Returns the bytes of the small capture.
 fn capture(alloc: Global) -> Result<Vec<u8>, Fail> {
     bytes(alloc, CAPTURE)
 }
 
-// How many bytes were taken behind the next block, and how many of them it lends in whole and as its body.
+// Returns how many bytes were taken up to the end of the next block, and how many the reader lends as its text and as its body.
 fn taken(reader: &mut Reader) -> Result<[usize; 3], Fail> {
     let lent = reader.next_header().ok_or("a block")??;
     let len = lent.header.initial_len as usize;
@@ -115,7 +114,8 @@ fn nothing_is_taken_ahead(rt: HostRuntime) -> Result<(), Fail> {
     Ok(())
 }
 
-// How many blocks come of so many bytes of the capture of which a call fails, and how the next one ends, which is for good.
+// Returns how many blocks come from the first `len` bytes of the capture if one call fails. It checks that the next block fails so, for
+// good.
 fn ends(alloc: Global, len: usize, fails_at: usize, kind: ErrorKind) -> Result<usize, Fail> {
     let bytes = capture(alloc)?;
     let mut stream = Halting::new(alloc, front(bytes.as_slice(), len), 100)?;
@@ -138,11 +138,11 @@ fn ends(alloc: Global, len: usize, fails_at: usize, kind: ErrorKind) -> Result<u
 
 #[test]
 fn early_ends_and_failed_reads(rt: HostRuntime) -> Result<(), Fail> {
-    // what is left of the capture, and how many blocks come before the end
+    // the length of the truncated capture, and how many blocks come before its end
     for (len, blocks) in [(3, 0), (27, 0), (29, 1), (47, 1), (60, 2), (83, 2)] {
         assert_eq!(rt; ends(rt.alloc(), len, 0, ErrorKind::UnexpectedEof)?, blocks);
     }
-    // the read that fails: a head and what follows it for each block
+    // the read that fails: each block takes one read for its head and one for the rest
     for (fails_at, blocks) in [(1, 0), (2, 0), (3, 1), (4, 1), (6, 2)] {
         assert_eq!(rt;
             ends(rt.alloc(), 84, fails_at, ErrorKind::TimedOut)?,

@@ -1,4 +1,4 @@
-//! PcapNg captures as they stand.
+//! Lenient reading of PcapNg captures.
 
 use crate::block_rows::{ENDS, NUMBERS, OPTIONS};
 use pcap_core::PcapError;
@@ -7,7 +7,7 @@ use std::alloc::Global;
 use std::test::Fail;
 use test_support::rows::{bytes, rows};
 
-// What is told of a block: its type and what is wrong with it, and of a packet what is wrong with that, and its time.
+// Formats a block: its type and flaw, and of a packet its own flaw and its time.
 fn told_block(alloc: Global, parser: &PcapNgParserAsIs, item: &BlockAsIs) -> Result<String, Fail> {
     let type_ = item.block.type_;
     let flaws = &item.flaws;
@@ -24,7 +24,7 @@ fn told_block(alloc: Global, parser: &PcapNgParserAsIs, item: &BlockAsIs) -> Res
     }
 }
 
-// Why there is no block, as the rows have it.
+// Formats why there is no block, as the rows have it.
 pub(crate) fn told_end(alloc: Global, error: &PcapError) -> Result<String, Fail> {
     match error {
         PcapError::IncompleteBuffer(n) => Ok(format!(in alloc; "needs {n}")?),
@@ -33,7 +33,7 @@ pub(crate) fn told_end(alloc: Global, error: &PcapError) -> Result<String, Fail>
     }
 }
 
-// What is told of a capture: each block, and why no other follows.
+// Formats a capture: each block, and why no other follows.
 fn told(alloc: Global, capture: &[u8]) -> Result<String, Fail> {
     let (mut left, opened) = match PcapNgParserAsIs::new(alloc, capture) {
         Ok(opened) => opened,
@@ -60,7 +60,7 @@ fn told(alloc: Global, capture: &[u8]) -> Result<String, Fail> {
     Ok(text)
 }
 
-// Whether all captures of a table are told as it says.
+// Returns whether all captures of a table are read as it says.
 fn are_told(alloc: Global, table: &str) -> Result<bool, Fail> {
     for (digits, text) in rows(alloc, table)? {
         let capture = bytes(alloc, digits)?;

@@ -1,4 +1,4 @@
-//! Where blocks stand again.
+//! The search for the next blocks after corrupt bytes in a PcapNg capture.
 
 use crate::again_rows::{BEFORE, BETWEEN, SECTIONS};
 use crate::blocks::told_end;
@@ -8,7 +8,7 @@ use std::alloc::Global;
 use std::test::Fail;
 use test_support::rows::every_row;
 
-// The place, as the rows have it.
+// Formats the place as the rows have it.
 fn told_place(alloc: Global, place: Option<usize>) -> Result<String, Fail> {
     match place {
         None => Ok(String::from_str(alloc, "none")?),
@@ -16,7 +16,7 @@ fn told_place(alloc: Global, place: Option<usize>) -> Result<String, Fail> {
     }
 }
 
-// Where blocks stand again behind the first one, by rows of one, of two and of three, and where a section header does.
+// Formats where runs of one, two and three blocks are found after the first block, and where a section header is.
 fn told(alloc: Global, capture: &[u8]) -> Result<String, Fail> {
     let (left, opened) = match PcapNgParserAsIs::new(alloc, capture) {
         Ok(opened) => opened,

@@ -1,4 +1,4 @@
-//! Obsolete and simple packets and statistics as they stand. The rows were written by hand, by the tables of the draft.
+//! Lenient reading of obsolete packets, simple packets and statistics. The rows were written by hand, from the tables of the draft.
 
 use byteorder::{BigEndian, ByteOrder, LittleEndian};
 use pcap_tolerant_blocks::{PacketBlockAsIs, SimpleAsIs, StatisticsAsIs};
@@ -7,21 +7,21 @@ use std::alloc::Global;
 use std::test::Fail;
 use test_support::rows::{bytes, told_alone};
 
-// What comes of this body, as it is shown: the packet, and what is wrong with it.
+// Formats the result of parsing this body: the packet and its flaws.
 fn packet_block<B: ByteOrder>(alloc: Global, digits: &str) -> Result<String, Fail> {
     let given = bytes(alloc, digits)?;
     let (_rest, read) = PacketBlockAsIs::from_slice::<B>(alloc, given.as_slice())?;
     told_alone(alloc, Ok(read))
 }
 
-// The same of a simple packet.
+// Does the same for a simple packet.
 fn simple<B: ByteOrder>(alloc: Global, digits: &str) -> Result<String, Fail> {
     let given = bytes(alloc, digits)?;
     let (_rest, read) = SimpleAsIs::from_slice::<B>(alloc, given.as_slice())?;
     told_alone(alloc, Ok(read))
 }
 
-// The same of statistics.
+// Does the same for statistics.
 fn statistics<B: ByteOrder>(alloc: Global, digits: &str) -> Result<String, Fail> {
     let given = bytes(alloc, digits)?;
     let (_rest, read) = StatisticsAsIs::from_slice::<B>(alloc, given.as_slice())?;
@@ -31,7 +31,7 @@ fn statistics<B: ByteOrder>(alloc: Global, digits: &str) -> Result<String, Fail>
 #[test]
 fn packet_blocks(rt: HostRuntime) -> Result<(), Fail> {
     let rows = [
-        // flags of 2 bytes before a comment and behind another, which isn't UTF-8
+        // flags of 2 bytes before a comment, and a comment after it that isn't UTF-8
         (
             "0100 0200 02000000 03000000 03000000 04000000 aabbcc00  0100 0100 ff000000  0200 0200 01020000  0100 0100 61000000",
             "PacketBlockAsIs { packet: Some(PacketBlock { interface_id: 1, drop_count: 2, timestamp: 8589934595, captured_len: 3, original_len: 4, data_: Borrowed([170, 187, 204]), options: [Unknown(UnknownOption { code: 1, length: 1, value: Borrowed([255]) }), Unknown(UnknownOption { code: 2, length: 2, value: Borrowed([1, 2]) }), Comment(\"a\")] }), flaws: [Flaw { code: Some(1), broken: NotUtf8 }, Flaw { code: Some(2), broken: Rule(PacketFlagsLength) }] }",
@@ -83,12 +83,12 @@ fn simple_packets(rt: HostRuntime) -> Result<(), Fail> {
 #[test]
 fn statistics_of_interfaces(rt: HostRuntime) -> Result<(), Fail> {
     let rows = [
-        // a start of 4 bytes, then receipts of 9, of which the last is ignored, and drops of none
+        // a start of 4 bytes, then receipts of 9, of which the last byte is ignored, and drops without a value
         (
             "00000001 00000002 00000003  0002 0004 00000001  0004 0009 000000000000000701000000  0005 0000  0000 0000",
             "StatisticsAsIs { statistics: Some(InterfaceStatisticsBlock { interface_id: 1, timestamp: 8589934595, options: [Unknown(UnknownOption { code: 2, length: 4, value: Borrowed([0, 0, 0, 1]) }), IsbIfRecv(7), Unknown(UnknownOption { code: 5, length: 0, value: Borrowed([]) })] }), flaws: [Flaw { code: Some(2), broken: TooShort }, Flaw { code: Some(5), broken: TooShort }] }",
         ),
-        // an end, and an option that is cut
+        // an end mark, and then a truncated option
         (
             "00000001 00000002 00000003  0003 0008 0000000200000004  0001 0005 61",
             "StatisticsAsIs { statistics: Some(InterfaceStatisticsBlock { interface_id: 1, timestamp: 8589934595, options: [IsbEndTime(8589934596)] }), flaws: [Flaw { code: None, broken: Rule(OptionCut) }] }",
@@ -104,7 +104,7 @@ fn statistics_of_interfaces(rt: HostRuntime) -> Result<(), Fail> {
     Ok(())
 }
 
-// How many flaws the body of a block has as each of the four kinds, where it is one.
+// Returns how many flaws the body of a block has if it is read as each of the four kinds, or None for another kind.
 fn flaws_of(alloc: Global, item: &BlockAsIs) -> Result<[Option<usize>; 4], Fail> {
     let packet_block = match item.packet_block(alloc)? {
         Some(read) => Some(read.flaws.len()),
@@ -125,7 +125,7 @@ fn flaws_of(alloc: Global, item: &BlockAsIs) -> Result<[Option<usize>; 4], Fail>
     Ok([packet_block, simple, statistics, names])
 }
 
-// The same of the block behind a section header.
+// Does the same for the block after a section header.
 fn flaws_behind(alloc: Global, digits: &str) -> Result<[Option<usize>; 4], Fail> {
     let section = "0a0d0d0a 1c000000 4d3c2b1a 0100 0000 ffffffffffffffff 1c000000";
     let section = bytes(alloc, section)?;

@@ -1,4 +1,4 @@
-//! Copies of captures whose packets break rules: each is a front of what came, byte for byte. The captures were written by hand.
+//! Copies of captures whose packets break rules: each copy is a front of the input, byte for byte. The captures were written by hand.
 
 use pcap_classic::run::Copied;
 use pcap_core::PcapError;
@@ -11,8 +11,8 @@ use test_support::readers::Halting;
 use test_support::rows::bytes;
 use test_support::writers::Narrow;
 
-// A big-endian header, a sound packet of one byte, one that says it had none, one without data, one with a fraction of 5 seconds,
-// and a byte more.
+// A big-endian header, a valid packet of one byte, one whose original length is 0, one without data, one with a fraction of 5 seconds,
+// and one more byte.
 const TORN: &str = "a1b2c3d4 00020004 00000000 00000000 0000ffff 00000001
      00000001 00000002 00000001 00000001 aa  00000001 00000002 00000001 00000000 bb
      00000001 00000002 00000000 00000000     00000001 004c4b40 00000000 00000000  cc";
@@ -21,10 +21,10 @@ const TORN: &str = "a1b2c3d4 00020004 00000000 00000000 0000ffff 00000001
 const LONG: &str = "4d3cb2a1 02000400 00000000 00000000 ffff0000 01000000
      01000000 02000000 02000000 01000000 aabb  01000000 02000000 01000400 01000400 cc";
 
-// Four bytes that are no magic number, and as many bytes as a header has.
+// Four bytes that are no magic number, and then the other bytes of a header.
 const NONE: &str = "a1b2c3d5 00020004 00000000 00000000 0000ffff 00000001";
 
-// A capture, its limit, the most packets, how many go out, in how many bytes, and how the copy ends.
+// A capture, its limit, the most packets, how many packets and bytes are copied, and how the copy ends.
 const ROWS: [(&str, u32, u64, u64, usize, &str); 9] = [
     (TORN, 0, 99, 4, 90, "torn"),
     (TORN, 0, 4, 4, 90, "whole"),
@@ -37,7 +37,7 @@ const ROWS: [(&str, u32, u64, u64, usize, &str); 9] = [
     (NONE, 0, 99, 0, 0, "refused"),
 ];
 
-// How a copy ended.
+// Formats how a copy ended.
 fn told_end(copied: &Copied) -> &'static str {
     match &copied.fault {
         None => "whole",
@@ -47,7 +47,7 @@ fn told_end(copied: &Copied) -> &'static str {
     }
 }
 
-// Whether so many packets were copied, with this end and no failed call.
+// Returns whether `packets` packets were copied, with this end and without a failed call.
 fn tells(copied: &Copied, packets: u64, end: &str) -> bool {
     copied.packets == packets
         && told_end(copied) == end
@@ -55,7 +55,7 @@ fn tells(copied: &Copied, packets: u64, end: &str) -> bool {
         && !copied.write_failed
 }
 
-// Whether a row's capture that comes by so many bytes is copied as it says.
+// Returns whether the capture of a row, which comes a few bytes at a time, is copied as the row says.
 fn is_copied(
     alloc: Global,
     row: (&str, u32, u64, u64, usize, &str),
@@ -70,7 +70,7 @@ fn is_copied(
     Ok(tells(&copied, packets, end) && is_front && (end != "whole" || stream.taken == used))
 }
 
-// The same through a buffer of so much room.
+// Does the same through a buffer.
 fn is_copied_through(
     alloc: Global,
     row: (&str, u32, u64, u64, usize, &str),
@@ -96,7 +96,7 @@ fn fronts_go_out(rt: HostRuntime) -> Result<(), Fail> {
     Ok(())
 }
 
-// How many packets of the torn capture lie whole in so many of its bytes.
+// Returns how many packets of the torn capture are whole in its first `len` bytes.
 fn whole_in(len: usize) -> u64 {
     match len {
         0..=40 => 0,
@@ -107,7 +107,7 @@ fn whole_in(len: usize) -> u64 {
     }
 }
 
-// Whether a writer of so much room takes a front of the torn capture of that length, through a buffer or not.
+// Returns whether a writer with room for `room` bytes takes a front of the torn capture of that length, with or without a buffer.
 fn fills(alloc: Global, room: usize, buffered: bool) -> Result<bool, Fail> {
     let capture = bytes(alloc, TORN)?;
     let mut stream = Halting::new(alloc, capture.as_slice(), 100)?;

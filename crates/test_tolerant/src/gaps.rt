@@ -1,4 +1,4 @@
-//! What is told of bytes that are left out.
+//! Messages about skipped bytes.
 
 use pcap_core::rules::Rule;
 use pcapfile_as_is::{Gap, LeftOut, Place, Scrap, put_gap};
@@ -14,7 +14,7 @@ const PACKET: &str = "a: 7 bytes at byte 24 are of a packet that is cut short, a
 
 const BLOCK: &str = "a: 7 bytes at byte 24 are of a block that is cut short, and are left out\n";
 
-// What is written of a gap.
+// Returns the line that is written about a gap.
 fn line_of(alloc: Global, gap: &Gap) -> Vec<u8> {
     let mut output = Narrow::new(alloc, 4096, true);
     match put_gap(alloc, &mut output, "a: ", gap) {
@@ -23,7 +23,7 @@ fn line_of(alloc: Global, gap: &Gap) -> Vec<u8> {
     }
 }
 
-// Whether seven bytes that are left out behind a header have this line, once.
+// Returns whether exactly one line, `line`, reports seven bytes that are skipped after a header.
 fn has_line(alloc: Global, scrap: Scrap, rule: Option<Rule>, line: &str) -> bool {
     let left_out = LeftOut {
         bytes: 7,

@@ -1,4 +1,4 @@
-//! Interfaces, sections and packets of blocks as they stand. The rows were written by hand, by the tables of the draft.
+//! Lenient reading of interfaces, sections and packets. The rows were written by hand, from the tables of the draft.
 
 use byteorder::{BigEndian, ByteOrder, LittleEndian};
 use pcap_tolerant_blocks::{EnhancedAsIs, InterfaceAsIs, InterfacesAsIs, SectionAsIs};
@@ -6,21 +6,21 @@ use std::alloc::Global;
 use std::test::Fail;
 use test_support::rows::{bytes, told_alone};
 
-// What comes of this body, as it is shown: the interface, and what is wrong with it.
+// Formats the result of parsing this body: the interface and its flaws.
 fn interface<B: ByteOrder>(alloc: Global, digits: &str) -> Result<String, Fail> {
     let given = bytes(alloc, digits)?;
     let (_rest, read) = InterfaceAsIs::from_slice::<B>(alloc, given.as_slice())?;
     told_alone(alloc, Ok(read))
 }
 
-// The same of a packet.
+// Does the same for a packet.
 fn packet<B: ByteOrder>(alloc: Global, digits: &str) -> Result<String, Fail> {
     let given = bytes(alloc, digits)?;
     let (_rest, read) = EnhancedAsIs::from_slice::<B>(alloc, given.as_slice())?;
     told_alone(alloc, Ok(read))
 }
 
-// The same of a section.
+// Does the same for a section.
 fn section(alloc: Global, digits: &str) -> Result<String, Fail> {
     let given = bytes(alloc, digits)?;
     let (_rest, read) = SectionAsIs::from_slice(alloc, given.as_slice())?;
@@ -30,8 +30,8 @@ fn section(alloc: Global, digits: &str) -> Result<String, Fail> {
 #[test]
 fn options_around_a_bad_one(rt: HostRuntime) -> Result<(), Fail> {
     let rows = [
-        // before, between and behind good ones: a comment that isn't UTF-8, a name, an address of 7 bytes, a resolution of
-        // nanoseconds, a speed of 2 bytes, and the mark
+        // before, between and after good ones: a comment that isn't UTF-8, a name, an address of 7 bytes, a resolution of nanoseconds, a
+        // speed of 2 bytes, and the end mark
         (
             "0001 0000 00040000  0001 0001 ff000000  0002 0001 61000000  0004 0007 0102030405060700  0009 0001 09000000
              0008 0002 01020000  0000 0000",
@@ -74,7 +74,7 @@ fn packets_and_sections(rt: HostRuntime) -> Result<(), Fail> {
         assert_eq!(rt; packet::<LittleEndian>(rt.alloc(), digits)?.as_str(), text);
     }
     let rows = [
-        // a system that isn't UTF-8, and then an application
+        // an operating system that isn't UTF-8, and then an application
         (
             "4d3c2b1a 0100 0000 ffffffffffffffff  0300 0001 ff000000  0400 0100 61000000",
             "SectionAsIs { section: SectionHeaderBlock { magic: 1295788826, major_version: 1, minor_version: 0, section_length: -1, options: [] }, flaws: [Flaw { code: None, broken: Rule(OptionCut) }] }",
@@ -90,7 +90,7 @@ fn packets_and_sections(rt: HostRuntime) -> Result<(), Fail> {
     Ok(())
 }
 
-// The seconds and the nanoseconds of so many units by the clock of each of the interfaces of these bodies.
+// Returns the seconds and nanoseconds of `units` units by the clock of each interface with these bodies.
 fn times(alloc: Global, bodies: &[&str], units: u64) -> Result<Vec<Option<(i128, u32)>>, Fail> {
     let mut interfaces = InterfacesAsIs::new(alloc);
     let mut times = Vec::new(alloc);
@@ -105,7 +105,7 @@ fn times(alloc: Global, bodies: &[&str], units: u64) -> Result<Vec<Option<(i128,
 
 #[test]
 fn numbers_and_clocks(rt: HostRuntime) -> Result<(), Fail> {
-    // nanoseconds behind a comment that isn't UTF-8; one of 4 bytes; a resolution of 2 bytes, which is none; an hour more
+    // nanoseconds after a comment that isn't UTF-8; a resolution of 4 bytes; one of 2 bytes, which is ignored; an offset of an hour
     let bodies = [
         "0001 0000 00000000  0001 0001 ff000000  0009 0001 09000000",
         "0001 0000",

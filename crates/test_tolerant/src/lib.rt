@@ -1,5 +1,5 @@
-//! Packets, options and blocks as they stand, and where packets and blocks stand again: small captures and lists that were written by hand,
-//! with one packet or some bytes of them made wrong.
+//! Tests of lenient reading, and of finding packets and blocks after corrupt bytes. The small captures and lists were written by hand,
+//! with one packet or a few bytes made wrong.
 #![tactic(auto)]
 
 #[cfg(test)]

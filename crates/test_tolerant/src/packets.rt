@@ -1,4 +1,4 @@
-//! Packets as they stand.
+//! Lenient reading of packet records.
 
 use byteorder::{BigEndian, ByteOrder, LittleEndian};
 use pcap_classic::pcap::{Packet, PcapParser};
@@ -16,7 +16,7 @@ pub const NONE: Flaws = Flaws {
     included_past_original: false,
 };
 
-// A packet of three bytes with these numbers in its head: seconds, fraction, stored and original length.
+// Returns a packet record of three bytes with these numbers in its header: seconds, fraction, stored and original length.
 pub fn packet<B: ByteOrder>(numbers: [u32; 4], bytes: [u8; 3]) -> [u8; 19] {
     let mut text = [0; 19];
     B::write_u32(&mut text, numbers[0]);
@@ -27,7 +27,7 @@ pub fn packet<B: ByteOrder>(numbers: [u32; 4], bytes: [u8; 3]) -> [u8; 19] {
     text
 }
 
-// Whether this is what comes of three bytes under these numbers, and one byte is left.
+// Returns whether a packet of three bytes with these numbers has these flaws, and one byte is left.
 fn is_told<B: ByteOrder>(ts_resolution: TsResolution, numbers: [u32; 4], flaws: Flaws) -> bool {
     let mut text = [9; 20];
     text[..19].copy_from_slice(&packet::<B>(numbers, [1, 2, 3]));
@@ -100,7 +100,7 @@ fn each_rule_in_both_orders(rt: HostRuntime) {
 #[test]
 fn first_flaws(rt: HostRuntime) {
     assert_eq!(rt; NONE.first(), None);
-    // each flaw with all those behind it, in the order in which packets are judged
+    // each flaw with all later ones, in the order in which packets are checked
     let mut flaws = Flaws {
         included_past_original: true,
         ..NONE
@@ -152,7 +152,7 @@ fn times(rt: HostRuntime) {
     }
 }
 
-// How many bytes a packet lacks whose head has these lengths, and of whose data nothing is there.
+// Returns how many bytes a packet lacks if its header has these lengths and none of its data is there.
 fn lack(incl_len: u32, orig_len: u32, limit: u32) -> Option<usize> {
     let text = packet::<BigEndian>([0, u32::MAX, incl_len, orig_len], [0; 3]);
     match PacketAsIs::from_slice::<BigEndian>(&text[..16], TsResolution::MicroSecond, limit) {
@@ -176,7 +176,7 @@ fn requests(rt: HostRuntime) -> Result<(), Fail> {
             Err(PcapError::IncompleteBuffer(1))
         )
     );
-    // what is asked for doesn't go by the flaws of the head
+    // the number of missing bytes doesn't depend on the flaws of the header
     assert_eq!(rt; lack(1, 1, 0), Some(1));
     assert_eq!(rt; lack(5, 4, 0), Some(5));
     assert_eq!(rt; lack(262_144, u32::MAX, 0), Some(262_144));
@@ -218,7 +218,7 @@ fn lengths_above_the_limit(rt: HostRuntime) -> Result<(), Fail> {
     Ok(())
 }
 
-// Whether of these packets all are read as they stand, and the strict reading refuses only the one at this place, by this rule.
+// Returns whether lenient reading reads all these packets, and strict reading refuses only the one at `place`, by `rule`.
 fn is_read_past(mut left: &[u8], place: usize, rule: Rule) -> bool {
     for at in 0..3 {
         let wanted = if at == place { Some(rule) } else { None };

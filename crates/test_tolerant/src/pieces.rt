@@ -1,4 +1,4 @@
-//! Classic captures as they stand that come in pieces. The capture was written by hand.
+//! Lenient reading of classic captures that come in pieces. The capture was written by hand.
 
 use crate::runs::behind_header;
 use pcap_classic::run::pieces_fit;
@@ -9,15 +9,15 @@ use std::alloc::Global;
 use std::test::Fail;
 use test_support::captures::{back, front};
 
-// A sound packet of one byte; one that says it had none; a sound one; a fraction of 5 seconds; and one byte more.
+// A valid packet of one byte; one whose original length is 0; a valid one; one with a fraction of 5 seconds; and one more byte.
 const PACKETS: &str = "
     00000001 00000002 00000001 00000001 aa  00000001 00000002 00000001 00000000 bb
     00000001 00000002 00000000 00000000     00000001 004c4b40 00000000 00000000  cc";
 
-// Where they end, the header among the bytes before them.
+// Where the packets end, counted from the start of the header.
 const ENDS: [usize; 4] = [41, 58, 74, 90];
 
-// Each of them: its numbers, the first rule that it breaks, and its bytes.
+// Each packet: its numbers, the first rule that it breaks, and its bytes.
 const TOLD: &str = "1 2 1 1 None [170]; 1 2 1 0 Some(IncludedPastOriginal) [187]; 1 2 0 0 None []; \
     1 5000000 0 0 Some(FractionTooLarge) []; 90 bytes, Needs(15)";
 
@@ -46,7 +46,7 @@ fn told_run(alloc: Global, run: &OwnedRunAsIs) -> Result<String, Fail> {
     Ok(text)
 }
 
-// What the three pieces between two cuts hold, and the numbers after each.
+// Returns what each of the three pieces between two cuts holds, and the numbers after each.
 fn cut(
     alloc: Global,
     capture: &[u8],
@@ -64,7 +64,7 @@ fn cut(
     Ok(pieces_pcap_as_is(alloc, &pieces, 0)?)
 }
 
-// How many packets end in so many bytes.
+// Returns how many packets end in the first `bytes` bytes.
 fn ended(bytes: usize) -> usize {
     ENDS.iter().filter(|end| **end <= bytes).count()
 }
@@ -88,7 +88,7 @@ fn every_cutting_gives_the_same(rt: HostRuntime) -> Result<(), Fail> {
     Ok(())
 }
 
-// What stands behind a packet's head of this stored length, of which no byte came, under this limit.
+// Returns the rest after a packet header with this stored length and none of its data, under this limit.
 fn rest_under(alloc: Global, packet: &str, limit: u32) -> Result<Rest, Fail> {
     let capture = behind_header(alloc, packet)?;
     let pieces = [front(capture.as_slice(), 30), back(capture.as_slice(), 30)];
@@ -115,7 +115,7 @@ fn the_limit_is_the_callers(rt: HostRuntime) -> Result<(), Fail> {
     Ok(())
 }
 
-// How many bytes are missing of a header; 0 where it is refused.
+// Returns how many bytes of a header are missing, or 0 if it is refused.
 fn lack(alloc: Global, pieces: &[&[u8]]) -> Option<usize> {
     if !pieces_fit(pieces) {
         return None;

@@ -1,9 +1,9 @@
-//! Runs over PcapNg captures as they stand, one a row: all their bytes, then how many blocks there are and how many of them have a
-//! flaw, the first of these with the bytes before it, how many bytes all take, and what follows them.
+//! Lenient runs over PcapNg captures, one a row. After all the bytes, a row has the number of blocks, how many of them have a flaw, the
+//! first flawed one and the bytes before it, the size of all blocks, and what follows them.
 //!
 //! The rows were made by a model of the format in plain Python, and tests/model/run compares them with it.
 
-// Captures without a flaw, and with flaws in the first block, behind packets and in a second section, in both orders.
+// Captures without a flaw, and with flaws in the first block, after packets and in a second section, in both byte orders.
 pub(crate) const RUNS: &str = r#"
     0a0d0d0a 0000001c 1a2b3c4d 00010000 ffffffff ffffffff 0000001c 00000001 00000014 00010000 00040000 00000014 00000006 00000024 00000000 00000000 00000000 00000001 00000001 aa000000 00000024 => 3 blocks, 0 flawed, first none, 84 bytes, clean
     0a0d0d0a 0000001c 1a2b3c4d 00010000 ffffffff ffffffff 0000001c 00000001 00000014 00010000 00040000 00000014 00000006 00000024 00000000 00000000 00000000 00000001 00000001 aa000000 00000024 00000001 0000001c 00010000 00040000 00010001 ff000000 0000001c 00000006 00000024 00000001 00000000 00000000 00000001 00000001 aa000000 00000024 00000001 0000001c 00010000 00040000 00090002 61620000 0000001c 00000006 000000 => 6 blocks, 2 flawed, first 3 at 84, 176 bytes, needs 5

@@ -1,4 +1,4 @@
-//! Whole runs over packets as they stand. The captures were written by hand.
+//! Lenient runs over whole classic captures. The captures were written by hand.
 
 use pcap_core::PcapError;
 use pcap_items::Rest;
@@ -8,14 +8,14 @@ use std::test::Fail;
 use test_support::captures::BIG_HEAD;
 use test_support::rows::bytes;
 
-// The big-endian header, and these packets behind it.
+// Returns the big-endian header and these packets after it.
 pub(crate) fn behind_header(alloc: Global, packets: &str) -> Result<Vec<u8>, Fail> {
     let mut capture = Vec::from_slice(alloc, &BIG_HEAD[..24])?;
     capture.extend_from_slice(bytes(alloc, packets)?.as_slice())?;
     Ok(capture)
 }
 
-// How many packets there are, how many of them are flawed, the first of these, and how many bytes they take.
+// Returns the number of packets, how many are flawed, the first flawed one, how many bytes the packets take, and the rest.
 fn counts(
     alloc: Global,
     packets: &str,
@@ -29,7 +29,7 @@ fn counts(
 
 #[test]
 fn flawed_packets_among_others(rt: HostRuntime) -> Result<(), Fail> {
-    // a sound packet of one byte; one that says it had none; a sound one; a fraction of 5 seconds; and one byte more
+    // a valid packet of one byte; one whose original length is 0; a valid one; one with a fraction of 5 seconds; and one more byte
     let (packets, flawed, first, used, rest) = counts(
         rt.alloc(),
         "00000001 00000002 00000001 00000001 aa  00000001 00000002 00000001 00000000 bb
@@ -45,7 +45,7 @@ fn runs_that_end(rt: HostRuntime) -> Result<(), Fail> {
     let (packets, flawed, first, used, rest) = counts(rt.alloc(), "")?;
     assert_eq!(rt; (packets, flawed, first, used), (0, 0, None, 24));
     assert!(rt; matches!(rest, Rest::Clean));
-    // a sound packet, and then a stored length above the limit
+    // a valid packet, and then a stored length above the limit
     let (packets, flawed, first, used, rest) = counts(
         rt.alloc(),
         "00000001 00000002 00000000 00000000  00000001 00000002 00040001 00000000",

@@ -1,4 +1,4 @@
-//! Packets as they stand of streams that give few bytes at once, end early or fail.
+//! Lenient reading of packets from streams that give few bytes at once, end early or fail.
 
 use crate::packets::{NONE, packet};
 use byteorder::LittleEndian;
@@ -26,7 +26,7 @@ const PAST: Flaws = Flaws {
     ..NONE
 };
 
-// Seconds, fraction and lengths of the packets, which rules they break, their bytes, and how many were taken behind them.
+// For each packet: seconds, fraction and lengths, the rules that it breaks, its bytes, and how many bytes were taken up to its end.
 const ROWS: [([u32; 4], Flaws, [u8; 3], usize); 3] = [
     ([7, 5, 3, 3], NONE, [1, 2, 3], 43),
     ([8, 4_294_968, 3, 2], LARGE_AND_PAST, [4, 5, 6], 62),
@@ -66,7 +66,8 @@ fn whole_captures(rt: HostRuntime) -> Result<(), Fail> {
     Ok(())
 }
 
-// How many packets come of so many bytes of the capture of which a call fails, and how the next one ends, which is for good.
+// Returns how many packets come from the first `len` bytes of the capture if one call fails. It checks that the next packet fails so, for
+// good.
 fn ends(alloc: Global, len: usize, fails_at: usize, kind: ErrorKind) -> Result<usize, Fail> {
     let bytes = capture(alloc)?;
     let mut stream = Halting::new(alloc, front(bytes.as_slice(), len), 100)?;
@@ -89,7 +90,7 @@ fn ends(alloc: Global, len: usize, fails_at: usize, kind: ErrorKind) -> Result<u
 
 #[test]
 fn early_ends_and_failed_reads(rt: HostRuntime) -> Result<(), Fail> {
-    // what is left of the capture, and how many packets come before the end
+    // the length of the truncated capture, and how many packets come before its end
     let rows = [(25, 0), (42, 0), (44, 1), (61, 1), (80, 2)];
     for (len, packets) in rows {
         assert_eq!(rt;
@@ -97,7 +98,7 @@ fn early_ends_and_failed_reads(rt: HostRuntime) -> Result<(), Fail> {
             packets
         );
     }
-    // the read that fails: the header, and then a head and data for each packet
+    // the read that fails: the header takes one, and each packet one for its header and one for its data
     for (fails_at, packets) in [(2, 0), (3, 0), (4, 1), (7, 2)] {
         assert_eq!(rt;
             ends(rt.alloc(), 81, fails_at, ErrorKind::TimedOut)?,
@@ -114,7 +115,7 @@ fn lengths_above_the_limit_of_a_stream(rt: HostRuntime) -> Result<(), Fail> {
     for (limit, held) in [(0, 16), (262_144, 16), (262_145, 19)] {
         let stream = Halting::new(rt.alloc(), bytes.as_slice(), 100)?;
         let mut reader = ReaderAsIs::new(rt.alloc(), stream, limit)?;
-        // a refused head alone was taken, and of one below the limit all that came
+        // only the refused header was taken, and below the limit all bytes that came
         assert!(rt;
             matches!(reader.next_header(), Some(Err(PcapError::InvalidField(_)))) == (held == 16)
         );

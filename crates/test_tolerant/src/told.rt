@@ -1,5 +1,4 @@
-//! What is written of packets and blocks as they stand: lines of them, of what is wrong with them, and packets and blocks
-//! that break no rule.
+//! Output of lenient reading: lines about packets and blocks, lines about their flaws, and mended packets and blocks that break no rule.
 
 use crate::block_rows::{NUMBERS, OPTIONS};
 use crate::packets::packet;
@@ -34,7 +33,7 @@ const COUNTED: Counted = Counted {
     bytes: 81,
 };
 
-// What is written of the packets of the capture, all of which are told.
+// Returns what is written about the packets of the capture, all of which are counted.
 fn written<P: Teller>(alloc: Global, teller: &mut P) -> Result<Vec<u8>, Fail> {
     let bytes = capture(alloc)?;
     let stream = Halting::new(alloc, bytes.as_slice(), 9)?;
@@ -83,14 +82,14 @@ fn repairs(rt: HostRuntime) -> Result<(), Fail> {
     Ok(())
 }
 
-// Of the first capture of the table of options, in either order.
+// The flaws of the first capture of the table of options, in either byte order.
 const BLOCK_FLAWS: &str = "a: block 1 at byte 0 is not UTF-8 in option 1
 a: block 2 at byte 48 is not UTF-8 in option 1
 a: block 2 at byte 48 breaks rule 1901 in option 4: InterfaceDescriptionOption: IfIpv4Addr length != 8
 a: block 2 at byte 48 breaks rule 1905 in option 8: InterfaceDescriptionOption: IfSpeed length != 8
 ";
 
-// Of the first capture of the table of numbers.
+// The flaws of the first capture of the table of numbers.
 const NUMBER_FLAWS: &str =
     "a: block 2 at byte 28 breaks rule 12: InterfaceDescriptionBlock: block length < 8
 a: block 7 at byte 184 breaks rule 18: Option: length + pad.len() > slice.len()
@@ -110,9 +109,9 @@ const NUMBER_LINES: &str = "1 - 1/1 0
 6 - 1/1 1
 ";
 
-// A section, an interface in microseconds with a snaplen of 4, and: an obsolete packet of interface 0 whose flags have 2 bytes and
-// whose custom option has no number, a simple packet of 6 bytes on the wire, one whose body is empty, an enhanced packet with no
-// room for its head and one with none for its bytes, and name records.
+// A section and an interface in microseconds with a snapshot length of 4, and then: an obsolete packet with flags of 2 bytes and a custom
+// option without a number; a simple packet of 6 bytes on the wire, and one with an empty body; two enhanced packets, one with no space
+// for its fields and one with none for its bytes; and name records.
 const KINDS: &str = "
     0a0d0d0a 0000001c 1a2b3c4d 00010000 ffffffff ffffffff 0000001c
     00000001 00000014 00010000 00000004 00000014
@@ -133,7 +132,7 @@ const KIND_LINES: &str = "1 0.000005000 3/4 0 !1913 !short
 6 1.000000000 1/2 0
 ";
 
-// What is written of the blocks of the capture in these digits, all of which are told, and how many have flaws.
+// Returns what is written about the blocks of the capture in these digits, and how many blocks were counted and have flaws.
 fn written_of_blocks<P: BlockTeller>(
     alloc: Global,
     teller: &mut P,
@@ -161,7 +160,7 @@ fn written_of_blocks<P: BlockTeller>(
     }
 }
 
-// Whether of the capture in these digits these lines are written, and so many blocks counted.
+// Returns whether these lines are written about the capture in these digits, and the counts are right.
 fn writes<P: BlockTeller>(
     alloc: Global,
     teller: &mut P,
@@ -173,7 +172,7 @@ fn writes<P: BlockTeller>(
     Ok(out.as_slice() == lines.as_bytes() && counted == wanted)
 }
 
-// The same of the first capture of a table.
+// Does the same for the first capture of a table.
 fn tells<P: BlockTeller>(
     alloc: Global,
     teller: &mut P,
@@ -228,7 +227,7 @@ fn packets_in_blocks(rt: HostRuntime) -> Result<(), Fail> {
     Ok(())
 }
 
-// What the first capture of the table of numbers becomes, and what is said of it.
+// The first capture of the table of numbers after mending, and the messages about it.
 const NUMBERS_MENDED: &str = "
     0a0d0d0a 1c000000 4d3c2b1a 01000000 ffffffff ffffffff 1c000000
     01000000 14000000 01000000 00000000 14000000
@@ -248,7 +247,7 @@ a: block 7 at byte 184: options that break rules are left out
 a: block 9 at byte 256: options that break rules are left out
 ";
 
-// Two sections that state a length, the second with a comment that isn't UTF-8, and a packet with no room for its head.
+// Two sections that state a length, the second with a comment that isn't UTF-8, and a packet with no space for its fields.
 const STATED: &str = "
     0a0d0d0a 0000001c 1a2b3c4d 00010000 00000000 0000001c 0000001c
     00000006 0000001c 00000000 00000000 00000000 00000000 0000001c
@@ -263,7 +262,7 @@ a: block 2 at byte 28: its body breaks a rule, and it is left out
 a: block 3 at byte 56: options that break rules are left out, and the length of its section is stated no more
 ";
 
-// What the capture in these digits becomes, what is said of it, and how many blocks are told.
+// Returns the mended form of the capture in these digits, the messages about it, and the counts of blocks.
 fn mended(alloc: Global, digits: &str) -> Result<(Vec<u8>, Vec<u8>, Counted), Fail> {
     let mut repairs = BlockRepairs {
         prefix: String::from_str(alloc, "a: ")?,
@@ -275,7 +274,7 @@ fn mended(alloc: Global, digits: &str) -> Result<(Vec<u8>, Vec<u8>, Counted), Fa
     Ok((out, repairs.notes.out, counted))
 }
 
-// Whether the first capture of a table becomes the one with mended numbers, and so many of its blocks are told.
+// Returns whether the first capture of a table becomes the one with mended numbers, with these counts of blocks.
 fn mends_numbers(alloc: Global, table: &str, wanted: Counted) -> Result<bool, Fail> {
     let table = rows(alloc, table)?;
     let (digits, _) = table.first().ok_or("a row")?;
@@ -288,7 +287,7 @@ fn mends_numbers(alloc: Global, table: &str, wanted: Counted) -> Result<bool, Fa
     )
 }
 
-// Whether the two sections that state a length become those in these digits, and this is said.
+// Returns whether the two sections that state a length become those in these digits, with these messages.
 fn mends_stated(alloc: Global, digits: &str, lines: &str, wanted: Counted) -> Result<bool, Fail> {
     let (out, said, counted) = mended(alloc, STATED)?;
     let text = bytes(alloc, digits)?;

@@ -209,7 +209,7 @@ fn names_and_journals(rt: HostRuntime) -> Result<(), Fail> {
     compare::<SystemdJournalExportBlock>(rt.alloc(), "", &JOURNALS)
 }
 
-// A block of no type that is known here.
+// A block of an unknown type.
 struct UnknownRow {
     type_: u32,
     len: u32,
@@ -232,14 +232,14 @@ const UNKNOWN_BLOCKS: [UnknownRow; 2] = [
     },
 ];
 
-// The block of a row, owned. Its bytes are dropped here.
+// Returns the block of a row, owned. Its bytes are freed here.
 fn unknown(alloc: Global, row: &UnknownRow) -> Result<UnknownBlock<'static>, Fail> {
     let body = bytes(alloc, row.digits)?;
     let type_ = BlockType::Unknown(row.type_);
     Ok(UnknownBlock::new(type_, row.len, body.as_slice()).into_owned(alloc)?)
 }
 
-// Whether the block of a row shows its text.
+// Checks that the block of a row is formatted as its text.
 fn shows(alloc: Global, row: &UnknownRow) -> Result<(), Fail> {
     let block = unknown(alloc, row)?;
     tell(alloc, &block, row.text)

@@ -1,4 +1,4 @@
-//! Long lists, and long values.
+//! Long lists and long values.
 
 use crate::owned::rows::tell;
 use byteorder::BigEndian;
@@ -12,19 +12,19 @@ use std::test::*;
 use test_support::captures::pattern;
 use test_support::rows::bytes;
 
-// The bytes of these digits, and then others.
+// Returns the bytes of these digits, and then the others.
 fn joined(alloc: Global, digits: &str, others: &[u8]) -> Result<Vec<u8>, Fail> {
     let mut joined = bytes(alloc, digits)?;
     joined.extend_from_slice(others)?;
     Ok(joined)
 }
 
-// Whether these are those bytes, borrowed or not.
+// Returns whether `held` has these bytes, borrowed or owned as stated.
 fn are(held: &CowBytes, bytes: &[u8], is_borrowed: bool) -> bool {
     held.as_slice() == bytes && held.is_borrowed() == is_borrowed
 }
 
-// Whether this is one hash, of these bytes.
+// Returns whether these options are one hash with these bytes.
 fn is_hash(options: &[EnhancedPacketOption], bytes: &[u8], is_borrowed: bool) -> bool {
     match options {
         [option] => match option {
@@ -35,7 +35,7 @@ fn is_hash(options: &[EnhancedPacketOption], bytes: &[u8], is_borrowed: bool) ->
     }
 }
 
-// The numbers from 10 to 109 as names of three characters, in digits: each between these.
+// Returns digits for the numbers from 10 to 109 as names of three characters, each between `before` and `behind`.
 fn hundred_digits(alloc: Global, head: &str, before: &str, behind: &str) -> Result<Vec<u8>, Fail> {
     let mut digits = String::from_str(alloc, head)?;
     for k in 10..110 {
@@ -48,7 +48,7 @@ fn hundred_digits(alloc: Global, head: &str, before: &str, behind: &str) -> Resu
     bytes(alloc, digits.as_str())
 }
 
-// The same as text, parted by commas.
+// Returns the same as text, separated by commas.
 fn hundred_texts(alloc: Global, before: &str, behind: &str) -> Result<String, Fail> {
     let mut shown = String::new(alloc);
     for k in 10..110 {
@@ -58,7 +58,7 @@ fn hundred_texts(alloc: Global, before: &str, behind: &str) -> Result<String, Fa
     Ok(shown)
 }
 
-// Whether the section of these bytes shows this text, lent and owned, and nothing is left.
+// Checks that the section with these bytes gives this text, lent and owned, and nothing is left.
 fn tell_section(alloc: Global, body: &[u8], text: &str) -> Result<(), Fail> {
     let (rest, section) = SectionHeaderBlock::from_slice(alloc, body)?;
     tell(alloc, &section, text)?;
@@ -77,7 +77,7 @@ fn hundred_options(rt: HostRuntime) -> Result<(), Fail> {
     tell_section(rt.alloc(), body.as_slice(), text.as_str())
 }
 
-// Whether the record of these bytes shows this text, lent and owned.
+// Checks that the record with these bytes gives this text, lent and owned.
 fn tell_record(alloc: Global, value: &[u8], text: &str) -> Result<(), Fail> {
     let record = Ipv4Record::from_slice(alloc, value)?;
     tell(alloc, &record, text)?;
@@ -95,7 +95,7 @@ fn hundred_names(rt: HostRuntime) -> Result<(), Fail> {
     tell_record(rt.alloc(), value.as_slice(), text.as_str())
 }
 
-// Whether these are one hash of these bytes, lent and then owned.
+// Returns whether these options are one hash with these bytes, lent and then owned.
 fn are_hash(
     alloc: Global,
     options: Vec<EnhancedPacketOption>,
@@ -122,7 +122,7 @@ fn longest_options(rt: HostRuntime) -> Result<(), Fail> {
     Ok(())
 }
 
-// Whether an entry, an unknown block and a simple packet each hold these bytes, lent and then owned.
+// Returns whether a journal entry, an unknown block and a simple packet each hold these bytes, lent and then owned.
 
 fn entry_holds(alloc: Global, value: &[u8]) -> ResultParsing<bool> {
     let (_rest, entry) = SystemdJournalExportBlock::from_slice::<BigEndian>(value)?;
@@ -153,12 +153,12 @@ fn long_bodies(rt: HostRuntime) -> Result<(), Fail> {
     Ok(())
 }
 
-// Whether a packet holds these bytes as its data and as its one hash.
+// Returns whether a packet holds these bytes as its data and as its one hash.
 fn packet_holds(packet: &EnhancedPacketBlock, value: &[u8], is_borrowed: bool) -> bool {
     are(&packet.data_, value, is_borrowed) && is_hash(packet.options.as_slice(), value, is_borrowed)
 }
 
-// Whether the packet of this body holds these bytes, lent and then owned, and nothing is left.
+// Returns whether the packet with this body holds these bytes, lent and then owned, and nothing is left.
 fn long_packet_holds(alloc: Global, body: &[u8], value: &[u8]) -> ResultParsing<bool> {
     let (rest, packet) = EnhancedPacketBlock::from_slice::<BigEndian>(alloc, body)?;
     let is_lent = rest.is_empty()

@@ -1,4 +1,4 @@
-//! Options by themselves, of each kind of block.
+//! Options by themselves, for each kind of block.
 
 use crate::owned::rows::{HasTexts, Owned, compare_with_texts};
 use crate::owned::texts::{
@@ -15,7 +15,7 @@ use pcap_core::ResultParsing;
 use std::alloc::Global;
 use std::test::*;
 
-// The options of a list. Each is owned by its own call.
+// The options of a list. Each one makes itself owned.
 
 impl Owned for Vec<SectionHeaderOption<'static>> {
     fn owned(alloc: Global, body: &[u8]) -> ResultParsing<Self> {

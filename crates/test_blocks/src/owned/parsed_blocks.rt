@@ -1,4 +1,4 @@
-//! Bodies of all types, and clones of bodies whose bytes are borrowed.
+//! Bodies of all types, and clones of bodies with borrowed bytes.
 
 use crate::owned::rows::tell;
 use byteorder::BigEndian;
@@ -7,20 +7,20 @@ use std::alloc::Global;
 use std::test::*;
 use test_support::rows::bytes;
 
-// The body of these digits, owned. The bytes that it was read from are dropped here.
+// Returns the body with these digits, owned. The bytes that it was read from are freed here.
 fn owned(alloc: Global, type_: BlockType, digits: &str) -> Result<ParsedBlock<'static>, Fail> {
     let body = bytes(alloc, digits)?;
     let (_rest, block) = ParsedBlock::from_slice::<BigEndian>(alloc, type_, body.as_slice())?;
     Ok(block.into_owned(alloc)?)
 }
 
-// Whether the body of these digits, owned, shows this text.
+// Checks that the body with these digits, owned, gives this text.
 fn shows_owned(alloc: Global, type_: BlockType, digits: &str, text: &str) -> Result<(), Fail> {
     let block = owned(alloc, type_, digits)?;
     tell(alloc, &block, text)
 }
 
-// The same while its bytes are borrowed.
+// Does the same while its bytes are borrowed.
 fn shows_borrowed(alloc: Global, type_: BlockType, digits: &str, text: &str) -> Result<(), Fail> {
     let body = bytes(alloc, digits)?;
     let text = text.replace(alloc, "Owned(", "Borrowed(")?;

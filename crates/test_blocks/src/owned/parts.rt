@@ -1,4 +1,4 @@
-//! The options that all kinds of blocks share, and bytes, by themselves.
+//! The options that all kinds of blocks share, and byte strings, by themselves.
 
 use crate::owned::rows::{Owned, compare};
 use byteorder::BigEndian;

@@ -1,4 +1,4 @@
-//! Rows: bytes written as hexadecimal digits, and the text of the value that they are.
+//! Rows: bytes as hexadecimal digits, and the text of their value.
 
 use pcap_core::ResultParsing;
 use std::alloc::Global;
@@ -8,24 +8,24 @@ use test_support::rows::{bytes, same};
 
 // A value that outlives the bytes it was read from.
 pub(crate) trait Owned: Clone + Debug {
-    // The value of these bytes, by its own `into_owned`.
+    // Returns the value of these bytes, owned by its own `into_owned`.
     fn owned(alloc: Global, body: &[u8]) -> ResultParsing<Self>;
 }
 
-// Such a value, some of whose texts can be looked at. Its own text shows how bytes are held, and not how texts are.
+// Such a value with texts that can be checked. Its `Debug` text shows whether bytes are owned, but not whether texts are.
 pub(crate) trait HasTexts: Owned {
-    // Whether these texts are owned.
+    // Returns whether the checked texts are owned.
     fn owns_texts(&self) -> bool;
 }
 
-// The value of these digits behind those of a head. The bytes that it was read from are dropped before the end.
+// Returns the value of these digits after those of a head. The bytes that it was read from are freed before it returns.
 fn kept<T: Owned>(alloc: Global, head: &str, digits: &str) -> Result<T, Fail> {
     let digits = format!(in alloc; "{head} {digits}")?;
     let body = bytes(alloc, digits.as_str())?;
     Ok(T::owned(alloc, body.as_slice())?)
 }
 
-// Whether the values of rows, and their clones, are what the rows show. Each row is the digits behind a head, and a text.
+// Checks that the values of rows, and their clones, give the texts of the rows. Each row is the digits after a head, and a text.
 pub(crate) fn compare<T: Owned>(
     alloc: Global,
     head: &str,
@@ -38,7 +38,7 @@ pub(crate) fn compare<T: Owned>(
     Ok(())
 }
 
-// The same, and whether they own their texts.
+// Does the same, and checks that they own their texts.
 pub(crate) fn compare_with_texts<T: HasTexts>(
     alloc: Global,
     head: &str,
@@ -54,14 +54,14 @@ pub(crate) fn compare_with_texts<T: HasTexts>(
     Ok(())
 }
 
-// Whether a value, and its clone, show this text; else a failure that tells what they show.
+// Checks that a value and its clone give this text; otherwise it returns a failure with what they give.
 pub(crate) fn tell<T: Clone + Debug>(alloc: Global, value: &T, text: &str) -> Result<(), Fail> {
     let shown = text_with_clone(alloc, value)?;
     same(shown.as_str(), text)
 }
 
-// The text of a value, and that of its clone where it is another one. It tells owned bytes from borrowed ones, but not
-// owned texts from borrowed ones.
+// Returns the text of a value, and that of its clone if they differ. The text distinguishes owned bytes from borrowed ones, but not owned
+// texts from borrowed ones.
 pub(crate) fn text_with_clone<T: Clone + Debug>(alloc: Global, value: &T) -> Result<String, Fail> {
     let text = format!(in alloc; "{value:?}")?;
     let clone = value.clone()?;

@@ -1,4 +1,4 @@
-//! Whether texts are owned.
+//! Checks whether texts are owned.
 
 use pcap_blocks::{
     EnhancedPacketOption, InterfaceDescriptionOption, InterfaceStatisticsOption,
@@ -19,7 +19,7 @@ pub(crate) fn are_owned(texts: &[CowStr]) -> bool {
     true
 }
 
-// Of a record or an option: whether its texts are owned, where it has any.
+// Each of these returns whether a record or an option owns its texts, if it has any.
 
 pub(crate) fn record_owns_texts(record: &Record) -> bool {
     match record {

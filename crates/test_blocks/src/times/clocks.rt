@@ -1,4 +1,4 @@
-//! Clocks, with units and offsets, and those of interfaces.
+//! Clocks with units and offsets, and the clocks of interfaces.
 
 use byteorder::BigEndian;
 use pcap_blocks::{Clock, InterfaceDescriptionBlock, TimeUnit, Timestamp};
@@ -6,7 +6,7 @@ use std::alloc::Global;
 use std::test::*;
 use test_support::rows::bytes;
 
-// The exponent of 10 of a unit, an offset, how many units, and the time.
+// Checks rows: the exponent of 10 of a unit, an offset, how many units, and the time.
 #[test]
 fn offsets(rt: HostRuntime) {
     for (exponent, offset, units, seconds, nanoseconds) in [
@@ -33,7 +33,7 @@ fn offsets(rt: HostRuntime) {
     }
 }
 
-// Times from the earliest to the latest, by their seconds first.
+// Checks that times are ordered from the earliest to the latest, by their seconds first.
 #[test]
 fn orders(rt: HostRuntime) {
     let times = [
@@ -61,10 +61,10 @@ fn orders(rt: HostRuntime) {
     }
 }
 
-// How many units a time of an interface has.
+// How many units the time of a packet has.
 const UNITS: u64 = 1_577_934_245_123_456;
 
-// Whether an interface with these options has this clock, and its units are this time.
+// Returns whether an interface with these options has this clock, and its units give this time.
 fn has_clock(alloc: Global, options: &str, clock: Clock, time: Timestamp) -> Result<bool, Fail> {
     let digits = format!(in alloc; "0001 0000 00040000 {options}")?;
     let body = bytes(alloc, digits.as_str())?;
@@ -74,7 +74,7 @@ fn has_clock(alloc: Global, options: &str, clock: Clock, time: Timestamp) -> Res
     }
 }
 
-// The options of an interface, their clock, and the time of 1577934245123456 units.
+// Checks rows: the options of an interface, their clock, and the time of 1577934245123456 units.
 #[test]
 fn clocks_of_interfaces(rt: HostRuntime) -> Result<(), Fail> {
     for (options, unit, offset, seconds, nanoseconds) in [

@@ -17,7 +17,7 @@ fn bytes_of_units(rt: HostRuntime) {
     }
 }
 
-// The byte of a unit, how many of it, and the seconds and nanoseconds.
+// Checks rows: the byte of a unit, how many units, and the seconds and nanoseconds.
 #[test]
 fn seconds_and_nanoseconds(rt: HostRuntime) {
     for (byte, units, seconds, nanoseconds) in [

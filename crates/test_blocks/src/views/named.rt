@@ -9,7 +9,7 @@ use std::alloc::Global;
 use std::test::*;
 use test_support::rows::bytes;
 
-// Whether a section has a comment, a hardware, a system and an application of these names.
+// Returns whether a section has the expected comment, hardware, operating system and application.
 fn names_a_section(alloc: Global, body: &[u8]) -> bool {
     match &SectionHeaderBlock::from_slice(alloc, body) {
         Ok((_, section)) => {
@@ -32,7 +32,7 @@ fn names_of_a_section(rt: HostRuntime) -> Result<(), Fail> {
     Ok(())
 }
 
-// Whether an interface has all that has a name.
+// Returns whether an interface has all values with a name.
 fn names_an_interface(alloc: Global, body: &[u8]) -> bool {
     match &InterfaceDescriptionBlock::from_slice::<BigEndian>(alloc, body) {
         Ok((_, interface)) => {
@@ -47,7 +47,7 @@ fn names_an_interface(alloc: Global, body: &[u8]) -> bool {
     }
 }
 
-// Whether it has neither a comment nor a name nor a speed.
+// Returns whether it has no comment, no name and no speed.
 fn names_nothing(alloc: Global, body: &[u8]) -> bool {
     match &InterfaceDescriptionBlock::from_slice::<BigEndian>(alloc, body) {
         Ok((_, interface)) => {
@@ -69,7 +69,7 @@ fn names_of_an_interface(rt: HostRuntime) -> Result<(), Fail> {
     Ok(())
 }
 
-// A custom option and an unknown one are not taken for others.
+// Checks that a custom option and an unknown one are not mistaken for named ones.
 #[test]
 fn an_interface_without_names(rt: HostRuntime) -> Result<(), Fail> {
     let body = bytes(
@@ -119,7 +119,7 @@ fn names_with_a_comment(rt: HostRuntime) -> Result<(), Fail> {
     Ok(())
 }
 
-// Whether statistics have this comment and these numbers.
+// Returns whether statistics have the expected comment and numbers.
 fn counts(alloc: Global, body: &[u8]) -> bool {
     match &InterfaceStatisticsBlock::from_slice::<BigEndian>(alloc, body) {
         Ok((_, statistics)) => {

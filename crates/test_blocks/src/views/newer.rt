@@ -7,7 +7,7 @@ use std::alloc::Global;
 use std::test::*;
 use test_support::rows::bytes;
 
-// Whether these bytes, as a block of secrets, hold the bytes of "abc" as the secrets of a TLS session.
+// Returns whether these bytes, as a block of secrets, hold the bytes of "abc" as the secrets of a TLS session.
 fn holds_secrets(order: Endianness, body: &[u8]) -> bool {
     match UnknownBlock::new(BlockType::Unknown(10), 0, body).decryption_secrets(order) {
         Some(held) => held.secrets_type == 0x544c_534b && held.secrets == b"abc".as_slice(),
@@ -30,7 +30,7 @@ fn secrets_of_both_orders(rt: HostRuntime) -> Result<(), Fail> {
     Ok(())
 }
 
-// Whether a block of this type and these bytes holds no secrets.
+// Returns whether a block of this type with these bytes holds no secrets.
 fn holds_none(number: u32, body: &[u8]) -> bool {
     let block = UnknownBlock::new(BlockType::Unknown(number), 0, body);
     block.decryption_secrets(Endianness::Big).is_none()
@@ -50,7 +50,7 @@ fn no_secrets(rt: HostRuntime) -> Result<(), Fail> {
     Ok(())
 }
 
-// A record of this type and value.
+// Returns a record of this type with this value.
 fn record(type_: u16, value: &[u8]) -> UnknownRecord<'_> {
     UnknownRecord {
         type_,
@@ -59,7 +59,7 @@ fn record(type_: u16, value: &[u8]) -> UnknownRecord<'_> {
     }
 }
 
-// Whether this value of a record of type 3 is this address of six bytes with these names, and none of eight.
+// Returns whether a record of type 3 with this value is this address of six bytes with these names, and no address of eight.
 fn is_eui48(value: &[u8], address: &[u8], names: &[u8]) -> bool {
     let record = record(3, value);
     match record.eui48() {
@@ -68,7 +68,7 @@ fn is_eui48(value: &[u8], address: &[u8], names: &[u8]) -> bool {
     }
 }
 
-// Whether this value of a record of type 4 is this address of eight bytes with these names, and none of six.
+// Returns whether a record of type 4 with this value is this address of eight bytes with these names, and no address of six.
 fn is_eui64(value: &[u8], address: &[u8], names: &[u8]) -> bool {
     let record = record(4, value);
     match record.eui64() {
@@ -86,7 +86,7 @@ fn hardware_addresses(rt: HostRuntime) {
     assert!(rt; record(4, &[2, 0, 0, 0, 0, 0, 1]).eui64().is_none());
 }
 
-// Whether a packet has this verdict, of a kind and a value.
+// Returns whether a packet has this verdict: its kind and value.
 fn is_verdict(packet: &EnhancedPacketBlock<'_>, verdict: Option<(u8, &[u8])>) -> bool {
     match (packet.verdict(), verdict) {
         (Some(held), Some((kind, value))) => held.kind == kind && held.value == value,
@@ -95,7 +95,7 @@ fn is_verdict(packet: &EnhancedPacketBlock<'_>, verdict: Option<(u8, &[u8])>) ->
     }
 }
 
-// The number, the queue and the verdict of a packet's newer options.
+// The number, the queue and the verdict in the newer options of a packet.
 #[derive(Clone, Copy)]
 struct Newer {
     id: Option<u64>,
@@ -109,7 +109,7 @@ const NONE: Newer = Newer {
     verdict: None,
 };
 
-// Whether this is what a packet of these bytes has.
+// Returns whether a packet with these bytes has these values.
 fn has_newer<B: ByteOrder>(alloc: Global, body: &[u8], order: Endianness, newer: Newer) -> bool {
     match &EnhancedPacketBlock::from_slice::<B>(alloc, body) {
         Ok((_, packet)) => {
@@ -151,7 +151,7 @@ fn newer_options_in_little_endian_order(rt: HostRuntime) -> Result<(), Fail> {
     Ok(())
 }
 
-// The first such option decides, also where its length is wrong.
+// Checks that the first such option decides, even if its length is wrong.
 #[test]
 fn no_newer_options(rt: HostRuntime) -> Result<(), Fail> {
     for digits in [

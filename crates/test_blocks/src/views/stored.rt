@@ -1,4 +1,4 @@
-//! What is stored of a simple packet, and bytes that are lent.
+//! The stored bytes of a simple packet, and bytes that are lent.
 
 use byteorder::BigEndian;
 use pcap_blocks::SimplePacketBlock;
@@ -7,7 +7,7 @@ use std::alloc::Global;
 use std::test::*;
 use test_support::rows::bytes;
 
-// Whether so many bytes of a simple packet of this body are stored under this snaplen: 1, 2, 3 and so on.
+// Returns whether `len` bytes of a simple packet with this body are stored under this snapshot length: 1, 2, 3 and so on.
 fn stores(body: &[u8], snaplen: u32, len: usize) -> bool {
     match &SimplePacketBlock::from_slice::<BigEndian>(body) {
         Ok((_, packet)) => {
@@ -18,7 +18,7 @@ fn stores(body: &[u8], snaplen: u32, len: usize) -> bool {
     }
 }
 
-// The body of a simple packet, the snaplen, and how many of its bytes are stored.
+// Checks rows: the body of a simple packet, the snapshot length, and how many of its bytes are stored.
 #[test]
 fn stored_bytes(rt: HostRuntime) -> Result<(), Fail> {
     for (digits, snaplen, len) in [
@@ -35,7 +35,7 @@ fn stored_bytes(rt: HostRuntime) -> Result<(), Fail> {
     Ok(())
 }
 
-// Whether bytes that are owned are not lent.
+// Returns whether owned bytes are not lent.
 fn are_owned(alloc: Global, bytes: &[u8]) -> ResultParsing<bool> {
     Ok(
         CowBytes::Borrowed(bytes)
