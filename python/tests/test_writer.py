@@ -1,4 +1,4 @@
-"""Tests of captures that are written. Each expected value is worked out from the bytes beside it."""
+"""Tests of writing captures. Each expected value follows from the bytes beside it."""
 
 import gzip
 import io
@@ -25,7 +25,7 @@ TIME = 1_335_958_313
 
 
 def interface(link, snaplen):
-    """An interface whose times are nanoseconds."""
+    """Makes an interface with a unit of time of a nanosecond."""
     return struct.pack("<IIHHIHHBxxxHHI", 1, 32, link, 0, snaplen, 9, 1, 9, 0, 0, 32)
 
 
@@ -37,7 +37,7 @@ def enhanced(number, time, data, original):
 
 
 class Full:
-    """A file with room for so many bytes, which takes so many at once."""
+    """A file with room for `room` bytes, which accepts at most `most` bytes at once."""
 
     def __init__(self, room, most=1 << 20):
         self.data, self._room, self._most = b"", room, most
@@ -51,7 +51,7 @@ class Full:
 
 
 def written(**words):
-    """A capture of four packets."""
+    """Returns a capture of four packets."""
     file = io.BytesIO()
     with pcapfile.Writer(file, **words) as writer:
         for length in range(4):
@@ -145,7 +145,7 @@ class Writers(unittest.TestCase):
         self.assertRaises(ValueError, writer.write, b"a", 2**32)
 
     def copied(self, capture, **words):
-        """What is written of each packet of a capture that has a time."""
+        """Returns what the Writer writes for each packet of a capture that has a time."""
         file = io.BytesIO()
         with pcapfile.Writer(file, **words) as writer:
             for each in capture:
@@ -154,7 +154,7 @@ class Writers(unittest.TestCase):
         return file.getvalue()
 
     def test_packets_of_another_capture_keep_all_that_they_have(self):
-        """Options, comments, names of interfaces and their clocks."""
+        """Packets keep their options and comments, and the names and clocks of their interfaces."""
         section = given.block(0x0A0D0D0A, struct.pack("<IHHq", 0x1A2B3C4D, 1, 0, -1) + option(1, b"of all") + option(0, b""))
         clock = given.interface(9, 60, option(9, b"\x94") + option(14, struct.pack("<q", 7)) + option(2, b"slow") + option(0, b""))
         packets = COMMENTED + OLD + SIMPLE + given.enhanced(1, 3 << 19, b"x") + given.enhanced(0, 5, b"")
@@ -167,11 +167,11 @@ class Writers(unittest.TestCase):
             self.assertEqual([told(p) for p in capture], wanted)
             self.assertEqual([(face, face.name, face.comment) for face in capture.interfaces], faces)
             self.assertEqual(capture.section.comment, "of all")
-        # Nothing but the simple packet is left out, and the section's length isn't told: the rest stands as it was.
+        # The copy lacks only the simple packet. All other blocks are the same.
         self.assertEqual(sorted(bytes(b.body) for b in pcapfile.parse(copy).blocks()), sorted(bytes(b.body) for b in pcapfile.parse(data.replace(SIMPLE, b"")).blocks()))
 
     def test_interfaces_come_with_their_packets(self):
-        """A packet of the third interface alone: it is the first one here."""
+        """The only packet belongs to the third interface, which becomes the first one of the copy."""
         data = SECTION + NAMED + given.interface(7) + given.interface(9, 60, option(2, b"third") + option(0, b"")) + given.enhanced(2, 5, b"abc")
         with pcapfile.parse(data) as capture:
             copy = self.copied(capture, like=capture)
@@ -207,7 +207,7 @@ class Writers(unittest.TestCase):
 
     @unittest.skipIf(_columns.numpy is None, "numpy is missing")
     def test_rows(self):
-        """Chosen rows of columns, and of a DataFrame, and the bytes where they lie."""
+        """Writes chosen rows of columns and of a DataFrame, with the bytes in the capture."""
         classic = given.HEADER + b"".join(given.packet(n, n, bytes([n]) * n, 100) for n in range(50))
         blocks = given.SECTION + given.INTERFACE + given.NANOSECONDS + b"".join(given.enhanced(n % 2, 10**9 * n, bytes([n]) * n) for n in range(50))
         with tempfile.TemporaryDirectory() as room:
@@ -238,7 +238,7 @@ class Writers(unittest.TestCase):
                 pcapfile.Writer(io.BytesIO(), "pcapng").write_rows(rows, capture)
 
     def test_appending(self):
-        """What is written in two turns is what is written in one."""
+        """Writing in two turns gives the same file as writing in one."""
         with tempfile.TemporaryDirectory() as room:
             for number, words in enumerate(({}, {"byteorder": "big", "nanoseconds": False}, {"format": "pcapng"}, {"format": "pcapng", "byteorder": "big"})):
                 name = os.path.join(room, str(number))
