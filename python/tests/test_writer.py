@@ -259,6 +259,42 @@ class Writers(unittest.TestCase):
             self.assertRaisesRegex(ValueError, "compressed", pcapfile.Writer, name, append=True)
             self.assertRaises(TypeError, pcapfile.Writer, io.BytesIO(), append=True)
 
+    def test_the_units_of_an_interface(self):
+        """A packet's time is written in the units of its interface, whether the interface was in the file or came from another capture."""
+        clocks = {  # if_tsresol and if_tsoffset, the units of the time below, and the nanoseconds that remain
+            (6, 0): (TIME * 10**6 + 152_630, 152_630_000),
+            (9, 0): (TIME * 10**9 + 152_630_999, 152_630_999),
+            (3, 1000): ((TIME - 1000) * 10**3 + 152, 152_000_000),
+            (0x80 | 1, -5): ((TIME + 5) * 2, 0),
+        }
+        section = struct.pack("<IIIHHqI", 0x0A0D0D0A, 28, 0x1A2B3C4D, 1, 0, -1, 28)
+        interfaces = [
+            struct.pack("<IIHHIHHB3xHHqHHI", 1, 44, 1, 0, 0, 9, 1, resolution, 14, 8, offset, 0, 0, 44) for resolution, offset in clocks
+        ]
+        packet = struct.pack("<IIIIIII", 6, 32, 0, 0, 0, 0, 0) + struct.pack("<I", 32)
+        with tempfile.TemporaryDirectory() as room:
+            name = os.path.join(room, "it")
+            with open(name, "wb") as file:
+                file.write(section + b"".join(interfaces))
+            with pcapfile.Writer(name, append=True) as writer:
+                for number in range(len(clocks)):
+                    writer.write(b"", TIME, 152_630_999, interface=number)
+                writer.write(b"", TIME, 152_630_999, interface=writer.add_interface(1))
+            with pcapfile.open(name) as capture:
+                self.assertEqual([p.timestamp for p in capture], [units for units, _ in clocks.values()] + [TIME * 10**9 + 152_630_999])
+            with pcapfile.open(name) as capture:
+                self.assertEqual([p.nanoseconds for p in capture], [it for _, it in clocks.values()] + [152_630_999])
+        for interface, (units, _) in zip(interfaces, clocks.values()):
+            with pcapfile.parse(section + interface + packet) as source:
+                made = io.BytesIO()
+                with pcapfile.Writer(made, like=source) as writer:
+                    for it in source:
+                        writer.write_packet(it)
+                    writer.write(b"", TIME, 152_630_999)
+            with pcapfile.parse(made.getvalue()) as capture:
+                self.assertEqual([p.timestamp for p in capture], [0, units])
+        self.assertRaises(ValueError, pcapfile.Writer(io.BytesIO(), "pcapng").write, b"", -1)
+
     def test_a_failed_write_leaves_a_beginning(self):
         for words in ({"format": "pcap"}, {"format": "pcapng"}):
             whole = written(**words)
