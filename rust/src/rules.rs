@@ -16,7 +16,7 @@ macro_rules! rules {
             /// All rules, in the order of their numbers.
             pub const ALL: &'static [Rule] = &[$(Rule::$name,)*];
 
-            /// The rule of this number. None where no rule has it.
+            /// Returns the rule of this number. None if no rule has it.
             pub fn from_number(number: u32) -> Option<Rule> {
                 match number {
                     $($number => Some(Rule::$name),)*
@@ -121,17 +121,17 @@ rules! {
 }
 
 impl Rule {
-    /// Its number, which no other rule has.
+    /// Returns its number, which no other rule has.
     pub fn number(self) -> u32 {
         self as u32
     }
 
-    /// Its name, as `CaptureMagic`.
+    /// Returns its name, such as `CaptureMagic`.
     pub fn name(self) -> &'static str {
         calls::text_of(calls::pcapfile_rule_name, self.number())
     }
 
-    /// What an error says that breaks it.
+    /// Returns the message of the error if bytes break it.
     pub fn text(self) -> &'static str {
         calls::text_of(calls::pcapfile_rule_text, self.number())
     }
