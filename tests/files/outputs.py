@@ -17,6 +17,11 @@ def packet(seconds, data):
     return struct.pack("<IIII", seconds, 0, len(data), len(data)) + data
 
 
+def block(kind, body):
+    body += bytes(-len(body) % 4)
+    return struct.pack("<II", kind, len(body) + 12) + body + struct.pack("<I", len(body) + 12)
+
+
 HEADER = struct.pack("<IHHiIII", 0xA1B23C4D, 2, 4, 0, 0, 65535, 1)
 CAPTURE = HEADER + b"".join(packet(k, bytes([k]) * k) for k in range(1, 6))
 TORN = CAPTURE + b"\0" * 5
@@ -343,20 +348,21 @@ def try_long_names(tally):
 
 
 def try_merges(tally):
-    """Checks that a merge replaces nothing if it can read no input. A merge leaves out what has no place in PcapNg."""
+    """Checks that a merge replaces nothing if it can read no input. A merge keeps the length of the frame check sequence."""
     for names in (["/dev/null"], ["text"], ["/dev/null", "text"]):
         with Folder(tally.program, text=b"this is no capture of packets", out=b"old") as folder:
             status, _, said = folder.run("merge", *names, "-o", "out")
             tally.note(f"a merge of {names}", status != AT_FAULT and f"it ended with {status}: {said}", folder.get("out") != b"old" and "the output was replaced", folder.names() != ["out", "text"] and f"it left {folder.names()}")
     large = struct.pack("<IHHiIII", 0xA1B23C4D, 2, 4, 0, 0, 65535, 0x24000001) + packet(1, b"fcs")
-    with Folder(tally.program, **{"in": CAPTURE, "large": large}) as folder:
-        alone = folder.run("merge", "in", "-o", "alone")
-        status, _, said = folder.run("merge", "large", "in", "-o", "out")
+    section = block(0x0A0D0D0A, struct.pack("<IHHq", 0x1A2B3C4D, 1, 0, -1))
+    described = block(1, struct.pack("<HHIHHB3xHHB3xHH", 1, 0, 65535, 9, 1, 9, 13, 1, 32, 0, 0))
+    stored = block(6, struct.pack("<IIIII", 0, 0, 10**9, 3, 3) + b"fcs")
+    with Folder(tally.program, large=large) as folder:
+        ended = folder.run("merge", "large", "-o", "out")
         tally.note(
-            "a merge with a link type above 65535",
-            alone[0] != DONE and f"it ended with {alone}",
-            (status, said) != (AT_FAULT, "pcapfile: large: is left out, since PcapNg has no link types above 65535\n") and f"it ended with {status}: {said}",
-            folder.get("out") != folder.get("alone") and "it isn't that of the others",
+            "a merge with the length of a check sequence",
+            ended != (DONE, b"", "") and f"it ended with {ended}",
+            folder.get("out") != section + described + stored and f"it has {folder.get('out')}",
         )
         status, _, said = folder.run("convert", "large", "-o", "converted")
         tally.note("a conversion of a link type above 65535", status != AT_FAULT and f"it ended with {status}", not said.startswith("pcapfile: large: ") and said, "converted" in folder.names() and "it left a file")

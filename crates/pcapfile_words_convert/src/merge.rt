@@ -73,13 +73,6 @@ fn merge_to<W: Write + Drop>(console: &Console, asked: &Merge, output: W) -> io:
             Err(error) => return Ok(Ended::given_up(tell_io(console, name, &error)?)),
         };
         match open_reader(console, name, stream, asked.as_is) {
-            Ok(reader) if !has_place(&reader) => {
-                let shown = Shown(name);
-                eprintln!(console.for_line();
-                    "pcapfile: {shown}: is left out, since PcapNg has no link types above 65535"
-                )?;
-                status = AT_FAULT.max(status);
-            }
             Ok(reader) => {
                 let source = Source::new(console.alloc(), reader, interfaces);
                 interfaces = interfaces.saturating_add(interfaces_of(source.reader()));
@@ -161,14 +154,6 @@ fn open_reader(
             let reader = PcapNgReader::new(alloc, input)?;
             Ok(Reader::Blocks(BufferedBlocks::new(alloc, reader)))
         }
-    }
-}
-
-// Returns whether the packets of a capture fit in PcapNg.
-fn has_place<R>(reader: &Reader<R>) -> bool {
-    match reader {
-        Reader::Packets(packets) => u32::from(packets.header().datalink) <= u32::from(u16::MAX),
-        Reader::Blocks(_) => true,
     }
 }
 
