@@ -11,6 +11,7 @@ from ._filter import Filter, Moment
 from ._html import shown_as_html
 from ._indexed import Indexed, rows_of
 from ._interfaces import Interface
+from ._links import fcs_len, link_type
 from ._packets import Packet
 from ._source import IN_A_ROW, File, Source, Stream, Stretch, Window
 from ._tables import Tables
@@ -45,6 +46,16 @@ class Header(NamedTuple):
     ts_accuracy: int
     snaplen: int
     link: int
+
+    @property
+    def link_type(self) -> int:
+        """The link type in the low 16 bits of `link`."""
+        return link_type(self.link)
+
+    @property
+    def fcs_len(self) -> Optional[int]:
+        """The length in bytes of the frame check sequence, if `link` declares it, or None."""
+        return fcs_len(self.link)
 
 
 class Packets(Tables):
@@ -341,6 +352,26 @@ class Capture(Packets):
             1
         """
         return self.header.link
+
+    @property
+    def link_type(self) -> int:
+        """The link type in the low 16 bits of `link`. It is not `link` if the header declares a length of the frame check sequence.
+
+            >>> with pcapfile.open("capture.pcap") as capture:
+            ...     capture.link_type
+            1
+        """
+        return self.header.link_type
+
+    @property
+    def fcs_len(self) -> Optional[int]:
+        """The length in bytes of the frame check sequence with which each packet ends, or None if the header declares none.
+
+            >>> with pcapfile.open("capture.pcap") as capture:
+            ...     print(capture.fcs_len)
+            None
+        """
+        return self.header.fcs_len
 
     def _walk(self, lends: bool = True) -> "Walk":
         if self._after_header is not None:

@@ -255,9 +255,24 @@ put_section = _writing("pcapfile_put_section", Section)
 put_interface = _writing("pcapfile_put_interface", Section, Interface)
 put_ng_packet = _writing("pcapfile_put_ng_packet", Section, NgPacket)
 
+link_type = _library.pcapfile_link_type
+link_type.argtypes = [ctypes.c_uint32]
+link_type.restype = ctypes.c_uint32
+
+fcs_len = _library.pcapfile_fcs_len
+fcs_len.argtypes = [ctypes.c_uint32]
+fcs_len.restype = ctypes.c_int32
+
 time_of = _library.pcapfile_time_of
 time_of.argtypes = [_to(Interface), ctypes.c_uint64, _to(Time)]
 time_of.restype = ctypes.c_int32
+
+
+def within(number: int, bits: int) -> int:
+    """Returns the number. It raises a ValueError if the number does not fit the bits."""
+    if not 0 <= number < 1 << bits:
+        raise ValueError(f"{number} is no number of {bits} bits")
+    return number
 
 
 class _Buffer(ctypes.Structure):

@@ -128,6 +128,8 @@ core::arch::global_asm!(include_str!(env!("PCAPFILE_ASSEMBLY_FILE")), options(ra
 
 extern "C" {
     pub fn pcapfile_take_header(left: *mut Bytes, header: *mut crate::Header, error: *mut Error) -> i32;
+    pub fn pcapfile_link_type(link: u32) -> u32;
+    pub fn pcapfile_fcs_len(link: u32) -> i32;
     pub fn pcapfile_take_packet(
         header: *const crate::Header,
         left: *mut Bytes,

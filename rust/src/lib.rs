@@ -56,6 +56,40 @@ pub struct Header {
     pub link: u32,
 }
 
+impl Header {
+    /// Returns the link type in the low 16 bits of `link`.
+    pub fn link_type(&self) -> u32 {
+        link_type(self.link)
+    }
+
+    /// Returns the length in bytes of the frame check sequence with which each packet ends. None if `link` declares no length.
+    pub fn fcs_len(&self) -> Option<u8> {
+        fcs_len(self.link)
+    }
+}
+
+/// Returns the link type in the number of a classic header: its low 16 bits. Above them the header may declare a length of the frame check
+/// sequence. The number of a PcapNg interface is the link type itself.
+///
+/// ```
+/// assert_eq!(pcapfile::link_type(0x2400_0001), 1);
+/// ```
+pub fn link_type(number: u32) -> u32 {
+    // SAFETY: the call takes a number and returns a number.
+    unsafe { calls::pcapfile_link_type(number) }
+}
+
+/// Returns the length in bytes of the frame check sequence with which each packet ends, as the number of a link type in a classic
+/// header declares it: twice its bits 28 to 31 if bit 26 is set. None if it declares no length. The data of a packet include the sequence.
+///
+/// ```
+/// assert_eq!((pcapfile::fcs_len(0x2400_0001), pcapfile::fcs_len(1)), (Some(4), None));
+/// ```
+pub fn fcs_len(number: u32) -> Option<u8> {
+    // SAFETY: the call takes a number and returns a number.
+    u8::try_from(unsafe { calls::pcapfile_fcs_len(number) }).ok()
+}
+
 /// A packet of a capture. Its bytes are a part of the capture.
 #[derive(Clone, Copy, Debug, PartialEq, Eq)]
 pub struct Packet<'a> {

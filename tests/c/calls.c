@@ -34,6 +34,34 @@ static void headers(void) {
     EXPECT(left.ptr == capture + 1 && left.len == 24 && !memcmp(&header, &before, sizeof header));
 }
 
+/* The draft: the low 16 bits are the link type. If bit 26 is set, the bits 28 to 31 count the frame check sequence in units of two
+ * bytes. All other bits are reserved. */
+static void links(void) {
+    static const struct { uint32_t link, type; int32_t fcs_len; } rows[] = {
+        { 0, 0, -1 },
+        { 1, 1, -1 },
+        { 0x24000001, 1, 4 },
+        { 0x04000001, 1, 0 },
+        { 0x14000069, 105, 2 },
+        { 0x84000071, 113, 16 },
+        { 0xf400007f, 127, 30 },
+        { 0x20000001, 1, -1 },
+        { 0xf0000000, 0, -1 },
+        { 0x08000001, 1, -1 },
+        { 0x02000001, 1, -1 },
+        { 0x0000ffff, 65535, -1 },
+        { 0x00010000, 0, -1 },
+        { 0x03ff0093, 147, -1 },
+        { 0x2fff0001, 1, 4 },
+        { 0xfbffffff, 65535, -1 },
+        { 0xffffffff, 65535, 30 },
+    };
+    for (size_t i = 0; i < sizeof rows / sizeof *rows; i++) {
+        EXPECT(pcapfile_link_type(rows[i].link) == rows[i].type);
+        EXPECT(pcapfile_fcs_len(rows[i].link) == rows[i].fcs_len);
+    }
+}
+
 static void packets(void) {
     pcapfile_bytes left = { capture + 24, sizeof capture - 24 };
     pcapfile_header header = { 0xd4c3b2a1, 2, 4, 0, 0, 65535, 1 };
@@ -732,6 +760,7 @@ static void version(void) {
 int main(void) {
     version();
     headers();
+    links();
     packets();
     packets_as_is();
     packets_as_is_below_a_limit();
