@@ -128,7 +128,7 @@ INSTALLED = \
     link:$(SHARED):$(libdir)/libpcapfile.so.$(ABI) \
     link:libpcapfile.so.$(ABI):$(libdir)/libpcapfile.so \
     644:$(OUT)/pcapfile.pc:$(libdir)/pkgconfig/pcapfile.pc \
-    644:capcopy.1:$(datadir)/man/man1/capcopy.1 \
+    644:man/capcopy.1:$(datadir)/man/man1/capcopy.1 \
     644:$(OUT)/pages/pcapfile.1:$(datadir)/man/man1/pcapfile.1 \
     644:packages/completions/capcopy.bash:$(datadir)/bash-completion/completions/capcopy \
     644:$(OUT)/pages/pcapfile.bash:$(datadir)/bash-completion/completions/pcapfile \

@@ -1,4 +1,4 @@
-"""Captures and block bodies to measure on: the same bytes in each run."""
+"""Makes captures and block bodies to measure on: the same bytes in each run."""
 
 import os
 import random
@@ -9,12 +9,12 @@ WEIGHTS = (30, 25, 15, 10, 8, 4, 8)
 
 
 def mixed(chance):
-    """A size of a packet, about 250 bytes in the mean."""
+    """Returns a size of a packet, about 250 bytes on average."""
     return chance.choices(SIZES, WEIGHTS)[0] + chance.randrange(100)
 
 
 def larger(chance):
-    """A size with which a million packets take half a gigabyte."""
+    """Returns a size with which a million packets take half a gigabyte."""
     return mixed(chance) + 200
 
 
@@ -23,7 +23,7 @@ def sized(size):
 
 
 def packets(count, size, longest):
-    """The time in microseconds and the data of each packet."""
+    """Yields the time in microseconds and the data of each packet."""
     chance = random.Random(1)
     filler = chance.randbytes(longest + 2048)
     for k in range(count):
@@ -32,7 +32,7 @@ def packets(count, size, longest):
 
 
 def write_pcap(path, count, size=mixed, order="<", longest=2048):
-    """A capture in microseconds."""
+    """Writes a capture in microseconds."""
     head = struct.Struct(order + "IIII")
     with open(path, "wb") as out:
         out.write(struct.pack(order + "IHHiIII", 0xA1B2C3D4, 2, 4, 0, 0, 65535, 1))
@@ -41,7 +41,7 @@ def write_pcap(path, count, size=mixed, order="<", longest=2048):
 
 
 def read_back(path):
-    """Lets a file go from the cache and reads it, so that it lies there as one does that was read from the disk, and not in as many pieces
+    """Removes a file from the cache and reads it. So it is in the cache as a file that was read from the disk, and not in as many pieces
     as it was written in."""
     with open(path, "rb", buffering=0) as file:
         os.fsync(file.fileno())
@@ -68,7 +68,7 @@ def enhanced(time, data, options=b""):
 
 
 def write_pcapng(path, count, size=mixed, longest=2048):
-    """A section, an interface, and an enhanced packet each, of which every 16th has an option."""
+    """Writes a section, an interface, and an enhanced packet for each packet. Every 16th has an option."""
     flags = option(2, struct.pack("<I", 1)) + END
     with open(path, "wb") as out:
         out.write(block(0x0A0D0D0A, struct.pack("<IHHq", 0x1A2B3C4D, 1, 0, -1)))
@@ -82,7 +82,7 @@ def record(kind, value):
 
 
 def bodies(count=64):
-    """So many bodies of each kind: the call that parses them, what they have, and a function that makes one."""
+    """Returns this many bodies of each kind: the call that parses them, what they have, and a function that makes one."""
     chance = random.Random(5)
 
     def text(length):

@@ -1,6 +1,6 @@
-/* numbers CALL PASSES < CAPTURE: what answering a number for each piece of one byte takes at least, with no parser and no
- * packet. Makes a list of pieces of one byte, and then so many times over a list of a number for each. CALL is list, which
- * writes the numbers and no more, or walk, which reads each piece and copies its byte as well. Prints a sum. */
+/* numbers CALL PASSES < CAPTURE: measures the least time to return a number for each piece of one byte, with no parser and no packet. It
+ * makes a list of pieces of one byte, and then goes PASSES times over a list with a number for each. CALL `list` only writes the
+ * numbers. CALL `walk` also reads each piece and copies its byte. Prints a sum. */
 #include <stdint.h>
 #include <stdio.h>
 #include <stdlib.h>

@@ -1,4 +1,4 @@
-"""Ratios as bars, in SVG."""
+"""Draws ratios as bars, in SVG."""
 
 from xml.sax.saxutils import escape
 
@@ -6,7 +6,7 @@ ROW, LEFT, UNIT = 22, 250, 320
 
 
 def draw(path, title, rows):
-    """Each row is a name and a ratio; the line at 1.00 is the Rust crate."""
+    """Draws rows, each with a name and a ratio. The line at 1.00 is the Rust crate."""
     width, height = LEFT + UNIT + 160, ROW * len(rows) + 60
     parts = [
         f'<svg xmlns="http://www.w3.org/2000/svg" width="{width}" height="{height}" font-family="sans-serif" font-size="13">',

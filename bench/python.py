@@ -1,6 +1,8 @@
-"""python.py FILE WAY ROUNDS: walks over a capture's packets through Python, and prints how many they are, where it counts, and the least
-seconds by the clock, of the processor, and of the thread or process that took most of it, and how many bytes of memory were held at most.
-A way whose module isn't installed prints nothing."""
+"""python.py FILE WAY ROUNDS: walks over a capture's packets through Python, and prints measurements.
+
+It prints how many packets there are, if the way counts them, and the least seconds: by the clock, of the processor, and of the thread or
+process that took most of it. Last comes the peak memory in bytes. If a way's module isn't installed, it prints nothing.
+"""
 
 import importlib.util
 import multiprocessing
@@ -12,11 +14,11 @@ import time
 
 THREADS = 3
 
-# What the way "filter" chooses, and how many packets "random access" asks for.
+# The filter of the way "filter", and the number of packets that "random access" asks for.
 FILTER = "ether[0] & 1 = 1 and ether[7] > 128"
 ASKED = 10_000
 
-# What each thread that walks a stretch has taken of the processor, and each process that walks a part.
+# The processor seconds of each thread that walks a stretch, and of each process that walks a part.
 taken = {}
 workers = []
 
@@ -68,7 +70,7 @@ def first(path):
 
 
 def by_numbers(path):
-    """Packets by random numbers. The seconds are those of one packet, and what makes the numbers isn't among them."""
+    """Takes packets by random numbers. The seconds are those of one packet, without those for making the numbers."""
     import pcapfile
 
     global begun
@@ -107,7 +109,7 @@ def by_threads(path):
 
 
 def walked(part):
-    """How many packets a part has, and what walking over them has taken of the processor."""
+    """Returns how many packets a part has, and how many processor seconds the walk over them took."""
     begun = time.process_time()
     return sum(1 for _ in part), time.process_time() - begun
 
@@ -184,7 +186,7 @@ def main():
     walk, needs = WAYS[way]
     if any(importlib.util.find_spec(module) is None for module in needs):
         return
-    # What starting takes is no part of a walk.
+    # Starting is no part of a walk.
     others = {"dpkt": ["dpkt"], "scapy, undecoded": ["scapy.utils"]}
     for module in others.get(way, ["pcapfile", *needs]):
         importlib.import_module(module)

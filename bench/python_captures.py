@@ -1,4 +1,4 @@
-"""Captures of IP for the ways through Python: packets of other captures, whose links stay as they are."""
+"""Makes captures of IP for the ways through Python: packets of other captures, whose links remain as they are."""
 
 import mmap
 import random
@@ -9,7 +9,7 @@ _V4, _V6 = struct.Struct(">HBBHHHBBH4s4sHH"), struct.Struct(">HIHBB16s16sHH")
 
 
 def over_ip(path):
-    """Writes heads of IP and ports behind the link's head of each packet: IPv4, and every tenth IPv6, of some thousand addresses."""
+    """Writes heads of IP and ports after the link's head of each packet: IPv4, and for every tenth IPv6, of some thousand addresses."""
     chosen = random.Random(4)
     with open(path, "r+b") as file, mmap.mmap(file.fileno(), 0) as text:
         for number, (at, length) in enumerate(_places(text)):
@@ -25,7 +25,7 @@ def over_ip(path):
 
 
 def _places(text):
-    """Where the bytes of each packet begin, and how many they are, low byte first."""
+    """Yields where the bytes of each packet begin, and how many there are. Numbers have their low byte first."""
     is_classic = text[:4] != b"\x0a\x0d\x0d\x0a"
     at = 24 if is_classic else 0
     while at < len(text):

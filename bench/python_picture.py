@@ -1,4 +1,4 @@
-"""Packets a second through Python as bars, in SVG."""
+"""Draws packets per second through Python as bars, in SVG."""
 
 from xml.sax.saxutils import escape
 
@@ -6,7 +6,7 @@ ROW, LEFT, UNIT = 22, 210, 420
 
 
 def draw(path, rows):
-    """Each row is a name, whether it is of this package, and how many packets a second of the processor it takes."""
+    """Draws rows, each with a name, whether it is of this package, and how many packets it takes per processor second."""
     most, height = max(rate for _, _, rate in rows), ROW * len(rows) + 48
     parts = [
         f'<svg xmlns="http://www.w3.org/2000/svg" width="{LEFT + UNIT + 120}" height="{height}" font-family="sans-serif" font-size="13">',

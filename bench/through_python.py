@@ -13,7 +13,7 @@ from python_picture import draw
 
 TOP = os.path.dirname(os.path.dirname(os.path.abspath(__file__)))
 
-# Each way that has a row, by the package with its extension and without, and what else reads captures in Python.
+# Each way that has a row, with the package's extension and without, and what else reads captures in Python.
 OURS = (
     "iteration",
     "time_ns of each",
@@ -30,15 +30,15 @@ OURS = (
 DRAWN = ("iteration", "pairs", "columns", "to_pandas", "to_pandas(decode=True)")
 OTHERS = ("dpkt", "scapy, undecoded")
 TCPDUMP = ("tcpdump -r -w /dev/null", "tcpdump -r -w - FILTER")
-# Those whose instructions a packet are counted, by the extension, and by dpkt.
+# Those whose instructions per packet are counted, by the extension, and by dpkt.
 COUNTED = ("iteration", "pairs", "columns")
 SMALL, LARGE = 10_000, 20_000
-# So that what starting takes is the same in each run.
+# With this, starting takes the same in each run.
 SAME = {"PYTHONDONTWRITEBYTECODE": "1", "PYTHONHASHSEED": "0"}
 
 
 def measure(room, packets, python, rounds, picture=None):
-    """Prints processor seconds, instructions a packet and memory of each way, and draws python.svg in a folder where one is named."""
+    """Prints processor seconds, instructions per packet and memory of each way. Draws python.svg if the caller names a folder."""
     package = built(room, python)
     captures = [("pcap", f"{room}/mixed.pcap", write_pcap), ("PcapNg", f"{room}/mixed.pcapng", write_pcapng)]
     for _, path, write in captures:
@@ -68,7 +68,7 @@ def measure(room, packets, python, rounds, picture=None):
 
 
 def time_tcpdump(least, captures, rounds):
-    """The same of tcpdump."""
+    """Does the same for tcpdump."""
     for name in TCPDUMP:
         for kind, path, _ in captures:
             words = [FILTER if word == "FILTER" else word for word in name.split()[2:]]
@@ -76,7 +76,7 @@ def time_tcpdump(least, captures, rounds):
 
 
 def built(room, python):
-    """The package with its extension, compiled as a wheel's is."""
+    """Builds the package with its extension, compiled as a wheel's is."""
     paths = dict(os.environ, PCAPFILE_PROGRAM="")
     if not os.path.exists(f"{TOP}/portable/pcapfile.c"):
         paths["PCAPFILE_ARCHIVE"] = f"{TOP}/out/libpcapfile.a"
@@ -92,14 +92,14 @@ def with_package(package, name):
 
 
 def one(way, path, python, paths, rounds=1):
-    """What python.py tells of a way: how many packets, and seconds."""
+    """Returns what python.py prints about a way: how many packets, and seconds."""
     command = [python, "-B", f"{TOP}/bench/python.py", path, way, str(rounds)]
     told = subprocess.run(command, env=paths, check=True, capture_output=True, text=True).stdout.split()
     return [0 if it == "None" else float(it) for it in told] or None
 
 
 def timed(ways, captures, python, rounds):
-    """The least processor seconds of each way and capture, all in turns, and the most memory that a way held."""
+    """Returns the least processor seconds of each way and capture, all in turns, and the peak memory of each way."""
     least, held = {}, {}
     for _ in range(rounds):
         for name, way, paths in ways:
@@ -112,7 +112,7 @@ def timed(ways, captures, python, rounds):
 
 
 def counted(way, path, python, paths):
-    """The instructions of a packet: what starts and ends falls out."""
+    """Returns the instructions per packet, without those of the start and the end."""
     if not shutil.which("valgrind") or WAYS[way][0] is None:
         return None
     few, many = (count([python, "-B", f"{TOP}/bench/python.py", f"{path}.{size}", way, "1"], path, paths=paths) for size in ("small", "large"))
@@ -120,7 +120,7 @@ def counted(way, path, python, paths):
 
 
 def by_tcpdump(path, words):
-    """The processor seconds of a run of tcpdump."""
+    """Returns the processor seconds of a run of tcpdump."""
     before = os.times()
     subprocess.run(["tcpdump", "-r", path, *words], stdout=subprocess.DEVNULL, stderr=subprocess.DEVNULL, check=True)
     after = os.times()

@@ -1,11 +1,13 @@
-/* walk CALL PASSES < CAPTURE: takes each packet of a capture by the library's C header, so many times over, and prints a sum: of
- * a classic capture that of their nanoseconds and stored bytes, as `measured_calls next_packet` does, and of a PcapNg one that
- * of their units of time and stored bytes. CALL is take_packet or take_ng_packet for one in a call, take_packets or
- * take_ng_packets for 256, take_packet_as_is and take_block_as_is for one that may break rules, and put_ng_packet for a packet of a
- * classic capture that is put as a block of PcapNg, whose bytes are added in place of its own. Of a capture that comes in pieces, into room of 256 KiB, it is push_next for one in a call and
- * push_packets for 256, and push_ng_next and push_ng_packets, which tell nanoseconds. open_next takes one in a call of
- * pcapfile_open.h, of either format, and tells nanoseconds too; for that standard input has to be a file. cut_packets and
- * cut_blocks take no packet: they cut the capture into four parts, and the sum is that of the places where these begin. */
+/* walk CALL PASSES < CAPTURE: takes each packet of a capture by the library's C header, PASSES times, and prints a sum. For a classic
+ * capture it is the sum of nanoseconds and stored bytes, as for `measured_calls next_packet`. For a PcapNg capture it is that of units
+ * of time and stored bytes.
+ *
+ * CALL is take_packet or take_ng_packet for one packet in a call, and take_packets or take_ng_packets for 256. take_packet_as_is and
+ * take_block_as_is take one that may break rules. put_ng_packet writes a packet of a classic capture as a block of PcapNg, and adds the
+ * block's bytes instead of the packet's. For a capture in pieces, with a buffer of 256 KiB, CALL is push_next for one in a call and
+ * push_packets for 256, or push_ng_next and push_ng_packets, which add nanoseconds. open_next takes one in a call of pcapfile_open.h, of
+ * either format, and adds nanoseconds too; for that standard input must be a file. cut_packets and cut_blocks take no packet. They cut
+ * the capture into four parts, and the sum is that of the offsets at which these begin. */
 #include "pcapfile_open.h"
 
 #include <inttypes.h>
@@ -41,7 +43,7 @@ static int32_t add_packets(pcapfile_bytes left, uint64_t *sum) {
     return status;
 }
 
-/* A capture that comes in pieces, as many bytes at once as the room has space for. */
+/* A capture in pieces, as many bytes at once as the buffer has space for. */
 struct pieces {
     pcapfile_bytes left;
     pcapfile_push push;
@@ -51,7 +53,7 @@ struct pieces {
 static uint8_t room[ROOM];
 static pcapfile_interface interfaces[8] = { PCAPFILE_INTERFACE_INIT };
 
-/* Another piece, or the end: then 0. */
+/* Adds another piece. Returns 0 at the end. */
 static int come(struct pieces *walk, pcapfile_error *error) {
     if (walk->left.len == 0) return 0;
     pcapfile_push_space(&walk->push, room, ROOM, error->missing, error);

@@ -1,10 +1,10 @@
-/* What the generated programs ask of the system, over POSIX. Written by hand; tested, not proved.
+/* Gives the generated programs what they need from the system, over POSIX. Written by hand; tested, not proved.
  *
  *     cc -O2 capcopy_program.c os.c -o capcopy
  *     cc -O2 pcapfile_program.c os.c -o pcapfile
  *
- * Inside the programs the numbers of errors, the flags of open, the clocks and the layout of a file's status are those of
- * Linux on x86-64, and this file turns the system's into them. */
+ * The programs use the error numbers, the flags of open, the clocks and the layout of a file's status of Linux on x86-64. This file
+ * translates those of the system into them. */
 #if !defined __unix__ && !defined __APPLE__
 #error "os.c needs POSIX: Linux, a BSD, macOS or the like"
 #else
@@ -24,7 +24,7 @@
 
 typedef uint8_t *ptr;
 
-/* A program in assembly calls the C library by itself, but for these, which have other names there. */
+/* A program in assembly calls the C library itself, except for these, which have other names there. */
 #ifdef ASSEMBLY
 #define os_arg rattle_arg
 #define os_env rattle_env
@@ -45,7 +45,7 @@ int main(int argc, char **argv) {
     return (int)program_main();
 }
 
-/* Gives a text: its length, -1 where there is none, or -2 where it does not fit; then as much as fits is there. */
+/* Copies a text. Returns its length, -1 if there is none, or -2 if it does not fit; then as much as fits is copied. */
 static uint64_t put(const char *text, ptr to, uint64_t room) {
     if (!text)
         return (uint64_t)-1;
@@ -61,7 +61,7 @@ static uint64_t put(const char *text, ptr to, uint64_t room) {
 uint64_t os_arg(uint64_t at, ptr to, uint64_t room) { return put(at < (uint64_t)count ? words[at] : NULL, to, room); }
 uint64_t os_env(ptr name, ptr to, uint64_t room) { return put(getenv((const char *)name), to, room); }
 
-/* The variable at a place of the environment, as NAME=VALUE. */
+/* Copies the variable at a place of the environment, as NAME=VALUE. */
 extern char **environ;
 uint64_t os_env_at(uint64_t at, ptr to, uint64_t room) {
     uint64_t place = 0;
@@ -73,7 +73,7 @@ uint64_t os_env_at(uint64_t at, ptr to, uint64_t room) {
 uint32_t os_errno(void) { return (uint32_t)errno; }
 void os_set_errno(uint32_t number) { errno = (int)number; }
 
-/* glibc's strerror_r answers a text under _GNU_SOURCE, and POSIX's, which it has under this name, a number. */
+/* glibc's strerror_r returns a text under _GNU_SOURCE. POSIX's, which has this name in glibc, returns a number. */
 #ifdef __GLIBC__
 int __xpg_strerror_r(int, char *, size_t);
 #define strerror_r __xpg_strerror_r
@@ -101,7 +101,7 @@ uint32_t os_fdatasync(uint32_t file) { return os_fsync(file); }
 uint32_t os_fdatasync(uint32_t file) { return (uint32_t)fdatasync((int)file); }
 #endif
 
-/* Linux's commands of fcntl, and the system's. The flags of a file that is open have Linux's numbers on Linux alone. */
+/* Linux's commands of fcntl, and the system's. The flags of an open file have Linux's numbers on Linux alone. */
 static const struct {
     uint32_t linux_command;
     int command;
@@ -127,7 +127,7 @@ static const struct {
 
 uint32_t os_open(ptr path, uint32_t wanted, uint32_t mode) {
     int flags = (wanted & 3) == 1 ? O_WRONLY : (wanted & 3) == 2 ? O_RDWR : O_RDONLY;
-    uint32_t unknown = wanted & ~(uint32_t)(3 | 0100000); /* 0100000: large files, which the C library sees to */
+    uint32_t unknown = wanted & ~(uint32_t)(3 | 0100000); /* 0100000: large files, which the C library handles */
     for (size_t at = 0; at < sizeof flags_of_open / sizeof *flags_of_open; at++)
         if (wanted & flags_of_open[at].linux_flag) {
             flags |= flags_of_open[at].flag;
@@ -157,7 +157,7 @@ static void put32(ptr at, uint64_t number) {
 
 static void put64(ptr at, uint64_t number) { memcpy(at, &number, sizeof number); }
 
-/* What stat tells, laid out as Linux's struct statx: 256 bytes, of which the times' nanoseconds are filled on Linux alone. */
+/* Writes the result of stat with the layout of Linux's struct statx: 256 bytes. The times' nanoseconds are filled in on Linux alone. */
 static void put_status(ptr to, const struct stat *status) {
     memset(to, 0, 256);
     put32(to, 0x7ff); /* which fields are known */

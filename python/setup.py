@@ -1,10 +1,13 @@
-"""Compiles the extension: native/native.c and the library for C in one file, for the stable interface of Python 3.9; and the program
-`pcapfile`, which the package runs.
+"""Compiles the extension, and the program `pcapfile` that the package runs.
 
-Those files, the header and what goes with them are those of the repository, or copies in an sdist. Words of the environment change
-what a wheel holds: PCAPFILE_ARCHIVE names a proved archive, libpcapfile.a, that is linked in place of the file, PCAPFILE_PROGRAM a
-program that is carried in place of the compiled one, or is empty where none is to be, and PCAPFILE_LICENCES the folder of licences of all
-that the wheel holds."""
+The extension is native/native.c with the library for C, for the stable interface of Python 3.9. The sources are those of the
+repository, or their copies in an sdist. These environment variables change what a wheel contains:
+
+- PCAPFILE_ARCHIVE is the path of a proved archive, libpcapfile.a. The extension is linked with it instead of the library's
+  source.
+- PCAPFILE_PROGRAM is the path of a program that the wheel contains instead of a compiled one. If it is empty, the wheel has no
+  program.
+- PCAPFILE_LICENCES is the folder with the licences of everything in the wheel."""
 
 import os
 import re
@@ -27,14 +30,14 @@ HERE = Path(__file__).resolve().parent
 TOP = HERE.parent
 LIMITED = "0x03090000"
 
-# Files of the repository, and what an sdist calls them.
+# Files of the repository, and their paths in an sdist.
 PORTABLE = ("pcapfile.c", "pcapfile_program.c", "os.c")
 COPIED = {
     **{TOP / "portable" / it: HERE / "native" / it for it in PORTABLE},
     TOP / "include" / "pcapfile.h": HERE / "native" / "pcapfile.h",
     TOP / "VERSION": HERE / "VERSION",
 }
-# Those of what the library and the program hold, too.
+# The licences of everything in the library and the program.
 LICENCES = {TOP / it: HERE / it for it in ("LICENSE", "NOTICE")}
 LICENCES.update((it, HERE / it.name) for it in (TOP / "portable" / "licences").glob("LICENSE.*"))
 LICENCES.update((it, it) for it in HERE.glob("LICENSE.*"))
@@ -42,12 +45,12 @@ COPIED.update(LICENCES)
 
 
 def found(source):
-    """A file of the repository, or its copy in an sdist."""
+    """Returns a file of the repository, or its copy in an sdist."""
     return COPIED[source] if COPIED[source].exists() else source
 
 
 class WithSources(sdist):
-    """An sdist with all that the extension is made of."""
+    """Makes an sdist that contains all sources of the extension."""
 
     def make_release_tree(self, base_dir, files):
         super().make_release_tree(base_dir, files)
@@ -56,7 +59,7 @@ class WithSources(sdist):
 
 
 class WithProgram(build_ext):
-    """The extension, and beside it in the folder `bin` the program."""
+    """Builds the extension, and beside it the program in the folder `bin`."""
 
     def run(self):
         super().run()
@@ -69,14 +72,15 @@ class WithProgram(build_ext):
             shutil.copy(given, folder / "pcapfile")
 
     def compile_program(self, folder):
-        """Half a minute at -O1; -O2 takes a minute, and makes it a tenth faster at most."""
+        """Compiles the program at -O1, which takes half a minute. -O2 takes a minute, and makes the program at most a tenth
+        faster."""
         sources = [str(found(TOP / "portable" / it)) for it in PORTABLE[1:]]
         objects = self.compiler.compile(sources, output_dir=self.build_temp, extra_postargs=["-O1", "-g0", "-w", "-fno-strict-aliasing"])
         self.compiler.link_executable(objects, "pcapfile", output_dir=str(folder), extra_postargs=["-s"])
 
 
 class Wheel(bdist_wheel):
-    """A wheel that names the systems which have what the extension needs of the C library, with the licences of what it holds."""
+    """Makes a wheel whose tag names the C library that the extension needs. The wheel also contains the licences."""
 
     def get_tag(self):
         python, interface, system = super().get_tag()

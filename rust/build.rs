@@ -1,6 +1,6 @@
-//! Finds the library for C: the assembly that PCAPFILE_ASSEMBLY names, which lib.rs takes in; else libpcapfile.a in the folder that
-//! PCAPFILE_LIB_DIR names; else that of this version that pkg-config finds; else pcapfile.c, beside this file or in portable/
-//! of a checkout, which is compiled.
+//! Finds the library for C, in this order: the assembly that PCAPFILE_ASSEMBLY names, which calls.rs includes; libpcapfile.a in
+//! the folder that PCAPFILE_LIB_DIR names; that of this version that pkg-config finds. Otherwise it compiles pcapfile.c, beside
+//! this file or in portable/ of a checkout.
 
 use std::env;
 use std::path::{Path, PathBuf};
@@ -31,7 +31,7 @@ fn take_assembly(file: &Path) {
     println!("cargo:rustc-cfg=pcapfile_assembly");
 }
 
-/// The folder of the installed library. Another version's structures may be others.
+/// Returns the folder of the installed library. Another version may have other structures.
 fn installed() -> Option<PathBuf> {
     let wanted = concat!("pcapfile = ", env!("CARGO_PKG_VERSION"));
     let pkg_config = env::var_os("PKG_CONFIG").unwrap_or_else(|| "pkg-config".into());
@@ -40,14 +40,14 @@ fn installed() -> Option<PathBuf> {
     (told.status.success() && !folder.trim().is_empty()).then(|| PathBuf::from(folder.trim()))
 }
 
-/// The library as one C file: beside this file in a packed crate, or in portable/ of a checkout.
+/// Returns the library as one C file: beside this file in a packed crate, or in portable/ of a checkout.
 fn c_form() -> PathBuf {
     let folder = Path::new(env!("CARGO_MANIFEST_DIR"));
     let beside = folder.join("pcapfile.c");
     if beside.exists() { beside } else { folder.join("../portable/pcapfile.c") }
 }
 
-/// The folder of the library that a C compiler makes of pcapfile.c.
+/// Returns the folder of the library that a C compiler makes from pcapfile.c.
 fn compiled() -> PathBuf {
     let source = c_form();
     println!("cargo:rerun-if-changed={}", source.display());
@@ -64,7 +64,8 @@ fn compiled() -> PathBuf {
     folder
 }
 
-/// What a variable names, as CC, or one with the target behind it, as CC_x86_64_unknown_linux_gnu: a command and its first words.
+/// Returns the command and its first words from a variable, such as CC, or from one with the target after it, such as
+/// CC_x86_64_unknown_linux_gnu.
 fn tool(name: &str, usual: &str) -> Command {
     let of_target = format!("{name}_{}", env::var("TARGET").unwrap_or_default().replace('-', "_"));
     let mut found = usual.to_owned();

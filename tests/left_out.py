@@ -1,4 +1,4 @@
-"""What a part of the gate leaves out, in the form that `.ci/run` collects."""
+"""Reports what a part of the gate leaves out, in the form that `.ci/run` collects."""
 import functools
 import shutil
 
@@ -9,7 +9,7 @@ PACKAGES |= {"wasm-ld": "lld", "wasm-opt": "binaryen", "node": "nodejs"}
 
 @functools.lru_cache(maxsize=None)
 def has(tool, what):
-    """Whether a tool is there; where it isn't, one line says what is left out."""
+    """Returns whether a tool is installed. If it isn't, prints one line with what is left out."""
     is_there = shutil.which(tool) is not None
     if not is_there:
         print(f"left out: {what} (Debian package {PACKAGES.get(tool, tool)})", flush=True)

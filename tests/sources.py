@@ -1,6 +1,6 @@
-"""The public items of the crates, as their sources have them: comments, signatures, and the names and texts of clauses.
+"""Reads the public items of the crates from their sources: comments, signatures, and the names and texts of clauses.
 
-An item starts at a line's beginning and a method four spaces in, as `rt fmt` lays them out; no macro is expanded.
+An item starts at a line's beginning and a method four spaces in, as `rt fmt` formats them. The script expands no macro.
 """
 import collections
 import glob
@@ -25,7 +25,7 @@ def text_of(path):
 
 
 def comment_before(lines, at):
-    """The `///` lines that stand before this one, attributes between them left out."""
+    """Returns the `///` lines before this line, without the attributes between them."""
     found = []
     while at and re.match(r"\s*(///|#\[)", lines[at - 1]):
         at -= 1
@@ -38,7 +38,7 @@ def indent_of(line):
 
 
 def end_of(lines, at):
-    """Where what begins at this line ends: where its indent closes it, or at a semicolon before a body is opened."""
+    """Returns the end of what begins at this line: where its indent closes it, or a semicolon before a body opens."""
     indent, opened = " " * indent_of(lines[at]), False
     for here in range(at, len(lines)):
         line = lines[here]
@@ -50,7 +50,7 @@ def end_of(lines, at):
 
 
 def signature_of(lines):
-    """What stands before the first clause or the body, on one line."""
+    """Returns the text before the first clause or the body, on one line."""
     kept = []
     for line in lines:
         if CLAUSE.match(line) or line.strip() in ("{", "{}"):
@@ -63,7 +63,7 @@ def signature_of(lines):
 
 
 def clauses_of(lines):
-    """The word, the name, which may be empty, and the text of each clause."""
+    """Returns the word, the name (which may be empty) and the text of each clause."""
     found = []
     indent = indent_of(lines[0])
     for at, line in enumerate(lines[1:], 1):
@@ -77,7 +77,7 @@ def clauses_of(lines):
 
 
 def parts_of(kind, lines, path):
-    """The fields of a struct, the variants of an enum, the functions of a trait or an impl."""
+    """Returns the fields of a struct, the variants of an enum, or the functions of a trait or an impl."""
     found, at = [], 1
     while at < len(lines) - 1:
         line = lines[at]
@@ -104,7 +104,7 @@ def parts_of(kind, lines, path):
 
 
 def items_of(path):
-    """The public items of a file, and its impls as pairs of a type and an item, which is named by its trait if it has one."""
+    """Returns the public items of a file, and its impls as pairs of a type and an item. The item has the name of its trait, if there is one."""
     lines = text_of(path).split("\n")
     items, impls, at = {}, [], 0
     while at < len(lines):
@@ -127,7 +127,7 @@ def items_of(path):
 
 
 class Crate:
-    """A crate's modules by their paths, and the impls of its types."""
+    """The modules of a crate by their paths, and the impls of its types."""
 
     def __init__(self, name):
         self.name, self.impls, self.modules, self.files = name, [], {}, {}
@@ -142,7 +142,7 @@ class Crate:
 
 
 class Sources:
-    """All crates, read when they are named."""
+    """All crates. Each is read when a path names it."""
 
     def __init__(self):
         self.crates = {}
@@ -153,7 +153,7 @@ class Sources:
         return self.crates[name]
 
     def resolved(self, crate, module, path):
-        """The crate, and the path in it, that a path in a module means."""
+        """Returns the crate, and the path in it, that a path in a module means."""
         first, _, rest = path.partition("::")
         if first == "crate":
             return crate, rest
@@ -162,7 +162,7 @@ class Sources:
         return crate, f"{module}::{path}".lstrip(":")
 
     def found(self, crate, path):
-        """The crate and the item that stands at this path, through what is given on; None for a module."""
+        """Returns the crate and the item at this path, also through re-exports; None for a module."""
         module, _, name = path.rpartition("::")
         own = self.crate(crate)
         if path in own.modules or (module in own.modules and name in own.modules[module]):
@@ -173,7 +173,7 @@ class Sources:
         sys.exit(f"tests/reference: {path} of {crate} isn't found")
 
     def uses(self, crate, module):
-        """The paths of what a module gives on."""
+        """Returns the paths that a module re-exports."""
         found = []
         for used in USE.findall(text_of(self.crate(crate).files[module])):
             used = re.sub(r"\s+", " ", used)
@@ -182,7 +182,7 @@ class Sources:
         return found
 
     def shown(self, crate, module):
-        """The items of a public module: pairs of a crate and an item, its own before what it gives on."""
+        """Returns the items of a public module as pairs of a crate and an item, its own ones before those that it re-exports."""
         found = [(crate, it) for it in self.crate(crate).modules[module].values()]
         for used in self.uses(crate, module):
             at, item = self.found(*self.resolved(crate, module, used))
@@ -191,7 +191,7 @@ class Sources:
         return found
 
     def public(self, crate, module, shown):
-        """The public modules below one as triples: the path that a caller writes, and the crate and module that it is."""
+        """Returns the public modules below one as triples: the path that a caller writes, and the crate and module that it is."""
         found = [(shown, crate, module)]
         for name in re.findall(r"^pub mod (\w+);", text_of(self.crate(crate).files[module]), re.M):
             found += self.public(crate, f"{module}::{name}".lstrip(":"), f"{shown}::{name}")

@@ -1,4 +1,4 @@
-"""Which captures are walked."""
+"""Finds the captures for the runs."""
 import os
 import subprocess
 import sys
@@ -10,8 +10,8 @@ MAKERS = [f"{TOP}/tests/c/{it}" for it in ("captures.py", "block_captures.py")]
 
 
 def captures(folders, every, room):
-    """Each Nth file of the folders, in the order of their names, and of tests/files/stored. Where no folder is named, small
-    captures are made, good and bad."""
+    """Returns each Nth file of the folders, in the order of their names, and of tests/files/stored. If the caller names no folder, it
+    makes small captures, sound and malformed."""
     if not folders:
         folders = [f"{room}/captures"]
         os.makedirs(folders[0])

@@ -1,4 +1,4 @@
-"""The forms that are compared: how each is built and run, and which tools that takes."""
+"""The forms for the comparison: how each is built and run, and which tools that takes."""
 import functools
 import os
 import shutil
@@ -20,7 +20,7 @@ PACKAGES = {
     "wine": "wine",
     "musl-gcc": "musl-tools",
 }
-# The headers and the library of C for a compiler that comes without.
+# The headers and the library of C for a compiler that has none.
 HEADERS = {
     "gcc": "libc6-dev",
     "clang": "libc6-dev",
@@ -38,8 +38,8 @@ def has_headers(compiler):
 
 @dataclass(frozen=True)
 class Form:
-    """`words` call the compiler, `runner` stands before the program, and `target` names the assembly in the place of C. `more` are
-    sources that a program of tests/c wants there, and `without` names the programs that want what isn't there."""
+    """`words` call the compiler, `runner` comes before the program, and `target` names the assembly that replaces the C. `more` are
+    sources that a program of tests/c needs there, and `without` names the programs that need what is missing there."""
 
     name: str
     words: tuple
@@ -50,7 +50,7 @@ class Form:
     ending: str = ""
 
     def lacking(self):
-        """The tools that are missing, each with its package."""
+        """Returns the missing tools, each with its package."""
         compiler = self.words[0]
         missing = [(it, PACKAGES[it]) for it in (compiler, *self.runner[:1]) if not shutil.which(it)]
         if not missing and compiler in HEADERS and not has_headers(compiler):
@@ -58,19 +58,19 @@ class Form:
         return missing
 
     def source(self, stem, folder):
-        """The file of a library or a program in this form."""
+        """Returns the file of a library or a program in this form."""
         if self.target:
             return f"{TOP}/out/portable/{stem}-{self.target}.S"
         return f"{folder}/{stem}.c"
 
     def build(self, files, to, *more):
-        """Compiles and links, and returns what went wrong, if anything did."""
+        """Compiles and links. Returns what went wrong, or None."""
         words = [*self.words, "-D_POSIX_C_SOURCE=200809L", *more, *files, "-o", to]
         ran = subprocess.run(words, capture_output=True, text=True)
         return f"{' '.join(words)}: {ran.stderr[:1500]}" if ran.returncode else None
 
 
-# Its C library has no POSIX, which c/open.c and portable/os.c want.
+# Its C library has no POSIX, which c/open.c and portable/os.c need.
 WINDOWS = {"more": (f"{TOP}/portable/comparing/windows.c",), "without": ("open", "capcopy", "pcapfile"), "ending": ".exe"}
 
 

@@ -1,4 +1,4 @@
-"""The test programs of tests/c over the library in each form: all that they tell of each capture."""
+"""Runs the test programs of tests/c over the library in each form, and compares all that they print about each capture."""
 import hashlib
 import os
 import subprocess
@@ -11,12 +11,12 @@ CLASSIC = [("list", []), ("list", ["-b"]), ("list", ["-k", "3"]), ("push", ["7",
 CLASSIC += [("push", ["1000", "300000"]), ("both", []), ("open", [])]
 NG = [("blocks", []), ("blocks", ["-p"]), ("blocks", ["-n"]), ("blocks", ["-c", "7", "24"]), ("blocks", ["-k", "3"]), ("options", []), ("both", [])]
 NG += [("blocks_as_is", []), ("blocks_as_is", ["-c", "7", "24"]), ("packets", ["7", "24"]), ("packets", ["-b", "3", "7", "24"]), ("open", [])]
-# What they try by themselves.
+# The programs that need no capture.
 ALONE = [("calls", [])]
 
 
 def build(form, library, room, include=()):
-    """The test programs over a library's file, in a folder, or what went wrong."""
+    """Builds the test programs over a library's file. Returns their folder, and what went wrong, or None."""
     folder = f"{room}/library-{form.name}"
     os.makedirs(folder, exist_ok=True)
     made = f"{folder}/library.o"
@@ -50,7 +50,7 @@ def told(form, folder, program, words, capture):
 
 
 def compared(form, folder, captures, pool, wanted):
-    """The runs over one form, and those whose answers are not the wanted ones."""
+    """Returns the answers over one form, and the runs whose answers are not the wanted ones."""
     all_runs = runs(captures)
     tried = [at for at, (program, *_) in enumerate(all_runs) if program not in form.without]
     got = list(pool.map(lambda at: told(form, folder, *all_runs[at]), tried))

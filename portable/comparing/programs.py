@@ -1,4 +1,4 @@
-"""Each word of pcapfile and capcopy over each capture: standard output, standard error, status, and the files that are left."""
+"""Runs each word of pcapfile and capcopy over each capture: standard output, standard error, status, and the files that remain."""
 import hashlib
 import os
 import shutil
@@ -33,7 +33,7 @@ WORDS = {
     "pcapfile": words_of_pcapfile(),
     "capcopy": [["list"], ["copy"], ["copy", "big", "nano"], ["copy", "little", "micro"], ["blocks"], ["wrong"]],
 }
-# What needs no capture, tried once.
+# The words that need no capture, tried once.
 ALONE = {
     "pcapfile": [[], ["--help"], ["--version"], ["wrong"], ["list"], ["cut", "IN"], ["convert", "--to", "text", "IN"]]
     + [[word, "--help"] for word in ("check", "info", "list", "convert", "cut", "join", "merge", "repair")]
@@ -47,7 +47,7 @@ def digest(data):
 
 
 def told(command, words, capture, following, room):
-    """All that one run of a program leaves."""
+    """Returns all that one run of a program leaves."""
     folder = tempfile.mkdtemp(dir=room)
     try:
         shutil.copyfile(capture, f"{folder}/IN")
@@ -67,7 +67,7 @@ def content(path):
 
 
 def runs(program, captures):
-    """Each run as its words, the capture and the one after it."""
+    """Returns each run as its words, the capture and the one after it."""
     found = [(words, captures[0], captures[-1]) for words in ALONE[program]]
     for at, capture in enumerate(captures):
         found += [(words, capture, captures[(at + 1) % len(captures)]) for words in WORDS[program]]
@@ -75,7 +75,7 @@ def runs(program, captures):
 
 
 def compared(program, command, captures, room, pool, wanted):
-    """The runs of a program by this command, and those whose answers are not the wanted ones."""
+    """Returns the answers of a program by this command, and the runs whose answers are not the wanted ones."""
     all_runs = runs(program, captures)
     got = list(pool.map(lambda it: told(command, *it, room), all_runs))
     if wanted is None:
@@ -84,7 +84,7 @@ def compared(program, command, captures, room, pool, wanted):
 
 
 def build(form, program, folder, room):
-    """A program in one form, or what went wrong. Its name is its own, since it tells that in its help."""
+    """Builds a program in one form. Returns its path, and what went wrong, or None. Each has a name of its own, since its help contains that."""
     made = f"{room}/{form.name}/{program}"
     os.makedirs(f"{room}/{form.name}", exist_ok=True)
     why = form.build([form.source(STEMS[program], folder), f"{TOP}/portable/os.c"], made, *["-DASSEMBLY"] * bool(form.target))

@@ -1,4 +1,4 @@
-/* What the programs of tests/c want of a system that is not POSIX: bytes as they are, and a clock, which is never compared. */
+/* Gives the programs of tests/c what they need on a system without POSIX: unchanged bytes, and a clock, which nothing compares. */
 #include <fcntl.h>
 #include <io.h>
 #include <stdlib.h>

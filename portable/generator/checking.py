@@ -1,4 +1,4 @@
-"""Whether the committed files are what would be written now, and whether what would be written answers as the proved builds do."""
+"""Checks that the committed files are what the generator would now write, and that what it writes answers as the proved builds do."""
 import os
 import re
 import subprocess
@@ -9,11 +9,11 @@ from concurrent.futures import ThreadPoolExecutor
 from . import crates, forms, heads, targets
 from .places import PORTABLE
 
-# A file of seven digits of bytes would fill the history if each commit changed it, so this one may be behind.
+# A file of several megabytes would fill the history if each commit changed it, so this one may be behind.
 MAY_LAG = {"pcapfile": 20}
 LIBRARY_FORMS = "gcc,gcc-O0,gcc-sanitizers,clang,clang-O0,clang-sanitizers"
 LIBRARY_FORMS += ",aarch64,riscv64,x86_64-assembly,aarch64-assembly,riscv64-assembly"
-# What is compared of each crate, over each sixth capture.
+# The comparisons for each crate, over each sixth capture.
 SAMPLES = {
     "pcapfile_c": ["library", "--forms", LIBRARY_FORMS],
     "capcopy": ["capcopy", "--forms", "gcc,clang,gcc-sanitizers"],
@@ -30,7 +30,7 @@ def committed(name):
 
 
 def fault_of(name, fresh):
-    """What is wrong with a committed file beside a fresh one, if anything is, and what is to be said of it."""
+    """Returns the fault of a committed file beside a fresh one, or None, and the message about it."""
     old, file = committed(name), f"portable/{forms.FILES[name]}"
     if old == fresh:
         return None, f"{file}: {len(fresh.encode())} bytes, the same"
@@ -43,7 +43,7 @@ def fault_of(name, fresh):
 
 
 def compared(name, room):
-    """What the comparison of a crate's file in a folder says, and how many runs passed and failed by its last line."""
+    """Returns what the comparison of a crate's file in a folder prints, and how many runs passed and failed by its last line."""
     words = [sys.executable, f"{PORTABLE}/compare", "--from", room, "--every", "6", *SAMPLES[name]]
     ran = subprocess.run(words, stdout=subprocess.PIPE, stderr=subprocess.STDOUT, text=True)
     last = re.search(r"^(\d+) passed, (\d+) failed$", ran.stdout, re.M)
@@ -53,7 +53,7 @@ def compared(name, room):
 
 
 def check_one(name, room):
-    """What is told of a crate's file, and how many tests passed and failed."""
+    """Returns the messages about a crate's file, and how many tests passed and failed."""
     fresh = forms.text_of(name)
     with open(f"{room}/{forms.FILES[name]}", "w", encoding="utf-8") as it:
         it.write(fresh)
@@ -65,7 +65,7 @@ def check_one(name, room):
 
 
 def check(names):
-    """Checks each crate's file beside the others, since a proof and a large file take a processor each."""
+    """Checks the crates' files side by side, since a proof and a large file take a processor each."""
     passed = failed = 0
     with tempfile.TemporaryDirectory() as room, ThreadPoolExecutor(len(names)) as pool:
         for told, good, bad in pool.map(lambda name: check_one(name, room), names):

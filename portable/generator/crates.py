@@ -1,4 +1,4 @@
-"""The crates of this checkout: what each stands on, its sources, and how far a file is behind them."""
+"""Finds the crates of this checkout: the libraries that each uses, its sources, and how far a file is behind them."""
 import hashlib
 import os
 import subprocess
@@ -8,7 +8,7 @@ from .stopping import Stopped
 
 
 def listed():
-    """Each crate of crates.txt with the names of those that it names."""
+    """Returns each crate of crates.txt with the names of those that it names."""
     found = {}
     with open(f"{TOP}/crates.txt", encoding="utf-8") as it:
         for line in it:
@@ -19,7 +19,7 @@ def listed():
 
 
 def below(name):
-    """The crates of this checkout that one stands on, with itself, in the order of their names."""
+    """Returns the crates of this checkout that one uses, with itself, in the order of their names."""
     crates = listed()
     if name not in crates:
         raise Stopped(f"crates.txt names no crate {name}")
@@ -33,7 +33,7 @@ def below(name):
 
 
 def source_paths(name):
-    """The folders whose files decide what a crate's code is, from the top of the checkout."""
+    """Returns the folders whose files decide what a crate's code is, from the top of the checkout."""
     return [f"crates/{crate}/{part}" for crate in below(name) for part in ("src", "specs") if os.path.isdir(f"{TOP}/crates/{crate}/{part}")]
 
 
@@ -42,7 +42,7 @@ def files_in(path):
 
 
 def checksum(name):
-    """One sum of the crate's sources and of those below it, by their places in the checkout."""
+    """Returns one sum of the crate's sources and of those below it, by their places in the checkout."""
     total = hashlib.sha256()
     for path in source_paths(name):
         for file in files_in(f"{TOP}/{path}"):
@@ -52,7 +52,7 @@ def checksum(name):
 
 
 def commits_behind(file, name):
-    """How many commits changed a crate's sources since a file was last committed, or None where git can't tell."""
+    """Returns how many commits changed a crate's sources since a file was last committed, or None if git can't find out."""
     git = ["git", "-C", TOP]
     last = subprocess.run([*git, "log", "-1", "--format=%H", "--", file], capture_output=True, text=True)
     if last.returncode or not last.stdout.strip():

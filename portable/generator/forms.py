@@ -1,4 +1,4 @@
-"""The files of C, each from the module of one crate."""
+"""Makes the files of C, each from the module of one crate."""
 import os
 import sys
 
@@ -15,7 +15,7 @@ FILES = {"pcapfile_c": "pcapfile.c", "capcopy": "capcopy_program.c", "pcapfile":
 
 
 def text_of(name):
-    """The C of a crate."""
+    """Returns the C of a crate."""
     module, verdict = recording.recorded(name)
     text = modules.prepared(module)
     try:
@@ -26,7 +26,7 @@ def text_of(name):
 
 
 def write(name, folder):
-    """Writes a crate's file of C, and tells how long it is."""
+    """Writes a crate's file of C, and prints its length."""
     made = text_of(name).encode()
     path = os.path.join(folder, FILES[name])
     with open(f"{path}.new", "wb") as it:

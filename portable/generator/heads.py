@@ -1,4 +1,4 @@
-"""The comment that a generated file begins with."""
+"""Makes the comment with which a generated file begins."""
 import os
 import re
 import textwrap
@@ -20,7 +20,7 @@ SUM = "Sources: sha256 "
 
 
 def parts_of(text):
-    """The parts of the toolchain that a module has code of and that have a licence of their own, each with its kind."""
+    """Returns the parts of the toolchain that have code in a module and a licence of their own, each with its kind."""
     found = {}
     for name in sorted(set(re.findall(r'^define [^@]*@"(\w+)::', text, re.M))):
         for file in ("LICENSE-MIT", "LICENSE"):
@@ -37,13 +37,13 @@ def sum_line(name):
 
 
 def sum_in(text):
-    """The sum of the sources that a generated file names."""
+    """Returns the sum of the sources that a generated file names."""
     found = re.search(rf"^ \* {SUM}([0-9a-f]+)$", text, re.M)
     return found[1] if found else None
 
 
 def head(name, verdict, text):
-    """What a file was made from, and whose it is; the text is that of the module as it was recorded."""
+    """Returns the comment that names the sources and licences of a file. The text is that of the module as it was recorded."""
     parts = ", ".join(f"{part} ({kind})" for part, kind in parts_of(text).items())
     told = [TITLES[name], "", DESCRIBED, "", f"Toolchain: {kit_line()}", f"Proof of the crate {name}: {verdict}", sum_line(name)]
     told += [f"(of src and specs of {', '.join(crates.below(name))})", ""]

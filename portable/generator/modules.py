@@ -1,4 +1,4 @@
-"""Turns the module that was recorded into one that any target can have."""
+"""Turns a recorded module into one for any target."""
 import re
 import subprocess
 
@@ -8,16 +8,16 @@ from .stopping import Stopped
 HOST = ["--target=x86_64-unknown-linux-gnu", "-Wno-override-module"]
 # Vectors and unrolled loops make C longer, and a compiler of C makes its own.
 OPTIMIZED = ["-fno-vectorize", "-fno-slp-vectorize", "-fno-unroll-loops", "-fno-pic", "-fno-pie", "-Xclang", "-fmerge-functions"]
-# What belongs to x86-64, or to where the module was to be linked.
+# The attributes that belong to x86-64, or to the place where the module was to be linked.
 OF_PROCESSOR = re.compile(r' "(?:target-cpu|target-features|probe-stack|stack-probe-size)"="[^"]*"')
 ENTRY = "program_main"
 LEVELS = {"pcapfile_c": "-O3", "capcopy": "-O3", "pcapfile": "-O2"}
-# A function's head with the path of its name, of which the first word is its crate, or all of it where it is a call from C.
+# A function's head with the path of its name. The first word of the path is the crate. A call for C has only its name.
 DEFINITION = re.compile(r'^(define [^\n]*@"?([\w:]+)[^"\n]*"?\([^\n]*\)) ((?:local_)?unnamed_addr )?(#\d+) \{$', re.M)
-# What goes over each packet in pcapfile is to be fast.
+# The functions that handle each packet in pcapfile must be fast.
 FAST = r"pcap_(classic|ng|blocks|core|items|times|file)|pcapfile_(lines|info|shown|run)|pcapfile_words_check::list"
 FAST += r"|capcopy_run|jiff\w*|itoa|core(?!::fmt\b)|std_alloc"
-# Which functions are to be small, and which as small as can be.
+# Which functions must be small, and which as small as possible.
 SMALL = {
     "pcapfile_c": (r"(pcap_tolerant\w*|pcap_raw_options|pcapfile_take_block_as_is)\b.*", ""),
     "pcapfile": (rf"(?!({FAST})\b).*", r"(clap|strsim|std_io)\b.*"),
@@ -32,7 +32,7 @@ def run_clang(words, given):
 
 
 def text_of(module):
-    """A module's text, as it was lowered."""
+    """Returns a module's text, as it was lowered."""
     with open(module, "rb") as it:
         given = it.read()
     words = [*HOST, "-x", "ir", "-", "-S", "-emit-llvm", "-Xclang", "-disable-llvm-passes", "-o", "-"]
@@ -44,7 +44,7 @@ def without_processor(text):
 
 
 def with_entry(text):
-    """A program whose `main`, which tests the processor and calls its start, is a function that only calls the start."""
+    """Replaces a program's `main`, which tests the processor and calls its start, by a function that only calls the start."""
     head = re.search(r"^define i32 @main\(\)(.*)\{$", text, re.M)
     if not head:
         return text
@@ -57,7 +57,7 @@ def with_entry(text):
 
 
 def without_unused(text):
-    """Without declarations of what only the old main called."""
+    """Removes the declarations of what only the old main called."""
     for name in ("__sysv_signal", "__x86_get_cpuid_feature_leaf", "__write"):
         if not re.search(rf"call [^@\n]*@{name}\(", text):
             text = re.sub(rf"^declare [^@\n]*@{name}\(.*\n", "", text, flags=re.M)
@@ -65,12 +65,12 @@ def without_unused(text):
 
 
 def prepared(module):
-    """The text of a recorded module for any processor."""
+    """Returns the text of a recorded module for any processor."""
     return with_entry(without_processor(text_of(module)))
 
 
 def sized(name, text):
-    """The module with each function marked that is to be small rather than fast."""
+    """Returns the module with a mark on each function that must be small rather than fast."""
     small, smallest = map(re.compile, SMALL.get(name, ("", "")))
 
     def marked(found):
@@ -81,6 +81,6 @@ def sized(name, text):
 
 
 def optimized(name, text):
-    """The module after LLVM's own passes, without which the C would be many times slower."""
+    """Returns the module after LLVM's own passes, without which the C would be many times slower."""
     words = [*HOST, "-x", "ir", "-", LEVELS[name], *OPTIMIZED, "-S", "-emit-llvm", "-o", "-"]
     return run_clang(words, sized(name, text).encode()).decode()

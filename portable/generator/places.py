@@ -1,4 +1,4 @@
-"""Where things are: the checkout, and the toolchain behind `rt`."""
+"""Finds the checkout, and the toolchain that has `rt`."""
 import os
 import shutil
 import subprocess
@@ -11,7 +11,7 @@ OUT = f"{TOP}/out/portable"
 
 
 def kit():
-    """The folder of the toolchain."""
+    """Returns the folder of the toolchain."""
     rt = shutil.which("rt")
     if not rt:
         raise Stopped("'rt' is not on the PATH: the Rattle toolchain makes the C files; to build from them, a C compiler is enough")
@@ -19,7 +19,7 @@ def kit():
 
 
 def kit_line():
-    """The toolchain's version and the logic that it proves by."""
+    """Returns the toolchain's version and the logic that it proves by."""
     return subprocess.run(["rt", "version"], capture_output=True, text=True, check=True).stdout.strip()
 
 
@@ -28,5 +28,5 @@ def clang():
 
 
 def shown(path):
-    """A path as it is told: from the top of the checkout where it lies below."""
+    """Returns a path for a message: from the top of the checkout if it is below that."""
     return os.path.relpath(path, TOP) if os.path.abspath(path).startswith(TOP + os.sep) else path

@@ -1,7 +1,7 @@
-"""The LLVM module of a proved crate.
+"""Records the LLVM module of a proved crate.
 
-`rattle build` proves a crate, over what earlier builds in this checkout kept, lowers it to one module of LLVM and hands that
-to the clang of a toolchain's folder. Here that folder has a clang that keeps the module and compiles nothing.
+`rattle build` proves a crate, over what earlier builds in this checkout kept. It lowers the crate to one module of LLVM, and gives that to
+the clang in a toolchain's folder. The folder here has a clang that keeps the module and compiles nothing.
 """
 import contextlib
 import fcntl
@@ -34,7 +34,7 @@ TRUSTED = re.compile(r" [a-z-]+=trusted")
 
 
 def recorded(name):
-    """The files of a crate's module and of the words that its proof ended with, made anew only where sources changed."""
+    """Returns the path of a crate's module, and the line with which its proof ended. It records them again only if sources changed."""
     os.makedirs(OUT, exist_ok=True)
     module, note = f"{OUT}/{name}.bc", f"{OUT}/{name}.json"
     key = hashlib.sha256(repr((crates.checksum(name), kit_line(), libraries_of(name))).encode()).hexdigest()
@@ -55,7 +55,7 @@ def sum_of(path):
 
 
 def libraries_of(name):
-    """The built libraries below a crate: their names, and what `rattle` itself compares them by."""
+    """Returns the built libraries below a crate: their names, and what `rattle` itself compares them by."""
     found = []
     for library in crates.below(name):
         if library != name:
@@ -71,8 +71,8 @@ def libraries_of(name):
 
 
 def changed_since(library):
-    """What is no longer as it was when a library was built. `rt lib` leaves a stamp of all that it read. `rt ci` leaves none, and makes
-    the folder of a library anew wherever it puts one, also one that an earlier run has kept."""
+    """Returns what changed since a library was built, or None. `rt lib` leaves a stamp of all that it read. `rt ci` leaves none. It
+    makes the folder of a library anew each time it puts one there, also one that an earlier run kept."""
     folder = f"{TOP}/crates/{library}"
     put = os.stat(f"{folder}/out/rlib/{library}.rlib").st_mtime
     if os.path.isfile(f"{folder}/out/rlib/stamp"):
@@ -86,13 +86,13 @@ def changed_since(library):
 
 @functools.cache
 def rtlib():
-    """The toolchain's own module of crates, which knows those stamps."""
+    """Returns the toolchain's own module of crates, which can check those stamps."""
     sys.path.append(f"{kit()}/bin")
     return importlib.import_module("rtlib")
 
 
 def words_of(name):
-    """How `rattle build` is told of a crate, as `rt` does it."""
+    """Returns the words that describe a crate to `rattle build`, as `rt` does it."""
     toolchain, named = kit(), crates.listed()[name]
     folder = f"{TOP}/crates/{name}"
     is_program = os.path.isfile(f"{folder}/src/main.rt")
@@ -110,7 +110,7 @@ def words_of(name):
 
 
 def kept_work(folder):
-    """Where a check keeps what it checked: what `rt` left, or what the trials of wrong bodies did."""
+    """Returns where a check keeps what it checked: what `rt` left, or what the trials of wrong bodies did."""
     places = [f"{folder}/out/{it}" for it in ("incremental", "refusals")]
     return next((it for it in places if os.path.isdir(it)), places[0])
 
@@ -128,7 +128,7 @@ def alone_in(folder):
 
 
 def record(name, module):
-    """Builds a crate with the clang that keeps its module, and returns the line that its proof ended with."""
+    """Builds a crate with the clang that keeps its module, and returns the line with which its proof ended."""
     folder = f"{TOP}/crates/{name}"
     with tempfile.TemporaryDirectory(dir=OUT) as room, alone_in(folder):
         make_toolchain(room, f"{room}/module.bc")
@@ -144,7 +144,7 @@ def record(name, module):
 
 
 def make_toolchain(room, kept):
-    """A toolchain's folder whose clang only keeps what it is given."""
+    """Makes a toolchain's folder whose clang only keeps its input."""
     os.makedirs(f"{room}/bin")
     os.symlink(f"{kit()}/toolchain/lib", f"{room}/lib")
     for tool in os.listdir(f"{kit()}/toolchain/bin"):

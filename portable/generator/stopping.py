@@ -1,5 +1,5 @@
-"""How the generator stops."""
+"""Defines the exception that stops the generator."""
 
 
 class Stopped(Exception):
-    """Why nothing more can be made, and what helps."""
+    """The reason why the generator can make nothing more, and what helps."""

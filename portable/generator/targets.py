@@ -1,4 +1,4 @@
-"""Assembly for other processors, and the library as a WebAssembly module, by the LLVM of the toolchain."""
+"""Writes assembly for other processors, and the library as a WebAssembly module, by the LLVM of the toolchain."""
 import os
 import re
 import shutil
@@ -22,7 +22,7 @@ PROCESSORS = {
     "aarch64": ["-march=armv8-a", "-mllvm", "-aarch64-load-store-renaming=false"],
     "riscv64": ["-march=rv64gc", "-mabi=lp64d"],
 }
-# As the proved build is made, but that instructions in the text of assembly are read by other assemblers.
+# The options of the proved build, except that other assemblers read the text of instructions.
 AS_PROVED = ["-no-trap-after-noreturn", "-trap-unreachable", "-no-x86-call-frame-opt", "-disable-machine-licm", "-disable-postra-machine-licm", "-sink-common-insts=false"]
 ASSEMBLED = ["-S", "-O3", "-fPIC", "-fno-addrsig", "-fno-verbose-asm", "-Wno-override-module"]
 WASM = ["-mcpu=lime1", "-O2", "-Wno-override-module", "-ffunction-sections", "-fdata-sections"]
@@ -65,7 +65,7 @@ define internal void @rattle_dealloc(ptr %old) {
 
 
 def with_definitions(text, definitions, names):
-    """The text with definitions of what it only declares."""
+    """Returns the text with definitions of what it only declares."""
     for name in names:
         text = re.sub(rf"^declare [^@\n]*@{re.escape(name)}\(.*\n", "", text, flags=re.M)
     end = text.index("\nattributes #0")
@@ -73,14 +73,14 @@ def with_definitions(text, definitions, names):
 
 
 def with_heap(text):
-    """Memory, as the module asks for it, over malloc, realloc and free; of no bytes as many as the alignment are asked for."""
+    """Gives the module its memory over malloc, realloc and free. If it asks for no bytes, as many as the alignment are allocated."""
     if not re.search(r"^declare [^@\n]*\{ i64, i64 \} @rattle_alloc\(", text, re.M):
         raise Stopped("the recorded module asks for memory in another way")
     return with_definitions(text, HEAP, ("rattle_alloc", "rattle_realloc", "rattle_dealloc", "malloc", "realloc", "free"))
 
 
 def byte_shuffle():
-    """What x86-64 does by pshufb: the bytes of a table by their places, or 0 where a place has its highest bit."""
+    """Returns a function for pshufb of x86-64: the bytes of a table by their places, or 0 if a place has its highest bit."""
     vector = "<16 x i8>"
     lines, last = [f"define internal {vector} @byte_shuffle({vector} %table, {vector} %places) {{"], "zeroinitializer"
     for at in range(16):
@@ -107,7 +107,7 @@ def without_x86(text):
 
 
 def for_target(text, target):
-    """The text of a module for any processor, for one target."""
+    """Returns the text of a module for any processor, adapted to one target."""
     text = with_heap(text)
     if target != "x86_64":
         text = without_x86(text)
@@ -115,17 +115,17 @@ def for_target(text, target):
     text = re.sub(r"^target triple = .*$", f'target triple = "{TRIPLES[target]}"', text, flags=re.M)
     if target == "wasm64":
         return text
-    # With tables for unwinding a debugger and a profiler see who called.
+    # With tables for unwinding a debugger and a profiler see the callers.
     text = re.sub(r"^(attributes #\d+ = \{ )(?=.*nounwind)(?!.*willreturn)(?!.*noreturn)", r"\1uwtable ", text, flags=re.M)
     if target == "riscv64":
-        # Its convention has a status extended by its sign, in what is called and in what calls.
+        # Its convention extends a status by its sign, in the called function and in its caller.
         text = re.sub(rf"^(define (?!internal)[^@\n]*?)\bi32 (@(?:pcapfile_|{modules.ENTRY}))", r"\1signext i32 \2", text, flags=re.M)
         text = re.sub(r"^(declare )(noundef )?i32 ", r"\1\2signext i32 ", text, flags=re.M)
     return text
 
 
 def readable_by_gas(text):
-    """Without what older assemblers don't know; and with labels that no other compiler's output has."""
+    """Removes what older assemblers don't accept, and gives labels names that no other compiler's output has."""
     text = re.sub(r"^\t\.attribute\t.*\n", "", text, flags=re.M)
     return re.sub(r"(?<![\w.$])\.L(?=[A-Za-z_])", ".Lpf_", text)
 
@@ -149,7 +149,7 @@ def exported(text):
 
 
 def wasm():
-    """Writes the library as a module with 32-bit memory, which imports nothing and exports its calls, malloc, realloc and free."""
+    """Writes the library as a module with 32-bit memory. The module imports nothing and exports its calls, malloc, realloc and free."""
     if not shutil.which("wasm-opt"):
         raise Stopped("wasm-opt is not on the PATH (Debian package binaryen)")
     module, _ = recording.recorded("pcapfile_c")

@@ -1,4 +1,4 @@
-"""What a case is: a function of LLVM, inputs for it, and what it has to write for each."""
+"""Defines a case: a function of LLVM, inputs for it, and what it must write for each."""
 from dataclasses import dataclass, field
 from typing import Callable
 
@@ -7,8 +7,8 @@ SLOT = 16
 
 @dataclass
 class Case:
-    """`body` reads 16-byte slots at %in and writes some at %out; `wanted` takes what is read, as numbers, and gives what is
-    written. `more` is what the module needs beside: declarations, data and other functions."""
+    """`body` reads 16-byte slots at %in and writes some at %out. `wanted` takes the numbers that it reads, and returns those that it
+    must write. `more` is what the module also needs: declarations, data and other functions."""
 
     name: str
     body: str
@@ -19,7 +19,7 @@ class Case:
 
 
 def number(at, bits, name):
-    """Reads a slot as an integer of so many bits."""
+    """Reads a slot as an integer of this many bits."""
     text = f"  %{name}.at = getelementptr inbounds nuw i8, ptr %in, i64 {SLOT * at}\n"
     if bits == 128:
         return text + f"  %{name} = load i128, ptr %{name}.at, align 16\n"
@@ -27,7 +27,7 @@ def number(at, bits, name):
 
 
 def give(bits, name, at=0):
-    """Writes an integer of so many bits into a slot."""
+    """Writes an integer of this many bits into a slot."""
     text = f"  %out.{at} = getelementptr inbounds nuw i8, ptr %out, i64 {SLOT * at}\n"
     if bits == 128:
         return text + f"  store i128 %{name}, ptr %out.{at}, align 16\n"
@@ -35,7 +35,7 @@ def give(bits, name, at=0):
 
 
 def edges(bits):
-    """Numbers at which arithmetic of so many bits turns, and some in between."""
+    """Returns numbers at which arithmetic of this many bits changes its behaviour, and some in between."""
     top = (1 << bits) - 1
     half = 1 << (bits - 1)
     odd = 0x9E3779B97F4A7C15F39CC0605CEDC835 & top

@@ -5,7 +5,7 @@ SMALL = [(a,) for a in range(12)]
 
 
 def loop(phis, steps, result):
-    """A loop that runs %a times: phis as (name, first value, next value), and what each round calculates."""
+    """Returns a loop that runs %a times: phis as (name, first value, next value), and what each round calculates."""
     text = number(0, 64, "a") + "  %some = icmp ne i64 %a, 0\n  br i1 %some, label %round, label %end\nround:\n"
     text += "  %i = phi i64 [ 0, %0 ], [ %i.next, %round ]\n"
     text += "".join(f"  %{name} = phi i64 [ {first}, %0 ], [ {later}, %round ]\n" for name, first, later in phis)
@@ -21,7 +21,7 @@ def fibonacci(a):
 
 
 def phis():
-    """What blocks take from those before them is taken all at once."""
+    """Yields cases in which a block takes all values from the blocks before it at once."""
     swapped = loop([("x", "3", "%y"), ("y", "5", "%x")], "", "%x")
     yield Case("phi_swap", swapped, SMALL, lambda a: [99 if a == 0 else (3, 5)[(a - 1) % 2]])
     turned = loop([("x", "1", "%y"), ("y", "2", "%z"), ("z", "3", "%x")], "", "%x")
@@ -110,7 +110,7 @@ def calls():
 
 
 def silent():
-    """What says something to LLVM alone."""
+    """Yields a case of calls that mean something only to LLVM."""
     more = ["declare void @llvm.assume(i1)", "declare void @llvm.donothing()"]
     body = number(0, 64, "a") + "  %c = icmp ult i64 %a, 100\n  call void @llvm.assume(i1 %c)\n  call void @llvm.donothing()\n" + give(64, "a")
     yield Case("silent", body, SMALL, lambda a: [a], more=more)

@@ -1,4 +1,4 @@
-"""Translates the cases, builds them by each compiler, and compares what each writes with what is wanted."""
+"""Translates the cases, builds them by each compiler, and compares what each build writes with what is wanted."""
 import os
 import shutil
 import subprocess
@@ -54,14 +54,14 @@ int main(void) {{
 
 
 def module_text(cases):
-    """One module with a function for each case, and once what several need."""
+    """Returns one module with a function for each case, and once what several need."""
     more = dict.fromkeys(line for case in cases for line in case.more)
     functions = [f"define void @case_{case.name}(ptr %in, ptr %out) {{\n{case.body}  ret void\n}}" for case in cases]
     return "\n".join([*more, *functions]) + "\n"
 
 
 def not_covered(modules):
-    """The instructions and intrinsics that the translator knows and no case has."""
+    """Returns the instructions and intrinsics that the translator knows and no case has."""
     used = set()
     for module in modules:
         for function in module.functions:
@@ -80,7 +80,7 @@ def driver_of(cases):
 
 
 def asked(cases):
-    """What the driver is given, and what it has to print."""
+    """Returns the driver's input, what it must print, and the names of the cases."""
     given, wanted, names = [], [], []
     for at, case in enumerate(cases):
         for inputs in case.inputs:
@@ -92,7 +92,7 @@ def asked(cases):
 
 
 def run(program, given, wanted, names, what):
-    """The faults of one build."""
+    """Returns the faults of one build."""
     ran = subprocess.run([program], input=given, capture_output=True, text=True)
     told = ran.stdout.splitlines()
     found = [f"{what}: {name}{tuple(map(hex, inputs))}: {got}, not {want}" for (name, inputs), got, want in zip(names, told, wanted) if got != want]
@@ -112,7 +112,8 @@ def built(compiler, flags, files, to):
 
 
 def try_kind(name, room, llvm):
-    """Faults of one kind of cases by each compiler, and by LLVM itself where its clang is given, and how many runs there were."""
+    """Returns a module, the faults of one kind of cases, and how many runs there were: by each compiler, and by LLVM itself if its clang
+    is given."""
     cases = list(KINDS[name].cases())
     text = module_text(cases)
     module = module_of(text)
@@ -135,7 +136,7 @@ def try_kind(name, room, llvm):
 
 
 def by_llvm(llvm, name, room, given, wanted, names):
-    """The cases as LLVM itself compiles them: what is wanted of them is not only what the translator makes of them."""
+    """Returns the faults of the cases as LLVM itself compiles them. So what is wanted does not rest on the translator alone."""
     words = [llvm, "--target=x86_64-unknown-linux-gnu", "-march=x86-64-v2", "-Wno-override-module", "-x", "ir", f"{room}/{name}.ll", "-c", "-O1", "-o", f"{room}/{name}.o"]
     ran = subprocess.run(words, capture_output=True, text=True)
     if ran.returncode:
@@ -159,7 +160,7 @@ void rattle_dealloc(void *p) { free(p); }
 
 
 def try_traps(room):
-    """What is never reached in a right program ends the program where it is."""
+    """Checks that code that a right program never reaches ends the program at once."""
     modules, faults, runs = [], [], 0
     for name, case in flow.TRAPS.items():
         module = module_of(module_text([case]))
@@ -183,7 +184,7 @@ def refused():
     return list(unknown.faults(module_of, File, Unknown)), len(unknown.LINES) + len(unknown.MODULES)
 
 
-# What a compiler says of itself where these files can't be had, and what they then say, and nothing else.
+# The only error of these files on an unsuitable system, and the words that make a compiler describe itself as one.
 ELSEWHERE = {
     "gcc or clang": ["-U__GNUC__"],
     "64-bit addresses": ["-U__SIZEOF_POINTER__", "-D__SIZEOF_POINTER__=4"],
@@ -193,7 +194,7 @@ ELSEWHERE = {
 
 
 def refused_elsewhere(room):
-    """Where a processor, a compiler or a system lacks what a file needs, the file says so by one error."""
+    """Checks that a file gives one error if the processor, the compiler or the system lacks what it needs."""
     with open(f"{room}/file.c", "w", encoding="utf-8") as it:
         it.write(File(module_of(module_text([]))).text(""))
     found, runs = [], 0

@@ -1,4 +1,4 @@
-"""Cases of integers of many widths; what is wanted is calculated by Python's integers."""
+"""Cases of integers of many widths. Python's integers calculate what is wanted."""
 from cases import Case, edges, give, number, signed
 
 WIDTHS = (1, 3, 7, 8, 13, 16, 20, 24, 31, 32, 33, 40, 48, 63, 64, 65, 96, 127, 128)
@@ -58,7 +58,7 @@ OVERFLOWING = {
 
 
 def pairs(op, bits):
-    """Pairs of numbers for which an operation is defined."""
+    """Yields pairs of numbers for which an operation is defined."""
     for a in edges(bits):
         for b in edges(bits) if op not in ("shl", "lshr", "ashr") else sorted({0, 1, bits // 2, bits - 1}):
             is_lowest = op in ("sdiv", "srem") and signed(a, bits) == -1 << (bits - 1) and signed(b, bits) == -1
@@ -75,7 +75,7 @@ def arithmetic():
 
 
 def with_constants(op, rule, bits):
-    """The same where one operand is a constant."""
+    """Yields the same cases with one constant operand."""
     for number_of, (a, b) in enumerate(list(pairs(op, bits))[:: max(len(edges(bits)) * 3, 1)][:4]):
         right = number(0, bits, "a") + f"  %r = {op} i{bits} %a, {signed(b, bits) if bits > 1 else b}\n" + give(bits, "r")
         inputs = [(it,) for it, other in pairs(op, bits) if other == b]
@@ -86,7 +86,7 @@ def with_constants(op, rule, bits):
 
 
 def too_far():
-    """A shift that is too far is no fault where nothing reads its result."""
+    """Yields cases of a shift that is too far, which is no fault if nothing reads its result."""
     for bits in (8, 32, 64, 128):
         for op in ("shl", "lshr", "ashr"):
             body = number(0, bits, "a") + number(1, bits, "b")
@@ -140,7 +140,7 @@ def intrinsics():
 
 
 def of_one(bits):
-    """abs, which is defined at each number but the lowest here, and counts of bits."""
+    """Yields cases of abs, which is defined for each number here but the lowest, and counts of bits."""
     top = 1 << bits
     rules = {
         "abs": lambda a: abs(signed(a, bits)) % top,
@@ -180,7 +180,7 @@ def overflowing(bits):
 
 
 def turned(bits):
-    """Funnel shifts, rotations by them, and bytes in the other order."""
+    """Yields cases of funnel shifts, rotations by them, and bytes in the other order."""
     top = (1 << bits) - 1
     inputs = [(a, b, n) for a in edges(bits)[::2] for b in edges(bits)[1::3] for n in (0, 1, bits // 2, bits - 1, bits, bits + 3)]
     for op in ("fshl", "fshr"):
@@ -201,7 +201,7 @@ def turned(bits):
 
 
 def logic():
-    """and, or and xor of bits, as selects and as operations, and what is frozen."""
+    """Yields cases of and, or and xor of bits, as selects and as operations, and of freeze."""
     bits = number(0, 1, "a") + number(1, 1, "b")
     inputs = [(a, b) for a in (0, 1) for b in (0, 1)]
     rows = {

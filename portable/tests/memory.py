@@ -5,7 +5,7 @@ NUMBERS = [(a,) for a in edges(64)]
 
 
 def widths():
-    """An integer of each width goes to memory and back, and touches no byte beside its own."""
+    """Yields cases in which an integer of each width goes to memory and back, and touches no byte beside its own."""
     for bits in (1, 3, 8, 12, 16, 20, 24, 32, 36, 40, 48, 56, 64, 65, 72, 96, 127, 128):
         count = (bits + 7) // 8
         for aligned in (1, 16):
@@ -21,7 +21,7 @@ def widths():
 
 
 def order():
-    """What is read before a write is what was there before it, wherever its value is used."""
+    """Yields cases in which a value read before a write remains what it was, wherever its value is used."""
     store = "  store i64 77, ptr %p, align 8\n"
     room = number(0, 64, "a") + "  %p = alloca i64, align 8\n  store i64 %a, ptr %p, align 8\n  %v = load i64, ptr %p, align 8\n"
     after = "  %r = add i64 %v, 1\n" + give(64, "r")
@@ -103,7 +103,7 @@ def copies():
 
 
 def data():
-    """Data with texts of every kind, with addresses, and data that changes."""
+    """Yields cases of data with texts of every kind, with addresses, and of data that changes."""
     texts = {
         "plain": b"plain text",
         "signs": b'\\"quoted"\\ ??/ ??= %d \t\n\r\0\1\x7f\x80\xff 0',
@@ -145,7 +145,7 @@ def data():
 
 
 def parts():
-    """Structs and arrays as values: put together, taken apart, kept in memory, given back, and nested."""
+    """Yields cases of structs and arrays as values: put together, taken apart, kept in memory, returned, and nested."""
     pair = ["define internal { i64, i8 } @pair(i64 %a) noinline {\n  %b = trunc i64 %a to i8\n  %x = insertvalue { i64, i8 } poison, i64 %a, 0\n"
             "  %y = insertvalue { i64, i8 } %x, i8 %b, 1\n  ret { i64, i8 } %y\n}"]
     body = number(0, 64, "a") + "  %p = call { i64, i8 } @pair(i64 %a)\n  %x = extractvalue { i64, i8 } %p, 0\n  %y = extractvalue { i64, i8 } %p, 1\n"

@@ -1,4 +1,4 @@
-"""Cases of numbers with a point; what is wanted is calculated by Python's floats, which are doubles."""
+"""Cases of floating-point numbers. Python's floats, which are doubles, calculate what is wanted."""
 import math
 import struct
 
@@ -47,7 +47,7 @@ ORDERED = {
 
 
 def canonical(kind):
-    """Of any not-a-number the same bits are written, since their sign and payload are left open."""
+    """Writes the same bits for any not-a-number, since its sign and payload are open."""
     bits = KINDS[kind][0]
     text = f"  %is.nan = fcmp uno {kind} %r, %r\n  %r.all = bitcast {kind} %r to i{bits}\n"
     return text + f"  %r.bits = select i1 %is.nan, i{bits} 1, i{bits} %r.all\n" + give(bits, "r.bits")
@@ -99,7 +99,7 @@ def conversions():
 
 
 def literals():
-    """Constants of every kind, and a sum of products that no compiler may round but once too few."""
+    """Yields cases of constants of every kind, and of a sum of products that no compiler may round once too few."""
     rows = {"0x3FB999999999999A": 0.1, "-2.500000e+00": -2.5, "0x7FF0000000000000": math.inf, "0x7FF8000000000000": math.nan, "0x8000000000000000": -0.0}
     for at, (text, value) in enumerate(rows.items()):
         body = read(0, "double", "a") + f"  %r = fadd double %a, {text}\n" + canonical("double")

@@ -1,4 +1,4 @@
-"""What the translator does not know: it stops at each, and names it."""
+"""Checks what the translator does not know: it must stop at each, and name it."""
 import sys
 
 FUNCTION = "define void @f(ptr %p, i64 %a, double %d) {{\n  {line}\n  ret void\n}}\n"
@@ -38,7 +38,7 @@ MODULES = {
 
 
 def faults(module_of, File, Unknown):
-    """What is not refused, or refused without its name."""
+    """Yields what the translator does not refuse, or refuses without its name."""
     texts = {name: FUNCTION.format(line=line) for name, line in LINES.items()} | MODULES
     for name, text in texts.items():
         try:

@@ -1,11 +1,11 @@
-"""Cases of vectors; what is wanted is calculated lane by lane."""
+"""Cases of vectors. What is wanted is calculated lane by lane."""
 from cases import Case, give, signed
 
 BYTES = [bytes(range(16)), bytes(16), bytes([255] * 16), bytes((37 * it + 129) % 256 for it in range(16)), b"abcdABCD\x7f\x80\x81\xfe\0\1\2\3"]
 
 
 def inputs(count):
-    """Slots as numbers, each pair of what stands above."""
+    """Returns the bytes above as numbers: each slot, or each pair of slots."""
     found = [int.from_bytes(it, "little") for it in BYTES]
     return [(a,) for a in found] if count == 1 else [(a, b) for a in found for b in found]
 
@@ -77,7 +77,7 @@ def compared(bits, count, type_, top):
 
 
 def moved():
-    """Shuffles, single lanes, widths and bits of lanes."""
+    """Yields cases of shuffles, single lanes, widths and bits of lanes."""
     type_ = "<16 x i8>"
     orders = {
         "turned": list(range(15, -1, -1)),
@@ -109,7 +109,7 @@ def moved():
 
 
 def tables():
-    """pshufb of x86-64: the bytes of a table by their places, or 0 where the place has its highest bit."""
+    """Yields cases of pshufb of x86-64: the bytes of a table by their places, or 0 if the place has its highest bit."""
     name = "llvm.x86.ssse3.pshuf.b.128"
     body = read("<16 x i8>") + f"  %r = call <16 x i8> @{name}(<16 x i8> %a, <16 x i8> %b)\n" + write("<16 x i8>")
     rule = lambda a, b: [joined([0 if it & 128 else lanes(a, 8, 16)[it & 15] for it in lanes(b, 8, 16)], 8)]

@@ -2,7 +2,7 @@
 
 const SIZES = [0, 20, 40, 80, 160, 320, 640, 1280, 2560, 5120];
 
-/** How many packets have which size on the wire: a bar for each range between the first and the last that has any. */
+/** Draws how many packets have which size on the wire: a bar for each range between the first and the last that has any. */
 function sizeChart(counts) {
   const last = counts.findLastIndex((count) => count > 0), first = counts.findIndex((count) => count > 0);
   const most = Math.max(...counts), all = counts.reduce((sum, count) => sum + count, 0);
@@ -22,9 +22,9 @@ function sizeRow(at, count, most, all) {
     make("span.size-share.muted", { role: "cell", textContent: count === 0 ? "" : share < 0.1 ? "< 0.1 %" : `${share.toFixed(1)} %` }));
 }
 
-/** Packets over time, of which a span can be chosen by dragging over it. */
+/** Packets over time. The user can choose a span by dragging over it. */
 class TimeChart {
-  /** `onChoose(from, until)` is called with nanoseconds, where a span was chosen. */
+  /** Calls `onChoose(from, until)` with nanoseconds when the user chose a span. */
   constructor({ first, width, packets }, onChoose) {
     this.first = BigInt(first);
     this.width = BigInt(width);

@@ -1,4 +1,4 @@
-// The panel that makes several captures into one: merged by time, or parts joined.
+// The panel that makes several captures into one, merged by time or joined from parts.
 
 /** Several captures made into one. */
 class CombinePanel extends Maker {

@@ -1,10 +1,11 @@
-// Makes elements. What captures hold is only ever put in as text.
+// Makes elements. The content of captures is only ever inserted as text.
 
 function byId(id) {
   return document.getElementById(id);
 }
 
-/** An element of a tag with classes, as "button.primary", with properties, where the first thing is an object of these, and children. */
+/** Returns an element of a tag with classes, as "button.primary", and children. If the first thing is an object, it has properties of
+ * the element. */
 function make(what, ...things) {
   const [tag, ...classes] = what.split(".");
   const it = document.createElement(tag);
@@ -22,12 +23,12 @@ function button(text, press, what = "button") {
   return make(what, { type: "button", textContent: text, onclick: press });
 }
 
-/** Says it to who does not see the page. */
+/** Says a text to users who do not see the page. */
 function say(text) {
   byId("said").textContent = text;
 }
 
-/** A link that saves a Blob under a name. */
+/** Returns a link that saves a Blob under a name. */
 function saveLink(name, blob, text, what = "a.button.primary") {
   const link = make(what, { download: name, textContent: text });
   link.href = URL.createObjectURL(blob);
@@ -39,14 +40,14 @@ function release(element) {
   for (const link of element?.querySelectorAll("a[download]") ?? []) URL.revokeObjectURL(link.href);
 }
 
-/** What a run cost, where it came to its end. */
+/** Returns what a run cost, if it came to its end. */
 function cost({ milliseconds, memory }) {
   const it = make("p.cost.muted", `${(milliseconds / 1000).toFixed(2)} s, ${bytes(memory)} of memory`);
   it.dataset.memory = memory;
   return it;
 }
 
-/** How far a run is, with a button that stops it. */
+/** Shows how far a run is, with a button that stops it. */
 class Activity {
   constructor(run, what) {
     this.bar = make("progress", { max: 1, value: 0, "aria-label": what });
@@ -62,7 +63,7 @@ class Activity {
   }
 }
 
-/** Tabs with their panels: arrow keys go between them, and `show(name)` opens one. */
+/** Tabs with their panels. Arrow keys move between them, and `show(name)` opens one. */
 class Tabs {
   constructor(label, panels) {
     this.panels = new Map(Object.entries(panels));

@@ -1,4 +1,4 @@
-// The panel of what can be made of one capture: repaired, converted, cut, and tables.
+// The panel of what the page can make of one capture: repaired, converted, cut, and tables.
 
 const CUTS = {
   packets: "Packets by number",
@@ -16,7 +16,7 @@ const CUT_FIELDS = {
   parts: [["Parts", "count"]],
 };
 
-/** The panel of what can be made of one capture. */
+/** The panel of what the page can make of one capture. */
 class SavePanel extends Maker {
   constructor(page, capture) {
     super(page);
@@ -154,13 +154,13 @@ function cutTimeWords({ since, until }) {
   return [...(from ? ["--from", from] : []), ...(to ? ["--until", to] : [])];
 }
 
-/** Nanoseconds as the form of cuts takes them. */
+/** Returns nanoseconds as the form of cuts takes them. */
 function cutTime(nanos) {
   const { date, time } = utc(nanos);
   return date ? `${date}T${time}Z` : decimal(nanos);
 }
 
-/** A time as the program takes it: seconds, or RFC 3339, where a space and a missing Z are mended. "?" where it is none. */
+/** Returns a time as the program takes it: seconds, or RFC 3339 with a space or a missing Z corrected. Returns "?" for anything else. */
 function timeWord(text) {
   const given = text.trim();
   if (!given || /^\d+(\.\d{1,9})?$/.test(given)) return given;

@@ -1,4 +1,4 @@
-// How numbers, sizes and times are shown.
+// Shows numbers, sizes and times.
 
 const BILLION = 1_000_000_000n;
 const UNITS = ["bytes", "kB", "MB", "GB", "TB"];
@@ -11,7 +11,7 @@ function counted(number, one, many = `${one}s`) {
   return `${grouped(number)} ${Number(number) === 1 ? one : many}`;
 }
 
-/** 1234567 is 1.23 MB. */
+/** Shows 1234567 as 1.23 MB. */
 function bytes(number) {
   let unit = 0, rest = Number(number);
   while (rest >= 999.5 && unit < UNITS.length - 1) {
@@ -21,13 +21,13 @@ function bytes(number) {
   return unit ? `${rest.toPrecision(3)} ${UNITS[unit]}` : counted(number, "byte");
 }
 
-/** A rate with three digits that count. */
+/** Shows a rate with three significant digits. */
 function rate(text) {
   const number = Number(text);
   return number >= 1000 ? grouped(Math.round(number)) : text;
 }
 
-/** Nanoseconds of a text like 1700000000.250000000. */
+/** Returns the nanoseconds of a text like 1700000000.250000000. */
 function nanoseconds(text) {
   const [, sign, whole, fraction] = /^(-?)(\d+)\.(\d{9})$/.exec(text);
   const sum = BigInt(whole) * BILLION + BigInt(fraction);
@@ -39,7 +39,7 @@ function decimal(nanos) {
   return `${nanos < 0n ? "-" : ""}${magnitude / BILLION}.${String(magnitude % BILLION).padStart(9, "0")}`;
 }
 
-/** A time of day and a date in UTC, or seconds where the calendar ends. */
+/** Returns a time of day and a date in UTC, or seconds if the calendar has no date for them. */
 function utc(nanos) {
   const below = ((nanos % BILLION) + BILLION) % BILLION, seconds = (nanos - below) / BILLION;
   const date = new Date(Number(seconds) * 1000);
@@ -54,13 +54,13 @@ function utcText(nanos) {
   return date ? `${date} ${time}` : time;
 }
 
-/** The same to a fraction that a reader can take in. */
+/** Returns the same to a fraction that a reader can take in. */
 function shortUtc(nanos) {
   const { date, time } = utc(nanos);
   return date ? `${date} ${time.slice(0, 12)}` : time;
 }
 
-/** A length of time: 16777216 is 16.8 ms. */
+/** Shows a length of time: 16777216 is 16.8 ms. */
 function span(nanos) {
   const number = Number(nanos);
   for (const [unit, size] of [["s", 1e9], ["ms", 1e6], ["µs", 1e3]]) {

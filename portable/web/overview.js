@@ -1,23 +1,23 @@
-// What a capture holds: the figures of `pcapfile info --json`, drawn.
+// Draws what a capture has: the figures of `pcapfile info --json`.
 
-/** The object that `info --json` wrote. The number of the first span may have more digits than a double keeps. */
+/** Returns the object that `info --json` wrote. The number of the first span may have more digits than a double keeps. */
 function parseInfo(text) {
   return JSON.parse(text.replace(/\{"first":(-?\d+)/g, '{"first":"$1"'));
 }
 
-/** What `check` found: { kind: "sound" | "cut" | "refused", title, text }. */
+/** Returns what `check` found: { kind: "sound" | "cut" | "refused", title, text }. */
 function verdictOf(info) {
   if (info.status === 0) return { kind: "sound", title: "No fault found", text: info.check };
   if (info.check.includes("cut short")) return { kind: "cut", title: "Cut short", text: info.check };
   return { kind: "refused", title: "At fault", text: info.check };
 }
 
-/** Whether a file is at fault in its first byte. */
+/** Returns whether a file has a fault in its first byte. */
 function isNoCapture({ status, check }) {
   return status !== 0 && / at byte 0\b/.test(check);
 }
 
-/** Bytes at the front of a file that tell another kind of file, and what to do with it. */
+/** Bytes at the front of other kinds of files, and what the user can do with such a file. */
 const OTHER_FILES = [
   [[0x1f, 0x8b], "It is compressed by gzip. Unpack it first, and open what is in it."],
   [[0x28, 0xb5, 0x2f, 0xfd], "It is compressed by zstd. Unpack it first, and open what is in it."],
@@ -44,7 +44,7 @@ function dateFigure(name, text) {
   return date ? figure(name, time.slice(0, 12), `${date} ${time} UTC`) : figure(name, time);
 }
 
-/** The figures of all packets, or of an interface's. */
+/** Draws the figures of all packets, or of an interface's. */
 function figures(part) {
   const stored = part.stored === part.original ? "all of it stored" : `${bytes(part.stored)} stored`;
   return make("dl.figures",
@@ -71,7 +71,7 @@ function charts(part, onChoose) {
   ];
 }
 
-/** How the file is made. */
+/** Describes the format of the file. */
 function formatFacts(info) {
   const facts = [
     [
@@ -115,7 +115,7 @@ function interfaceTable(info) {
   return make("section.card", make("h3", "Interfaces"), make("div.scrolls", table));
 }
 
-/** The panel of a capture's figures, where `info` gave some. */
+/** Returns the parts of the panel of a capture's figures, if `info` gave some. */
 function overview(info, actions) {
   const shown = make("div.part");
   const show = (part) => shown.replaceChildren(figures(part), make("div.charts", ...charts(part, actions.cutSpan).filter(Boolean)));
@@ -132,7 +132,7 @@ function overview(info, actions) {
   ].filter(Boolean);
 }
 
-/** The panel that shows them, and of a capture at fault what lies behind the fault, where that is asked for. */
+/** The panel that shows them. For a malformed capture it also shows what comes after the fault, on request. */
 class OverviewPanel {
   constructor(page, capture) {
     this.page = page;

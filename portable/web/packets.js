@@ -9,7 +9,7 @@ const TIMES = {
 
 const FLAW_WORDS = { utf8: "a text in it is no UTF-8", short: "a value in it is too short" };
 
-/** What a flaw of a packet is. RULES, which the page is built with, says where each rule is broken. */
+/** Describes a flaw of a packet. RULES, with which the page is built, has the place where each rule is broken. */
 function flawText(flaw) {
   return FLAW_WORDS[flaw] ?? `rule ${flaw} (${RULES[flaw] ?? "unknown"})`;
 }
@@ -106,7 +106,7 @@ class PacketPanel {
     this.table.grow();
   }
 
-  /** The time of the first packet that has one, among the first rows. */
+  /** Returns the time of the first packet that has one, among the first rows. */
   firstTime() {
     for (let index = 0; index < Math.min(ROWS_AT_ONCE, this.store.count); index++) {
       const time = this.store.at(index)?.time;
@@ -152,7 +152,7 @@ class PacketPanel {
     say(this.detail.textContent);
   }
 
-  /** A repair may leave out a block with a packet, and then numbers packets otherwise than the list does. */
+  /** Offers cuts. A repair may leave out a block with a packet, and then its numbers of packets differ from the list's. */
   cuts({ number }) {
     const { format, status } = this.capture.info;
     if (format === "pcapng" && status !== 0) return "";

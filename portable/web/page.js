@@ -1,4 +1,4 @@
-// The page: captures that were opened, the one that is shown, and how files come in.
+// The page: the opened captures, the one that it shows, and how files come in.
 
 const TITLE = document.title;
 
@@ -20,7 +20,7 @@ class Page {
     this.queue = Promise.resolve();
   }
 
-  /** A name that no capture has, and that shows: control signs and slashes are replaced. */
+  /** Returns a visible name that no capture has. It replaces control characters and slashes. */
   freeName(wanted) {
     const clean = (wanted.toWellFormed?.() ?? wanted).replaceAll(/[\p{Cc}/]/gu, "_") || "capture";
     const [stem, ending] = splitName(clean), taken = new Set(this.captures.map((it) => it.name));
@@ -43,7 +43,7 @@ class Page {
     say(`${counted(added.length, "file")} opened`);
   }
 
-  /** Runs `info` of a capture; one runs at a time. */
+  /** Runs `info` of a capture. Only one runs at a time. */
   async inform(capture) {
     if (!this.captures.includes(capture)) return;
     capture.failure = null;
@@ -78,7 +78,7 @@ class Page {
     return line.startsWith(`${name}: `) ? line.slice(name.length + 2) : line;
   }
 
-  /** A message at the top of the page, until it is dismissed. */
+  /** Shows a message at the top of the page until the user dismisses it. */
   warn(text) {
     const warning = make("p.warning", { role: "alert" }, make("span", text), button("Dismiss", () => warning.remove(), "button.quiet"));
     byId("warnings").replaceChildren(warning);
@@ -202,7 +202,7 @@ class Page {
   }
 }
 
-/** The files of a drop, and the names of folders among them, which can't be opened. */
+/** Returns the files of a drop, and the names of folders among them, which can't be opened. */
 function filesOf(transfer) {
   const items = [...transfer.items].filter((it) => it.kind === "file"), entries = items.map((it) => it.webkitGetAsEntry?.());
   const folders = entries.filter((it) => it?.isDirectory).map((it) => it.name);
@@ -235,7 +235,7 @@ function listenToButtons(page) {
   byId("add").onclick = choose;
   byId("combine").onclick = () => page.select(page.combine);
   byId("home").onclick = (event) => event.preventDefault();
-  // A chosen file is forgotten, or the input would say nothing when it is chosen again.
+  // The page forgets a chosen file, or the input would report nothing if the user chose it again.
   input.onchange = () => {
     page.addFiles(input.files);
     input.value = "";

@@ -1,13 +1,13 @@
-// The list of packets: rows that `list` wrote, of which only those in sight are drawn.
+// The list of packets: rows that `list` wrote. The page draws only those in sight.
 
 const ROWS_AT_ONCE = 4096;
 const ROW_HEIGHT = 30;
-// No browser lays out an element that is higher than about 17 million pixels, so a longer list is scrolled through a window of it.
+// No browser lays out an element that is higher than about 17 million pixels, so a longer list scrolls through a window of it.
 const MOST_HEIGHT = 8_000_000;
 const READ_AT_ONCE = 6;
 const LINE = /^(\d+) (?:(-?\d+\.\d{9}|-) (\d+)\/(\d+)(?: (\d+))?|refused)((?: !\w+)*)$/;
 
-/** A line of `list --as-is`, such as "4 1700000002.000005000 42/41 !5". */
+/** Reads a line of `list --as-is`, such as "4 1700000002.000005000 42/41 !5". */
 function packetOf(line) {
   const found = LINE.exec(line);
   if (!found) return { number: "", refused: true, flaws: [], text: line };
@@ -16,7 +16,7 @@ function packetOf(line) {
   return { ...parsed, time: time && time !== "-" ? nanoseconds(time) : null, stored, original, interface: linked };
 }
 
-/** Rows that came, as Blobs of ROWS_AT_ONCE, and the lines of the few of these that were read last. */
+/** The rows so far, as Blobs of ROWS_AT_ONCE, and the lines of the few Blobs that were read last. */
 class RowStore {
   constructor() {
     this.blobs = [];
@@ -30,13 +30,13 @@ class RowStore {
     this.count += rows;
   }
 
-  /** The packet of a row, undefined where its piece is not read. */
+  /** Returns the packet of a row, undefined if its piece has not been read. */
   at(index) {
     const line = this.read.get(Math.floor(index / ROWS_AT_ONCE))?.[index % ROWS_AT_ONCE];
     return line === undefined ? undefined : packetOf(line);
   }
 
-  /** Reads a piece, once at a time. */
+  /** Reads a piece, only once at a time. */
   load(piece) {
     if (this.read.has(piece)) return Promise.resolve();
     if (!this.reading.has(piece)) this.reading.set(piece, this.take(piece));
@@ -85,7 +85,7 @@ class PacketTable {
     this.resized.observe(this.scroller);
   }
 
-  /** More rows are there. */
+  /** Makes the table longer, since there are more rows. */
   grow() {
     this.height = this.store.count * ROW_HEIGHT;
     this.space.style.height = `${Math.min(this.height, MOST_HEIGHT)}px`;
@@ -97,7 +97,7 @@ class PacketTable {
     return Math.max(0, this.scroller.clientHeight - ROW_HEIGHT);
   }
 
-  /** The pixel of the whole list at the top of the view. */
+  /** Returns the pixel of the whole list at the top of the view. */
   get top() {
     return this.scroller.scrollTop + this.offset;
   }
@@ -106,7 +106,7 @@ class PacketTable {
     return Math.max(0, this.height - this.view);
   }
 
-  /** A short way is scrolled pixel by pixel; a long one, by the bar, to the same share of the whole list. */
+  /** Scrolls a short way pixel by pixel. A long way, by the bar, goes to the same share of the whole list. */
   scrolled() {
     const at = this.scroller.scrollTop, isLong = Math.abs(at - this.last) > 4 * this.view;
     const end = MOST_HEIGHT - this.view;
@@ -136,7 +136,7 @@ class PacketTable {
     this.scroller.setAttribute("aria-activedescendant", this.selected === null ? "" : `packet-${this.selected}`);
   }
 
-  /** Has the pieces of these rows read, and draws again where one was not. */
+  /** Reads the pieces of these rows, and draws again after each that was missing. */
   fetch(first, end) {
     for (let piece = Math.floor(Math.max(0, first - 1) / ROWS_AT_ONCE); piece * ROWS_AT_ONCE < end; piece++) {
       const { read, reading } = this.store;

@@ -1,7 +1,7 @@
 // portable/web/run.js MODULE SYSTEM: runs words in Node as the page does, one a line of standard input.
 //
-// A line is { words, files }, where files has a path by name; the answer is a line of { status, output, errors, written }, each of bytes in
-// base64, and written has them by name. Nothing of it is written to files.
+// A line is { words, files }, where files has a path by name. The answer is a line of { status, output, errors, written }, each of bytes in
+// base64; written has them by name. The script writes none of it to files.
 "use strict";
 const fs = require("fs"), readline = require("readline");
 

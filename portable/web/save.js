@@ -1,6 +1,6 @@
-// What makes captures out of others: its forms, its progress, and what came of it.
+// Makes captures from others: the forms, the progress, and the results.
 
-/** "name.pcap" is ["name", ".pcap"]. */
+/** Splits "name.pcap" into ["name", ".pcap"]. */
 function splitName(name) {
   const dot = name.lastIndexOf(".");
   return dot > 0 ? [name.slice(0, dot), name.slice(dot)] : [name, ""];
@@ -9,9 +9,9 @@ function splitName(name) {
 const BEFORE_FAULT = "The capture has a fault. What stands before it was written.";
 const NOTHING_WRITTEN = "The capture has a fault, and nothing was written.";
 
-/** A file that is being made: its progress, then what came of it. */
+/** A file that the page makes: its progress, then the result. */
 class Job {
-  /** `words` are the word and its arguments, in front of the output's name. */
+  /** `words` are the word and its arguments, before the output's name. */
   constructor(page, { title, words, captures, name }) {
     this.page = page;
     this.captures = captures;
@@ -82,7 +82,7 @@ function choices(values) {
   return make("select", Object.entries(values).map(([value, textContent]) => make("option", { value, textContent })));
 }
 
-/** A form with a heading, a sentence and a button. `submit()` gives a job's order, or a text that says what is missing. */
+/** A form with a heading, a sentence and a button. `submit()` returns a job's order, or a text that says what is missing. */
 function formCard(title, text, fields, action, submit) {
   const fault = make("p.form-fault", { role: "alert", hidden: true });
   const press = make("button.primary", { type: "submit", textContent: action });
@@ -103,7 +103,7 @@ function formCard(title, text, fields, action, submit) {
   return form;
 }
 
-/** What a form about one capture, or about several, has in common: the list of what was made. */
+/** What a form about one capture and a form about several share: the list of what was made. */
 class Maker {
   constructor(page) {
     this.page = page;
@@ -117,7 +117,7 @@ class Maker {
     return null;
   }
 
-  /** Whether faults are repaired while a capture is read, which is chosen for one that has any. */
+  /** Returns the checkbox for repairing faults while a capture is read. It is checked for a capture that has any. */
   asRepaired(checked = false) {
     return make("input", { type: "checkbox", checked });
   }

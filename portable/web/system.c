@@ -1,7 +1,7 @@
-/* The system of the program where it runs in a page, as ../os.c is over POSIX: every call that it makes of a file, its arguments and the clock
- * goes to the page's script (system.js), which holds the files. Memory is that of ../wasm_support.c.
+/* The system of the program in a page, as ../os.c is over POSIX. Each call about a file, the arguments or the clock goes to the page's
+ * script (system.js), which holds the files. ../wasm_support.c provides memory.
  *
- * Numbers cross as doubles and 32-bit integers, so that the script sees no pointer of 64 bits. Written by hand, tested and not proved. */
+ * Numbers cross as doubles and 32-bit integers, so that the script sees no pointer of 64 bits. Written by hand; tested, not proved. */
 #include <stdint.h>
 #include <stdlib.h>
 
@@ -24,7 +24,7 @@ int32_t program_main(void);
 
 int run(void) { return (int)program_main(); }
 
-/* Errors: the script answers a negative number, which is that of Linux. */
+/* Errors: the script returns a negative number, whose absolute value is Linux's number. */
 
 enum { EINVAL = 22 };
 
@@ -79,13 +79,13 @@ uint32_t os_isatty(uint32_t file) { return (void)file, 0; }
 
 uint32_t os_rename(ptr from, ptr to) { return (uint32_t)checked(host_rename(place(from), length_of(from), place(to), length_of(to))); }
 
-/* Of Linux's commands F_DUPFD and F_DUPFD_CLOEXEC give another descriptor, and a page has no use for the others. */
+/* Linux's commands F_DUPFD and F_DUPFD_CLOEXEC give another descriptor, and a page has no use for the others. */
 uint32_t os_fcntl(uint32_t file, uint32_t command, uint32_t argument) {
     (void)argument;
     return command == 0 || command == 1030 ? (uint32_t)checked(host_duplicate((int)file)) : 0;
 }
 
-/* A page's files have no links, owners, modes or locks, and nothing of theirs waits to be stored. */
+/* A page's files have no links, owners, modes or locks, and none of them waits to be stored. */
 
 uint32_t os_flock(uint32_t file, uint32_t how) { return (void)file, (void)how, 0; }
 uint32_t os_fchmod(uint32_t file, uint32_t mode) { return (void)file, (void)mode, 0; }
@@ -95,7 +95,7 @@ uint32_t os_fdatasync(uint32_t file) { return (void)file, 0; }
 uint32_t os_ftruncate(uint32_t file, uint64_t length) { return (void)file, (void)length, 0; }
 uint64_t os_readlink(ptr path, ptr to, uint64_t room) { return (void)path, (void)to, (void)room, checked(-EINVAL); }
 
-/* The path itself, in room of its own where the caller gives none. */
+/* Returns the path itself, in a buffer of its own if the caller gives none. */
 ptr os_realpath(ptr path, ptr to) {
     uint64_t length = (uint64_t)length_of(path) + 1;
     if (!to) to = malloc(length);
@@ -103,7 +103,7 @@ ptr os_realpath(ptr path, ptr to) {
     return to;
 }
 
-/* Seconds and nanoseconds, 8 bytes each. */
+/* Writes seconds and nanoseconds, 8 bytes each. */
 uint32_t os_clock_gettime(uint32_t which, ptr to) {
     double milliseconds = host_clock((int)which);
     int64_t *both = (int64_t *)to;
@@ -112,7 +112,7 @@ uint32_t os_clock_gettime(uint32_t which, ptr to) {
     return 0;
 }
 
-/* Of Linux's `struct statx` the kind of the file and its length are told, at their offsets. */
+/* Writes two values of Linux's `struct statx` at their offsets: the kind of the file and its length. */
 uint32_t os_statx(uint32_t file, ptr path, uint32_t flags, uint32_t mask, ptr to) {
     double told[2];
     (void)flags, (void)mask;

@@ -1,21 +1,21 @@
-// The system that one run of the program sees, in a Worker or in Node: its arguments, the files that it reads and what it writes.
+// The system that one run of the program sees, in a Worker or in Node: its arguments, the files that it reads, and what it writes.
 "use strict";
 
-// Linux's numbers, which system.c hands on.
+// Linux's numbers, which system.c passes on.
 const ENOENT = 2, EIO = 5, EBADF = 9, EACCES = 13, EEXIST = 17, EINVAL = 22;
 const ACCESS = 3, CREATE = 0o100, EXCLUSIVE = 0o200, APPEND = 0o2000;
 const REGULAR = 0o100644, PIPE = 0o010600;
 const STANDARD_OUTPUT = 1, STANDARD_ERROR = 2;
 const NOTHING = { size: 0, read: () => new Uint8Array(0) };
 
-/** What the program's text of a path names: a name that begins with a hyphen is passed as "./-name". */
+/** Returns the name for a path of the program. The page passes a name that begins with a hyphen as "./-name". */
 function nameOf(path) {
   return path.startsWith("./") ? path.slice(2) : path;
 }
 
 /**
- * The calls of system.c. `files` has a { size, read(at, length) } by name, of which `read` gives at most so many bytes;
- * `createOutput()` makes what takes written bytes: a { size, write(bytes) }; `progress(length)` is called with each length that is read.
+ * The calls of system.c. `files` has a { size, read(at, length) } by name, and `read` returns at most `length` bytes. `createOutput()`
+ * makes what takes written bytes: a { size, write(bytes) }. `progress(length)` is called with each length that is read.
  */
 class System {
   constructor(args, files, createOutput, progress = () => {}) {
@@ -31,7 +31,7 @@ class System {
     this.memory = null;
   }
 
-  /** Runs the program to its end, and gives its status. A stop of WebAssembly is thrown. */
+  /** Runs the program to its end, and returns its status. Throws if WebAssembly stops. */
   run(module) {
     const names = ["argument", "open", "read", "write", "close", "duplicate", "rename", "unlink", "stat", "clock"];
     const host = Object.fromEntries(names.map((name) => [name, (...numbers) => this[name === "open" ? "openFile" : name](...numbers)]));
@@ -61,7 +61,7 @@ class System {
     return typeof opened === "number" ? opened : this.numberOf(opened);
   }
 
-  /** A free descriptor, of what was opened from now on. */
+  /** Returns a free descriptor for what is now open. */
   numberOf(opened) {
     const free = this.open.findIndex((it, number) => number > STANDARD_ERROR && !it);
     const number = free < 0 ? this.open.length : free;

@@ -1,4 +1,5 @@
-// Unpacks LZMA, as `build` packs: the odds of a byte hang on the upper three bits of the one before (lc = 3), and none on its place (lp = pb = 0).
+// Unpacks LZMA as `build` packs it. The odds of a byte depend on the upper three bits of the byte before (lc = 3), not on its place (lp =
+// pb = 0).
 "use strict";
 
 const ODDS_BITS = 11, EVEN = 1 << (ODDS_BITS - 1), LEARNS = 5, LEAST_RANGE = 1 << 24;
@@ -9,7 +10,7 @@ function evenOdds(count) {
   return new Uint16Array(count).fill(EVEN);
 }
 
-/** The bits that were packed, each by the odds of its place in a table, which learn of it. */
+/** Reads the packed bits, each by the odds of its place in a table, which learn from it. */
 class Bits {
   constructor(packed) {
     this.packed = packed;
@@ -38,14 +39,14 @@ class Bits {
     return 1;
   }
 
-  /** A number of so many bits, the highest first; the odds of each stand at `base` and those before it. */
+  /** Reads a number of this many bits, the highest first. The odds of each bit are at `base` and the bits before it. */
   number(odds, base, count) {
     let it = 1;
     for (let bit = 0; bit < count; bit++) it = (it << 1) | this.next(odds, base + it);
     return it - (1 << count);
   }
 
-  /** The same, the lowest first. */
+  /** Reads the same, the lowest first. */
   reversed(odds, base, count) {
     let it = 1, sum = 0;
     for (let place = 0; place < count; place++) {
@@ -56,7 +57,7 @@ class Bits {
     return sum;
   }
 
-  /** A number whose bits are each as likely. */
+  /** Reads a number whose bits are equally likely. */
   plain(count) {
     let it = 0;
     for (let bit = 0; bit < count; bit++) {
@@ -70,7 +71,7 @@ class Bits {
   }
 }
 
-/** How long matches are. */
+/** Reads the lengths of matches. */
 class Lengths {
   constructor() {
     this.choice = evenOdds(2);
@@ -129,7 +130,7 @@ class Unpacker {
     this.copy(length, 7, 10);
   }
 
-  /** A match at one of the last four distances. */
+  /** Copies a match at one of the last four distances. */
   again() {
     if (!this.bits.next(this.isOlder, this.state)) {
       if (!this.bits.next(this.isLong, this.state)) return this.copy(1 - LEAST_MATCH, 9, 11);
@@ -154,7 +155,7 @@ class Unpacker {
   }
 }
 
-/** The bytes that were packed, of which there are so many. */
+/** Returns the bytes that were packed; there are `length` of them. */
 function unpack(packed, length) {
   return new Unpacker(packed, length).all();
 }

@@ -1,6 +1,6 @@
-// Runs words of the program, each in a Worker of its own, which a stop ends at once.
+// Runs words of the program, each in a Worker of its own. A stop ends it at once.
 
-/** The compiled program, out of the page. */
+/** Compiles the program that the page holds. */
 function compile(script) {
   const it = byId("module"), worker = new Worker(script);
   it.remove();
@@ -11,7 +11,7 @@ function compile(script) {
   }).finally(() => worker.terminate());
 }
 
-/** One line that says what this browser lacks, or null. */
+/** Returns one line that says what this browser lacks, or null. */
 function whatIsMissing() {
   if (typeof WebAssembly === "undefined") return "This browser cannot run WebAssembly, which this page needs.";
   if (typeof Worker === "undefined") return "This browser has no Workers, which this page needs.";
@@ -24,13 +24,13 @@ class Program {
     this.module = compile(this.script);
   }
 
-  /** Starts a word over captures. Their names stand in `args`, as `argument` gives them. */
+  /** Starts a word over captures. Their names are in `args`, as `argument` gives them. */
   start(args, captures, options = {}) {
     return new Run(this, args, captures, options);
   }
 }
 
-/** A word that runs. `result` is told once; `onRead(read, total)` and `onRows(blob, rows)` until then. */
+/** A word that runs. `result` settles once; until then the run calls `onRead(read, total)` and `onRows(blob, rows)`. */
 class Run {
   constructor(program, args, captures, { onRows = null } = {}) {
     this.args = args;
@@ -65,7 +65,7 @@ class Run {
     this.end({ status: null, stopped: String(fault), output: new Blob(), errors: new Blob(), written: [] });
   }
 
-  /** Ends it at once: what it wrote until then is lost but for rows. */
+  /** Ends the run at once. What it wrote until then is lost, except rows. */
   stop() {
     this.end({ status: null, byUser: true, output: new Blob(), errors: new Blob(), written: [] });
   }
@@ -78,24 +78,24 @@ class Run {
   }
 }
 
-/** A name as an argument: one that begins with a hyphen is no option. */
+/** Returns a name as an argument. A name that begins with a hyphen must not be an option. */
 function argument(name) {
   return name.startsWith("-") ? `./${name}` : name;
 }
 
-/** The command that does the same at a shell. */
+/** Returns the command that does the same at a shell. */
 function commandOf(args) {
   const quoted = args.map((word) => (/^[\w@%+=:,./-]+$/.test(word) ? word : `'${word.replaceAll("'", "'\\''")}'`));
   return ["pcapfile", ...quoted].join(" ");
 }
 
-/** The text at the front of a Blob, and whether that is all of it. */
+/** Returns the text at the front of a Blob, and whether that is all of it. */
 async function frontOf(blob, most) {
   const text = await blob.slice(0, most).text();
   return { text: blob.size > most ? text.slice(0, text.lastIndexOf("\n") + 1) : text, isAll: blob.size <= most };
 }
 
-/** What the program said of faults, without its own name before each line. */
+/** Returns the program's messages, without its own name before each line. */
 async function messagesOf(result, most = 20000) {
   const { text, isAll } = await frontOf(result.errors, most);
   const lines = text.split("\n").filter(Boolean).map((line) => line.replace(/^pcapfile: /, ""));
@@ -105,7 +105,7 @@ async function messagesOf(result, most = 20000) {
 const UNREADABLE =
   "The browser could not read the file. It may have been moved, changed or deleted since you opened it: open it again.";
 
-/** Why a word did not do what it was asked for, in one sentence, or null where it did or found a fault in a capture. */
+/** Returns the reason why a word failed, in one sentence. Returns null if it succeeded or found a fault in a capture. */
 function failureOf(result) {
   if (result.byUser) return "You stopped it.";
   if (result.stopped && /memory/i.test(result.stopped)) return "Memory ran out.";

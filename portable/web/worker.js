@@ -1,11 +1,11 @@
-// A Worker unpacks the program, or runs one word of it. The page sends { packed, length } for the first, and hears the compiled module; for the
-// other it sends { module, args, files, rowsAtOnce }, and hears of it by messages.
+// A Worker unpacks the program, or runs one word of it. For the first the page sends { packed, length }, and receives the compiled module.
+// For the other it sends { module, args, files, rowsAtOnce }, and receives messages about the run.
 "use strict";
 
-// So many bytes of files are held at once, in equal shares.
+// The Worker holds this many bytes of files at once, in equal shares.
 const HELD = 4 << 20;
 const LEAST_HELD = 64 << 10;
-// What is written goes to the browser by pieces of so many bytes.
+// Written bytes go to the browser in pieces of this many bytes.
 const PIECE = 1 << 20;
 const BETWEEN_REPORTS = 60;
 const LINE_END = 10;
@@ -31,14 +31,15 @@ class Input {
   }
 
   hold(at) {
-    // A buffer that is sent is given back at once, and not when memory is collected, for which no time is while the program runs.
+    // A sent buffer is freed at once. Otherwise it would wait for a collection of memory, and there is no time for that while the program
+    // runs.
     nowhere.postMessage(null, [this.held.buffer]);
     this.start = at;
     this.held = new Uint8Array(this.reader.readAsArrayBuffer(this.file.slice(at, at + this.room)));
   }
 }
 
-/** What is written, as a Blob, which the browser keeps on disk where it is large. */
+/** What the program writes, as a Blob. The browser keeps a large one on disk. */
 class Output {
   constructor() {
     this.size = 0;
@@ -69,7 +70,7 @@ class Output {
   }
 }
 
-/** Lines of a list, which go to the page by Blobs of so many. */
+/** Lines of a list, which go to the page in Blobs of this many. */
 class Rows extends Output {
   constructor(atOnce) {
     super();
@@ -100,7 +101,7 @@ class Rows extends Output {
   }
 }
 
-/** Tells the page how many bytes were read, not too often. */
+/** Reports to the page how many bytes were read, not too often. */
 function reporter() {
   let read = 0, last = performance.now();
   return (length) => {

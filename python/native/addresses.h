@@ -1,18 +1,18 @@
-/* addresses.h: addresses of IP by numbers, in the order in which they came. A part of native.c. */
+/* addresses.h: a table of distinct IP addresses in the order of their arrival. A part of native.c. */
 
 typedef struct {
     uint64_t high, low;
     int32_t version; /* 4 or 6 */
 } Address;
 
-/* Each address once, and where each stands by its hash: its number and one more, or 0. */
+/* The distinct addresses, and a hash table of them. A slot has the index of an address plus one, or 0 if it is free. */
 typedef struct {
     PyObject_HEAD
     Address *at;
     uint32_t *slots;
-    size_t count, room; /* there are twice as many slots, a power of two */
+    size_t count, room; /* there are twice as many slots, and their number is a power of two */
     uint64_t seed;
-    int is_used; /* by a call that has let the interpreter's lock go */
+    int is_used; /* by a call that released the interpreter's lock */
 } Addresses;
 
 static void addresses_dealloc(PyObject *self) {
@@ -28,7 +28,7 @@ static PyObject *make_addresses(PyObject *module, PyObject *unused) {
     if (!addresses) return NULL;
     addresses->at = NULL, addresses->slots = NULL;
     addresses->count = addresses->room = 0, addresses->is_used = 0;
-    /* Python's hashes of texts are other ones in each process, so that nobody can choose addresses whose hashes are the same. */
+    /* Python's hashes of texts differ between processes. So nobody can choose addresses that have the same hash. */
     addresses->seed = (uint64_t)PyObject_Hash(state->window);
     return (PyObject *)addresses;
 }
@@ -40,7 +40,7 @@ static inline size_t slot_of(const Addresses *addresses, const Address *address)
     return (size_t)((uint64_t)(second >> 64) ^ (uint64_t)second) & (2 * addresses->room - 1);
 }
 
-/* The slot of an address: that where it is, or a free one. */
+/* Returns the slot of an address: the one that has it, or a free one. */
 static inline size_t find_slot(const Addresses *addresses, const Address *address) {
     size_t slot = slot_of(addresses, address);
     for (; addresses->slots[slot]; slot = (slot + 1) & (2 * addresses->room - 1)) {
@@ -64,7 +64,7 @@ static int addresses_grow(Addresses *addresses) {
     return 0;
 }
 
-/* The number of an address, or -1 where memory is refused. */
+/* Returns the index of an address, which it adds if necessary. Returns -1 if memory or indexes are exhausted. */
 static inline int32_t number_of(Addresses *addresses, Address address) {
     if (addresses->count == addresses->room && addresses_grow(addresses) < 0) return -1;
     size_t slot = find_slot(addresses, &address);
@@ -75,7 +75,7 @@ static inline int32_t number_of(Addresses *addresses, Address address) {
     return (int32_t)(addresses->slots[slot] - 1);
 }
 
-/* given(): the bytes of each, 4 or 16. */
+/* given() returns the bytes of each address, 4 or 16. */
 static PyObject *addresses_given(PyObject *self, PyObject *unused) {
     const Addresses *addresses = (Addresses *)self;
     (void)unused;

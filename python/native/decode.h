@@ -1,12 +1,12 @@
-/* decode.h: addresses, ports and protocols, read out of packets' bytes: the same as _decode.py reads with numpy. A part of native.c. */
+/* decode.h: reads addresses, ports and protocols out of packets, with the same results as _decode.py with numpy. A part of native.c. */
 
-/* What is read of a packet: the version of IP or 0, both addresses in halves, the protocol or -1, and both ports, or -1. */
+/* The values of a packet: the version of IP or 0, both addresses in two halves, the protocol or -1, and both ports or -1. */
 typedef struct {
     uint64_t source_high, source, destination_high, destination;
     int32_t source_port, destination_port, protocol, version;
 } Decoded;
 
-/* The same as columns have it: the numbers of both addresses or -1, and what is missing. */
+/* The same values in columns: the indexes of both addresses or -1, and the bits for missing values. */
 typedef struct {
     int32_t source, destination;
     uint16_t source_port, destination_port;
@@ -26,7 +26,7 @@ static inline int has_ports(int protocol) {
 }
 static inline int is_extension(int protocol) { return protocol == 0 || protocol == 43 || protocol == 60 || protocol == FRAGMENT; }
 
-/* The ports at a place of so many bytes. */
+/* Reads the ports, if `length` bytes suffice. */
 static void read_ports(const uint8_t *bytes, size_t len, size_t at, int protocol, Decoded *to) {
     if (!has_ports(protocol) || at > len || len - at < 4) return;
     to->source_port = (int32_t)two(bytes + at);
@@ -54,12 +54,12 @@ static void read_ipv6(const uint8_t *bytes, size_t len, Decoded *to) {
         if (protocol == FRAGMENT) is_first = (two(head + 2) & 0xFFF8) == 0;
         protocol = head[0];
     }
-    /* one that ends within its extension headers, or has too many, tells no protocol */
+    /* a packet that ends within its extension headers, or has too many of them, has no protocol */
     to->protocol = is_extension(protocol) ? -1 : protocol;
     if (is_first) read_ports(bytes, len, at, protocol, to);
 }
 
-/* Where the type of what a link carries stands, and how many bytes come before that; 0 where it isn't known. */
+/* Returns where a link layer has the type of its content, and the length of its header, or 0 for an unknown link type. */
 static size_t link_head(uint32_t link, size_t *kind_at) {
     *kind_at = link == 1 ? 12 : link == 113 ? 14 : 0;
     return link == 1 ? 14 : link == 113 ? 16 : link == 276 ? 20 : 0;
@@ -83,7 +83,7 @@ static void decode_packet(const uint8_t *bytes, size_t len, uint32_t link, Decod
     else if (kind == ETHERTYPE_IPV6) read_ipv6(bytes + at, len - at, to);
 }
 
-/* Tells what was read: 0, or -1 where memory is refused. */
+/* Writes the values to a row. Returns 0, or -1 if memory is exhausted. */
 static inline int tell(const Decoded *from, Addresses *const addresses[2], Told *to) {
     *to = (Told){ -1, -1, 0, 0, 0, NO_PORTS | NO_PROTOCOL };
     if (from->version == 0) return 0;
@@ -97,15 +97,15 @@ static inline int tell(const Decoded *from, Addresses *const addresses[2], Told 
     return to->source < 0 || to->destination < 0 ? -1 : 0;
 }
 
-/* What is done with the bytes of rows that stand in `shown` from a place of the capture on, into which array: 0, or -1 where memory is
- * refused, or -2 where a packet passes the bytes, or the array has another length. */
+/* A function over the bytes of rows, which `shown` has from an offset of the capture on, into an array. It returns 0, -1 if memory is
+ * exhausted, or -2 if a packet exceeds the bytes or the array has another length. */
 typedef struct {
     const Py_buffer *shown, *rows, *to;
     uint64_t place;
     Addresses *addresses[2]; /* the sources and the destinations, or NULL */
 } OfRows;
 
-/* Where the bytes of a row are, or NULL where they pass what is shown. */
+/* Returns where the bytes of a row are, or NULL if they exceed the shown bytes. */
 static inline const uint8_t *bytes_of(const OfRows *of, const pcapfile_row *row) {
     uint64_t begin = row->offset - of->place, shown = (uint64_t)of->shown->len;
     return begin > shown || row->len > shown - begin ? NULL : (const uint8_t *)of->shown->buf + begin;
@@ -140,14 +140,14 @@ static int gather_rows(const OfRows *of) {
     return left > 0 ? -2 : 0;
 }
 
-/* Whether addresses are in use by another thread, or are so from now on, or no more. */
+/* Checks whether another thread uses the addresses, or marks them as used or free. */
 static int are_used(const OfRows *of) { return of->addresses[0] && (of->addresses[0]->is_used || of->addresses[1]->is_used); }
 static void use(const OfRows *of, int is_used) {
     for (int i = 0; i < 2; i++)
         if (of->addresses[i]) of->addresses[i]->is_used = is_used;
 }
 
-/* Does that without the interpreter's lock. */
+/* Runs the function without the interpreter's lock. */
 static PyObject *done_of_rows(const OfRows *of, int (*done)(const OfRows *)) {
     int status;
     if (are_used(of)) return PyErr_SetString(PyExc_ValueError, "addresses are in use"), NULL;
@@ -158,10 +158,10 @@ static PyObject *done_of_rows(const OfRows *of, int (*done)(const OfRows *)) {
     use(of, 0);
     if (status == -1) return PyErr_NoMemory();
     if (status == 0) Py_RETURN_NONE;
-    return PyErr_SetString(PyExc_ValueError, "a packet passes the bytes, or the array has another length"), NULL;
+    return PyErr_SetString(PyExc_ValueError, "a packet exceeds the bytes, or the array has another length"), NULL;
 }
 
-/* Lends the bytes, the rows and the array of a call. */
+/* Holds the bytes, the rows and the array during a call. */
 static PyObject *with_rows(PyObject *lent[3], uint64_t place, PyObject *addresses[2], int (*done)(const OfRows *)) {
     Py_buffer shown, rows, to;
     PyObject *answer = NULL;
@@ -178,7 +178,7 @@ static PyObject *with_rows(PyObject *lent[3], uint64_t place, PyObject *addresse
     return answer;
 }
 
-/* decode(bytes, rows, array, place, sources, destinations): fills an array with what is told of the packets of rows. */
+/* decode(bytes, rows, array, place, sources, destinations) fills an array with the decoded values of the packets of rows. */
 static PyObject *decode(PyObject *module, PyObject *args) {
     State *state = PyModule_GetState(module);
     PyObject *lent[3], *addresses[2];
@@ -186,10 +186,10 @@ static PyObject *decode(PyObject *module, PyObject *args) {
     if (!PyArg_ParseTuple(args, "OOOKOO", &lent[0], &lent[1], &lent[2], &place, &addresses[0], &addresses[1])) return NULL;
     if (Py_TYPE(addresses[0]) == state->addresses && Py_TYPE(addresses[1]) == state->addresses && addresses[0] != addresses[1])
         return with_rows(lent, place, addresses, decode_rows);
-    return PyErr_SetString(PyExc_TypeError, "no two addresses"), NULL;
+    return PyErr_SetString(PyExc_TypeError, "decode needs two different tables of addresses"), NULL;
 }
 
-/* gather(bytes, rows, array, place): fills an array with the bytes of the packets of rows, one behind the other. */
+/* gather(bytes, rows, array, place) fills an array with the bytes of the packets of rows, one packet after another. */
 static PyObject *gather(PyObject *module, PyObject *args) {
     PyObject *lent[3], *addresses[2] = { NULL, NULL };
     unsigned long long place;

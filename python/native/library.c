@@ -1,2 +1,2 @@
-/* library.c: the library for C in one file, which is the repository's portable/pcapfile.c, or lies beside this in an sdist. */
+/* library.c: the library for C in one file. It is portable/pcapfile.c of the repository, or the copy beside this file in an sdist. */
 #include "pcapfile.c"

@@ -1,11 +1,12 @@
-/* native.c: packets and rows of captures for Python, over the calls of pcapfile.h. Plain C, tested and not proved.
+/* native.c: packets and rows of captures for Python, based on the functions of pcapfile.h. This is plain C, tested and not proved.
  *
- * The package does all but what is done for each packet. A walk of it has a window, whose `left` are the bytes that are left as the
- * library has them, and whose `data` is a view of all that is shown; `more` shows more. Packets hold on to the bytes in which they lie:
- * nothing is copied, and nothing that a packet shows can go away while it lives. No arithmetic is done with the bytes themselves.
+ * This file does the work for each packet, and the Python package does everything else. A walk of the package has a window. Its `data`
+ * is a view of the bytes in memory, its `left` are the bytes that the library has not taken, and its `more` reads more bytes.
  *
- * It keeps to the stable interface of Python 3.9, so one file serves 3.9 to 3.13. Its types and what it keeps are each
- * interpreter's own. */
+ * Packets refer to the bytes of the window and keep them alive, so nothing is copied. This file does no arithmetic with the bytes
+ * themselves.
+ *
+ * It uses only the stable interface of Python 3.9, so one file serves 3.9 to 3.13. Every interpreter has its own types and state. */
 #include "python_buffers.h"
 
 #include <stddef.h>
@@ -19,7 +20,7 @@
 #define FREE 64
 #endif
 
-/* What a module keeps: its types, names of attributes, and places of packets that are gone. */
+/* The state of a module: its types, names of attributes, and the memory of freed packets. */
 typedef struct {
     PyTypeObject *open, *chunk, *clock, *clocks, *packet, *block_packet, *walk, *addresses;
     PyObject *more, *offset, *data, *base, *left, *window, *section, *clocks_name, *take, *open_name;
@@ -35,38 +36,38 @@ typedef struct {
 
 /* ---- the types ---- */
 
-static PyMethodDef open_methods[] = { { "close", open_close, METH_NOARGS, "From now on it is closed." }, { NULL, NULL, 0, NULL } };
+static PyMethodDef open_methods[] = { { "close", open_close, METH_NOARGS, "Closes the capture." }, { NULL, NULL, 0, NULL } };
 static PyGetSetDef open_attributes[] = {
-    { "is_closed", open_is_closed, NULL, "Whether the capture is closed.", NULL },
+    { "is_closed", open_is_closed, NULL, "True if the capture is closed.", NULL },
     { NULL, NULL, NULL, NULL, NULL },
 };
 static PyType_Slot open_slots[] = {
-    { Py_tp_doc, "Whether a capture is open." }, { Py_tp_new, open_new },           { Py_tp_dealloc, plain_dealloc },
+    { Py_tp_doc, "Records whether a capture is open." }, { Py_tp_new, open_new },           { Py_tp_dealloc, plain_dealloc },
     { Py_tp_methods, open_methods },             { Py_tp_getset, open_attributes }, { 0, NULL },
 };
 static PyType_Slot chunk_slots[] = { { Py_tp_new, no_new }, { Py_tp_dealloc, chunk_dealloc }, { 0, NULL } };
 static PyType_Slot clock_slots[] = { { Py_tp_new, no_new }, { Py_tp_dealloc, clock_dealloc }, { 0, NULL } };
 static PyMethodDef clocks_methods[] = {
     { "add", clocks_add, METH_VARARGS, "Adds an interface." },
-    { "copy", clocks_copy, METH_NOARGS, "The same interfaces." },
+    { "copy", clocks_copy, METH_NOARGS, "Returns a copy with the same interfaces." },
     { NULL, NULL, 0, NULL },
 };
 static PyType_Slot clocks_slots[] = {
     { Py_tp_new, no_new }, { Py_tp_dealloc, clocks_dealloc }, { Py_tp_methods, clocks_methods }, { 0, NULL },
 };
 static PyMethodDef addresses_methods[] = {
-    { "given", addresses_given, METH_NOARGS, "The bytes of each." },
+    { "given", addresses_given, METH_NOARGS, "Returns the bytes of each address." },
     { NULL, NULL, 0, NULL },
 };
 static PyType_Slot addresses_slots[] = {
     { Py_tp_new, no_new }, { Py_tp_dealloc, addresses_dealloc }, { Py_tp_methods, addresses_methods }, { 0, NULL },
 };
 static PyGetSetDef walk_attributes[] = {
-    { "is_over", walk_is_over, NULL, "Whether no packet comes any more.", NULL },
+    { "is_over", walk_is_over, NULL, "True if there are no more packets.", NULL },
     { NULL, NULL, NULL, NULL, NULL },
 };
 static PyType_Slot walk_slots[] = {
-    { Py_tp_doc, "Packets of a capture, one by one." },
+    { Py_tp_doc, "An iterator over the packets of a capture." },
     { Py_tp_new, no_new },
     { Py_tp_dealloc, walk_dealloc },
     { Py_tp_traverse, walk_traverse },
@@ -81,11 +82,11 @@ static PyType_Slot walk_slots[] = {
     { Py_tp_richcompare, packet_compare }, { Py_sq_length, NAME##_length }, { Py_sq_item, NAME##_item }, \
     { Py_mp_subscript, packet_subscript }, { Py_bf_getbuffer, packet_buffer }, { 0, NULL }
 static PyType_Slot packet_slots[] = {
-    { Py_tp_doc, "A packet of a capture: a sequence of its fields, which also lends its bytes, as to bytes() and memoryview()." },
+    { Py_tp_doc, "A packet of a classic capture: a sequence of its fields, and a buffer of its bytes for bytes() and memoryview()." },
     PACKET_SLOTS(packet),
 };
 static PyType_Slot block_packet_slots[] = {
-    { Py_tp_doc, "A packet of an interface: a sequence of its fields, which also lends its bytes, as to bytes() and memoryview()." },
+    { Py_tp_doc, "A packet of a PcapNg capture: a sequence of its fields, and a buffer of its bytes for bytes() and memoryview()." },
     PACKET_SLOTS(block_packet),
 };
 
@@ -141,7 +142,7 @@ static int module_exec(PyObject *module) {
     return add_types(module, state);
 }
 
-/* Each object that a module keeps, in turn. */
+/* Applies DO to each object in the state. */
 #define EACH_KEPT(DO) \
     DO(open) DO(chunk) DO(clock) DO(clocks) DO(packet) DO(block_packet) DO(walk) DO(addresses) DO(more) \
     DO(offset) DO(data) DO(base) DO(left) DO(window) DO(section) DO(clocks_name) DO(take) DO(open_name)
@@ -169,7 +170,7 @@ static void module_free(void *module) {
     while (state->n_free > 0) PyObject_Free(state->free[--state->n_free]);
 }
 
-/* address(view): where the bytes of a view begin. */
+/* address(view) returns the address of a view's bytes. */
 static PyObject *address(PyObject *module, PyObject *view) {
     Py_buffer shown;
     (void)module;
@@ -180,14 +181,14 @@ static PyObject *address(PyObject *module, PyObject *view) {
 }
 
 static PyMethodDef methods[] = {
-    { "address", address, METH_O, "Where the bytes of a view begin." },
-    { "packets", make_walk, METH_VARARGS, "The packets of a walk." },
-    { "rows", make_rows, METH_VARARGS, "Fills rows of columns." },
-    { "decode", decode, METH_VARARGS, "Reads addresses, ports and protocols of rows." },
+    { "address", address, METH_O, "Returns the address of a view's bytes." },
+    { "packets", make_walk, METH_VARARGS, "Iterates over the packets of a walk." },
+    { "rows", make_rows, METH_VARARGS, "Fills rows of columns from a window." },
+    { "decode", decode, METH_VARARGS, "Decodes addresses, ports and protocols of rows." },
     { "gather", gather, METH_VARARGS, "Copies the bytes of rows." },
-    { "addresses", make_addresses, METH_NOARGS, "No addresses yet." },
-    { "clocks", make_clocks, METH_NOARGS, "No interfaces yet." },
-    { "packet", make_packet, METH_VARARGS, "A packet that stands in these bytes." },
+    { "addresses", make_addresses, METH_NOARGS, "Returns an empty table of addresses." },
+    { "clocks", make_clocks, METH_NOARGS, "Returns an empty table of interfaces." },
+    { "packet", make_packet, METH_VARARGS, "Returns a packet whose data is in these bytes." },
     { NULL, NULL, 0, NULL },
 };
 static PyModuleDef_Slot slots[] = { { Py_mod_exec, module_exec }, { 0, NULL } };

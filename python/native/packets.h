@@ -1,6 +1,6 @@
-/* packets.h: packets, and what they hold on to. A part of native.c. */
+/* packets.h: packets, and the bytes and interfaces that they refer to. A part of native.c. */
 
-/* ---- whether a capture is open: packets that were taken and not given yet are gone with it ---- */
+/* ---- whether a capture is open: closing it also drops packets that were taken and not yet returned ---- */
 
 typedef struct {
     PyObject_HEAD
@@ -31,16 +31,16 @@ static void plain_dealloc(PyObject *self) {
     Py_DECREF(type);
 }
 
-/* ---- bytes that packets lie in ---- */
+/* ---- the bytes that packets refer to ---- */
 
 typedef struct {
     PyObject_HEAD
-    PyObject *module; /* so that the state lives as long as packets do */
+    PyObject *module; /* keeps the state alive as long as packets live */
     State *state;
-    PyObject *shown;  /* the window's view, by which it is known again */
-    PyObject *view;   /* a view of its own: that of the window can be released while packets live */
+    PyObject *shown;  /* the window's view, to recognize it */
+    PyObject *view;   /* a view of its own, because the window's view may be released while packets live */
     Py_buffer buffer;
-    uint64_t base;    /* where the bytes begin in the capture, less 2^64 where they begin before it */
+    uint64_t base;    /* the offset of the bytes in the capture, modulo 2^64 */
 } Chunk;
 
 static void chunk_dealloc(PyObject *self) {
@@ -68,13 +68,13 @@ static Chunk *chunk_new(PyObject *module, PyObject *shown, uint64_t base) {
     return NULL;
 }
 
-/* ---- what tells the time of packets: an interface ---- */
+/* ---- an interface, which gives its packets their times ---- */
 
 typedef struct {
     PyObject_HEAD
     pcapfile_interface interface;
-    uint64_t each, most; /* so many nanoseconds a unit, up to so many units; 0 where the library divides */
-    PyObject *shown;     /* the Interface of the package */
+    uint64_t each, most; /* nanoseconds in a unit, and the most units; 0 if the library divides */
+    PyObject *shown;     /* the package's Interface */
 } Clock;
 
 static void clock_dealloc(PyObject *self) {
@@ -105,7 +105,7 @@ static Clock *clock_new(State *state, PyObject *structure, PyObject *shown) {
 
 #define NO_TIME INT64_MIN
 
-/* Nanoseconds since 1970, or NO_TIME where 64 bits don't hold them. */
+/* Returns nanoseconds since 1970, or NO_TIME if they exceed 64 bits. */
 static int64_t time_in_ns(const Clock *clock, uint64_t units) {
     pcapfile_time time = PCAPFILE_TIME_INIT;
     int64_t ns;
@@ -115,14 +115,14 @@ static int64_t time_in_ns(const Clock *clock, uint64_t units) {
     return __builtin_add_overflow(ns, (int64_t)time.nanoseconds, &ns) ? NO_TIME : ns;
 }
 
-/* ---- the interfaces of a section, by their numbers ---- */
+/* ---- the interfaces of a section, by number ---- */
 
 typedef struct {
     PyObject_HEAD
     PyObject *module;
     Clock **at;
     size_t count, room;
-    int is_used; /* by a call that has let the interpreter's lock go */
+    int is_used; /* by a call that released the interpreter's lock */
 } Clocks;
 
 static void clocks_dealloc(PyObject *self) {
@@ -151,7 +151,7 @@ static PyObject *make_clocks(PyObject *module, PyObject *unused) {
     return (PyObject *)clocks_new(module, 4);
 }
 
-/* Places for the interfaces up to this number, and one more. */
+/* Makes room for the interfaces up to this number, and for one more. */
 static int clocks_grow(Clocks *clocks, size_t number) {
     if (clocks->is_used) return PyErr_SetString(PyExc_ValueError, "interfaces are in use"), -1;
     if (number < clocks->room) return 0;
@@ -163,7 +163,7 @@ static int clocks_grow(Clocks *clocks, size_t number) {
     return 0;
 }
 
-/* add(number, struct, Interface) */
+/* add(number, struct, Interface) adds an interface. */
 static PyObject *clocks_add(PyObject *self, PyObject *args) {
     Clocks *clocks = (Clocks *)self;
     unsigned int number;
@@ -196,10 +196,10 @@ static PyObject *clocks_copy(PyObject *self, PyObject *unused) {
 typedef struct {
     PyObject_HEAD
     Chunk *chunk;
-    Clock *clock; /* of PcapNg, or NULL where its interface isn't there */
+    Clock *clock; /* for PcapNg, or NULL if the interface is unknown */
     const uint8_t *ptr;
     uint64_t stamp;                             /* units of the interface, or seconds and nanoseconds */
-    uint32_t len, orig_len, interface_id, kind; /* kind: of PcapNg the type of the block, else the link type */
+    uint32_t len, orig_len, interface_id, kind; /* kind: block type of PcapNg, or link type */
 } Packet;
 
 static inline Packet *packet_alloc(State *state, PyTypeObject *type) {
@@ -225,7 +225,7 @@ static int packet_buffer(PyObject *self, Py_buffer *view, int flags) {
 
 static inline Py_ssize_t place_in_chunk(const Packet *packet) { return packet->ptr - (const uint8_t *)packet->chunk->buffer.buf; }
 
-/* Whether a packet has a time, and which. */
+/* Returns whether a packet has a time, and the time. */
 static inline int time_of(const Packet *packet, int is_ng, pcapfile_time *time) {
     if (is_ng)
         return packet->clock && packet->kind != PCAPFILE_BLOCK_SIMPLE_PACKET &&
@@ -252,7 +252,7 @@ static inline PyObject *float_of(PyObject *self, int is_ng) {
     return PyFloat_FromDouble((double)time.seconds + time.nanoseconds / 1e9);
 }
 
-/* Nanoseconds that pass 64 bits. */
+/* The nanoseconds exceed 64 bits. */
 static PyObject *long_ns_of(const pcapfile_time *time) {
     PyObject *seconds = PyLong_FromLongLong(time->seconds), *second = PyLong_FromLong(1000000000);
     PyObject *product = seconds && second ? PyNumber_Multiply(seconds, second) : NULL;
@@ -323,40 +323,40 @@ static PyObject *get_around(PyObject *self, void *closure) {
     return Py_BuildValue("(On)", packet->chunk->view, place_in_chunk(packet));
 }
 
-#define AROUND { "_around", get_around, NULL, "The bytes in which it lies, and where in them its own begin.", NULL }
-#define DATA { "data", get_data, NULL, "The bytes that are stored, where they lie: a view that can be read as long as it lives.", NULL }
-#define OFFSET { "offset", get_offset, NULL, "Where its bytes begin in the capture.", NULL }
-#define LENGTH { "length", get_length, NULL, "How many bytes are stored.", NULL }
-#define ORIGINAL { "original_length", get_original_length, NULL, "How many bytes it had on the wire.", NULL }
+#define AROUND { "_around", get_around, NULL, "The buffer that contains the data, and the place at which the data begins in it.", NULL }
+#define DATA { "data", get_data, NULL, "The stored bytes, as a view that stays valid as long as it exists.", NULL }
+#define OFFSET { "offset", get_offset, NULL, "Where its data begins, in bytes from the capture's start.", NULL }
+#define LENGTH { "length", get_length, NULL, "The number of bytes that the capture stores of the packet.", NULL }
+#define ORIGINAL { "original_length", get_original_length, NULL, "The number of bytes of the packet on the wire.", NULL }
 
-/* The first ones are the fields of the packet as a sequence. */
+/* The first attributes are also the items of the packet as a sequence. */
 static PyGetSetDef packet_attributes[] = {
-    { "seconds", get_seconds, NULL, "Seconds since 1970.", NULL },
-    { "nanoseconds", get_nanoseconds, NULL, "Nanoseconds after these seconds.", NULL },
+    { "seconds", get_seconds, NULL, "The whole seconds of the time since 1970.", NULL },
+    { "nanoseconds", get_nanoseconds, NULL, "The nanoseconds of the time after `seconds`.", NULL },
     ORIGINAL,
     DATA,
-    { "link", get_kind, NULL, "The number of the link type of its first layer.", NULL },
+    { "link", get_kind, NULL, "The number of the packet's link type.", NULL },
     OFFSET,
     LENGTH,
-    { "time", get_float, NULL, "Seconds since 1970, as exact as a float is; `seconds` and `nanoseconds` are exact.", NULL },
-    { "time_ns", get_ns, NULL, "Nanoseconds since 1970.", NULL },
-    { "interface", get_none, NULL, "None: a classic capture describes none.", NULL },
+    { "time", get_float, NULL, "The time in seconds since 1970, as a float. `seconds` and `nanoseconds` are exact.", NULL },
+    { "time_ns", get_ns, NULL, "The time in nanoseconds since 1970.", NULL },
+    { "interface", get_none, NULL, "None, because a classic capture has no interfaces.", NULL },
     AROUND,
     { NULL, NULL, NULL, NULL, NULL },
 };
 static PyGetSetDef block_packet_attributes[] = {
-    { "seconds", get_seconds_ng, NULL, "Seconds since 1970, or None.", NULL },
-    { "nanoseconds", get_nanoseconds_ng, NULL, "Nanoseconds after these seconds.", NULL },
+    { "seconds", get_seconds_ng, NULL, "The whole seconds of the time since 1970, or None.", NULL },
+    { "nanoseconds", get_nanoseconds_ng, NULL, "The nanoseconds of the time after `seconds`.", NULL },
     ORIGINAL,
     DATA,
-    { "timestamp", get_timestamp, NULL, "Units of its interface.", NULL },
-    { "interface_id", get_interface_id, NULL, "The number of its interface in its section.", NULL },
-    { "interface", get_interface, NULL, "Its interface, or None.", NULL },
+    { "timestamp", get_timestamp, NULL, "The time in units of the packet's interface.", NULL },
+    { "interface_id", get_interface_id, NULL, "The number of the packet's interface in its section.", NULL },
+    { "interface", get_interface, NULL, "The packet's interface, or None if it is unknown.", NULL },
     OFFSET,
     LENGTH,
-    { "time", get_float_ng, NULL, "Seconds since 1970, as exact as a float is, or None; `seconds` and `nanoseconds` are exact.", NULL },
-    { "time_ns", get_ns_ng, NULL, "Nanoseconds since 1970, or None.", NULL },
-    { "link", get_link_ng, NULL, "The number of the link type of its first layer, or None.", NULL },
+    { "time", get_float_ng, NULL, "The time in seconds since 1970, as a float, or None. `seconds` and `nanoseconds` are exact.", NULL },
+    { "time_ns", get_ns_ng, NULL, "The time in nanoseconds since 1970, or None.", NULL },
+    { "link", get_link_ng, NULL, "The number of the packet's link type, or None if its interface is unknown.", NULL },
     AROUND,
     { NULL, NULL, NULL, NULL, NULL },
 };
@@ -373,7 +373,7 @@ static PyObject *block_packet_item(PyObject *self, Py_ssize_t at) { return item_
 static Py_ssize_t packet_length(PyObject *self) { return (void)self, FIELDS; }
 static Py_ssize_t block_packet_length(PyObject *self) { return (void)self, FIELDS_NG; }
 
-/* Also slices, and numbers from the end on. */
+/* A subscript may also be a slice, or a number that counts from the end. */
 static PyObject *packet_subscript(PyObject *self, PyObject *key) {
     PyObject *fields = PySequence_Tuple(self), *found = fields ? PyObject_GetItem(fields, key) : NULL;
     Py_XDECREF(fields);
@@ -390,12 +390,12 @@ static PyObject *packet_compare(PyObject *self, PyObject *other, int op) {
 
 static PyObject *no_new(PyTypeObject *type, PyObject *args, PyObject *words) {
     (void)type, (void)args, (void)words;
-    PyErr_SetString(PyExc_TypeError, "these come from captures");
+    PyErr_SetString(PyExc_TypeError, "only captures make these objects");
     return NULL;
 }
 
-/* packet(is of PcapNg, bytes, at, length, offset, stamp, original length, interface's number, kind, struct or None, Interface): a
- * packet whose bytes stand there in these, as one that was pickled. */
+/* packet(is of PcapNg, bytes, at, length, offset, stamp, original length, interface's number, kind, struct or None, Interface) returns
+ * a packet whose data begins at `at` in `bytes`, for example one that was pickled. */
 static PyObject *make_packet(PyObject *module, PyObject *args) {
     State *state = PyModule_GetState(module);
     int is_ng;
@@ -410,7 +410,7 @@ static PyObject *make_packet(PyObject *module, PyObject *args) {
     Clock *clock = NULL;
     Packet *packet = NULL;
     if (at < 0 || at > chunk->buffer.len || len > (size_t)(chunk->buffer.len - at))
-        PyErr_SetString(PyExc_ValueError, "the packet passes the bytes");
+        PyErr_SetString(PyExc_ValueError, "the packet exceeds the bytes");
     else if (structure == Py_None || (clock = clock_new(state, structure, shown)))
         packet = packet_alloc(state, is_ng ? state->block_packet : state->packet);
     if (!packet) {

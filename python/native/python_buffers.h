@@ -1,5 +1,5 @@
-/* python_buffers.h: Python's header, and its buffers, which belong to the stable interface from 3.11 on only. Those of 3.9 and 3.10,
- * which get no others any more, are the same. */
+/* python_buffers.h: Python's header, and its buffers, which the stable interface has only since 3.11. Python 3.9 and 3.10 declare them
+ * the same way, and will not change them. */
 #ifndef PYTHON_BUFFERS_H
 #define PYTHON_BUFFERS_H
 

@@ -1,8 +1,8 @@
-/* rows.h: rows of columns, which the library fills in where they lie. A part of native.c. */
+/* rows.h: rows of columns, which the library writes into an array. A part of native.c. */
 
 #define NO_LINK UINT32_MAX
 
-/* Makes a row of PcapNg, as the library filled it in, into a row of columns where it lies. */
+/* Converts a row of PcapNg in the library's layout to a row of columns, in place. */
 static void settle(pcapfile_row *row, const Clocks *clocks) {
     pcapfile_ng_row ng;
     memcpy(&ng, row, sizeof ng);
@@ -17,11 +17,11 @@ static void settle(pcapfile_row *row, const Clocks *clocks) {
     row->link = clock ? clock->interface.link : NO_LINK;
 }
 
-/* What a call of rows() works with. */
+/* The parameters of a call of rows(). */
 typedef struct {
     pcapfile_header header;
     pcapfile_section section;
-    Clocks *clocks; /* or NULL in a classic capture */
+    Clocks *clocks; /* NULL for a classic capture */
     pcapfile_bytes left;
     pcapfile_row *rows;
     size_t room, taken;
@@ -30,7 +30,7 @@ typedef struct {
     int32_t status;
 } Taking;
 
-/* Takes rows, with no lock of the interpreter's. */
+/* Takes rows without the interpreter's lock. */
 static void take_rows(Taking *to) {
     if (to->clocks) {
         to->status = pcapfile_take_ng_rows(&to->section, &to->left, (pcapfile_ng_row *)to->rows, to->room, &to->taken, &to->error);
@@ -41,7 +41,7 @@ static void take_rows(Taking *to) {
     }
 }
 
-/* Takes rows into an array from a place on, out of what is left of a window whose bytes are held meanwhile. */
+/* Takes rows from the rest of a window into an array, from index `begin` on. It holds the window's bytes meanwhile. */
 static PyObject *take_into(Taking *to, Py_buffer *left_view, Py_buffer *shown, Py_buffer *array, Py_ssize_t begin) {
     size_t room = (size_t)array->len / sizeof(pcapfile_row);
     if ((size_t)left_view->len != sizeof to->left || begin < 0 || (size_t)begin > room) {
@@ -61,8 +61,8 @@ static PyObject *take_into(Taking *to, Py_buffer *left_view, Py_buffer *shown, P
     return Py_BuildValue("(inIn)", (int)to->status, (Py_ssize_t)to->taken, (unsigned int)to->error.rule, (Py_ssize_t)to->error.missing);
 }
 
-/* rows(window, header or section, its interfaces or None, array, begin, place): takes rows into those of an array from begin on, with
- * `place` added to their offsets, and gives the status, how many they are, and the error's rule and missing. */
+/* rows(window, header or section, its interfaces or None, array, begin, place) takes rows into an array from index `begin` on. It adds
+ * `place` to their offsets, and returns the status, the number of rows, and the error's rule and missing bytes. */
 static PyObject *make_rows(PyObject *module, PyObject *args) {
     State *state = PyModule_GetState(module);
     PyObject *window, *head, *clocks, *array, *answer = NULL;

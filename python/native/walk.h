@@ -1,10 +1,9 @@
-/* walk.h: an iterator over the packets of a walk of the package: its window shows bytes, and shows more when it is asked. A part of
- * native.c. */
+/* walk.h: an iterator over the packets of a walk of the package, whose window provides the bytes. A part of native.c. */
 
-/* What a filter answers of a packet: libpcap's bpf_filter. */
+/* The function that runs a filter program on a packet: libpcap's bpf_filter. */
 typedef unsigned int Run(const void *, const uint8_t *, unsigned int, unsigned int);
 
-/* The program that chooses packets of a link type. */
+/* The filter program for one link type. */
 typedef struct {
     uint32_t link;
     const void *program;
@@ -16,23 +15,23 @@ typedef struct {
     PyObject_HEAD
     PyObject *module;
     State *state;
-    PyObject *source, *window, *refused; /* the walk of the package, its window, and what makes an error */
+    PyObject *source, *window, *refused; /* the package's walk, its window, and the function that makes an error */
     Open *open;
     Py_buffer left_buffer, section_buffer;
-    pcapfile_bytes *left;      /* those of the window */
-    pcapfile_section *section; /* of PcapNg */
-    pcapfile_header header;    /* of a classic capture */
+    pcapfile_bytes *left;      /* the window's */
+    pcapfile_section *section; /* for PcapNg */
+    pcapfile_header header;    /* for a classic capture */
     pcapfile_error error;
     Chunk *chunk;
-    Clocks *clocks; /* of PcapNg */
+    Clocks *clocks; /* for PcapNg */
     PyObject *filter; /* or NULL */
-    Run *run;         /* what chooses packets by their bytes, or NULL */
-    int64_t since, until; /* what is chosen by its time: nanoseconds from the one on and before the other */
+    Run *run;         /* the function that filters by bytes, or NULL */
+    int64_t since, until; /* the wanted times in nanoseconds: from `since` to before `until` */
     int has_times;
     Chosen programs[PROGRAMS];
     unsigned n_programs;
     int is_ng, is_pairs, is_running, is_over;
-    int32_t status; /* that of the last call of the library, until what it asks for is done */
+    int32_t status; /* of the library's last call, until the walk has acted on it */
     size_t at, count;
     union {
         pcapfile_packet classic[BATCH];
@@ -79,9 +78,9 @@ static void walk_dealloc(PyObject *self) {
     Py_XDECREF(module);
 }
 
-/* ---- making one ---- */
+/* ---- making a walk ---- */
 
-/* A struct of an object's attribute, which is written where it lies. */
+/* Returns the struct behind an attribute of an object, to write to it directly. */
 static int let_struct(PyObject *owner, PyObject *name, Py_buffer *buffer, size_t size) {
     PyObject *object = PyObject_GetAttr(owner, name);
     int failed = !object || PyObject_GetBuffer(object, buffer, PyBUF_WRITABLE) < 0;
@@ -102,13 +101,13 @@ static int copy_struct(PyObject *object, void *to, size_t size) {
     return fits ? 0 : -1;
 }
 
-/* The interfaces of the section in force. */
+/* Reads the interfaces of the current section from the package's walk. */
 static int see_clocks(Walk *walk) {
     PyObject *clocks = PyObject_GetAttr(walk->source, walk->state->clocks_name);
     if (clocks && Py_TYPE(clocks) != walk->state->clocks) {
         Py_DECREF(clocks);
         clocks = NULL;
-        PyErr_SetString(PyExc_TypeError, "a walk without interfaces");
+        PyErr_SetString(PyExc_TypeError, "the walk has no table of interfaces");
     }
     Py_XDECREF(walk->clocks);
     walk->clocks = (Clocks *)clocks;
@@ -123,7 +122,7 @@ static int begin_window(Walk *walk) {
     walk->open = (Open *)open;
     if (!open) return -1;
     if (Py_TYPE(open) == walk->state->open) return 0;
-    PyErr_SetString(PyExc_TypeError, "a window that isn't open or closed");
+    PyErr_SetString(PyExc_TypeError, "the window has no Open object");
     return -1;
 }
 
@@ -155,7 +154,7 @@ static int begin_filter(Walk *walk, PyObject *filter) {
     return 0;
 }
 
-/* packets(walk, header or None, refused, filter or None, whether pairs) */
+/* packets(walk, header or None, refused, filter or None, whether pairs) returns an iterator. */
 static PyObject *make_walk(PyObject *module, PyObject *args) {
     State *state = PyModule_GetState(module);
     PyObject *source, *header, *refused, *filter = Py_None;
@@ -181,7 +180,7 @@ static int closed(void) {
     return -1;
 }
 
-/* The chunk that the window shows now. */
+/* Returns the chunk for the bytes that the window has now. */
 static int see_chunk(Walk *walk) {
     PyObject *shown = PyObject_GetAttr(walk->window, walk->state->data), *base;
     if (!shown) return -1;
@@ -197,19 +196,19 @@ static int see_chunk(Walk *walk) {
     return walk->chunk ? 0 : -1;
 }
 
-/* What is left, where it lies in what is shown: whoever changed the struct from Python, the library reads nothing else. */
+/* Checks that the bytes left are inside the window's bytes. So the library reads nothing else, even if Python code changed the struct. */
 static int left_within(const pcapfile_bytes *told, const Py_buffer *shown, pcapfile_bytes *left) {
     const uint8_t *start = shown->buf;
     size_t len = (size_t)shown->len;
     *left = (pcapfile_bytes)PCAPFILE_NO_BYTES;
     if (told->len == 0) return 0;
     if (told->ptr < start || told->ptr > start + len || told->len > (size_t)(start + len - told->ptr))
-        return PyErr_SetString(PyExc_RuntimeError, "the window shows other bytes"), -1;
+        return PyErr_SetString(PyExc_RuntimeError, "the bytes left are outside the window"), -1;
     *left = *told;
     return 0;
 }
 
-/* Lets the library take a batch. The interpreter's lock is kept: it takes some 20 microseconds. */
+/* Takes a batch from the library. It keeps the interpreter's lock, since this takes some 20 microseconds. */
 static int take_batch(Walk *walk) {
     size_t taken = 0;
     pcapfile_bytes left;
@@ -225,7 +224,7 @@ static int take_batch(Walk *walk) {
     return 0;
 }
 
-/* Asks the window for more bytes: whether some came. The chunk's room can be used again where no packet lives in it. */
+/* Asks the window for more bytes, and returns whether some came. The window may reuse a chunk's buffer if no packet refers to it. */
 static int more(Walk *walk, size_t missing) {
     if (walk->open->is_closed) return closed();
     walk->at = walk->count = 0;
@@ -252,7 +251,8 @@ static int refuse(Walk *walk) {
     return -1;
 }
 
-/* Does what the last batch of a classic capture ended with: 1 where another one can be taken, 0 at the end. */
+/* Acts on the status of the last batch of a classic capture. Returns 1 if there may be another batch, 0 at the end, and -1 with an
+ * error. */
 static int go_on(Walk *walk) {
     int32_t status = walk->status;
     if (status != PCAPFILE_OK && status != PCAPFILE_INCOMPLETE) return refuse(walk);
@@ -262,7 +262,7 @@ static int go_on(Walk *walk) {
     return came;
 }
 
-/* The same of a PcapNg capture, and takes a section, an interface, a packet that can't be read, or a refusal. */
+/* Does the same for a PcapNg capture. Here the package takes a section header, an interface, an unreadable packet or a malformed block. */
 static int go_on_ng(Walk *walk) {
     if (walk->status == PCAPFILE_INCOMPLETE) {
         int came = more(walk, walk->error.missing);
@@ -275,11 +275,12 @@ static int go_on_ng(Walk *walk) {
         Py_DECREF(told);
         if (see_clocks(walk) < 0) return -1;
     }
-    walk->status = PCAPFILE_OK; /* this is done, whatever an error of a stream interrupts from here on */
+    walk->status = PCAPFILE_OK; /* this status is done with, even if an error of the stream interrupts what follows */
     return walk->left->len > 0 ? 1 : more(walk, 1);
 }
 
-/* Fills the batch: 1, or 0 at the end, or -1. One thread does so at a time. Behind an error of a stream the walk can go on. */
+/* Fills the batch. Returns 1, 0 at the end, or -1 with an error. Only one thread does this at a time. After an error of a stream, the
+ * walk can go on. */
 static int refill(Walk *walk) {
     int goes;
     if (walk->is_over) return 0;
@@ -294,13 +295,13 @@ static int refill(Walk *walk) {
     return goes;
 }
 
-/* ---- giving packets ---- */
+/* ---- returning packets ---- */
 
-/* The program for packets of this link type, NULL with an error. */
+/* Returns the program for packets of this link type, or NULL with an error. */
 static const void *program_for(Walk *walk, uint32_t link) {
     for (unsigned i = 0; i < walk->n_programs; i++)
         if (walk->programs[i].link == link) return walk->programs[i].program;
-    walk->is_running = 1; /* the batch stays while Python runs */
+    walk->is_running = 1; /* the batch stays unchanged while Python code runs */
     PyObject *told = PyObject_CallMethod(walk->filter, "program", "I", (unsigned int)link);
     walk->is_running = 0;
     const void *program = told ? PyLong_AsVoidPtr(told) : NULL;
@@ -309,17 +310,17 @@ static const void *program_for(Walk *walk, uint32_t link) {
     return program;
 }
 
-/* Whether the filter takes these bytes: 1, 0, or -1. */
+/* Returns whether the filter accepts these bytes: 1, 0, or -1 with an error. */
 static inline int takes(Walk *walk, uint32_t link, const uint8_t *ptr, uint32_t orig_len, size_t len) {
     const void *program = program_for(walk, link);
     if (!program) return PyErr_Occurred() ? -1 : 0;
     return walk->run(program, ptr, orig_len, (unsigned int)len) != 0;
 }
 
-/* Whether a time is one of those that are chosen. */
+/* Returns whether the filter wants this time. */
 static inline int is_within(const Walk *walk, int64_t time) { return time != NO_TIME && walk->since <= time && time < walk->until; }
 
-/* The next packet of the batch, or NULL where the filter leaves it out, or with an error. */
+/* Returns the next packet of the batch. Returns NULL if the filter rejects it, or with an error. */
 static inline Packet *next_classic(Walk *walk, const pcapfile_packet *given) {
     if (walk->has_times && !is_within(walk, (int64_t)given->ts_sec * 1000000000 + given->ts_nsec)) return NULL;
     if (walk->run && takes(walk, walk->header.link, given->bytes.ptr, given->orig_len, given->bytes.len) <= 0) return NULL;
@@ -338,7 +339,7 @@ static inline Packet *next_classic(Walk *walk, const pcapfile_packet *given) {
 static inline Packet *next_ng(Walk *walk, const pcapfile_ng_packet *given) {
     Clock *clock = given->interface_id < walk->clocks->count ? walk->clocks->at[given->interface_id] : NULL;
     size_t len = given->bytes.len;
-    if (given->type == PCAPFILE_BLOCK_SIMPLE_PACKET) { /* what follows its own bytes is padding */
+    if (given->type == PCAPFILE_BLOCK_SIMPLE_PACKET) { /* the bytes after the data are padding */
         uint32_t most = clock && clock->interface.snaplen ? clock->interface.snaplen : given->orig_len;
         if (most > given->orig_len) most = given->orig_len;
         if (len > most) len = most;
@@ -359,7 +360,7 @@ static inline Packet *next_ng(Walk *walk, const pcapfile_ng_packet *given) {
     return packet;
 }
 
-/* The time and the bytes of a packet, in its place. */
+/* Returns the time and the bytes of a packet instead of the packet. */
 static PyObject *pair_of(Packet *packet, int is_ng) {
     PyObject *time = float_of((PyObject *)packet, is_ng);
     PyObject *bytes = PyBytes_FromStringAndSize((const char *)packet->ptr, packet->len);
@@ -369,7 +370,7 @@ static PyObject *pair_of(Packet *packet, int is_ng) {
         Py_XDECREF(time), Py_XDECREF(bytes);
         return NULL;
     }
-    PyTuple_SetItem(pair, 0, time), PyTuple_SetItem(pair, 1, bytes); /* which take them, and can't fail on a new pair */
+    PyTuple_SetItem(pair, 0, time), PyTuple_SetItem(pair, 1, bytes); /* they take over the references, and cannot fail on a new pair */
     return pair;
 }
 

@@ -1,4 +1,4 @@
-"""The program `pcapfile`: `python -m pcapfile info capture.pcap`."""
+"""Runs the program `pcapfile`, for example `python -m pcapfile info capture.pcap`."""
 
 from ._programs import main
 

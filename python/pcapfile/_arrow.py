@@ -1,4 +1,4 @@
-"""Columns of packets for other packages, by Arrow's C data interface: a capsule with a stream of record batches."""
+"""Gives the columns of packets to other packages by Arrow's C data interface: a capsule with a stream of record batches."""
 
 import ctypes
 import itertools
@@ -57,7 +57,8 @@ _Stream._fields_ = [
     ("private_data", ctypes.c_void_p),
 ]
 
-# What structs that were given away need, by their `private_data`, until they are released; and those that a capsule owns.
+# Python objects that an exported struct needs until its consumer releases it, by the struct's `private_data`. The second
+# dictionary has the structs that capsules own, by their addresses.
 _held: Dict[int, Any] = {}
 _capsules: Dict[int, Any] = {}
 _numbers = itertools.count(1)
@@ -71,7 +72,7 @@ def _hold(struct: Any, needed: Any, release: Any) -> Any:
 
 
 def _let_go(pointer: Any) -> None:
-    """Releases a struct, with its children that nobody has taken."""
+    """Releases a struct, and those of its children that the consumer did not move out of it."""
     struct = pointer.contents
     for at in range(getattr(struct, "n_children", 0)):
         child = struct.children[at]
@@ -85,18 +86,18 @@ _release_schema, _release_array, _release_stream = _OfSchema(_let_go), _OfArray(
 
 
 def _children(kind: Any, structs: List[Any]) -> Any:
-    """Pointers to structs, which have to be kept."""
+    """Returns an array of pointers to structs. The caller must keep it as long as the pointers are in use."""
     return (ctypes.POINTER(kind) * max(len(structs), 1))(*map(ctypes.pointer, structs))
 
 
 class Column:
-    """A column's name, its format in Arrow, and which of its buffers a batch has: values, and where each text begins and ends."""
+    """A column: its name, its format in Arrow, and the value that marks a missing entry, or None."""
 
     def __init__(self, name: str, format: str, missing: Optional[int] = None) -> None:
         self.name, self.format, self.missing = name, format, missing
 
     def buffers(self, batch: Any) -> Tuple[List[Any], int]:
-        """The buffers of a batch, the first of them of bits that tell which values are there, and how many aren't."""
+        """Returns the buffers of a batch and the number of missing values. The first buffer has the validity bits, or is None."""
         if self.format == "u":
             return _texts(batch["interface_name"])
         if self.format == "Z":
@@ -123,7 +124,7 @@ def columns_of(names: bool, data: bool) -> List[Column]:
 
 
 def _bits(there: Any) -> Tuple[Any, int]:
-    """Which values are there, eight a byte, and how many aren't; no bits where all are."""
+    """Returns the validity bits, eight in a byte, and the number of missing values. The bits are None if no value is missing."""
     count = len(there) - int(sum(there) if _columns.numpy is None else there.sum())
     if count == 0:
         return None, 0
@@ -136,7 +137,7 @@ def _bits(there: Any) -> Tuple[Any, int]:
 
 
 def _texts(names: Any) -> Tuple[List[Any], int]:
-    """The buffers of texts, of which some may be None."""
+    """Returns the buffers of a column of texts and the number of missing ones. A missing text is None in `names`."""
     texts = [b"" if name is None else name.encode() for name in names]
     there = [name is not None for name in names]
     bits, count = _bits(there if _columns.numpy is None else _columns.numpy.array(there, bool))
@@ -144,7 +145,7 @@ def _texts(names: Any) -> Tuple[List[Any], int]:
 
 
 def _address(buffer: Any) -> Any:
-    """Where a buffer lies, and what keeps it there."""
+    """Returns the address of a buffer, and an object that keeps the buffer alive."""
     if buffer is None or len(buffer) == 0:
         return None, None
     if isinstance(buffer, bytes):
@@ -169,7 +170,7 @@ def _schema(format: str, name: str, flags: int, children: List[Any]) -> _Schema:
 
 
 class _Batches:
-    """A stream of the batches of a capture, as a consumer asks for them."""
+    """The batches of a capture, made one by one as a consumer asks for them."""
 
     def __init__(self, arrow: "Arrow") -> None:
         self._arrow, self._batches = arrow, arrow.begin()
@@ -183,7 +184,7 @@ class _Batches:
         return self._put(to, self._next)
 
     def _put(self, to: int, made: Callable[[], Any]) -> int:
-        """Puts a struct there, which is the consumer's from then on."""
+        """Moves a struct to the address `to`, where the consumer owns it. Returns 0, or EIO if making the struct fails."""
         try:
             struct = made()
         except Exception as error:
@@ -209,7 +210,7 @@ _Destroys = ctypes.CFUNCTYPE(None, ctypes.c_void_p)
 
 
 def _capsule(struct: Any, name: bytes) -> Any:
-    """A capsule that owns a struct, and releases it at last where nobody did."""
+    """Returns a capsule that owns a struct. The capsule releases the struct at its end, unless a consumer has done so."""
     address = ctypes.addressof(struct)
     _capsules[address] = struct
     new = ctypes.pythonapi.PyCapsule_New
@@ -229,14 +230,16 @@ def _destroyed(capsule: int) -> None:
 
 _destroy = _Destroys(_destroyed)
 
-# A capsule keeps a pointer to its name.
+# A capsule keeps a pointer to its name, so the names live as long as the module.
 _CAPSULE_NAMES = {name: ctypes.c_char_p(name) for name in (b"arrow_schema", b"arrow_array_stream")}
 
 
 class Arrow:
-    """The packets of a capture as columns of Arrow. `pyarrow.table`, `polars.DataFrame`, duckdb and others take it as it is: they ask for
-    its `__arrow_c_stream__`. Where the capture is refused, the batches before that come first, and then an error with its text; `error`
-    is the capture's own."""
+    """The packets of a capture as columns of Arrow. `pyarrow.table`, `polars.DataFrame`, duckdb and others accept it directly:
+    they call its `__arrow_c_stream__`.
+
+    If the capture is truncated or malformed, the stream gives the batches before the fault, and then fails with the text of the
+    error. `error` is then the capture's own exception."""
 
     def __init__(self, begin: Callable[[], Iterator[Any]], columns: List[Column]) -> None:
         self.begin, self.columns = begin, columns
@@ -247,15 +250,15 @@ class Arrow:
         return _schema("+s", "", 0, children)
 
     def __arrow_c_schema__(self) -> Any:
-        """A capsule with the names and types of the columns."""
+        """Returns a capsule with the names and types of the columns."""
         return _capsule(self.schema(), b"arrow_schema")
 
     def __arrow_c_stream__(self, requested_schema: Any = None) -> Any:
-        """A capsule with a stream of the columns, as they are, whatever schema is asked for."""
+        """Returns a capsule with a stream of the columns. It ignores `requested_schema`."""
         batches = _Batches(self)
         return _capsule(_hold(_Stream(*batches.calls), batches, _release_stream), b"arrow_array_stream")
 
 
-# An interpreter that ends clears modules before the last struct may be released.
+# An interpreter that ends clears modules before the last struct is released, so these functions must never be freed.
 for _call in (_release_schema, _release_array, _release_stream, _destroy):
     ctypes.pythonapi.Py_IncRef(ctypes.py_object(_call))

@@ -1,4 +1,4 @@
-"""Captures that asyncio waits for."""
+"""Captures whose packets an asyncio program awaits."""
 
 import asyncio
 import os
@@ -12,13 +12,13 @@ from ._source import CHUNK
 
 
 class _Fed:
-    """A stream of bytes that are put into it: it has none yet, rather than waiting for them."""
+    """A stream that the program fills. If it is empty, reading returns None instead of waiting."""
 
     def __init__(self) -> None:
         self._data, self._has_ended = memoryview(b""), False
 
     def put(self, data: bytes) -> None:
-        """Puts what came, all before it having been read. No bytes are the end."""
+        """Puts bytes into the stream after the earlier bytes have been read. Empty `data` ends the stream."""
         self._data, self._has_ended = memoryview(data), not data
 
     def readinto(self, room: memoryview) -> Optional[int]:
@@ -33,8 +33,8 @@ class _Fed:
 
 
 class AsyncCapture:
-    """A capture whose packets come by `async for`, as soon as their bytes have. `capture` is the capture itself, with what it tells of
-    its format and its interfaces so far. As an asynchronous context manager it is closed at the end.
+    """A capture for `async for`, which returns each packet as soon as its bytes have arrived. `capture` is the capture itself: it
+    has the format, and the interfaces that have arrived so far. `async with` closes it at the end.
 
         >>> async def lengths(name):
         ...     async with await pcapfile.aopen(name) as capture:
@@ -62,14 +62,14 @@ class AsyncCapture:
         self.close()
 
     def close(self) -> None:
-        """Lets the capture go. A file that it opened is closed; a reader stays the caller's."""
+        """Closes the capture, and the file if `aopen` opened it. A reader that the caller gave stays open."""
         self.capture.close()
         if isinstance(self._reader, _InThread):
             self._reader.close()
 
 
 class _InThread:
-    """A file that is read in threads of asyncio's."""
+    """A file that the threads of asyncio's executor read."""
 
     def __init__(self, name: Name) -> None:
         self._file = _open(name, "rb", buffering=0)
@@ -80,8 +80,11 @@ class _InThread:
 
 
 async def aopen(source: Union[Name, Any], *, strict: bool = True) -> AsyncCapture:
-    """The capture that comes out of an object with an asynchronous `read`, as asyncio's StreamReader, or out of a file by its name. It is
-    there once its first bytes are. `strict` is that of `parse`. A compressed one has to be decompressed before.
+    """Opens a capture for asyncio. `source` is the name of a file, or an object with an asynchronous `read`, for example
+    asyncio's StreamReader. `strict` has the meaning that it has for `parse`.
+
+    The call returns as soon as the header has arrived. It raises a `CaptureError` if the header is truncated or malformed. The
+    caller must decompress a compressed stream first.
 
         >>> async def formats(name):
         ...     async with await pcapfile.aopen(name) as capture:

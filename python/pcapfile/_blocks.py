@@ -15,15 +15,16 @@ from ._source import File, Source, Stream, Stretch, Window
 
 _SIMPLE_PACKET = 3
 
-# The magic number of a section whose numbers are high byte first.
+# The magic number of a section in big-endian byte order.
 _BIG = 0x1A2B3C4D
 
-# A packet as the library fills it in: its block's type, interface, original length, units of time, and where its bytes lie.
+# A packet in the layout in which the library returns it: block type, interface, original length, timestamp in the interface's
+# units, address of the data, and length of the data.
 _PACKET = struct.Struct("@IIIQPN")
 
 
 class _Unknown:
-    """An interface that isn't there: its packets have no time."""
+    """The stand-in for an interface that the section does not describe: its packets have no time."""
 
     interface: Optional[Interface] = None
     per_second, nanoseconds = 0, 0
@@ -32,7 +33,7 @@ class _Unknown:
         return None, 0
 
     def stored(self, length: int, original: int) -> int:
-        """How many bytes of a simple packet are its own, of those that follow in its block."""
+        """Returns how many bytes of a simple packet block are data; the others are padding."""
         snaplen = self.interface.snaplen if self.interface else 0
         return min(length, original, snaplen or original)
 
@@ -41,9 +42,11 @@ _UNKNOWN = _Unknown()
 
 
 class _Known(_Unknown):
-    """An interface of the section in force, and how its units of time are told. Those from a tenth down to a thousand-millionth
-    of a second, with nothing added, are divided here: `per_second` of them, each of so many `nanoseconds`. All others are for
-    the library, and there `per_second` is 0."""
+    """An interface of the current section, and its clock.
+
+    If the unit of time is a decimal fraction from a tenth to a billionth of a second, and the clock has no offset, the package
+    divides the units itself. A second then has `per_second` of them, each of `nanoseconds`. Otherwise `per_second` is 0, and the library
+    computes the times."""
 
     def __init__(self, shown: _library.Interface, block: Block) -> None:
         self.interface = described(block, *(getattr(shown, name) for name, _ in shown._fields_))
@@ -53,20 +56,21 @@ class _Known(_Unknown):
         self.nanoseconds = 10 ** (9 - shown.ts_exponent) if is_plain else 0
 
     def time(self, units: int) -> Tuple[Optional[int], int]:
-        """Seconds and nanoseconds, or None and 0 where the seconds pass 64 bits."""
-        time = _library.Time()  # one for each call, as threads share an interface
+        """Returns seconds and nanoseconds, or None and 0 if the seconds exceed 64 bits."""
+        time = _library.Time()  # each call has its own, because threads share an interface
         if _library.time_of(self.shown, units, time) != _library.OK:
             return None, 0
         return time.seconds, time.nanoseconds
 
 
 class Walk:
-    """The blocks of a capture, and the interfaces of the section in force."""
+    """A pass over the blocks of a capture, with the interfaces of the current section."""
 
-    # How many bytes stand before a packet's own in its block, and in that of a simple packet.
+    # How many bytes of the block precede the data: of an enhanced packet, and of a simple packet.
     HEAD, SIMPLE_HEAD = 28, 12
 
-    # Rows as the library fills them in: with units of time, and the type of the block in place of the link.
+    # The rows as the library returns them, with timestamps in the interface's units, and with the block type where a column has
+    # the link type.
     rows = [("timestamp", "u8"), ("len", "u4"), ("orig_len", "u4"), ("interface", "u4"), ("type", "u4"), ("offset", "u8")]
 
     def __init__(self, window: Window) -> None:
@@ -74,13 +78,13 @@ class Walk:
         self.section, self.error = _library.Section(), _library.Error()
         self.block: Any = _library.Block(0, _library.no_bytes())
         self.known: Dict[int, _Known] = {}
-        # Those of all sections so far.
+        # The interfaces of all sections so far.
         self.described: List[Interface] = []
-        # Those in force, for the extension.
+        # The interfaces of the current section, for the extension.
         self.clocks: Any = None if native is None else native.clocks()
 
     def take(self) -> None:
-        """Takes the next block, and of an interface what is needed of it."""
+        """Takes the next block. If it describes an interface, the walk keeps the interface."""
         before = self.section.interfaces
         while (status := self._take()) != _library.OK:
             if status != _library.INCOMPLETE or not self.window.more(self.error.missing):
@@ -92,15 +96,15 @@ class Walk:
             self._keep(before)
 
     def _take(self) -> int:
-        self.window.offset  # raises where the capture is closed
+        self.window.offset  # raises a ValueError if the capture is closed
         return _library.take_block(self.section, self.window.left, self.block, self.error)
 
     def shown(self) -> Block:
-        """The block that was taken last."""
+        """Returns the block that was taken last."""
         return self._block()
 
     def _block(self) -> Block:
-        """The same without what is wrong with it."""
+        """Returns the block that was taken last, without its flaws."""
         window, length = self.window, self.block.body.len
         begin = self.block.body.ptr - window.start if length > 0 else 0
         body = window.data[begin : begin + length]
@@ -123,19 +127,19 @@ class Walk:
 
     @property
     def state(self) -> Any:
-        """What is in force."""
+        """The state that the packets depend on: the section's byte order, and its interfaces."""
         interfaces = {number: known.interface for number, known in self.known.items()}
         return self.section.magic_number, self.section.interfaces, interfaces
 
     def over(self, window: Window) -> "Walk":
-        """A walk over other bytes of the same capture, from where the same is in force."""
+        """Returns a walk over other bytes of the same capture, with a copy of this walk's section and interfaces."""
         walk = Walk(window)
         walk.section, walk.known = _library.Section.from_buffer_copy(self.section), dict(self.known)
         walk.clocks = None if native is None else self.clocks.copy()
         return walk
 
     def restore(self, known: Dict[int, _Known], count: int, magic_number: int) -> None:
-        """Puts a section in force, with so many of its interfaces."""
+        """Makes a section current, with its first `count` interfaces."""
         self.section = _library.Section(magic_number, 1, 0, count)
         self.known = {number: found for number, found in known.items() if number < count}
         if native is not None:
@@ -144,7 +148,7 @@ class Walk:
                 self.clocks.add(number, found.shown, found.interface)
 
     def ahead(self, window: Window) -> "Walk":
-        """A walk from what is in force at the first packet of the same bytes."""
+        """Returns a walk over the same bytes that has the section and the interfaces at the first packet."""
         walk = self.over(window)
         packet, taken = _library.NgPacket(0, 0, 0, 0, _library.no_bytes()), ctypes.c_size_t()
         try:
@@ -156,11 +160,11 @@ class Walk:
         return walk
 
     def batches(self, take: Take) -> Iterator[bool]:
-        """Lets a call take packets until there are no more. It goes on after each call, and tells whether what is in force stays
-        so."""
+        """Calls `take` until the capture has no more packets, and yields after each call. The value is False if the section or
+        its interfaces may change next."""
         window = self.window
         while window.left.len > 0 or window.more(1):
-            window.offset  # raises where the capture is closed
+            window.offset  # raises a ValueError if the capture is closed
             status = take(window.left, self.error)
             stays = status in (_library.OK, _library.INCOMPLETE)
             yield stays
@@ -168,7 +172,7 @@ class Walk:
             if is_cut or status == _library.NO_MEMORY:
                 raise error_of(status, self.error, window.offset)
             if not stays:
-                # A section, an interface, a packet that can't be read, or a refusal.
+                # The next block is a section header, an interface, an unreadable packet, or malformed.
                 self.take()
 
     def take_rows(self, left: _library.Bytes, rows: int, room: int, taken: ctypes.c_size_t, error: _library.Error) -> int:
@@ -176,11 +180,11 @@ class Walk:
         return status
 
     def settle(self, rows: Any) -> None:
-        """Makes rows that were filled in into rows of columns."""
+        """Converts rows in the library's layout to rows of columns, in place."""
         _columns.settle_blocks(rows, self.known)
 
     def guess(self, data: memoryview, place: int) -> Optional[int]:
-        """Where blocks seem to stand again in bytes from this place of the capture on."""
+        """Returns a likely start of blocks in `data`, or None. `place` is the offset of `data` in the capture."""
         order = ">" if self.section.magic_number == _BIG else "<"
         begin = -place % 4
         found = _columns.guess_block(data[begin:], order)
@@ -188,9 +192,11 @@ class Walk:
 
 
 class BlockCapture(Packets):
-    """A PcapNg capture: iterate over it for its packets, of all sections. Other blocks, and packets whose block can't be
-    read, are passed over. Where the capture is refused, the packets before that come first. One in memory or in a file can be
-    iterated over again.
+    """A PcapNg capture. Iterating over it gives the packets of all sections, each as a `BlockPacket`. It skips other blocks, and
+    packets whose block it cannot read. If the capture is truncated or malformed, the packets before the fault come first, and
+    then a `CaptureError`.
+
+    A program can iterate again over a capture in memory or in a file, but only once over a stream.
 
         >>> with pcapfile.open("options.pcapng") as capture:
         ...     [packet.comment for packet in capture]
@@ -212,13 +218,14 @@ class BlockCapture(Packets):
         head = walk.shown()
         # A copy of the first block, which is a section header.
         self.section: Block = head._replace(body=memoryview(bytes(head.body)))
-        # The walk over a stream, and its first block until something of it is asked for. A window of memory or a file holds on to bytes
-        # and to a descriptor, and goes.
+        # Only a stream keeps the first walk, and the first block until the caller reads on. For memory or a file the walk is
+        # dropped here, because its window holds bytes or a descriptor.
         self._first: Optional[Walk] = walk if isinstance(source, Stream) else None
         self._head: Optional[Block] = head if isinstance(source, Stream) else None
 
     def _walk(self, lends: bool = True) -> Walk:
-        """A walk over all of it, or over what a stream has not given yet; or over the stretch, behind what is in force there."""
+        """Returns a walk over the whole capture, over the rest of a stream, or over the stretch. A walk over a stretch first
+        reads the section header and the interfaces that the stretch depends on."""
         source, stretch, self._head = self._source, self._stretch, None
         if self._first is not None:
             return self._first
@@ -233,12 +240,12 @@ class BlockCapture(Packets):
         walk.window = bytes_between(stretch.begin, stretch.end)
         return walk
 
-    # Each interface tells its own units of time.
+    # Every interface has its own unit of time.
     has_nanoseconds = True
 
     @property
     def byteorder(self) -> str:
-        """That of the numbers in its first section: "big" or "little".
+        """The byte order of the numbers in the first section: "big" or "little".
 
             >>> with pcapfile.open("options.pcapng") as capture:
             ...     capture.byteorder
@@ -285,8 +292,8 @@ class BlockCapture(Packets):
                 yield make(BlockPacket, (seconds, nanoseconds, original, lent, units, number, interface, base + at))
 
     def blocks(self) -> Iterator[Block]:
-        """All blocks, those of packets among them, with their bodies as they stand. Where the capture is refused, the blocks before
-        that come first.
+        """Iterates over all blocks, including those of packets, as `Block`. It does not check the bodies. If the capture is
+        truncated or malformed, the blocks before the fault come first, and then a `CaptureError`.
 
             >>> with pcapfile.open("options.pcapng") as capture:
             ...     [block.type for block in capture.blocks()]

@@ -11,25 +11,28 @@ from ._filter import Filter, Moment
 from ._html import shown_as_html
 from ._indexed import Indexed, rows_of
 from ._interfaces import Interface
+from ._links import fcs_len, link_type
 from ._packets import Packet
 from ._source import IN_A_ROW, File, Source, Stream, Stretch, Window
 from ._tables import Tables
 
-# How many packets one call into the library takes.
+# The number of packets that one call of the library returns.
 BATCH = 512
 
-# A packet as the library fills it in: seconds, nanoseconds, original length, and where its bytes lie.
+# A packet in the layout in which the library returns it: seconds, nanoseconds, original length, address of the data, and length
+# of the data.
 _PACKET = struct.Struct("@IIIPN")
 
-# A call that takes packets from the front of bytes, and answers its status.
+# A function that takes packets from the front of the bytes, and returns a status of the library.
 Take = Callable[[_library.Bytes, _library.Error], int]
 
-# Makes a packet of its fields. `Packet(..)` is a function in Python, and takes twice as long.
+# Makes a packet from its fields. Calling `Packet(..)` runs a Python function, and takes twice as long.
 make = tuple.__new__
 
 
 class Header(NamedTuple):
-    """The header of a capture.
+    """The header of a classic capture: the fields of the format, in their order. `snaplen` is the snapshot length in bytes, and
+    `link` the number of the link type.
 
         >>> with pcapfile.open("capture.pcap") as capture:
         ...     capture.header.snaplen
@@ -44,41 +47,54 @@ class Header(NamedTuple):
     snaplen: int
     link: int
 
+    @property
+    def link_type(self) -> int:
+        """The link type in the low 16 bits of `link`."""
+        return link_type(self.link)
+
+    @property
+    def fcs_len(self) -> Optional[int]:
+        """The length in bytes of the frame check sequence, if `link` declares it, or None."""
+        return fcs_len(self.link)
+
 
 class Packets(Tables):
-    """The packets of a capture in memory, in a file or out of a stream, or those of a stretch of one in memory or in a file.
+    """The packets of a capture in memory, in a file or in a stream, or of a stretch of a capture in memory or in a file.
 
-    Threads may share a capture in memory or in a file: each loop over it is a walk of its own. One iterator, and so a stream, is
-    for one thread at a time, and another one that asks it meanwhile gets a ValueError; no packet is lost. One thread may close a
-    capture that others walk over: they get a ValueError then."""
+    Threads may share a capture in memory or in a file, because each loop is a pass of its own. One iterator serves one thread at
+    a time, and so does a stream. If a second thread asks it meanwhile, that thread gets a ValueError, and no packet is lost. A
+    thread may close a capture while others iterate over it; these then get a ValueError."""
 
     def __init__(self, source: Source, stretch: Optional[Stretch] = None) -> None:
         self._source, self._stretch = source, stretch
-        # The rows that came out of a stream for a DataFrame before it had no more bytes for a while.
+        # The rows that a stream gave for a DataFrame before the stream had to wait for bytes.
         self._rows: List[Any] = []
 
     def __iter__(self) -> Iterator[Any]:
         return self._begun("packets", self._packets)
 
     def _begun(self, kind: Any, begin: Callable[[], Iterator[Any]]) -> Iterator[Any]:
-        """A walk of this kind; of a stream the one that goes on, where there is one."""
+        """Returns an iterator of this kind. For a stream it is the iterator that is in use, if there is one."""
         return self._source.walk(kind, begin) if isinstance(self._source, Stream) else begin()
 
-    # "pcap" or "pcapng".
+    # The format: "pcap" or "pcapng".
     format: str
 
-    # Whether the extension gives its packets.
+    # True if the extension makes the packets.
     _is_native = native is not None
 
     @property
     def is_stream(self) -> bool:
-        """Whether its packets come once, out of a stream or out of what is compressed."""
+        """True if the packets come only once, because the capture is a stream or is compressed."""
         return isinstance(self._source, Stream)
 
     @property
     def interfaces(self) -> List[Interface]:
-        """The interfaces that it describes, of all its sections, in its order; none of a classic capture. One in memory or in a file
-        is passed over for that, up to its end or to where it is refused; of a stream they are those that came so far.
+        """The interfaces of a PcapNg capture, in the order of their descriptions, over all sections. The list of a classic
+        capture is empty.
+
+        For a capture in memory or in a file, each use reads the capture to its end, or to its first fault. For a stream these are
+        the interfaces that have arrived so far.
 
             >>> with pcapfile.open("options.pcapng") as capture:
             ...     [interface.link for interface in capture.interfaces]
@@ -88,7 +104,7 @@ class Packets(Tables):
 
     @property
     def link_types(self) -> List[int]:
-        """The numbers of the link types of its packets' first layers: that of a classic capture, or those of its `interfaces`.
+        """The numbers of the link types, without repetitions: the one of a classic capture, or those of the `interfaces`.
 
             >>> with pcapfile.open("capture.pcap") as capture:
             ...     capture.link_types
@@ -97,7 +113,7 @@ class Packets(Tables):
         return list(dict.fromkeys(interface.link for interface in self.interfaces))
 
     def pairs(self) -> Iterator[Tuple[Optional[float], bytes]]:
-        """The time of each packet, in seconds since 1970 or None, and its bytes, as other packages give them.
+        """Iterates over pairs: the time of each packet in seconds since 1970, or None, and a copy of its bytes.
 
             >>> with pcapfile.open("capture.pcap") as capture:
             ...     [(time, len(data)) for time, data in capture.pairs()]
@@ -108,10 +124,17 @@ class Packets(Tables):
     def filter(
         self, expression: Optional[str] = None, *, since: Optional[Moment] = None, until: Optional[Moment] = None
     ) -> Iterator[Any]:
-        """The packets for which an expression of tcpdump holds, as "udp port 53", and whose times are `since` one on and before
-        another, `until`: datetimes with a zone, or seconds since 1970. libpcap compiles the expression for the link type of each
-        packet. A ValueError says what is wrong with it, of a PcapNg capture where the first packet of a link type comes. A packet
-        whose interface isn't there is left out, and with a time one that has none, or whose nanoseconds pass 64 bits.
+        """Iterates over the packets that match a filter expression and a range of times.
+
+        `expression` is a filter of tcpdump, for example "udp port 53". libpcap compiles it for the link type of each packet.
+        `since` and `until` are datetimes with a zone, or seconds since 1970: the range begins at `since`, and ends before
+        `until`.
+
+        It raises a ValueError for a wrong expression. A PcapNg capture raises it at the first packet of a link type. It also
+        raises a ValueError for a datetime without a zone, and an ImportError if libpcap is missing.
+
+        An expression skips packets of unknown interfaces. A range of times skips packets without a time, and those whose
+        nanoseconds exceed 64 bits.
 
             >>> with pcapfile.open("capture.pcap") as capture:
             ...     [packet.length for packet in capture.filter(since=1335958313)]
@@ -123,7 +146,8 @@ class Packets(Tables):
         return self._begun(("filter", expression, since, until), lambda: self._filtered(chosen))
 
     def indexed(self) -> "Indexed":
-        """The packets by their numbers: `len`, `[5]`, `[-1]` and slices. A ValueError of a stream, whose packets come once.
+        """Returns the packets by number, for `len`, `[5]`, `[-1]` and slices. It raises a ValueError for a stream, whose packets
+        come only once.
 
             >>> with pcapfile.open("capture.pcap") as capture:
             ...     capture.indexed()[-1].offset
@@ -132,26 +156,27 @@ class Packets(Tables):
         return Indexed(self)
 
     def passed_over(self) -> Any:
-        """A walk at the end of all packets, with what is in force there. Where the capture is refused, that comes instead."""
+        """Returns a walk at the end of all packets. It raises a CaptureError if the capture is truncated or malformed."""
         walk = self._walk(lends=False)
         self.pass_over(walk)
         return walk
 
     def pass_over(self, walk: Any) -> None:
-        """Takes all packets of a walk."""
+        """Takes all packets of a walk, and drops them."""
         rows, taken = rows_of(BATCH), ctypes.c_size_t()
         for _ in walk.batches(lambda left, error: walk.take_rows(left, ctypes.addressof(rows), BATCH, taken, error)):
             pass
 
     def bytes_at(self, place: slice) -> memoryview:
-        """The bytes of the capture between two places. A ValueError of a stream, whose bytes come once.
+        """Returns the bytes of the capture in a range of offsets, for example the offsets of a row of `columns`. It raises a ValueError
+        for a stream, whose bytes come only once.
 
             >>> with pcapfile.open("capture.pcap") as capture:
             ...     bytes(capture.bytes_at(slice(40, 43)))
             b'\\x00\\x01\\x02'
         """
         if isinstance(self._source, Stream):
-            raise ValueError("the bytes of a stream come once")
+            raise ValueError("the bytes of a stream cannot be read again")
         begin = min(place.start, len(self._source))
         return self._source.view(begin, min(place.stop, len(self._source)))
 
@@ -159,7 +184,7 @@ class Packets(Tables):
         return self.packets_of(self._walk())
 
     def packets_of(self, walk: Any) -> Iterator[Any]:
-        """The packets of a walk."""
+        """Iterates over the packets of a walk."""
         return self._by_extension(walk, None, False) if self._is_native else self._one_by_one(walk)
 
     def _pairs(self) -> Iterator[Tuple[Optional[float], bytes]]:
@@ -173,41 +198,40 @@ class Packets(Tables):
         return (packet for packet in self._packets() if chosen.takes(packet))
 
     def _by_extension(self, walk: Any, chosen: Optional[Filter], are_pairs: bool) -> Iterator[Any]:
-        """The packets of a walk that a filter takes, or their times and bytes."""
+        """Iterates by the extension over the packets of a walk that a filter accepts, or over their times and bytes."""
         raise NotImplementedError
 
     def _one_by_one(self, walk: Any) -> Iterator[Any]:
-        """The packets of a walk, without the extension."""
+        """Iterates over the packets of a walk, without the extension."""
         raise NotImplementedError
 
     def _walk(self, lends: bool = True) -> Any:
-        """A walk over all packets, or over those that a stream has not given yet, or over the stretch; over bytes that are lent, or
-        over such as may be gone when the walk goes on."""
+        """Returns a walk over all packets, over the rest of a stream, or over the stretch. If `lends` is false, the walk may
+        overwrite bytes when it goes on, so packets must not refer to them."""
         raise NotImplementedError
 
     def _end(self) -> int:
-        """Where the capture ends, or the stretch."""
+        """Returns the offset at which the capture or the stretch ends."""
         return len(self._source) if self._stretch is None else self._stretch.end  # type: ignore[arg-type]
 
     def _stretches(self, count: int, at_least: int) -> List[Stretch]:
-        """Where it can be cut into so many stretches of equal length, at most; or into stretches of at least so many bytes, which
-        are no more than `count`, where at least one byte is asked for."""
+        """Cuts the capture into at most `count` stretches. They have equal lengths, or `at_least` bytes each if that is above 0."""
         raise NotImplementedError
 
     def __repr__(self) -> str:
         return f"<{self.format} capture, {'a stream' if self.is_stream else f'{self._length} bytes'}>"
 
     def _repr_html_(self) -> str:
-        """What a notebook shows of it."""
+        """Returns what a notebook shows of the capture."""
         return shown_as_html(self)
 
     @property
     def _length(self) -> int:
-        """How many bytes the packets take, or their stretch, with what stands around them."""
+        """The length of the capture or of the stretch, in bytes."""
         return self._end() - (0 if self._stretch is None else self._stretch.begin)
 
     def close(self) -> None:
-        """Lets the capture go, and closes its file or its stream. Data of its packets can still be used.
+        """Closes the capture, and its file or stream. The data of packets that the program keeps stays valid.
 
             >>> capture = pcapfile.open("capture.pcap")
             >>> capture.close()
@@ -219,34 +243,34 @@ class Packets(Tables):
 
 
 class Walk:
-    """A walk over the packets behind a header."""
+    """A pass over the packets of a classic capture."""
 
-    # How many bytes stand before a packet's own.
+    # How many bytes of a packet record precede its data.
     HEAD = 16
 
-    # Of PcapNg what is in force. Here the header is, all the time.
+    # The state that the packets depend on. A classic capture has only its header, which never changes.
     state: Any = None
 
-    # Each row that the library fills in is a row of columns. There are no interfaces.
+    # The rows that the library returns are rows of columns already. There are no interfaces.
     rows, clocks = _columns.KINDS, None
 
     def __init__(self, header: _library.Header, window: Window) -> None:
         self.head, self.window = header, window
 
     def over(self, window: Window) -> "Walk":
-        """A walk over other bytes of the same capture, from where the same is in force."""
+        """Returns a walk over other bytes of the same capture."""
         return Walk(self.head, window)
 
     def ahead(self, window: Window) -> "Walk":
-        """A walk from what is in force at the first packet of the same bytes."""
+        """Returns a walk over the same bytes that has the state at the first packet."""
         return self.over(window)
 
     def batches(self, take: Take) -> Iterator[bool]:
-        """Lets a call take packets until there are no more. It goes on after each call, and tells whether what is in force stays
-        so."""
+        """Calls `take` until the capture has no more packets, and yields True after each call. The state of a
+        classic capture never changes."""
         window, error = self.window, _library.Error()
         while True:
-            window.offset  # raises where the capture is closed
+            window.offset  # raises a ValueError if the capture is closed
             status = take(window.left, error)
             yield True
             if status not in (_library.OK, _library.INCOMPLETE):
@@ -263,18 +287,19 @@ class Walk:
         return status
 
     def settle(self, rows: Any) -> None:
-        """Makes rows that were filled in into rows of columns."""
+        """Converts rows in the library's layout to rows of columns. Here they are the same."""
 
     def guess(self, data: memoryview, place: int) -> Optional[int]:
-        """Where packets seem to stand again in bytes from this place of the capture on."""
+        """Returns a likely start of packets in `data`, or None. `place` is the offset of `data` in the capture."""
         found, bytes_here = ctypes.c_size_t(), _library.Bytes(_library.address_of(data), len(data))
         status = _library.resync(self.head, bytes_here, IN_A_ROW, found, _library.Error())
         return place + found.value if status == _library.OK else None
 
 
 class Capture(Packets):
-    """A capture: iterate over it for its packets. Where it is refused, the packets before that come first. One in memory or in a
-    file can be iterated over again.
+    """A classic capture. Iterating over it gives its packets, each as a `Packet`. If the capture is truncated or malformed, the
+    packets before the fault come first, and then a `CaptureError`. A program can iterate again over a capture in memory or in
+    a file, but only once over a stream.
 
         >>> with pcapfile.open("capture.pcap") as capture:
         ...     [packet.seconds for packet in capture]
@@ -294,13 +319,13 @@ class Capture(Packets):
             if status != _library.INCOMPLETE or not window.more(error.missing):
                 raise error_of(status, error, 0)
         self._header, self._begin = header, window.offset
-        # A window holds on to bytes and to a descriptor: that of memory or a file goes when its header is read.
+        # A window holds bytes or a descriptor. Only a stream keeps it after the header was read.
         self._after_header = window if isinstance(source, Stream) else None
         self.header = Header(*(getattr(header, name) for name, _ in header._fields_))
 
     @property
     def byteorder(self) -> str:
-        """That of the numbers in it: "big" or "little".
+        """The byte order of the numbers in the capture: "big" or "little".
 
             >>> with pcapfile.open("capture.pcap") as capture:
             ...     capture.byteorder
@@ -310,7 +335,7 @@ class Capture(Packets):
 
     @property
     def has_nanoseconds(self) -> bool:
-        """Whether its times are nanoseconds, and not microseconds.
+        """True if the capture stores times in nanoseconds, and False if it stores microseconds.
 
             >>> with pcapfile.open("capture.pcap") as capture:
             ...     capture.has_nanoseconds
@@ -320,13 +345,33 @@ class Capture(Packets):
 
     @property
     def link(self) -> int:
-        """The number of the link type of the packets' first layer.
+        """The number of the link type of the packets.
 
             >>> with pcapfile.open("capture.pcap") as capture:
             ...     capture.link
             1
         """
         return self.header.link
+
+    @property
+    def link_type(self) -> int:
+        """The link type in the low 16 bits of `link`. It is not `link` if the header declares a length of the frame check sequence.
+
+            >>> with pcapfile.open("capture.pcap") as capture:
+            ...     capture.link_type
+            1
+        """
+        return self.header.link_type
+
+    @property
+    def fcs_len(self) -> Optional[int]:
+        """The length in bytes of the frame check sequence with which each packet ends, or None if the header declares none.
+
+            >>> with pcapfile.open("capture.pcap") as capture:
+            ...     print(capture.fcs_len)
+            None
+        """
+        return self.header.fcs_len
 
     def _walk(self, lends: bool = True) -> "Walk":
         if self._after_header is not None:

@@ -1,4 +1,4 @@
-"""Packets of captures as columns."""
+"""Columns of the packets of a capture."""
 
 import ctypes
 from array import array
@@ -15,16 +15,16 @@ try:
 except ImportError:
     numpy = None  # type: ignore[assignment]
 
-# How many packets columns have at once.
+# The number of packets in one batch of columns.
 COLUMNS = 65536
 
-# The time of a packet that has none, and that of one whose nanoseconds pass 64 bits: numpy's NaT.
+# The time of a packet without one, and of a packet whose nanoseconds exceed 64 bits. It is numpy's NaT.
 NO_TIME = -(2**63)
 
-# The link type of a packet whose interface isn't known: no registry has the number.
+# The link type of a packet whose interface is unknown. No registry assigns the number.
 NO_LINK = 2**32 - 1
 
-# Each column, its type in numpy, and in `array`.
+# Each column, its type in numpy, and its type code in `array`.
 _TYPES = [
     ("time_ns", "i8", "q"),
     ("len", "u4", "I"),
@@ -34,13 +34,14 @@ _TYPES = [
     ("offset", "u8", "Q"),
 ]
 
-# Each column and its type in a row of numpy.
+# Each column and its type, as numpy describes a row.
 KINDS = [(name, kind) for name, kind, _ in _TYPES]
 
 _SIMPLE_PACKET = 3
 
 def guess_block(data: memoryview, order: str) -> Optional[int]:
-    """The first place from which blocks follow on each other, as their lengths tell, the first of them with a packet."""
+    """Returns the first place in `data` from which blocks follow one another by their lengths, or None. The first block has a
+    packet."""
     words = numpy.frombuffer(data[: len(data) // 4 * 4], order + "u4")
     for first in numpy.flatnonzero((words == 6) | (words == 3) | (words == 2)).tolist():
         at, found = first, 0
@@ -57,7 +58,7 @@ def guess_block(data: memoryview, order: str) -> Optional[int]:
 
 
 class _Arrays:
-    """Columns of packets that come one by one, as arrays of the standard library."""
+    """Collects packets into columns, as arrays of the standard library."""
 
     def __init__(self, wanted: Wanted) -> None:
         self._wanted = wanted
@@ -71,7 +72,7 @@ class _Arrays:
         return len(self.columns["offset"])
 
     def add(self, packet: Any) -> None:
-        """Adds a packet, where its time is one of those that are wanted."""
+        """Adds a packet if its time is in the wanted range."""
         time, link = packet.time_ns, packet.link
         if not self._wanted.takes(time):
             return
@@ -87,7 +88,7 @@ class _Arrays:
 
 
 def of_packets(packets: Iterator[Any], batch: int, wanted: Wanted = NOTHING) -> Iterator[Dict[str, Any]]:
-    """The columns of each so many packets, one by one, as arrays of the standard library."""
+    """Iterates over the columns of `batch` packets each, as arrays of the standard library."""
     arrays = _Arrays(wanted)
     refusal: Optional[Exception] = None
     while refusal is None:
@@ -95,7 +96,7 @@ def of_packets(packets: Iterator[Any], batch: int, wanted: Wanted = NOTHING) -> 
             packet = next(packets)
         except StopIteration:
             break
-        except Exception as error:  # also where a stream has no bytes yet
+        except Exception as error:  # also a BlockingIOError of a stream that has no bytes yet
             refusal = error
             break
         arrays.add(packet)
@@ -109,9 +110,9 @@ def of_packets(packets: Iterator[Any], batch: int, wanted: Wanted = NOTHING) -> 
 
 
 def arrays_of(packets: Iterator[Any], batch: int, wanted: Wanted) -> Iterator[Any]:
-    """The columns of each so many packets, one by one, as arrays of numpy."""
+    """Iterates over the columns of `batch` packets each, as arrays of numpy, out of packets that come one by one."""
     if wanted.decode:
-        raise ValueError("packets as they stand are not decoded")
+        raise ValueError("lenient reading (strict=False) does not decode packets")
     for columns in of_packets(packets, batch, wanted):
         rows = numpy.zeros(len(columns["offset"]), KINDS)
         for name, _, _ in _TYPES:
@@ -128,13 +129,13 @@ def _by_name(rows: Any) -> Dict[str, Any]:
 
 
 class _Rows:
-    """Rows of a walk, so many at once, that the library fills in out of one window after another."""
+    """A batch of rows that the library fills from one window after another."""
 
     def __init__(self, walk: Any, size: int, wanted: Wanted) -> None:
         self._walk, self._kind, self._size, self._wanted = walk, numpy.dtype(walk.rows), size, wanted
         self._extras = wanted.extras()
         self._taken = ctypes.c_size_t()
-        # A number that numpy adds to many without asking anew what kind of number it is.
+        # A 0-dimensional array, whose type numpy does not have to find out at each addition.
         self._place = numpy.zeros((), "u8")
         self._begin()
 
@@ -149,14 +150,14 @@ class _Rows:
         return self.count == self._size
 
     def take(self, left: _library.Bytes, error: _library.Error) -> int:
-        """Takes rows into the places behind those that are filled."""
+        """Takes rows into the places after the filled ones. Returns the status of the library."""
         if not self._extras and self._wanted.times is None:
             return self._take(left, error)
         window, begin = self._walk.window, self.count
         place = window.offset - (left.ptr - window.start)
         status = self._take(left, error)
         if self.count > begin:
-            # While the bytes are there, and by the interfaces that are in force.
+            # Now the window still has the bytes, and the walk still has the interfaces of these rows.
             self.settle()
             self._keep_wanted(begin)
             rows = self._rows[begin : self.count].view(KINDS)
@@ -165,7 +166,7 @@ class _Rows:
         return status
 
     def _keep_wanted(self, begin: int) -> None:
-        """Keeps those from a row on whose times are wanted."""
+        """Drops the rows from `begin` on whose times are outside the wanted range."""
         if self._wanted.times is not None:
             since, until = self._wanted.times
             rows = self._rows[begin : self.count]
@@ -194,7 +195,7 @@ class _Rows:
         return status
 
     def settle(self) -> None:
-        """Makes what was filled in into columns, by what is in force. The extension has done so."""
+        """Converts new rows to columns by the current interfaces. With the extension they are columns already."""
         if self.count > self._settled and native is None:
             self._walk.settle(self._rows[self._settled : self.count])
             self._settled = self.count
@@ -210,7 +211,7 @@ class _Rows:
 
 
 def of_walk(walk: Any, batch: int, wanted: Wanted) -> Iterator[Any]:
-    """The columns of each so many packets of a walk. Those of a stream come as soon as their bytes have."""
+    """Iterates over the columns of `batch` packets each of a walk. A stream gives smaller batches, as soon as their bytes arrive."""
     rows, refusal = _Rows(walk, batch, wanted), None
     comes = not isinstance(walk.window, Pieces)
     try:
@@ -228,7 +229,7 @@ def of_walk(walk: Any, batch: int, wanted: Wanted) -> Iterator[Any]:
 
 
 def settle_blocks(rows: Any, known: Any) -> None:
-    """Makes rows of PcapNg into columns: units of an interface into times, and types of blocks into link types."""
+    """Converts rows of PcapNg to rows of columns, in place: units of time to nanoseconds, and block types to link types."""
     if _settled_alike(rows, known):
         return
     numbers, is_simple = rows["interface"], rows["type"] == _SIMPLE_PACKET
@@ -249,12 +250,13 @@ def settle_blocks(rows: Any, known: Any) -> None:
         columns["time_ns"][timed] = _times(original["timestamp"][timed], found)
 
 
-# A row of PcapNg whose interface and type are one number.
+# A row of PcapNg, with the interface and the block type as one number.
 _ALIKE = {"names": ["timestamp", "interface and type"], "formats": ["u8", "u8"], "offsets": [0, 16], "itemsize": 32}
 
 
 def _settled_alike(rows: Any, known: Any) -> bool:
-    """Makes rows into columns where all are of one type and interface, whose times fit: nothing of them is copied."""
+    """Converts rows to columns without copies, if all have one block type and one interface, and all times fit. Returns whether
+    it did."""
     alike = rows.view(_ALIKE)
     kinds, units = alike["interface and type"], alike["timestamp"]
     only = known.get(int(rows["interface"][0]))
@@ -268,12 +270,12 @@ def _settled_alike(rows: Any, known: Any) -> bool:
 
 
 def _most(known: Any) -> int:
-    """How many units of an interface have a time of 64 bits."""
+    """Returns the largest number of an interface's units of time whose nanoseconds fit 64 bits."""
     return int((2**63 - 1) // known.nanoseconds)
 
 
 def _times(units: Any, known: Any) -> Any:
-    """Nanoseconds since 1970 for so many units of an interface, each; NO_TIME where 64 bits don't hold them."""
+    """Returns nanoseconds since 1970 for an array of an interface's units, with NO_TIME where 64 bits are too few."""
     if not known.per_second:
         return numpy.fromiter((_time(known, int(count)) for count in units), "i8", len(units))
     most = _most(known)
@@ -292,7 +294,8 @@ def _time(known: Any, units: int) -> int:
 
 
 def _joined(batches: Iterator[Any], end: int, kinds: List[Tuple[str, Any]]) -> Dict[str, Any]:
-    """Each column of all batches, and what else the last one has. By where the capture ends, room is made for all packets at once."""
+    """Joins the columns of all batches, and adds what else the last batch has. `end` is the length of the capture: it serves to
+    allocate room for all packets at once."""
     columns, count = {name: numpy.empty(0, kind) for name, kind in kinds}, 0
     rows: Any = None
     for rows in batches:
@@ -308,7 +311,7 @@ def _joined(batches: Iterator[Any], end: int, kinds: List[Tuple[str, Any]]) -> D
 
 
 def copied(rows: Any) -> Any:
-    """The same rows in memory of no more than they need."""
+    """Returns a copy of rows, in no more memory than they need."""
     if hasattr(rows, "dtype"):
         return rows.copy()
     return {name: column.copy() if hasattr(column, "copy") else column for name, column in rows.items()}
@@ -321,7 +324,8 @@ def _longer(column: Any, count: int, room: int) -> Any:
 
 
 def to_pandas(batches: Iterator[Any], end: int = 0, wanted: Wanted = NOTHING) -> Any:
-    """A DataFrame of these columns, whose `time` is NaT where a packet has none."""
+    """Returns a DataFrame of the columns of all batches. `time` is NaT for a packet without a time. It raises an ImportError if
+    pandas is missing."""
     try:
         import pandas
     except ImportError as error:

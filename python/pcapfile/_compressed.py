@@ -1,4 +1,4 @@
-"""Captures that are compressed, which their first bytes tell."""
+"""Compressed captures, which the package recognizes by their first bytes."""
 
 import io
 import zlib
@@ -6,7 +6,7 @@ from typing import Any, Callable, Dict, Optional
 
 from ._errors import CaptureError
 
-# A status of the library's: the capture ends within something.
+# The library's status for bytes that end too early.
 _INCOMPLETE = 1
 
 
@@ -30,7 +30,7 @@ def _xz(stream: Any) -> Any:
 
 def _zstd(stream: Any) -> Any:
     try:
-        from compression import zstd  # of Python 3.14
+        from compression import zstd  # since Python 3.14
     except ImportError:
         pass
     else:
@@ -38,7 +38,7 @@ def _zstd(stream: Any) -> Any:
     try:
         import zstandard
     except ImportError as error:
-        said = "a capture that zstd compressed needs zstandard: 'pip install zstandard', or Debian's python3-zstandard"
+        said = "reading a capture compressed by zstd needs zstandard: 'pip install zstandard', or Debian's python3-zstandard"
         raise ImportError(said) from error
     return zstandard.ZstdDecompressor().stream_reader(stream, read_across_frames=True)
 
@@ -47,11 +47,12 @@ def _lz4(stream: Any) -> Any:
     try:
         import lz4.frame
     except ImportError as error:
-        raise ImportError("a capture that lz4 compressed needs lz4: 'pip install lz4', or Debian's python3-lz4") from error
+        raise ImportError("reading a capture compressed by lz4 needs lz4: 'pip install lz4', or Debian's python3-lz4") from error
     return lz4.frame.LZ4FrameFile(stream, "rb")
 
 
-# No capture begins so: neither with one of the four magic numbers, in either order, nor with the type of a section header.
+# The first bytes of each compressed format. No capture begins with them: they are neither a magic number nor the type of a
+# section header.
 _MAGICS: Dict[bytes, Callable[[Any], Any]] = {
     b"\x1f\x8b": _gzip,
     b"BZh": _bzip2,
@@ -62,12 +63,13 @@ _MAGICS: Dict[bytes, Callable[[Any], Any]] = {
 
 
 def decompressor(front: bytes) -> Optional[Callable[[Any], Any]]:
-    """What decompresses a stream that begins so, or None where it isn't compressed. Four bytes tell, or all that there are."""
+    """Returns the function that decompresses a stream with these first bytes, or None if it is not compressed. `front` has four
+    bytes, or fewer if there are no more."""
     return next((made for magic, made in _MAGICS.items() if front[:4] == magic[:4] or front.startswith(magic)), None)
 
 
 class _Behind(io.RawIOBase):
-    """A stream of which some bytes have been read already: they come first."""
+    """A stream, with bytes that were already read from it put back at its front."""
 
     def __init__(self, front: bytes, into: Callable[[memoryview], Optional[int]]) -> None:
         self._front, self._into = memoryview(front), into
@@ -80,7 +82,7 @@ class _Behind(io.RawIOBase):
         if len(self._front) == 0:
             count = self._into(view)
             if count is None:
-                raise ValueError("a compressed stream has to wait for its bytes, and this one does not")
+                raise ValueError("a compressed stream must be blocking, and this one is not")
             return count
         count = min(len(view), len(self._front))
         view[:count], self._front = self._front[:count], self._front[count:]
@@ -88,8 +90,8 @@ class _Behind(io.RawIOBase):
 
 
 class Decompressed:
-    """What a compressed stream holds. Where the compressed bytes are damaged, or end early, that is a CaptureError behind all that
-    they gave, with its place in the capture that is compressed."""
+    """The decompressed bytes of a stream. If the compressed bytes are damaged or end early, reading raises a CaptureError after
+    all bytes that could be decompressed. Its offset counts decompressed bytes."""
 
     def __init__(
         self, made: Callable[[Any], Any], front: bytes, into: Callable[[memoryview], Optional[int]], close: Callable[[], None]
@@ -116,7 +118,7 @@ class Decompressed:
 
 
 def _damages() -> Any:
-    """The errors of the decompressors that are in use."""
+    """Returns the classes of errors of the decompressors that are loaded."""
     import sys
 
     modules = (("lzma", "LZMAError"), ("zstandard", "ZstdError"), ("compression.zstd", "ZstdError"))

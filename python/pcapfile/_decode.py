@@ -1,8 +1,8 @@
-"""Addresses, ports and protocols of packets, read out of their bytes by the extension, or with numpy, a whole batch at once.
+"""Reads addresses, ports and protocols out of the bytes of packets, a batch at a time, with the extension or with numpy.
 
-It reads Ethernet with VLAN tags, raw IP and Linux cooked captures, over these IPv4 and IPv6 with their extension headers, and the ports
-of TCP, UDP, SCTP, DCCP and UDP-Lite. Whatever else stands there, or is cut, has no value. No length, sum or fragment is checked: a later
-fragment has no ports."""
+It decodes Ethernet with VLAN tags, raw IP, and Linux cooked captures. Above these it decodes IPv4, IPv6 with extension headers,
+and the ports of TCP, UDP, SCTP, DCCP and UDP-Lite. Other or truncated headers give no value. It checks no lengths and no
+checksums, and it reassembles no fragments: a later fragment has no ports."""
 
 import socket
 import struct
@@ -11,16 +11,17 @@ from typing import Any, Dict, List, Tuple
 from ._columns import numpy
 from ._extension import native
 
-# Link types: Ethernet, those of raw IP, and Linux cooked captures of both versions.
+# Link types: Ethernet, raw IP, and both versions of Linux cooked captures.
 _ETHERNET, _RAW, _COOKED, _COOKED_2 = 1, (12, 14, 101, 228, 229), 113, 276
 _IPV4, _IPV6, _TAGS = 0x0800, 0x86DD, (0x8100, 0x88A8, 0x9100)
-# The most VLAN tags, and the most extension headers, that are passed over.
+# The most VLAN tags, and the most extension headers, that the decoder skips in one packet.
 _MOST_TAGS, _MOST_EXTENSIONS = 3, 8
-# Protocols whose first bytes are two ports; and extension headers of IPv6: those with a length, and that of a fragment.
+# The protocols that begin with two ports; the extension header of a fragment, and all extension headers that the decoder skips.
 _WITH_PORTS, _FRAGMENT = (6, 17, 33, 132, 136), 44
 _PASSED = (0, 43, 60, _FRAGMENT)
 
-# What is told of each packet in columns: the numbers of both addresses, or -1, and what is missing. The extension fills in such rows.
+# The decoded columns: the index of each address, or -1; the ports and the protocol; and the bits for missing values. The
+# extension fills these rows.
 _TOLD = [
     ("source", "i4"),
     ("destination", "i4"),
@@ -31,26 +32,27 @@ _TOLD = [
 ]
 _NO_PORTS, _NO_PROTOCOL = 1, 2
 
-# The names of these, and of what knows the addresses.
+# The names of these columns, and the key for the tables of addresses.
 TOLD = [*(name for name, _ in _TOLD), "addresses"]
 
-# What numpy reads of each: the version of IP or 0, both addresses in halves, the protocol and both ports, or -1.
+# The values that numpy reads from each packet: the version of IP or 0, both addresses in two halves, the protocol and both ports,
+# or -1.
 _HALVES = [("source_high", "u8"), ("source", "u8"), ("destination_high", "u8"), ("destination", "u8")]
 _FIELDS = _HALVES + [("source_port", "i4"), ("destination_port", "i4"), ("protocol", "i4"), ("version", "i4")]
 
 
 class _Addresses:
-    """Addresses by numbers, in the order in which they came, without the extension."""
+    """A table of distinct addresses in the order of their arrival, without the extension."""
 
     def __init__(self) -> None:
         self._numbers: Dict[bytes, int] = {}
 
     def given(self) -> List[bytes]:
-        """The bytes of each, 4 or 16."""
+        """Returns the bytes of each address, 4 or 16."""
         return list(self._numbers)
 
     def numbers_of(self, versions: Any, high: Any, low: Any) -> Any:
-        """The number of each address, or -1. Equal ones of a batch are looked up once."""
+        """Returns the index of each address, or -1. It looks up equal addresses of a batch only once."""
         numbers = numpy.full(len(versions), -1, "i4")
         for version, length in ((4, 4), (6, 16)):
             here = numpy.flatnonzero(versions == version)
@@ -65,7 +67,7 @@ class _Addresses:
 class Decoder:
     """Decodes the packets of a walk."""
 
-    # `missing` is told by columns of its own in a DataFrame.
+    # A DataFrame shows `missing` as NA in the other columns.
     kinds = _TOLD
 
     def __init__(self) -> None:
@@ -76,7 +78,7 @@ class Decoder:
         self._told = numpy.empty(size, numpy.dtype(_TOLD, align=True))
 
     def see(self, walk: Any, place: int, begin: int, rows: Any) -> None:
-        """Decodes the packets of rows of columns, whose bytes stand in the walk's window, which shows the capture from this place on."""
+        """Decodes the packets of rows of columns. The walk's window has their bytes, and begins at offset `place` of the capture."""
         told, data = self._told[begin : begin + len(rows)], walk.window.data
         if native is None:
             _tell(told, _read(numpy.frombuffer(data, "u1"), rows["offset"].astype("i8") - place, rows), (self._sources, self._destinations))
@@ -89,7 +91,7 @@ class Decoder:
 
 
 def _tell(told: Any, read: Any, addresses: Tuple[_Addresses, _Addresses]) -> None:
-    """Tells what numpy read, as the extension does."""
+    """Converts what numpy read to the rows that the extension would fill."""
     for name, known in zip(("source", "destination"), addresses):
         told[name] = known.numbers_of(read["version"], read[name + "_high"], read[name])
     for name in ("source_port", "destination_port", "protocol"):
@@ -98,11 +100,11 @@ def _tell(told: Any, read: Any, addresses: Tuple[_Addresses, _Addresses]) -> Non
 
 
 def decoded_columns(told: Dict[str, Any]) -> Dict[str, Any]:
-    """The columns for a DataFrame: addresses as categories of texts, numbers that may be missing."""
+    """Returns the columns for a DataFrame: the addresses as categories of texts, and the ports and protocols as integers with NA."""
     import pandas
 
     columns: Dict[str, Any] = {}
-    # Without packets there is nobody who knows addresses.
+    # Without packets there are no tables of addresses.
     for name, known in zip(("source", "destination"), told.get("addresses", (_Addresses(), _Addresses()))):
         texts = [socket.inet_ntop(socket.AF_INET if len(address) == 4 else socket.AF_INET6, address) for address in known.given()]
         columns[name] = pandas.Categorical.from_codes(told[name], texts)
@@ -112,7 +114,7 @@ def decoded_columns(told: Dict[str, Any]) -> Dict[str, Any]:
 
 
 def _read(data: Any, begin: Any, rows: Any) -> Any:
-    """What numpy reads of the packets that begin there in the data."""
+    """Reads packets with numpy. They begin at the places `begin` in `data`."""
     told = numpy.zeros(len(rows), _FIELDS)
     for name in ("protocol", "source_port", "destination_port"):
         told[name] = -1
@@ -132,7 +134,7 @@ def _is_one_of(protocols: Any, those: Tuple[int, ...]) -> Any:
 
 
 def _two(data: Any, at: Any) -> Any:
-    """Numbers of two bytes, high byte first."""
+    """Returns the big-endian numbers of two bytes at these places."""
     return data[at].astype("i4") << 8 | data[at + 1]
 
 
@@ -145,7 +147,7 @@ def _eight(data: Any, at: Any) -> Any:
 
 
 def _third_layer(link: int, data: Any, begin: Any, end: Any) -> Tuple[Any, Any]:
-    """The type of what each packet carries above its link, or -1, and where that begins."""
+    """Returns the type of the layer above the link of each packet, or -1, and the place at which it begins."""
     kinds, places = numpy.full(len(begin), -1, "i4"), begin
     if link in _RAW:
         some = numpy.flatnonzero(begin < end)
@@ -201,7 +203,7 @@ def _read_ipv6(told: Any, here: Any, kinds: Any, places: Any, end: Any, data: An
         is_first[passed[fragments]] = _two(data, place[fragments] + 2) & 0xFFF8 == 0
         protocols[passed] = data[place]
         above[passed] = place + numpy.where(fragments, 8, (data[place + 1].astype("i8") + 1) * 8)
-    # One that ends within its extension headers, or has too many, tells no protocol.
+    # A packet that ends within its extension headers, or has too many of them, has no protocol.
     told["protocol"][rows] = numpy.where(_is_one_of(protocols, _PASSED), -1, protocols)
     _read_ports(told, rows[is_first], protocols[is_first], above[is_first], end[is_first], data)
 

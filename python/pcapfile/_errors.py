@@ -1,4 +1,4 @@
-"""Why a capture is refused."""
+"""The errors and flaws of captures."""
 
 from typing import Any, NamedTuple, Optional, Tuple
 
@@ -7,8 +7,8 @@ from ._rules import Rule
 
 
 class CaptureError(Exception):
-    """A capture is refused at `offset`, in bytes from its start. What came before it was good. `status` is the number of the
-    error.
+    """The capture is truncated or malformed at `offset`, in bytes from its start. Everything before that is valid. `status` is
+    the number of the library's error.
 
         >>> try:
         ...     pcapfile.parse(bytes(24))
@@ -27,7 +27,7 @@ class CaptureError(Exception):
 
 
 class Incomplete(CaptureError):
-    """The capture ends within a header, a packet or a block: `missing` bytes more are needed, at least.
+    """The capture is truncated: it ends within a header, a packet record or a block. At least `missing` more bytes are needed.
 
         >>> try:
         ...     pcapfile.parse(bytes(20))
@@ -43,8 +43,8 @@ class Incomplete(CaptureError):
 
 
 class Invalid(CaptureError):
-    """The capture breaks a rule of its format: `number`, `rule` and `text` are the rule's number, as a `Rule`, its name and its
-    text.
+    """The capture is malformed: it breaks a rule of its format. `number` is the rule as a `Rule`, `rule` its name, and `text` its
+    message.
 
         >>> try:
         ...     pcapfile.parse(bytes(24))
@@ -62,8 +62,9 @@ class Invalid(CaptureError):
 
 
 class Flaw(NamedTuple):
-    """What is wrong with a block's body: `rule` is the rule that it breaks, or None, and `text` says it. `code` is that of the option
-    whose value it is, or None where it is that of the whole body, or of the list of options.
+    """A fault of a block's body, as reading with `strict=False` reports it. `rule` is the broken `Rule`, or None for text
+    that is not UTF-8. `code` is the code of the malformed option, or None for the body as a whole and for the list of options.
+    `text` is a message.
 
         >>> pcapfile.Flaw(pcapfile.Rule.OPTION_CUT, 1, pcapfile.Rule.OPTION_CUT.text).rule.name
         'OPTION_CUT'
@@ -94,7 +95,7 @@ class _Told(NamedTuple):
 
 
 def refused(status: int, rule: int, missing: int, offset: int) -> CaptureError:
-    """The error of what the extension tells."""
+    """Returns the error for a status that the extension reports."""
     return error_of(status, _Told(rule, missing), offset)
 
 

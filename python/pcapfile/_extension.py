@@ -1,4 +1,4 @@
-"""The C extension `_native`, where it was built; PCAPFILE_NATIVE=0 leaves it out."""
+"""The C extension `_native`, or None if it was not built. PCAPFILE_NATIVE=0 disables it."""
 
 import os
 from typing import Any
@@ -12,7 +12,7 @@ if os.environ.get("PCAPFILE_NATIVE") != "0":
 
 
 class _Open:
-    """Whether a capture is open. Walks look at it before each packet."""
+    """Records whether a capture is open. A walk checks it before each packet."""
 
     __slots__ = ("is_closed",)
 

@@ -1,4 +1,4 @@
-"""What columns have beside the numbers of packets, where it is asked for; and the times of the packets that they have."""
+"""The optional columns: interface names, data, and decoded headers. Also the range of times for which a caller asks."""
 
 from typing import Any, Dict, List, NamedTuple, Optional, Tuple
 
@@ -10,13 +10,13 @@ try:
 except ImportError:
     numpy = None  # type: ignore[assignment]
 
-# The type in numpy of where the bytes of packets begin, and end.
+# The type in numpy of the places at which the bytes of packets begin and end.
 OFFSET = "i8"
 
 
 class Wanted(NamedTuple):
-    """What columns are asked to have: names of interfaces, bytes, what is decoded; and only packets from a time on and before another, in
-    nanoseconds, where these are told."""
+    """The optional columns that a caller wants: interface names, data, and decoded headers. `times` is the range of times in
+    nanoseconds, or None for all packets."""
 
     names: bool = False
     data: bool = False
@@ -25,11 +25,11 @@ class Wanted(NamedTuple):
 
     @property
     def kinds(self) -> List[Tuple[str, Any]]:
-        """The further columns of numbers or texts, and their types in numpy."""
+        """The optional columns that hold numbers or texts, and their types in numpy."""
         return [kind for extra in self.extras() for kind in extra.kinds]
 
     def extras(self) -> List[Any]:
-        """What makes the further columns of a walk."""
+        """Returns the makers of the optional columns for one walk."""
         found: List[Any] = [Names()] if self.names else []
         if self.data:
             found.append(Data())
@@ -40,7 +40,7 @@ class Wanted(NamedTuple):
         return found
 
     def takes(self, time: Optional[int]) -> bool:
-        """Whether a packet of this time is wanted."""
+        """Returns True if the range of times contains this time."""
         return self.times is None or (time is not None and self.times[0] <= time < self.times[1])
 
 
@@ -53,12 +53,13 @@ def wanted_of(names: bool, data: bool, decode: bool, since: Optional[Moment], un
 
 
 class Names:
-    """The name of each packet's interface, or None."""
+    """The column of interface names, None where the name is unknown."""
 
     kinds = [("interface_name", "O")]
 
     def __init__(self) -> None:
-        # The interfaces in force, how many they were, and their names by their numbers, None at the end for those that aren't there.
+        # The current interfaces, how many there were, and their names by number. The last entry of the table is None, for
+        # interfaces that do not exist.
         self._known: Any = None
         self._count = 0
         self._table: Any = None
@@ -67,8 +68,7 @@ class Names:
         self._names = numpy.empty(size, "O")
 
     def see(self, walk: Any, place: int, begin: int, rows: Any) -> None:
-        """Sees rows whose packets stand in the walk's window, which shows the capture from this place on; they are those from `begin`
-        on."""
+        """Reads the names of a batch's rows from number `begin` on, while the walk has their interfaces."""
         known = getattr(walk, "known", {})
         if known is not self._known or len(known) != self._count:
             self._known, self._count = known, len(known)
@@ -79,12 +79,13 @@ class Names:
         self._names[begin : begin + len(rows)] = self._table[numbers]
 
     def given(self, rows: Any) -> Dict[str, Any]:
-        """The columns of these rows, which are all since `begin` was called."""
+        """Returns the column for these rows, which are all since the call of `begin`."""
         return {"interface_name": self._names[: len(rows)]}
 
 
 class Data:
-    """The bytes of all packets, one behind the other, and where each begins and ends, as Arrow has them."""
+    """The column of data: the bytes of all packets one after another, and the places at which they begin and end, in Arrow's
+    layout."""
 
     kinds: List[Tuple[str, Any]] = []
 

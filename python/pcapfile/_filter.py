@@ -1,4 +1,4 @@
-"""What packets are chosen by: expressions of tcpdump, which libpcap compiles where it is installed, and times."""
+"""Chooses packets by filter expressions of tcpdump, which libpcap compiles if it is installed, and by times."""
 
 import ctypes
 import datetime
@@ -8,10 +8,10 @@ import threading
 from decimal import Decimal
 from typing import Any, Dict, Optional, Tuple, Union
 
-# The most bytes of a packet that an expression looks at.
+# The most bytes of a packet that an expression examines.
 _SNAPLEN = 262144
 
-# Later than each time in nanoseconds that 64 bits hold.
+# The largest time in nanoseconds that 64 bits hold.
 _LATE = 2**63 - 1
 
 
@@ -25,7 +25,7 @@ def _load() -> Any:
     try:
         pcap = ctypes.CDLL(ctypes.util.find_library("pcap") or "libpcap.so.0.8")
     except OSError as error:
-        raise ImportError("filters need libpcap, as Debian's libpcap0.8 is") from error
+        raise ImportError("filter expressions need libpcap, for example Debian's libpcap0.8") from error
     pcap.pcap_open_offline.restype = ctypes.c_void_p
     pcap.pcap_open_offline.argtypes = [ctypes.c_char_p, ctypes.c_char_p]
     pcap.pcap_compile.argtypes = [ctypes.c_void_p, ctypes.POINTER(_Program), ctypes.c_char_p, ctypes.c_int, ctypes.c_uint32]
@@ -41,26 +41,25 @@ Moment = Union[float, datetime.datetime]
 
 
 def nanoseconds_of(moment: Optional[Moment]) -> Optional[int]:
-    """A time, or seconds since 1970, as nanoseconds since then. One that tells no zone is a ValueError."""
+    """Returns a datetime, or seconds since 1970, as nanoseconds since 1970. It raises a ValueError for a datetime without a zone."""
     if moment is None:
         return None
     if not isinstance(moment, datetime.datetime):
         return round(Decimal(moment) * 1_000_000_000)
     if moment.tzinfo is None:
-        raise ValueError(f"{moment} tells no zone; datetime.timezone.utc is one")
+        raise ValueError(f"{moment} has no time zone; use for example datetime.timezone.utc")
     since = moment - datetime.datetime(1970, 1, 1, tzinfo=datetime.timezone.utc)
     return (since.days * 86400 + since.seconds) * 1_000_000_000 + since.microseconds * 1000
 
 
 def range_of(since: Optional[int], until: Optional[int]) -> Tuple[int, int]:
-    """Times from the one on and before the other, in 64 bits; all that have no end where there is none."""
+    """Returns the range of times from `since` to before `until`, in 64 bits. None means no limit."""
     first, last = (end if time is None else max(-_LATE, min(time, _LATE)) for time, end in ((since, -_LATE), (until, _LATE)))
     return first, last
 
 
 class Filter:
-    """What packets are chosen by: an expression, which is compiled for each link type that it is asked for, and times from the one on
-    and before the other."""
+    """A filter of packets: an expression, which it compiles for each link type that occurs, and a range of times."""
 
     _pcap: Any = None
     _lock = threading.Lock()
@@ -73,19 +72,21 @@ class Filter:
         self._since, self._until = nanoseconds_of(since), nanoseconds_of(until)
 
     def told(self) -> Tuple[int, int, int, bool]:
-        """For the extension: where the function lies that runs a program, the times in 64 bits, and whether there are any."""
+        """Returns what the extension needs: the address of the function that runs a program, the range of times in 64 bits, and
+        whether the caller gave a time."""
         run = 0 if self.expression is None else ctypes.cast(self._pcap.bpf_filter, ctypes.c_void_p).value or 0
         return (run, *range_of(self._since, self._until), self._since is not None or self._until is not None)
 
     def program(self, link: int) -> int:
-        """Where the program for packets of this link type lies. A ValueError says why there is none."""
+        """Returns the address of the program for packets of this link type. It raises a ValueError if libpcap cannot compile the
+        expression."""
         with self._lock:
             if link not in self._programs:
                 self._programs[link] = self._compiled(link)
         return int(self._programs[link].instructions)
 
     def takes(self, packet: Any) -> bool:
-        """Whether a packet is chosen. An expression holds for none whose link type isn't known."""
+        """Returns True if the filter accepts a packet. An expression never accepts a packet whose link type is unknown."""
         _, since, until, has_times = self.told()
         time = packet.time_ns
         if has_times and (time is None or not since <= time < until):
@@ -98,7 +99,7 @@ class Filter:
         return bool(self._pcap.bpf_filter(self.program(packet.link), data, packet.original_length, len(data)))
 
     def _compiled(self, link: int) -> _Program:
-        # libpcap has numbers of its own for some link types, and makes them itself of a capture's.
+        # libpcap has its own numbers for some link types. It translates the number itself when it opens a capture.
         header, program, said = struct.pack("=IHHiIII", 0xA1B2C3D4, 2, 4, 0, 0, _SNAPLEN, link), _Program(), ctypes.create_string_buffer(256)
         with tempfile.NamedTemporaryFile() as file:
             file.write(header)

@@ -1,4 +1,4 @@
-"""What a notebook shows of a capture."""
+"""Shows a capture in a notebook."""
 
 import html
 from itertools import islice
@@ -6,12 +6,13 @@ from typing import Any, List
 
 from ._errors import CaptureError
 
-# How many packets, how many interfaces and how many bytes of each packet are shown.
+# The number of packets, of interfaces, and of bytes of each packet, that a notebook shows.
 _PACKETS, _INTERFACES, _BYTES = 5, 10, 16
 
 
 def shown_as_html(capture: Any) -> str:
-    """What it is, and its first packets, but for those of a stream, which come once."""
+    """Returns a description of the capture as HTML, with its first packets. It leaves out the packets of a stream, since they
+    come only once."""
     links = f", link type {capture.link}" if capture.format == "pcap" else ""
     told = [f"<p>{html.escape(repr(capture)[1:-1] + links)}</p>", *_interfaces(capture)]
     return "".join(told if capture.is_stream else told + _packets(capture))

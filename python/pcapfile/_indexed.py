@@ -1,4 +1,4 @@
-"""Packets of a capture by their numbers."""
+"""Access to the packets of a capture by number."""
 
 import bisect
 import ctypes
@@ -10,25 +10,25 @@ from typing import Any, Dict, Iterator, List, NamedTuple, Optional, Union
 from . import _library
 from ._errors import CaptureError
 
-# How many rows are taken at once, and how many 64-bit numbers one has.
+# The number of rows in one call of the library, and of 64-bit numbers in a row.
 _ROWS, _NUMBERS = 65536, 4
 _SIMPLE_PACKET = 3
 
-# How many bytes are read at once for a packet, where so many are known to end with it. Behind longer ones stand other blocks.
+# The most bytes that are read at once for packets whose end is known. A longer range contains other blocks too.
 _AT_ONCE = 1 << 20
 
-# Up to this step a slice is walked over, and its packets are chosen on the way.
+# Up to this step a slice reads all packets in its range and chooses from them. With a larger step it reads each packet by itself.
 _STEP = 16
 
 
 def rows_of(count: int) -> Any:
-    """Room for so many rows of columns, or of PcapNg, as the library fills them in."""
+    """Returns room for `count` rows in the library's layout, of either format."""
     return (ctypes.c_uint64 * (_NUMBERS * count))()
 
 
 class _State(NamedTuple):
-    """What is in force from a packet of PcapNg on: the interfaces of the section, how many of them are described by then, and the
-    section's magic number."""
+    """The state that PcapNg packets from some number on depend on: the section's interfaces, how many of them the capture has
+    described by then, and the section's magic number."""
 
     known: Dict[int, Any]
     described: int
@@ -36,10 +36,11 @@ class _State(NamedTuple):
 
 
 class Indexed(Sequence):  # type: ignore[type-arg]
-    """The packets of a capture in memory or in a file by their numbers. One packet is read at a time, where it stands.
+    """The packets of a capture in memory or in a file, by number. Each access reads only the bytes that it needs.
 
-    The capture is passed over once for that, and some 13 bytes a packet are kept. Where it is refused, the packets before that have
-    numbers, and `refusal` is the error; iterating over all raises it behind them.
+    The constructor reads through the whole capture once, and keeps some 13 bytes a packet. If the capture is truncated or
+    malformed, the packets before the fault have numbers, and `refusal` is the `CaptureError`; otherwise it is None. Iterating
+    over all packets raises the error after the last one. The constructor raises a ValueError for a stream.
 
         >>> with pcapfile.open("capture.pcap") as capture:
         ...     packets = capture.indexed()
@@ -49,12 +50,12 @@ class Indexed(Sequence):  # type: ignore[type-arg]
 
     def __init__(self, capture: Any) -> None:
         if capture.is_stream:
-            raise ValueError("the packets of a stream have no numbers, as they come once")
+            raise ValueError("the packets of a stream have no numbers, because they come only once")
         self._capture, self._source, self._has_states = capture, capture._source, capture.format == "pcapng"
-        # Where the data of each packet begins, less the place of its batch; the type of its block; the first packet of each batch, and
-        # its place in the capture.
+        # The place of each packet's data, relative to its batch; the type of its block; the first packet of each batch; and the
+        # offset of each batch in the capture.
         self._offsets, self._types, self._firsts, self._places = array("Q"), bytearray(), array("Q"), array("Q")
-        # What is in force from which packet on, and the one that was asked for last.
+        # The states, the first packet of each, and the walk for the state that was used last.
         self._states: List[_State] = []
         self._state_firsts, self._last = array("Q"), (-1, None)  # type: Any, Any
         self.refusal: Optional[CaptureError] = None
@@ -79,12 +80,12 @@ class Indexed(Sequence):  # type: ignore[type-arg]
             self.refusal = error
 
     def _keep(self, walk: Any, rows: memoryview, place: int) -> None:
-        """Keeps where packets stand, and what is in force there."""
+        """Keeps the places of packets, and the state that they depend on."""
         first = len(self._offsets)
         self._firsts.append(first)
         self._places.append(place)
         self._offsets.frombytes(rows.cast("Q")[_NUMBERS - 1 :: _NUMBERS].tobytes())
-        if not self._has_states:  # of a classic capture
+        if not self._has_states:  # a classic capture
             return
         self._types += rows.cast("I")[5 :: 2 * _NUMBERS].tobytes()[::4]
         last = self._states[-1] if self._states else None
@@ -118,7 +119,7 @@ class Indexed(Sequence):  # type: ignore[type-arg]
         return list(islice(self._between(begin, end), 0, end - begin, step))
 
     def _between(self, begin: int, end: int) -> Iterator[Any]:
-        """The packets from a number on, up to another one at least."""
+        """Iterates over the packets from number `begin` to at least `end`."""
         first, last = self._start(begin), self._end if end == len(self) else self._start(end)
         source = self._source
         window = source.piece(first, last) if last - first <= _AT_ONCE else source.between(first, last)
@@ -126,7 +127,7 @@ class Indexed(Sequence):  # type: ignore[type-arg]
         return packets
 
     def _start(self, number: int) -> int:
-        """Where a packet begins, with what stands before its own bytes."""
+        """Returns the offset of the packet record or block of a packet."""
         batch = bisect.bisect_right(self._firsts, number) - 1
         head = self._walk.HEAD
         if self._types and self._types[number] == _SIMPLE_PACKET:
@@ -134,7 +135,7 @@ class Indexed(Sequence):  # type: ignore[type-arg]
         return self._places[batch] + self._offsets[number] - int(head)
 
     def _walk_from(self, number: int, window: Any) -> Any:
-        """A walk with what is in force at a packet."""
+        """Returns a walk over the window, with the state that a packet depends on."""
         if not self._states:
             return self._walk.over(window)
         at = bisect.bisect_right(self._state_firsts, number) - 1

@@ -4,7 +4,7 @@ from typing import NamedTuple, Optional, Tuple
 
 from ._options import Block
 
-# The type of blocks that describe interfaces.
+# The type of interface description blocks.
 _DESCRIPTION = 1
 
 
@@ -17,8 +17,9 @@ class _Fields(NamedTuple):
 
 
 class Interface(_Fields):
-    """An interface: `link` is the number of its link type, and its times are counted in `ts_base` to the power of minus
-    `ts_exponent` seconds, with `ts_offset` seconds added. What else is told of it are the options of its `block`.
+    """An interface of a PcapNg capture. `link` is the number of its link type, and `snaplen` its snapshot length in bytes, or 0
+    for no limit. Its unit of time is `ts_base` to the power of minus `ts_exponent` seconds, and `ts_offset` is in seconds. Its
+    `block` has its options.
 
         >>> with pcapfile.open("options.pcapng") as capture:
         ...     (interface,) = capture.interfaces
@@ -26,12 +27,13 @@ class Interface(_Fields):
         (1, 9, None, 'hm')
     """
 
-    # The body that describes it, where that begins in the capture, and the magic number of its section. It tells interfaces apart.
+    # The body of the interface's block, the offset of the body in the capture, and the magic number of the section. It
+    # distinguishes interfaces.
     _told: Optional[Tuple[bytes, int, int]] = None
 
     @property
     def block(self) -> Optional[Block]:
-        """The block that describes it, a copy of it, or None where it wasn't described in a capture."""
+        """A copy of the block that describes the interface, or None if no capture described it."""
         return None if self._told is None else Block(_DESCRIPTION, memoryview(self._told[0]), *self._told[1:])
 
     def _text(self, code: int) -> Optional[str]:
@@ -40,32 +42,32 @@ class Interface(_Fields):
 
     @property
     def name(self) -> Optional[str]:
-        """Its name, as "eth0", or None where none is told."""
+        """The name of the interface, for example "eth0", or None."""
         return self._text(2)
 
     @property
     def description(self) -> Optional[str]:
-        """What it is, or None where that isn't told."""
+        """The description of the interface, or None."""
         return self._text(3)
 
     @property
     def os(self) -> Optional[str]:
-        """The operating system of the machine that it belongs to, or None."""
+        """The operating system of the machine that has the interface, or None."""
         return self._text(12)
 
     @property
     def hardware(self) -> Optional[str]:
-        """Its hardware, or None."""
+        """The hardware of the interface, or None."""
         return self._text(15)
 
     @property
     def comment(self) -> Optional[str]:
-        """The first comment on it, or None."""
+        """The first comment on the interface, or None."""
         return self._text(1)
 
 
 def described(block: Block, *fields: int) -> Interface:
-    """The interface with these fields that a block describes, of which a copy is kept."""
+    """Returns the interface that a block describes, with a copy of the block."""
     interface = Interface(*fields)
     interface._told = bytes(block.body), block.offset, block.magic_number
     return interface

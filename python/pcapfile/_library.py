@@ -1,4 +1,4 @@
-"""The calls of pcapfile.h, by ctypes."""
+"""The functions of pcapfile.h, by ctypes."""
 
 import ctypes
 import os
@@ -124,7 +124,7 @@ def _find() -> str:
     named = os.environ.get("PCAPFILE_LIBRARY") or getattr(native, "__file__", None)
     if named:
         return named
-    # The extension holds the library too, where it is there and left out.
+    # A disabled extension (PCAPFILE_NATIVE=0) contains the library too.
     folder = Path(__file__).parent
     for beside in (folder / "libpcapfile.so", *folder.glob("_native.*.so")):
         if beside.exists():
@@ -140,8 +140,8 @@ def _load() -> ctypes.CDLL:
         return ctypes.CDLL(found)
     except OSError as error:
         raise ImportError(
-            f"pcapfile's library can't be loaded from {found!r} ({error}): PCAPFILE_LIBRARY names it, or it lies as "
-            f"libpcapfile.so in {Path(__file__).parent}, or where the system keeps libraries; 'make' builds it as out/libpcapfile.so"
+            f"pcapfile's library can't be loaded from {found!r} ({error}): set PCAPFILE_LIBRARY to its path, or put "
+            f"libpcapfile.so into {Path(__file__).parent} or where the system keeps libraries; 'make' builds it as out/libpcapfile.so"
         ) from error
 
 
@@ -242,7 +242,7 @@ cut_blocks_at_least.restype = ctypes.c_int32
 
 
 def _writing(name: str, *structs: Any) -> Callable[..., int]:
-    """A call that writes what these structs tell into a room."""
+    """Returns a function of the library that writes these structs into a buffer."""
     call = getattr(_library, name)
     room = [_to(ctypes.c_uint8), ctypes.c_size_t, _to(ctypes.c_size_t), _to(Error)]
     call.argtypes, call.restype = [*map(_to, structs), *room], ctypes.c_int32
@@ -255,13 +255,28 @@ put_section = _writing("pcapfile_put_section", Section)
 put_interface = _writing("pcapfile_put_interface", Section, Interface)
 put_ng_packet = _writing("pcapfile_put_ng_packet", Section, NgPacket)
 
+link_type = _library.pcapfile_link_type
+link_type.argtypes = [ctypes.c_uint32]
+link_type.restype = ctypes.c_uint32
+
+fcs_len = _library.pcapfile_fcs_len
+fcs_len.argtypes = [ctypes.c_uint32]
+fcs_len.restype = ctypes.c_int32
+
 time_of = _library.pcapfile_time_of
 time_of.argtypes = [_to(Interface), ctypes.c_uint64, _to(Time)]
 time_of.restype = ctypes.c_int32
 
 
+def within(number: int, bits: int) -> int:
+    """Returns the number. It raises a ValueError if the number does not fit the bits."""
+    if not 0 <= number < 1 << bits:
+        raise ValueError(f"{number} is no number of {bits} bits")
+    return number
+
+
 class _Buffer(ctypes.Structure):
-    """Python's own struct for bytes that an object lends."""
+    """Python's own struct for a buffer (Py_buffer)."""
 
     _fields_ = [
         ("buf", ctypes.c_void_p),
@@ -286,12 +301,12 @@ _release_buffer.restype = None
 
 
 def address_of(view: memoryview) -> int:
-    """Where the bytes of a view lie, or none do. They lie there until it is released."""
+    """Returns the address of a view's bytes, or a valid address if the view is empty. It is valid until the view is released."""
     return place_of(view) if len(view) > 0 else ctypes.addressof(_NOTHING)
 
 
 def place_of(view: memoryview) -> int:
-    """Where a view begins in memory, which is nowhere where there is nothing."""
+    """Returns the address at which a view begins. An empty view may have the address 0."""
     if native is not None:
         return int(native.address(view))
     buffer = _Buffer()

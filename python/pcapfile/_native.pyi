@@ -1,4 +1,4 @@
-"""What the extension gives. Its packets are those of _packets.py, which says what they tell."""
+"""The extension. _packets.py documents the attributes of its packets."""
 
 from typing import Any, Callable, Iterator, Optional, Tuple
 

@@ -15,17 +15,21 @@ from ._source import Data, File, Growing, Memory, Source, Stream, Stretch, Windo
 
 Name = Union[str, bytes, "os.PathLike[Any]"]
 
-# The type of a section header, with which each PcapNg capture begins.
+# The type of a section header, with which every PcapNg capture begins.
 _SECTION = b"\x0a\x0d\x0d\x0a"
 
 
 def parse(data: Data, *, strict: bool = True) -> Union[Capture, BlockCapture]:
-    """The capture that these bytes are. They must not change while it is used, and stay the caller's: a mapping isn't closed with it.
+    """Returns the capture that the bytes in `data` are. `data` must not change while the capture is in use. Closing the capture
+    does not close a mapping that the caller gave.
 
-    Where `strict` is False, its packets are given as they stand, each with what is wrong with it as `flaws`: of a classic capture the
-    rules that it breaks, of a PcapNg capture each a `Flaw`.
+    With `strict=False` reading is lenient. The capture returns malformed packets too, and each packet has `flaws`: the rules that
+    it breaks, or for PcapNg each a `Flaw`.
 
-    What gzip, bzip2, xz, zstd or lz4 compressed is decompressed, and then is a stream, whose packets come once.
+    Bytes that gzip, bzip2, xz, zstd or lz4 compressed are decompressed. The capture is then a stream, whose packets come only
+    once.
+
+    It raises `Incomplete` if the header is truncated, and `Invalid` if it is malformed.
 
         >>> pcapfile.parse(open("capture.pcap", "rb").read())
         <pcap capture, 138 bytes>
@@ -34,18 +38,24 @@ def parse(data: Data, *, strict: bool = True) -> Union[Capture, BlockCapture]:
 
 
 def open(file: Union[Name, int, Any], *, strict: bool = True, follow: bool = False) -> Union[Capture, BlockCapture]:
-    """The capture in a file of this name, or in what a stream reads: an object that has `readinto` or `read`, as an open file, a
-    pipe's, or a socket's `makefile("rb")`; or a descriptor's number.
+    """Opens a capture in a file, or reads one from a stream.
 
-    A regular file is read as its packets are asked for, each time that they are. All else is read piece by piece, as packets are
-    asked for, in memory that doesn't grow with the capture; it can be iterated over once. The stream is closed with the
-    capture. Where it has no bytes yet, that is a BlockingIOError; the same call, or the same loop, goes on later with what had
-    come. `strict` is that of `parse`.
+    `file` is the name of a file, the number of a descriptor, or an object that has `readinto` or `read`. Such objects are open
+    files, pipes, and a socket's `makefile("rb")`. `strict` has the meaning that it has for `parse`.
 
-    What gzip, bzip2, xz, zstd or lz4 compressed is decompressed as it is read, and then is a stream, too.
+    The package reads a regular file while the program asks for packets, and a program can iterate over it again. Everything else
+    is a stream. The package reads it piece by piece, in memory that does not grow with the capture, and a program can iterate
+    over it once. Closing the capture closes the stream. If gzip, bzip2, xz, zstd or lz4 compressed a file, the capture is a
+    stream too.
 
-    With `follow` a file by its name, which another process writes, is a stream that never ends by itself: where the file does, it is
-    waited for until it has grown. Another thread can close the capture.
+    If a non-blocking stream has no bytes yet, reading raises a BlockingIOError. The same call or loop later goes on without
+    losing bytes.
+
+    With `follow=True` the capture is a file by its name that another process writes. At the end of the file, reading waits until
+    it grows, so the capture ends only when another thread closes it. If the file becomes shorter, reading raises an OSError.
+
+    It raises an OSError if the file cannot be read, `Incomplete` if the header is truncated, and `Invalid` if the header is
+    malformed.
 
         >>> with pcapfile.open("capture.pcap") as capture:
         ...     for packet in capture:
@@ -54,7 +64,7 @@ def open(file: Union[Name, int, Any], *, strict: bool = True, follow: bool = Fal
     """
     if follow:
         if not isinstance(file, (str, bytes, os.PathLike)):
-            raise TypeError("follow is of a file by its name")
+            raise TypeError("follow=True needs the name of a file")
         file = Growing(file)
     if not isinstance(file, (str, bytes, os.PathLike, int)):
         return _of_stream(file, strict)
@@ -69,19 +79,19 @@ def open(file: Union[Name, int, Any], *, strict: bool = True, follow: bool = Fal
         raise
 
 
-# Streams that had no more bytes before the format was told, and what had come of them.
+# The streams that had too few bytes to show their format, and the bytes that were read from each.
 _BEGUN: "weakref.WeakKeyDictionary[Any, bytes]" = weakref.WeakKeyDictionary()
 
 
 def _decompressed(made: Callable[[Any], Any], source: Source) -> Stream:
-    """What a compressed source holds. It is closed with that."""
+    """Returns a stream of the decompressed bytes of a source. Closing it closes the source."""
     if isinstance(source, Stream):
         return Stream(Decompressed(made, bytes(source.data), source.into, source.close))
     return Stream(Decompressed(made, b"", source.raw().readinto, source.close))
 
 
 def _of_stream(stream: Any, strict: bool) -> Union[Capture, BlockCapture]:
-    """The capture that comes out of a stream, or that goes on where an earlier call had to leave it."""
+    """Returns the capture in a stream. It goes on with the bytes that an earlier, interrupted call read."""
     begun = Stream(stream, _BEGUN.pop(stream, b"") if _is_remembered(stream) else b"")
     try:
         return capture_of(begun, strict=strict)
@@ -101,7 +111,7 @@ def _is_remembered(stream: Any) -> bool:
 
 
 def in_file(path: Name, stretch: Optional[Stretch] = None) -> Union[Capture, BlockCapture]:
-    """The capture in a regular file, or a stretch of it."""
+    """Returns the capture in a regular file, or a stretch of it. It raises a ValueError for other and for compressed files."""
     stream = _open(path, "rb", buffering=0)
     try:
         if not stat.S_ISREG(os.fstat(stream.fileno()).st_mode):
@@ -128,7 +138,7 @@ def capture_of(source: Source, stretch: Optional[Stretch] = None, strict: bool =
 
 
 def _front(window: Window) -> bytes:
-    """The first four bytes of a capture, or what there is of them."""
+    """Returns the first four bytes of a capture, or fewer if the capture is shorter."""
     while window.left.len < 4 and window.more(4 - window.left.len):
         pass
     return bytes(window.data[:4])

@@ -1,4 +1,4 @@
-"""Where captures go that are written: a file, or one numbered file after another."""
+"""The files that a Writer writes: one file, or numbered files."""
 
 import io
 import os
@@ -9,23 +9,23 @@ Name = Union[str, bytes, "os.PathLike[Any]"]
 
 
 class Output:
-    """A file of this name, or an object that has `write`. Where a write fails, each later one is an OSError."""
+    """A file that the Writer opened, or an object that has `write`. After a write has failed, each later one raises an OSError."""
 
     def __init__(self, file: Any, is_mine: bool) -> None:
         self._file, self._is_mine, self._has_failed = file, is_mine, False
 
     def front(self, text: bytes) -> None:
-        """Writes a header, or a block that packets behind it need."""
+        """Writes a header, or a block that later packets need."""
         self._write(text)
 
     def packet(self, text: bytes, time: int) -> None:
-        """Writes a packet of this time, in nanoseconds."""
+        """Writes a packet with this time in nanoseconds."""
         self._write(text)
 
     def check(self) -> None:
-        """Raises where an earlier write failed, or it is closed."""
+        """Raises an OSError if an earlier write failed, or if the output is closed."""
         if self._has_failed:
-            raise OSError("an earlier write failed")
+            raise OSError("an earlier write failed, or the Writer is closed")
 
     def _write(self, text: bytes) -> None:
         self.check()
@@ -34,7 +34,7 @@ class Output:
         while len(left) > 0:
             count = self._file.write(left)
             if count is None and isinstance(self._file, io.RawIOBase) or count == 0:
-                raise BlockingIOError("the file takes no bytes")
+                raise BlockingIOError("the file accepts no bytes now")
             left = left[len(left) if count is None else count :]
         self._has_failed = False
 
@@ -46,21 +46,23 @@ class Output:
             self.abandon()
 
     def abandon(self) -> None:
-        """Closes it where it was opened here, whatever was written."""
+        """Closes the file without flushing it, if the Writer opened it."""
         self._has_failed = True
         if self._is_mine:
             self._file.close()
 
 
 class Numbered(Output):
-    """Files with a number before their extension, each a whole capture: the next one begins with the packet by which the last would have
-    more than so many bytes, or which is so many nanoseconds later than the last one's first packet, or more. Each has a packet."""
+    """Files with a number before their extension, each a whole capture. Each file has at least one packet.
+
+    The next file begins with the packet that would make the current one longer than `most_bytes`, or that is at least `most_time`
+    nanoseconds later than its first packet."""
 
     def __init__(self, name: Name, most_bytes: Optional[int], most_time: Optional[int]) -> None:
         self._name, self._most_bytes, self._most_time = os.fsdecode(name), most_bytes, most_time
         self._front: List[bytes] = []
         self.files: List[str] = []
-        # How many bytes the file has, and the time of its first packet.
+        # The length of the current file in bytes, and the time of its first packet.
         self._length, self._begin = 0, None  # type: int, Optional[int]
         super().__init__(self._opened(), True)
 
@@ -91,7 +93,7 @@ class Numbered(Output):
         return is_long or self._most_time is not None and time >= self._begin + self._most_time
 
     def _begin_next(self) -> None:
-        """Begins the next file with what packets need. Where that can't be opened, the last one stays the one that is written."""
+        """Begins the next file with the headers that packets need. If it cannot be opened, the current file stays in use."""
         following, last = self._opened(), self._file
         self._file = following
         try:

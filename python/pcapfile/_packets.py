@@ -1,4 +1,4 @@
-"""Packets of both formats, and what is told of each beyond its fields."""
+"""Packets of both formats, and their attributes."""
 
 import datetime as _datetime
 import struct
@@ -11,21 +11,21 @@ from ._options import Block, Option
 
 _EPOCH = _datetime.datetime(1970, 1, 1, tzinfo=_datetime.timezone.utc)
 
-# The types of blocks whose packets have options, and of those that have neither options nor times.
+# The types of blocks whose packets have options, and the type whose packets have neither options nor times.
 _WITH_OPTIONS = (6, 2)
 _SIMPLE = 3
 
-# What stands there before the data, low byte first or high byte first, with the magic number of such a section: the type, the
-# block's length, the interface, both halves of the time, and both lengths.
+# The bytes of a block before the data, in little-endian and big-endian order, each with the magic number of such a section. They
+# are the type, the block's length, the interface, both halves of the time, and both lengths.
 _HEADS = ((struct.Struct("<7I"), 0x4D3C2B1A), (struct.Struct(">7I"), 0x1A2B3C4D))
 _HEAD = 28
 
-# What stands of a block before its body.
+# The number of bytes of a block before its body.
 _FRAME = 8
 
 
 class Told:
-    """What is told of a packet of either format beyond its fields."""
+    """The attributes of packets of both formats beyond their fields."""
 
     __slots__ = ()
 
@@ -42,47 +42,48 @@ class Told:
 
     @property
     def time(self) -> Optional[float]:
-        """Seconds since 1970, as exact as a float is; `seconds` and `nanoseconds` are exact. None where it has no time."""
+        """The time in seconds since 1970, as a float, or None if the packet has no time. `seconds` and `nanoseconds` are exact."""
         return None if self.seconds is None else self.seconds + self.nanoseconds / 1e9
 
     @property
     def time_ns(self) -> Optional[int]:
-        """Nanoseconds since 1970. None where it has no time."""
+        """The time in nanoseconds since 1970, or None if the packet has no time."""
         return None if self.seconds is None else self.seconds * 1_000_000_000 + self.nanoseconds
 
     @property
     def datetime(self) -> Optional[_datetime.datetime]:
-        """The time in UTC, down to whole microseconds. None where it has none, and an OverflowError where no datetime holds it, as
-        after the year 9999."""
+        """The time as a datetime in UTC, in whole microseconds, or None if the packet has no time. It raises an OverflowError if
+        no datetime can represent the time, for example after the year 9999."""
         if self.seconds is None:
             return None
         return _EPOCH + _datetime.timedelta(seconds=self.seconds, microseconds=self.nanoseconds // 1000)
 
     @property
     def length(self) -> int:
-        """How many bytes are stored."""
+        """The number of bytes that the capture stores of the packet."""
         return len(self.data)
 
     @property
     def block(self) -> Optional[Block]:
-        """The block of a PcapNg capture that it is; None in a classic capture, and of a simple packet, which has no options."""
+        """The `Block` that a PcapNg packet comes from. It is None for a classic packet, and for a simple packet, which has no
+        options."""
         return _block_of(self)
 
     @property
     def options(self) -> List[Option]:
-        """Its options. A classic capture has none."""
+        """The options of the packet. A classic packet has none."""
         block = self.block
         return [] if block is None else block.options
 
     @property
     def comment(self) -> Optional[str]:
-        """The first comment on it, or None."""
+        """The first comment on the packet, or None."""
         block = self.block
         return None if block is None else block.comment
 
     @property
     def _around(self) -> Tuple[memoryview, int]:
-        """The bytes in which it lies, and where in them its own begin."""
+        """The buffer that contains the data, and the place at which the data begins in it."""
         around = memoryview(self.data.obj).cast("B")  # type: ignore[arg-type]
         return around, _library.place_of(self.data) - _library.place_of(around)
 
@@ -100,7 +101,7 @@ class Told:
         return f"<packet of {told}, at byte {self.offset}>"
 
     def __reduce__(self) -> Tuple[Any, ...]:
-        """Pickled it keeps its own bytes, and its options, and nothing else of the capture."""
+        """Pickles the packet's data and its block with the options, and nothing else of the capture."""
         around, at = self._around
         block, end = self.block, at + self.length
         begin = at if block is None else at - _HEAD
@@ -111,8 +112,11 @@ class Told:
 
 
 def _block_of(packet: Told) -> Optional[Block]:
-    """The block around a packet's data. It begins with a type that has options, in either order of bytes, and says the packet's time;
-    before a simple packet's data the length of another block stands where its time would, which is 0."""
+    """Returns the block around a packet's data, or None.
+
+    Before the data of an enhanced packet there is a type that has options, in one of the byte orders, and the packet's time.
+    Before the data of a simple packet there may be another block, whose length is where the time would be. The time of a simple
+    packet is 0, so it differs."""
     timestamp = getattr(packet, "timestamp", None)
     around, at = packet._around
     begin = at - _HEAD
@@ -147,7 +151,7 @@ class _BlockFields(NamedTuple):
 
 
 class Timed(Told):
-    """What the interface of a packet tells."""
+    """The attributes that a packet has by its interface."""
 
     __slots__ = ()
 
@@ -155,15 +159,13 @@ class Timed(Told):
 
     @property
     def link(self) -> Optional[int]:  # type: ignore[override]
-        """The number of the link type of its first layer. None where its interface isn't there."""
+        """The number of the packet's link type, or None if its interface is unknown."""
         return None if self.interface is None else self.interface.link
 
 
 class Packet(Told, _Fields):
-    """A packet of a classic capture. `data` lies where the capture's bytes do, and can be read as long as it lives.
-
-    `link` is the number of the link type of its first layer, and `offset` is where `data` begins, in bytes from the capture's
-    start.
+    """A packet of a classic capture. `data` is a view of its bytes, which stay valid as long as the view exists. `link` is the
+    number of its link type. `offset` is where `data` begins, in bytes from the capture's start.
 
         >>> with pcapfile.open("capture.pcap") as capture:
         ...     packet = next(iter(capture))
@@ -177,11 +179,11 @@ class Packet(Told, _Fields):
 
 
 class BlockPacket(Timed, _BlockFields):
-    """A packet of an interface. `data` lies where the capture's bytes do, and can be read as long as it lives. Of a simple packet it
-    is cut to the original length and to the interface's snaplen, since what follows is padding.
+    """A packet of a PcapNg capture. `data` is a view of its bytes, which stay valid as long as the view exists. For a simple
+    packet the view ends at the original length, or at the interface's snapshot length, because padding follows. `offset` is
+    where `data` begins, in bytes from the capture's start.
 
-    A simple packet has no time, and there `seconds` is None, as it is where the packet names an interface that isn't there,
-    or the seconds pass 64 bits. `offset` is where `data` begins, in bytes from the capture's start.
+    `seconds` is None for a simple packet, for a packet of an unknown interface, and if the seconds exceed 64 bits.
 
         >>> with pcapfile.open("options.pcapng") as capture:
         ...     packet = next(iter(capture))
@@ -193,7 +195,7 @@ class BlockPacket(Timed, _BlockFields):
 
 
 def _lent_to(native_type: Any, like: Any) -> Any:
-    """The extension's type of packets, with what is told of its packets in Python, too."""
+    """Returns the extension's type of packets, with the attributes that are written in Python."""
     native_type._fields, native_type.__doc__ = like._fields, like.__doc__
     for name in ("datetime", "block", "options", "comment", "_asdict", "__hash__", "__repr__", "__reduce__"):
         setattr(native_type, name, vars(Told)[name])
@@ -205,7 +207,7 @@ if not TYPE_CHECKING and native is not None:
 
 
 def _restored(kind: Any, text: bytes, at: int, length: int, fields: Tuple[Any, ...]) -> Any:
-    """A packet that was pickled, in whichever way that was."""
+    """Returns a packet that was pickled, with or without the extension."""
     named = {**dict(zip(kind._fields, fields)), "data": memoryview(text)[at : at + length]}
     if native is None or kind not in (native.Packet, native.BlockPacket):
         return kind(*named.values())

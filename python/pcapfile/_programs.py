@@ -1,4 +1,4 @@
-"""What the program `pcapfile` does to captures in files: the one that the package carries, or that is installed."""
+"""Functions that run the program `pcapfile` on files: the program inside the package, or an installed one."""
 
 import datetime
 import json
@@ -16,13 +16,13 @@ from ._filter import Moment, nanoseconds_of
 
 Name = Union[str, bytes, "os.PathLike[Any]"]
 
-# Where a wheel carries the program.
+# The place of the program in a wheel.
 _CARRIED = Path(__file__).parent / "bin" / "pcapfile"
 
-# The program's statuses beside 0.
+# The program's exit statuses other than 0.
 _REFUSED, _NOT_UNDERSTOOD, _NO_MEMORY = 1, 2, 4
 
-# What begins the lines that it says, and the one that tells how to read on by the command line.
+# The beginning of each line that the program prints, and the beginning of its hint for users of the command line.
 _HEAD, _HINT = "pcapfile: ", "--repair goes on"
 
 # The most lines that a warning shows.
@@ -30,15 +30,18 @@ _SHOWN = 10
 
 
 class CaptureWarning(UserWarning):
-    """What was written lacks something of the captures, or has it otherwise; the warning says what.
+    """Warns that the output lacks a part of the captures, or changes it. The text says what.
 
         >>> warnings.simplefilter("error", pcapfile.CaptureWarning)  # what is left out is an error
     """
 
 
 class ProgramError(CaptureError):
-    """The program refuses a capture, or finds it cut short, in its own words. `offset` is None where these don't tell it. What it wrote
-    before that stays: of `merge` the packets of all captures up to there, of `cut` the parts before that.
+    """The program found a truncated or malformed capture. The text is the program's message. `offset` is None if the message has
+    no place, or several.
+
+    After a fault the output of `merge` has the packets of all captures up to there, and the numbered files of `cut` before the
+    fault stay. Any other output stays unchanged.
 
         >>> try:
         ...     pcapfile.convert("broken.pcap", "converted.pcapng")
@@ -57,19 +60,19 @@ class ProgramError(CaptureError):
 
 
 def program() -> str:
-    """Where the program lies: at PCAPFILE_PROGRAM, in the package, or where the system finds programs. A FileNotFoundError says where it
-    was looked for."""
+    """Returns the path of the program: the one at PCAPFILE_PROGRAM, in the package, or on the PATH. It raises a FileNotFoundError
+    if there is none."""
     named = os.environ.get("PCAPFILE_PROGRAM")
     if named:
         return named
     found = str(_CARRIED) if _CARRIED.exists() else shutil.which("pcapfile")
     if found is None:
-        raise FileNotFoundError(f"the program pcapfile is neither {_CARRIED} nor on the PATH, and PCAPFILE_PROGRAM names none")
+        raise FileNotFoundError(f"the program pcapfile is neither at {_CARRIED} nor on the PATH; set PCAPFILE_PROGRAM to its path")
     return found
 
 
 def main() -> NoReturn:
-    """Becomes the program, with the words of the command line."""
+    """Replaces the process by the program, with the arguments of the command line."""
     where = None
     try:
         where = program()
@@ -80,10 +83,14 @@ def main() -> NoReturn:
 
 
 def info(file: Name, *, repaired: bool = False) -> Dict[str, Any]:
-    """What a capture in a file holds: its packets, bytes, times, rates, sizes and interfaces, as `pcapfile info --json` tells them.
+    """Returns facts of a capture in a file, as `pcapfile info --json` prints them: its packets, bytes, times, rates, sizes and
+    interfaces.
 
-    What has decimals is a text, so that none is lost. `check` says whether the capture is whole, and `status` is 0 then, or 1 where it is
-    cut short or refused; the figures are those of what comes before that. With `repaired` it is read as `repair` would write it.
+    Decimal fractions are texts, so that they lose no digits. `check` says whether the capture is whole. `status` is 0 for a whole
+    capture, and 1 for a truncated or malformed one; the other values then describe the packets before the fault. With
+    `repaired=True` they describe the capture that `repair` would write.
+
+    It raises an OSError if the file cannot be read.
 
         >>> pcapfile.info("capture.pcap")["packets"]
         1
@@ -97,17 +104,20 @@ def info(file: Name, *, repaired: bool = False) -> Dict[str, Any]:
 
 
 def merge(files: Sequence[Name], out: Name, *, repaired: bool = False) -> List[str]:
-    """Writes the packets of several captures, of either format, by time into one PcapNg capture. Each interface stays one of its own.
+    """Merges captures of either format by time into one PcapNg capture. Every interface keeps a description of its own.
 
-    Like `cut`, `convert` and `repair` it gives the lines that the program said of what it left out or changed, none mostly, and warns of
-    them by a CaptureWarning. A capture that is refused or cut short is a ProgramError behind all that could be written of it. `out` has
-    all that is written, or stays as it was.
+    Like `cut`, `convert` and `repair`, it returns the program's messages about what it left out or changed, which is mostly an
+    empty list. It also issues them as a CaptureWarning.
+
+    It raises a ProgramError for a truncated or malformed capture, and `out` then has everything before the fault. It raises
+    an OSError for a file that cannot be read or written, and then `out` stays unchanged. With `repaired=True` it reads damaged
+    captures as `repair` does.
 
         >>> pcapfile.merge(["monday.pcap", "tuesday.pcapng"], "both.pcapng")
         []
     """
     if isinstance(files, (str, bytes, os.PathLike)):
-        raise TypeError("files is a sequence of names")
+        raise TypeError("files must be a sequence of names")
     return _written(["merge", *_repaired(repaired)], files, out)
 
 
@@ -123,11 +133,16 @@ def cut(
     at_least: Optional[int] = None,
     repaired: bool = False,
 ) -> List[str]:
-    """Writes a part of a capture, or all of it in parts: the header, and packets as their bytes stand.
+    """Writes a part of a capture, or the whole capture in several files. It copies the header and the packets byte for byte.
 
-    One part is that of `packets`, a slice or a range of the numbers that `indexed` has, from 0 on; or of the times `since` one and before
-    another, `until`, as `filter` has them; or all. Parts of `every` so many packets, so many equal `parts`, or parts of `at_least` so many
-    bytes are files with a number: `out.pcap` becomes `out-00001.pcap` and so on.
+    To write one part, give `packets`, a slice or a range of numbers from 0 on, as `indexed` numbers them. Or give a range of
+    times, from `since` to before `until`, as for `filter`.
+
+    To write several files, give `every`, the number of packets in a file, `parts`, the number of equal files, or `at_least`, the
+    least number of bytes in a file. The names of the files have numbers: `out.pcap` becomes `out-00001.pcap` and so on.
+
+    It returns messages like `merge`. It raises a ProgramError for a truncated or malformed capture. Then a single `out` stays
+    unchanged, and the numbered files before the fault stay. It raises a ValueError for an impossible choice.
 
         >>> pcapfile.cut("capture.pcap", "first.pcap", packets=slice(10))
         []
@@ -141,26 +156,27 @@ def cut(
     for word, name, count in (("every", "every", every), ("parts", "parts", parts), ("bytes", "at_least", at_least)):
         if count is not None:
             if count.__index__() < 1:
-                raise ValueError(f"{name} is {count}, and has to be at least 1")
+                raise ValueError(f"{name} is {count}, and must be at least 1")
             words.append(f"--{word}={count.__index__()}")
     return _written(words, [file], out)
 
 
 def convert(file: Name, out: Name, *, to: Optional[str] = None, repaired: bool = False) -> List[str]:
-    """Writes a capture in the other format, or `to` one, "pcap" or "pcapng"; as it is where it has that. A capture that is refused or cut
-    short is a ProgramError, and `out` stays as it was.
+    """Converts a capture to the other format, or to the format `to`, which is "pcap" or "pcapng". If the capture has that format
+    already, the output is a copy. It returns messages like `merge`. It raises a ProgramError for a truncated or malformed
+    capture, and then `out` stays unchanged.
 
         >>> pcapfile.convert("capture.pcap", "capture.pcapng")
         []
     """
     if to not in (None, "pcap", "pcapng"):
-        raise ValueError(f"to is {to!r}, and no format")
+        raise ValueError(f"to is {to!r}, and must be 'pcap' or 'pcapng'")
     return _written(["convert", *_repaired(repaired), *([] if to is None else [f"--to={to}"])], [file], out)
 
 
 def repair(file: Name, out: Name) -> List[str]:
-    """Writes what can be read of a capture as one in which nothing breaks a rule. The lines tell each packet and block that was changed or
-    left out, with its place.
+    """Writes what can be read of a damaged capture as a capture that breaks no rule. It returns a message, with its place, for
+    each packet and block that it changed or left out. It raises a ProgramError if the header is malformed.
 
         >>> pcapfile.repair("capture.pcap", "sound.pcap")
         []
@@ -183,7 +199,7 @@ def _run(words: List[Any]) -> "subprocess.CompletedProcess[bytes]":
 
 
 def _named(file: Name) -> Name:
-    """A file's name, which the program never takes for its standard input or output."""
+    """Returns a file's name in a form that the program never takes for its standard input or output."""
     name = os.fspath(file)
     if os.fsencode(name) == b"-":
         return "./-"
@@ -195,12 +211,12 @@ def _repaired(repaired: bool) -> List[str]:
 
 
 def _numbers(packets: Union[slice, range]) -> str:
-    """Packets from 0 on, as the program has their numbers from 1 on."""
+    """Returns a range of packets that begins at 0 in the program's form, which begins at 1."""
     begin, end = packets.start or 0, packets.stop
     if packets.step not in (None, 1):
-        raise ValueError(f"the step of packets is {packets.step}, and has to be 1")
+        raise ValueError(f"the step of packets is {packets.step}, and must be 1")
     if begin < 0 or end is not None and end <= begin:
-        raise ValueError(f"packets are from {begin} to {end}, and have to be one at least, by numbers from 0 on")
+        raise ValueError(f"packets go from {begin} to {end}, and must be at least one packet from number 0 on")
     return f"{begin + 1}-{'' if end is None else end}"
 
 
@@ -211,21 +227,21 @@ def _seconds(moment: Union[float, datetime.datetime]) -> str:
 
 
 def _lines(said: bytes) -> List[str]:
-    """What the program said, without its name and the hint."""
+    """Returns the lines that the program printed, without its name and its hint."""
     lines = [line[len(_HEAD) :] if line.startswith(_HEAD) else line for line in os.fsdecode(said).split("\n")]
     return [line for line in lines if line and not line.startswith(_HINT)]
 
 
 def _warn(lines: List[str], depth: int) -> None:
-    """Warns whoever called the function that is so deep below this."""
+    """Issues a warning in the name of the caller `depth` functions above this one."""
     if lines:
         more = [f"and {len(lines) - _SHOWN} lines more"] if len(lines) > _SHOWN else []
         warnings.warn("\n".join(lines[:_SHOWN] + more), CaptureWarning, stacklevel=depth + 2)
 
 
 def _error_of(status: int, lines: List[str]) -> Exception:
-    """The error of a status, with all that was said."""
-    message = "\n".join(lines) or f"the program pcapfile ends with status {status}"
+    """Returns the exception for an exit status and the lines that the program printed."""
+    message = "\n".join(lines) or f"the program pcapfile ended with status {status}"
     if status == _REFUSED:
         return ProgramError(message)
     if status == _NOT_UNDERSTOOD:

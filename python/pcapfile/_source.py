@@ -1,7 +1,7 @@
-"""Where the bytes of captures come from: memory, a file that is read piece by piece, or a stream.
+"""The sources of a capture's bytes: memory, a file that is read piece by piece, or a stream.
 
-Each walk has a window of its own, with a view, and of a file a descriptor, that nothing but the walk lets go. So a capture can be
-closed by one thread while another one walks over it: the walk then ends with a ValueError."""
+Every walk has a window with its own view of the bytes, and for a file its own descriptor. Only the walk releases them. So one
+thread may close a capture while another one walks over it: the walk then ends with a ValueError."""
 
 import io
 import mmap
@@ -17,39 +17,40 @@ from ._extension import Open
 
 Data = Union[bytes, bytearray, memoryview, mmap.mmap]
 
-# How many bytes of a file or a stream are asked for at once, unless a packet needs more: they stay in a processor's cache.
+# How many bytes one read of a file or a stream asks for, unless a packet needs more. So many fit the processor's cache.
 CHUNK = 1 << 18
 
-# How many bytes of a file are read at once where none of them are lent.
+# How many bytes one read of a file asks for if packets do not refer to them.
 PIECE = 1 << 18
 
-# The same of one of several threads: each read, and each walk over what was read, asks for the interpreter's lock once.
+# The same with several threads: each read, and each walk over a piece, acquires the interpreter's lock once.
 PIECE_OF_MANY = 1 << 20
 
-# The same where numpy reads the packets' bytes.
+# The same if numpy decodes the packets.
 PIECE_TO_DECODE = 1 << 22
 
-# How many bytes of a file a window begins with where they are lent. Who asks for one block or packet reads no more.
+# How many bytes the first read of a file asks for if packets refer to them. This is enough for a program that wants one block or
+# packet.
 FIRST = 1 << 14
 
-# How many packets or blocks have to stand in a row where a stretch is guessed to begin.
+# How many packets or blocks in a row a guessed beginning of a stretch must have.
 IN_A_ROW = 4
 
-# How far apart pages of memory begin at least. A file's bytes are copied faster to where they lie as they do in its pages.
+# The alignment of memory pages. The system copies bytes faster if they have the same place in a page as in the file.
 PAGE = 4096
 
-# How many rooms a walk keeps to read into, and whether it can tell that nobody has a view of one.
+# How many buffers a walk keeps for reading, and whether it can find out that a buffer has no views.
 _ROOMS = 4
 _TELLS_VIEWS = sys.implementation.name == "cpython"
 
 
-# How many seconds pass before a file that has not grown is looked at again.
+# How many seconds a reader waits before it looks again at a file that has not grown.
 _PAUSE = 0.1
 
 
 class Window:
-    """Bytes of a capture that lie in memory, and what is left of them: `left`, as the library has it. `data` are all of them, which
-    begin at the address `start`, and at so many bytes of the capture as `base` tells. `open` tells whether the capture is open."""
+    """Bytes of a capture in memory. `data` are all bytes; they begin at the address `start`, and at offset `base` of the capture.
+    `left` are the bytes that the walk has not taken, as a struct of the library. `open` records whether the capture is open."""
 
     def __init__(self, open: Any, data: memoryview, base: int = 0) -> None:
         self.open = open
@@ -62,25 +63,25 @@ class Window:
         self.left.ptr, self.left.len = self.start, len(data)
 
     def check(self) -> None:
-        """Raises where the capture is closed."""
+        """Raises a ValueError if the capture is closed."""
         if self.open.is_closed:
             raise ValueError("the capture is closed")
 
     @property
     def offset(self) -> int:
-        """How many bytes of the capture have been taken. A closed capture raises here, before the library would look at its
-        bytes."""
+        """How many bytes of the capture the walk has taken. It raises a ValueError for a closed capture, before the library reads
+        its bytes."""
         self.check()
         return self.base + len(self.data) - self.left.len
 
     def more(self, missing: int) -> bool:
-        """Whether more bytes came behind those that are left, up to so many that are missing, or more."""
+        """Reads more bytes after those that are left, of which at least `missing` are needed. Returns False if there are none."""
         return False
 
 
 class Stretch(NamedTuple):
-    """Whole packets or blocks of a capture, between two places in it, or what is left of it. Of PcapNg also where the section
-    header in force there stands, and its interfaces."""
+    """Whole packets or blocks of a capture between two offsets; the last stretch also has the rest of the capture. For PcapNg it
+    has the offsets of the section header and of the interfaces that the blocks depend on."""
 
     begin: int
     end: int
@@ -89,7 +90,7 @@ class Stretch(NamedTuple):
 
 
 class Memory:
-    """Bytes in memory. A walk begins at their front, or at that of a stretch."""
+    """Bytes in memory. A walk begins at their start, or at that of a stretch."""
 
     def __init__(self, data: Data) -> None:
         self.open = Open()
@@ -105,7 +106,7 @@ class Memory:
         return self.between(0, len(self))
 
     def between(self, begin: int, end: Optional[int] = None) -> Window:
-        """Those between two places, or from a place on, to be lent."""
+        """Returns a window over the bytes between two offsets, or from an offset on. Packets may refer to its bytes."""
         if self.open.is_closed:
             raise ValueError("the capture is closed")
         data = self._bytes if end is None or end >= len(self) else self._bytes[:end]
@@ -114,15 +115,15 @@ class Memory:
         return window
 
     def read(self, begin: int, end: int, room: Optional[memoryview] = None) -> Window:
-        """Those between two places, of which none are lent."""
+        """Returns a window over the bytes between two offsets. Packets must not refer to its bytes."""
         return self.between(begin, end)
 
     def piece(self, begin: int, end: int) -> Window:
-        """Those between two places, which are few."""
+        """Returns a window over the few bytes between two offsets."""
         return self.between(begin, end)
 
     def raw(self) -> Any:
-        """The same as a stream, from its front."""
+        """Returns the bytes as a stream, from their start."""
         return io.BytesIO(self._bytes)
 
     def close(self) -> None:
@@ -131,7 +132,7 @@ class Memory:
 
 
 class Descriptor:
-    """A descriptor of a file that is its owner's alone: another thread may close the file, and open another one under its number."""
+    """A duplicate of a file's descriptor. Another thread may close the file, and open another one under the original number."""
 
     def __init__(self, number: int) -> None:
         self._number = os.dup(number)
@@ -141,7 +142,7 @@ class Descriptor:
             os.close(self._number)
 
     def read_into(self, room: memoryview, place: int) -> int:
-        """Reads what stands at a place of the file, and tells how much that is."""
+        """Reads bytes of the file from an offset into a buffer, and returns how many they are."""
         if hasattr(os, "preadv"):
             return os.preadv(self._number, [room], place)
         data = os.pread(self._number, len(room), place)
@@ -150,8 +151,8 @@ class Descriptor:
 
 
 class File:
-    """A regular file, which is read. A walk begins at its front, or at that of a stretch, and sees no more of it than it held when
-    it was opened. Where it is shorter by then, the walk ends with `Incomplete`."""
+    """A regular file. A walk begins at its start, or at that of a stretch. It reads no more bytes than the file had when it was
+    opened. If the file is shorter by then, the walk ends with `Incomplete`."""
 
     def __init__(self, stream: BinaryIO) -> None:
         self.open = Open()
@@ -175,26 +176,27 @@ class File:
         return self.between(0)
 
     def between(self, begin: int, end: Optional[int] = None) -> Window:
-        """Those between two places, or from a place on, to be lent."""
+        """Returns a window over the bytes between two offsets, or from an offset on. Packets may refer to its bytes."""
         return Lent(self, begin, len(self) if end is None else end)
 
     def read(self, begin: int, end: int, room: Optional[memoryview] = None) -> Window:
-        """Those between two places, of which none are lent. They are read into this room, where there is one."""
+        """Returns a window over the bytes between two offsets. Packets must not refer to its bytes. It reads into `room`, if the
+        caller gives one."""
         return Pieces(self, begin, end, room_of(PIECE) if room is None else room)
 
     def piece(self, begin: int, end: int) -> Window:
-        """Those between two places, which are few: they are read at once."""
+        """Returns a window over the few bytes between two offsets, which it reads at once."""
         return Window(self.open, self.view(begin, end), begin)
 
     def mapped(self) -> Memory:
-        """The whole file as memory, for a call that needs it so. It must not become shorter meanwhile."""
+        """Returns the whole file as a mapping, for functions that need it in memory. The file must not become shorter meanwhile."""
         with self._lock:
             if self.open.is_closed:
                 raise ValueError("the capture is closed")
             return Memory(mmap.mmap(self._stream.fileno(), self._length, access=mmap.ACCESS_READ) if self._length else b"")
 
     def raw(self) -> Any:
-        """The same as a stream, from its front: nothing else moves its place."""
+        """Returns the file as a stream, from its start. Nothing else moves the file's position."""
         return self._stream
 
     def close(self) -> None:
@@ -204,12 +206,12 @@ class File:
 
 
 def room_of(size: int) -> memoryview:
-    """Memory of whole pages."""
+    """Returns a buffer of whole memory pages."""
     return memoryview(mmap.mmap(-1, size))
 
 
 class Rooms:
-    """Memory that is lent with packets, and is used again where none of them lives any more."""
+    """The buffers that packets refer to. It uses a buffer again when no packet refers to it any more."""
 
     def __init__(self) -> None:
         self._rooms: List[bytearray] = []
@@ -219,7 +221,8 @@ class Rooms:
             return bytearray(size)
         for room in self._rooms:
             try:
-                # Nobody resizes what somebody has a view of. References can't be counted for that: from 3.14 on some are not.
+                # Python refuses to resize a buffer that has views. Counting references would not do: since 3.14 some are not
+                # counted.
                 room.append(0)
                 room.pop()
                 return room
@@ -232,7 +235,7 @@ class Rooms:
 
 
 class _OfFile(Window):
-    """Bytes of a file between two places, which are read piece by piece."""
+    """A window over the bytes of a file between two offsets, which it reads piece by piece."""
 
     def __init__(self, file: File, begin: int, end: int, data: memoryview) -> None:
         self._descriptor, self._next, self._end = file.descriptor(), begin, end
@@ -245,7 +248,7 @@ class _OfFile(Window):
         return self._next - self.left.len
 
     def _read(self, room: memoryview) -> int:
-        """Reads what follows into a room. Where the file has become shorter, and nothing is left either, that is the refusal."""
+        """Reads the next bytes into a buffer. It raises `Incomplete` if the file has become shorter and no bytes are left."""
         self.check()
         wanted = room[: self._end - self._next]
         count = self._descriptor.read_into(wanted, self._next) if len(wanted) > 0 else 0
@@ -255,7 +258,7 @@ class _OfFile(Window):
 
 
 class Lent(_OfFile):
-    """Those that are read into memory which is kept while its packets live."""
+    """A window of a file whose packets refer to its bytes: it keeps a buffer as long as packets refer to it."""
 
     def __init__(self, file: File, begin: int, end: int) -> None:
         self._rooms, self._most = Rooms(), FIRST
@@ -265,7 +268,8 @@ class Lent(_OfFile):
         place, held = self._next, self.data[len(self.data) - self.left.len :]
         if place >= self._end:
             return False
-        # Twice what is held at most, so that a broken length doesn't take memory for bytes that aren't there.
+        # It asks for a chunk, or for as many bytes as it already has. So a corrupt length takes no memory for bytes that do
+        # not exist.
         wanted = max(min(self._most, CHUNK - len(held)), min(missing, max(len(held), CHUNK)))
         view = memoryview(self._rooms.free(len(held) + min(wanted, self._end - place)))
         view[: len(held)] = held
@@ -278,7 +282,7 @@ class Lent(_OfFile):
 
 
 class Pieces(_OfFile):
-    """Those that are read into the same memory: none of them may be lent."""
+    """A window of a file that reads into the same buffer again and again, so packets must not refer to its bytes."""
 
     def __init__(self, file: File, begin: int, end: int, room: memoryview) -> None:
         super().__init__(file, begin, end, room)
@@ -299,10 +303,11 @@ class Pieces(_OfFile):
 
 
 class Stream(Window):
-    """Bytes that come out of a stream, which is read once. What is left when more are read moves to the front of new memory, so
-    that bytes which were lent stay as they are.
+    """The bytes of a stream, which can be read once. Before it reads more, it copies the bytes that are left to a new buffer, so
+    that bytes which packets refer to stay the same.
 
-    One walk goes over a stream: who asks for the same again goes on with it. `front` came out of it before."""
+    A stream has one walk: a second loop of the same kind goes on with it. `front` has bytes that were already read from the
+    stream."""
 
     def __init__(self, stream: Any, front: bytes = b"") -> None:
         super().__init__(Open(), memoryview(front))
@@ -313,18 +318,20 @@ class Stream(Window):
         return self
 
     def walk(self, kind: Any, begun: Callable[[], Iterator[Any]]) -> Iterator[Any]:
-        """The walk of this kind over the stream: the one that goes on, or a new one where none does."""
+        """Returns the walk over the stream if it is of this kind, or begins one if there is none. It raises a ValueError during a
+        walk of another kind."""
         with self._lock:
             if self._walk is None or _is_over(self._walk):
                 self._kind, self._walk = kind, begun()
             elif self._kind != kind:
-                raise ValueError("the stream is being walked over in another way, and what that has taken would be lost")
+                raise ValueError("another kind of loop reads this stream, and its packets would be lost")
             return self._walk  # type: ignore[no-any-return]
 
     def more(self, missing: int) -> bool:
         self.check()
         held = self.data[len(self.data) - self.left.len :]
-        # Twice what is held at most, so that a broken length doesn't take memory for bytes that never come.
+        # It asks for a chunk, or for as many bytes as it already has. So a corrupt length takes no memory for bytes that never
+        # come.
         view = memoryview(self._rooms.free(len(held) + max(CHUNK - len(held), min(missing, max(len(held), CHUNK)))))
         count = self.into(view[len(held) :])
         if count is None:
@@ -341,14 +348,14 @@ class Stream(Window):
 
 
 class Growing:
-    """A file that another process writes: where it ends, who reads it waits until it has grown. It never ends by itself."""
+    """A file that another process writes. At its end, a read waits until the file has grown, so it never ends by itself."""
 
     def __init__(self, name: Any) -> None:
         self._file = open(name, "rb", buffering=0)
 
     def readinto(self, room: memoryview) -> int:
         while True:
-            count = self._file.readinto(room)  # a closed file raises a ValueError
+            count = self._file.readinto(room)  # raises a ValueError if the file is closed
             if count:
                 return int(count)
             if os.fstat(self._file.fileno()).st_size < self._file.tell():
@@ -360,13 +367,13 @@ class Growing:
 
 
 def _is_over(walk: Any) -> bool:
-    """Whether an iterator will give nothing more: a generator, or one of the extension."""
+    """Returns True if an iterator has ended. It is a generator or an iterator of the extension."""
     return walk.is_over if hasattr(walk, "is_over") else walk.gi_frame is None
 
 
 def _reading_into(stream: Any) -> Callable[[memoryview], Optional[int]]:
-    """A call that reads into a view what the stream has, and tells how much, or None where there may be some later: it waits for no
-    more than there is."""
+    """Returns a function that reads from the stream into a view, without waiting for more than the stream has. It returns the
+    number of bytes, or None if some may come later."""
     for name in ("readinto1", "readinto"):
         if hasattr(stream, name):
             into: Callable[[memoryview], Optional[int]] = getattr(stream, name)
@@ -384,7 +391,8 @@ def _reading_into(stream: Any) -> Callable[[memoryview], Optional[int]]:
 
 
 def _after_held(stream: io.BufferedReader, into: Callable[[memoryview], Optional[int]]) -> Callable[[memoryview], Optional[int]]:
-    """The same for a stream that may hold bytes already: with room for more, `readinto1` waits until more come behind these."""
+    """Returns such a function for a buffered stream. Given more room, `readinto1` waits for more than the buffered bytes, so the
+    first call returns only those."""
     is_first = True
 
     def reading(view: memoryview) -> Optional[int]:
@@ -392,7 +400,7 @@ def _after_held(stream: io.BufferedReader, into: Callable[[memoryview], Optional
         held = stream.read1(len(view)) if is_first else b""
         is_first = False
         view[: len(held)] = held
-        # None that is held may mean that none has come yet, which only the other call tells.
+        # An empty buffer may mean that no bytes have come yet. Only the other function distinguishes that from the end.
         return len(held) or into(view)
 
     return reading

@@ -1,4 +1,4 @@
-"""Columns of a capture whose stretches several threads walk side by side."""
+"""Columns of a capture, with several threads that each walk over a stretch of it."""
 
 from collections import deque
 from concurrent.futures import Future, ThreadPoolExecutor
@@ -13,21 +13,22 @@ from ._source import PIECE_OF_MANY, room_of
 if TYPE_CHECKING:
     from ._source import File, Memory
 
-# How many bytes of a capture a thread walks at once.
+# How many bytes of a capture a thread walks over at once.
 _STRETCH = 1 << 24
 
-# How many bytes are searched for where a stretch is guessed to begin.
+# How many bytes the guess of a stretch's beginning searches.
 _SEARCHED = 1 << 20
 
-# How many of these are mostly enough.
+# How many of these bytes it searches first; they mostly suffice.
 _NEAR = 1 << 14
 
 
 def side_by_side(walk: Any, source: "Union[Memory, File]", end: int, batch: int, threads: int, wanted: Wanted) -> Iterator[Any]:
-    """The columns of a walk up to a place of its capture, stretches of which so many threads walk, in the capture's order.
+    """Iterates over the columns of a walk up to the offset `end`, in the capture's order. `threads` threads walk over stretches
+    of it.
 
-    No stretch is known to begin between two packets: that is guessed, and a stretch counts only where the walk of all before it
-    ends at its front, with the same in force as it was walked with. Otherwise it is walked again from there."""
+    The beginning of a stretch is a guess. The result for a stretch counts only if the walk before it ends exactly there, with the
+    same section and interfaces. Otherwise the stretch is walked over again from the right place."""
     begin = walk.window.offset
     seems = walk.ahead(source.read(begin, end))
     stretches = _guessed(seems, source, begin, end, threads)
@@ -64,7 +65,7 @@ def side_by_side(walk: Any, source: "Union[Memory, File]", end: int, batch: int,
 
 
 class _Walked(NamedTuple):
-    """All columns of a walk, the walk at its end, and the refusal there."""
+    """The result of a walk over a stretch: all columns, the walk at its end, and the error there or None."""
 
     columns: List[Any]
     walk: Any
@@ -74,7 +75,7 @@ class _Walked(NamedTuple):
 def _walked(
     start: Any, source: "Union[Memory, File]", begin: int, end: int, asked: Tuple[int, Wanted], rooms: Deque[memoryview]
 ) -> _Walked:
-    """A walk between two places, over bytes that are read into one of these rooms: there is one for each who walks at once."""
+    """Walks over the bytes between two offsets. It reads them into one of the buffers, of which there is one for each thread."""
     columns: List[Any] = []
     room, refusal = rooms.pop(), None
     walk = start.over(source.read(begin, end, room))
@@ -88,7 +89,8 @@ def _walked(
 
 
 def _guessed(walk: Any, source: "Union[Memory, File]", begin: int, end: int, threads: int) -> Iterator[Tuple[int, int]]:
-    """Stretches of about equal length between two places, as many for each thread, each up to where packets seem to stand again."""
+    """Guesses stretches of about equal length between two offsets, the same number for each thread. Each ends where packets seem
+    to begin again."""
     count = threads * -(-(end - begin) // (threads * _STRETCH))
     for place in [begin + (end - begin) * k // count for k in range(1, count)]:
         guesses = (walk.guess(source.view(place, min(place + size, end)), place) for size in (_NEAR, _SEARCHED))

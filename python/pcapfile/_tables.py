@@ -1,4 +1,4 @@
-"""The packets of a capture as columns and DataFrames."""
+"""Columns and DataFrames of the packets of a capture."""
 
 from typing import TYPE_CHECKING, Any, Callable, Iterator, List, Optional
 
@@ -14,7 +14,7 @@ if TYPE_CHECKING:
 
 
 class Tables:
-    """What captures of both formats give as columns."""
+    """The methods of captures of both formats that give columns."""
 
     if TYPE_CHECKING:
         _source: Source
@@ -35,20 +35,23 @@ class Tables:
         since: Optional[Moment] = None,
         until: Optional[Moment] = None,
     ) -> Iterator[Any]:
-        """The packets as columns, so many of them at once: arrays of numpy with the fields `time_ns`, `len`, `orig_len`,
-        `interface`, `link` and `offset`, or an `array` for each by its name where numpy is missing.
+        """Iterates over the packets as columns, `batch` packets at a time: arrays of numpy with the fields `time_ns`, `len`,
+        `orig_len`, `interface`, `link` and `offset`. Without numpy each batch is a dict with an `array` for each name.
 
-        So many threads walk stretches of a capture in memory or in a file side by side, where numpy is there; the packets come in
-        the same order, and at the end of a stretch fewer at once. A stream is walked by one.
+        `time_ns` is in nanoseconds since 1970. It is -2^63, numpy's NaT, if a packet has no time or its time exceeds 64 bits.
+        `len` is the stored length and `orig_len` the original length, both in bytes. `offset` is where the stored bytes begin in
+        the capture. `interface` is the number of the interface in its section. `link` is the number of the link type, or 2^32 - 1
+        if the interface is unknown.
 
-        `time_ns` is in nanoseconds since 1970, and -2^63, numpy's NaT, where a packet has no time or 64 bits don't hold it.
-        `len` and `orig_len` are the stored and the original length, `offset` is where the stored bytes begin in the capture,
-        and `link` is 2^32 - 1 where the interface isn't known. Where the capture is refused, the packets before that come
-        first.
+        With `names` or `data` each batch is a dict of arrays. `names` adds `interface_name`, a text or None. `data` adds `data`,
+        the bytes of all packets, and `data_offsets`. These are the places in `data` at which each packet begins, and then the
+        place at which the last one ends. `since` and `until` choose packets by their times, as in `filter`.
 
-        With `names` or `data` they are a dict of arrays, one by the name of each column: with `interface_name`, a text or None; and with
-        `data`, the bytes of all packets, and `data_offsets`, where in these the bytes of each begin, and at last where they end. `since`
-        and `until` choose packets by their times, as in `filter`.
+        With numpy, `threads` threads walk over stretches of a capture in memory or in a file. The packets come in the same order,
+        but a batch at the end of a stretch is smaller. A stream uses one thread.
+
+        If the capture is truncated or malformed, the packets before the fault come first, and then a `CaptureError`. It raises a
+        ValueError if `batch` or `threads` is below 1.
 
             >>> with pcapfile.open("capture.pcap") as capture:
             ...     [rows["len"].tolist() for rows in capture.columns()]
@@ -59,7 +62,7 @@ class Tables:
     def _wanted(self, batch: int, threads: int, wanted: Wanted) -> Iterator[Any]:
         for name, number in (("batch", batch), ("threads", threads)):
             if number < 1:
-                raise ValueError(f"{name} is {number}, and has to be at least 1")
+                raise ValueError(f"{name} is {number}, and must be at least 1")
         if threads > 1 and _columns.numpy is not None and not isinstance(self._source, Stream):
             return self._side_by_side(batch, threads, wanted)
         return self._begun(("columns", batch, wanted), lambda: self._columns(batch, wanted))
@@ -70,7 +73,7 @@ class Tables:
     def _arrays(self, batch: int, wanted: Wanted) -> Iterator[Any]:
         walk = self._walk(lends=False)
         if wanted.decode and isinstance(self._source, File) and native is None:
-            # numpy is quick where it is called seldom.
+            # numpy is fast on large arrays, so each call gets many packets.
             walk.window = self._source.read(walk.window.offset, self._end(), room_of(PIECE_TO_DECODE))
         return _columns.of_walk(walk, batch, wanted)
 
@@ -88,19 +91,25 @@ class Tables:
         since: Optional[Moment] = None,
         until: Optional[Moment] = None,
     ) -> Any:
-        """All packets as a DataFrame of pandas: `time`, NaT where there is none, and the other columns.
+        """Returns a DataFrame of pandas with all packets: `time`, which is NaT for a packet without a time, and the other columns
+        of `columns`.
 
-        With `decode`, by one thread, it also has `source` and `destination`, the addresses of IP as texts, `source_port`,
-        `destination_port` and `protocol`, where these stand in Ethernet, with VLAN tags, in raw IP or in a Linux cooked capture, and
-        are whole; and NA elsewhere. Nothing else is checked, and no fragments are joined. `names`, `since` and `until` are those of
-        `columns`.
+        With `decode`, it also has `source` and `destination`, which are IP addresses as texts, and `source_port`,
+        `destination_port` and `protocol`. It decodes IP in Ethernet, also with VLAN tags, raw IP, and Linux cooked captures.
+        Other or truncated headers are NA. It checks nothing else, and joins no fragments. Decoding uses one thread.
+
+        `names`, `since` and `until` have the meanings that they have for `columns`.
+
+        It raises an ImportError without numpy and pandas, a ValueError for `decode` with several threads or with `strict=False`,
+        and a `CaptureError`
+        for a truncated or malformed capture.
 
             >>> with pcapfile.open("capture.pcap") as capture:
             ...     capture.to_pandas()["len"].sum()
             98
         """
         if decode and threads != 1:
-            raise ValueError("one thread decodes")
+            raise ValueError("decode=True needs threads=1")
         if decode and _columns.numpy is None:
             raise ImportError("to_pandas needs numpy and pandas: 'pip install pandas', or Debian's python3-pandas")
         wanted = wanted_of(names, False, decode, since, until)
@@ -111,9 +120,12 @@ class Tables:
     def to_arrow(
         self, *, names: bool = False, data: bool = False, since: Optional[Moment] = None, until: Optional[Moment] = None
     ) -> "Arrow":
-        """All packets as columns of Arrow, which `pyarrow.table`, `polars.DataFrame` and others take as they are, batch by batch: `time` in
-        nanoseconds of UTC, `len`, `orig_len`, `interface`, `link` and `offset`, where a time or a link type that isn't there is null;
-        with `names` also `interface_name`, and with `data` the bytes as `data`. The words are those of `columns`.
+        """Returns all packets as columns of Arrow, which `pyarrow.table`, `polars.DataFrame` and others accept directly, batch by
+        batch. The columns are `time` in nanoseconds of UTC, `len`, `orig_len`, `interface`, `link` and `offset`. A missing
+        time or link type is null.
+
+        `names` adds `interface_name`, and `data` adds the bytes as `data`. `since` and `until` have the meanings that they have
+        for `columns`.
 
             >>> with pcapfile.open("capture.pcap") as capture:
             ...     [column.name for column in capture.to_arrow().columns]
@@ -125,11 +137,12 @@ class Tables:
         return Arrow(lambda: self._wanted(COLUMNS, 1, wanted), columns_of(names, data))
 
     def __arrow_c_stream__(self, requested_schema: Any = None) -> Any:
-        """That of `to_arrow`."""
+        """Returns the stream of `to_arrow`."""
         return self.to_arrow().__arrow_c_stream__(requested_schema)
 
     def to_polars(self, **words: Any) -> Any:
-        """All packets as a DataFrame of polars, with the columns and words of `to_arrow`.
+        """Returns a DataFrame of polars with all packets. It has the columns and the parameters of `to_arrow`. It raises an
+        ImportError without polars, and a `CaptureError` for a truncated or malformed capture.
 
             >>> with pcapfile.open("capture.pcap") as capture:
             ...     capture.to_polars()["len"].sum()
@@ -148,7 +161,7 @@ class Tables:
             raise
 
     def _kept(self, wanted: Wanted) -> Iterator[Any]:
-        """All rows of a stream, those first that came before it had no more bytes for a while."""
+        """Iterates over all rows of a stream. First come those that it gave before it had to wait for bytes."""
         for rows in self._begun(("to_pandas", wanted), lambda: self._columns(COLUMNS, wanted)):
             self._rows.append(_columns.copied(rows))
         kept, self._rows = self._rows, []

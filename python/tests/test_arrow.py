@@ -1,4 +1,4 @@
-"""Tests of columns by Arrow's C data interface, which are read here as its specification has them: a consumer's part, word by word."""
+"""Tests of columns by Arrow's C data interface. A consumer reads them here as its specification says, word by word."""
 
 import ctypes
 import gc
@@ -20,7 +20,7 @@ try:
 except ImportError:
     polars = None
 
-# A schema's and an array's fields, and the stream's, each of 8 bytes.
+# The number of fields, of 8 bytes each, in the structs of a schema, an array and a stream.
 SCHEMA, ARRAY, STREAM = 9, 10, 5
 RELEASE = {SCHEMA: 7, ARRAY: 8, STREAM: 3}
 
@@ -30,7 +30,7 @@ def words(address, count):
 
 
 def release(address, count):
-    """Releases a struct as its consumer, which the callback has to mark."""
+    """Releases a struct as its consumer. The callback must mark the struct as released."""
     call = words(address, count)[RELEASE[count]]
     assert call != 0
     ctypes.CFUNCTYPE(None, ctypes.c_void_p)(call)(address)
@@ -44,7 +44,7 @@ def pointer_of(capsule, name):
 
 
 def schema_of(address):
-    """The format, the name, whether it may be null, and the children."""
+    """Returns the format, the name, whether values may be null, and the children."""
     format, name, _, flags, count, children, dictionary, _, _ = words(address, SCHEMA)
     assert dictionary == 0
     inner = [schema_of(child) for child in words(children, count)] if count else []
@@ -55,7 +55,7 @@ FORMATS = {"tsn:UTC": "q", "I": "I", "L": "Q"}
 
 
 def values_of(address, format):
-    """The values of an array of one of the formats here."""
+    """Returns the values of an array. `format` is one of the formats in these tests."""
     length, missing, offset, count, children, buffers, _, _, _, _ = words(address, ARRAY)
     assert (offset, children) == (0, 0)
     bits, *others = words(buffers, count)
@@ -73,7 +73,7 @@ def values_of(address, format):
 
 
 def taken(source, capsule=None):
-    """The names and the values of all columns of a stream, and the text of the error behind them."""
+    """Returns the names and values of all columns of a stream, and the text of the error after them, or None."""
     capsule = source.__arrow_c_stream__() if capsule is None else capsule
     stream = pointer_of(capsule, b"arrow_array_stream")
     get_schema, get_next, get_error, _, _ = words(stream, STREAM)
@@ -168,7 +168,7 @@ class Arrow(unittest.TestCase):
         self.assertEqual((len(_arrow._held), len(_arrow._capsules)), (held, capsules))
 
     def test_bytes_live_as_long_as_a_batch(self):
-        """A child that its consumer moved away lives behind its parent."""
+        """A child that its consumer moved out of its parent outlives the parent."""
         with pcapfile.parse(HEADER + packet(1, 0, b"abc")) as capture:
             capsule = capture.to_arrow(data=True).__arrow_c_stream__()
             stream = pointer_of(capsule, b"arrow_array_stream")

@@ -1,4 +1,4 @@
-"""Tests of packets as they stand. Each expected value is worked out from the bytes beside it."""
+"""Tests of lenient reading of classic captures. Each expected value follows from the bytes beside it."""
 
 import io
 import struct
@@ -21,7 +21,7 @@ def packet(seconds, fraction, data, original, order="<"):
     return struct.pack(order + "IIII", seconds, fraction, len(data), original) + data
 
 
-# Packets, with their time in nanoseconds of a capture in microseconds, and the rules that they break.
+# Packets of a capture with microseconds, each with its time in nanoseconds and the rules that it breaks.
 ROWS = [
     (packet(7, 8, b"abc", 5), 7_000_008_000, ()),
     (packet(7, 1_999_999, b"", 0), 8_999_999_000, ()),

@@ -1,5 +1,4 @@
-"""Tests of PcapNg captures whose blocks and packets are given as they stand. Each expected value is worked out from the bytes beside it,
-or comes from the model."""
+"""Tests of lenient reading of PcapNg captures. Each expected value follows from the bytes beside it, or comes from the model."""
 
 import io
 import random
@@ -34,7 +33,8 @@ def packet(number, units, data, *options, stored=None):
 
 
 SECTION = block(0x0A0D0D0A, struct.pack("<IHHq", 0x1A2B3C4D, 1, 0, -1))
-# A unit of a nanosecond behind a comment that is no string, and behind another unit that is too long.
+# The first interface has a malformed comment, a malformed resolution, and a resolution of a nanosecond. The second
+# description is too short. The third interface has no options.
 INTERFACES = interface(option(1, b"\xff"), option(9, b"\t\t"), option(9, b"\t")) + block(1, b"\x01\0\0\0") + interface()
 CAPTURE = SECTION + INTERFACES
 

@@ -1,4 +1,4 @@
-"""Tests of packets as columns. Each expected value is worked out from the bytes beside it."""
+"""Tests of packets as columns. Each expected value follows from the bytes beside it."""
 
 import contextlib
 import os
@@ -32,7 +32,7 @@ def option(code, value):
 
 
 def rows(capture, batch=65536):
-    """The rows of all columns, one behind the other, and the refusal behind them."""
+    """Returns the rows of all columns, and the CaptureError after them, or None."""
     got = []
     try:
         for columns in capture.columns(batch):
@@ -43,7 +43,7 @@ def rows(capture, batch=65536):
 
 
 class Columns(unittest.TestCase):
-    """Each test once with numpy, where it is, and once without."""
+    """Each test runs with numpy, if it is installed, and without numpy."""
 
     def both(self, data, wanted, batch=65536):
         with pcapfile.parse(data) as capture:
@@ -111,7 +111,8 @@ class Columns(unittest.TestCase):
         self.assertIsNone(self.both(data, [(NONE, 3, 9, 0, 5, at), (NONE, 2, 2, 0, 5, at + 20)]))
 
     def test_units_of_time(self):
-        # Halves of a second; seconds, 10 hours earlier; a millionth of a millionth; nanoseconds that pass 64 bits.
+        # Four interfaces: half seconds; seconds with an offset of -10 hours; picoseconds; and microseconds whose nanoseconds
+        # exceed 64 bits.
         units = [option(9, b"\x81"), option(9, b"\0") + option(14, struct.pack("<q", -36000)), option(9, b"\x0c"), b""]
         head = SECTION + b"".join(interface(options=option) for option in units)
         ticks = [3, 36001, 10**12 + 999_999, 2**63]
@@ -121,7 +122,7 @@ class Columns(unittest.TestCase):
         self.assertIsNone(self.both(data, wanted))
 
     def test_the_last_time_of_64_bits(self):
-        # So many microseconds, and one more, whose nanoseconds are more than 2^63 - 1 = 9_223_372_036_854_775_807.
+        # The last microsecond whose nanoseconds fit 2^63 - 1 = 9_223_372_036_854_775_807; one microsecond more does not fit.
         last, head = 9_223_372_036_854_775, SECTION + INTERFACE
         at = len(head) + 28
         fits, passes = (last * 1000, 0, 60, 0, 113), (NONE, 0, 60, 0, 113)
@@ -130,7 +131,7 @@ class Columns(unittest.TestCase):
             self.assertIsNone(self.both(head + b"".join(enhanced(0, count, b"") for count in ticks), wanted))
 
     def test_obsolete_packets(self):
-        # An interface of 16 bits and how many were dropped, the halves of a time, and the two lengths.
+        # The interface in 16 bits, the number of dropped packets, the halves of the time, and the two lengths.
         old = block(2, struct.pack("<HHIIII", 0, 7, 1, 5, 3, 9) + b"abc\0")
         head, time = SECTION + INTERFACE, (2**32 + 5) * 1000
         first = (time, 3, 9, 0, 113, len(head) + 28)

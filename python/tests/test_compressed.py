@@ -1,4 +1,4 @@
-"""Tests of captures that are compressed."""
+"""Tests of compressed captures."""
 
 import bz2
 import gzip
@@ -58,7 +58,7 @@ class Compressed(unittest.TestCase):
             self.assertEqual([p.offset for p in capture], [p.offset for p in plain])
 
     def test_what_is_damaged_comes_behind_what_is_not(self):
-        """Bytes that end early and bytes that are changed: the packets before that come first, and then a CaptureError."""
+        """The compressed bytes end early, or are changed: the packets before the damage come first, and then a CaptureError."""
         long = HEADER + b"".join(packet(n, 0, os.urandom(1000)) for n in range(2400))
         for name, compress in KINDS.items():
             whole = compress(long)
@@ -74,7 +74,7 @@ class Compressed(unittest.TestCase):
                 self.assertGreater(told.exception.offset, 0)
 
     def test_an_end_between_two_packets_is_told_too(self):
-        # Each packet is a member of its own, and the last member is torn.
+        # Each packet is its own gzip member, and the last member is truncated.
         data = gzip.compress(HEADER) + gzip.compress(packet(1, 0, b"abc")) + gzip.compress(packet(2, 0, b"abc"))[:-4]
         got = []
         with self.assertRaisesRegex(pcapfile.CaptureError, "end early"):
@@ -110,7 +110,7 @@ class Compressed(unittest.TestCase):
         self.assertEqual(packets(pcapfile.parse(lz4.frame.compress(CLASSIC))), WANTED)
 
     def test_memory_that_is_held(self):
-        """64 MiB of a compressed capture are never held at once."""
+        """Reading never buffers all 64 MiB of a compressed capture."""
         with gzip.open(self.path, "wb", compresslevel=1) as file:
             file.write(HEADER)
             for n in range(1024):

@@ -28,7 +28,7 @@ class Frames(unittest.TestCase):
     def setUp(self):
         self.room = tempfile.TemporaryDirectory()
         self.addCleanup(self.room.cleanup)
-        # Each packet without data ends a part, so that its data begins where the next part does.
+        # Every other packet has no data. At the end of a part, its data begins where the next part begins.
         classic = HEADER + b"".join(packet(n, 0, bytes(n % 2)) for n in range(40))
         blocks = SECTION + INTERFACE + b"".join(enhanced(0, n, bytes(n % 5)) for n in range(60))
         self.paths = [self.written("a.pcap", classic), self.written("b.pcapng", blocks + block(3, bytes(4)))]
@@ -40,7 +40,7 @@ class Frames(unittest.TestCase):
         return path
 
     def whole(self):
-        """The frame of one process."""
+        """Returns the DataFrame of one process."""
         frames, base = [], 0
         for path, size in zip(self.paths, self.sizes):
             with pcapfile.open(path) as capture:
@@ -86,7 +86,7 @@ class Frames(unittest.TestCase):
         pandas.testing.assert_frame_equal(frame, self.whole())
 
     def twenty(self):
-        """Ten captures of each format, with lengths, times and interfaces that differ."""
+        """Makes ten captures of each format, with different lengths, times and interfaces."""
         for n in range(10):
             classic = b"".join(packet(1_600_000_000 + m, 1000 * n + m, bytes(m * n % 97), 97 + m) for m in range(60))
             yield self.written(f"{n}.pcap", HEADER + classic)
@@ -107,7 +107,7 @@ class Frames(unittest.TestCase):
 
 
 def told_by_tshark(path):
-    """Time in nanoseconds, stored and original length, and interface, which tshark leaves out where there is none."""
+    """Iterates over what tshark prints: time in nanoseconds, stored and original length, and interface, or 0 for none."""
     fields = ["frame.time_epoch", "frame.cap_len", "frame.len", "frame.interface_id"]
     command = ["tshark", "-n", "-r", path, "-T", "fields", *(word for field in fields for word in ("-e", field))]
     lines = subprocess.run(command, check=True, capture_output=True, text=True).stdout.splitlines()

@@ -1,4 +1,4 @@
-"""Tests of addresses, ports and protocols as columns. Each expected value is worked out from the bytes beside it."""
+"""Tests of addresses, ports and protocols as columns. Each expected value follows from the bytes beside it."""
 
 import io
 import random
@@ -24,7 +24,7 @@ NAMES = ["source", "destination", "source_port", "destination_port", "protocol"]
 
 
 def ipv4(kind, above, fragment=0, more=b"", source=A4):
-    """A packet of IPv4 with options of these bytes."""
+    """Makes an IPv4 packet. `more` are its options."""
     head = struct.pack(">BBHHHBBH", 0x45 + len(more) // 4, 0, 20 + len(more) + len(above), 7, fragment, 64, kind, 0)
     return head + socket.inet_aton(source) + socket.inet_aton(B4) + more + above
 
@@ -41,7 +41,7 @@ def ethernet(kind, above, *tags):
 PORTS = struct.pack(">HHI", 53, 65535, 0)
 EXTENSION = bytes([17, 1]) + bytes(14)
 
-# What stands in a packet, of which link type, and what is told of it.
+# The link type, the bytes of a packet, and the values that the decoder returns.
 CASES = [
     (1, ethernet(0x0800, ipv4(17, PORTS)), (A4, B4, 53, 65535, 17)),
     (1, ethernet(0x0800, ipv4(6, PORTS, more=bytes(8))), (A4, B4, 53, 65535, 6)),
@@ -77,7 +77,7 @@ CASES = [
 
 
 def told(frame):
-    """The decoded columns, row by row, with None for what is missing."""
+    """Returns the decoded columns row by row, with None for a missing value."""
     return [tuple(None if pandas.isna(value) else value for value in row) for row in zip(*(frame[name] for name in NAMES))]
 
 
@@ -92,7 +92,7 @@ class Decoded(unittest.TestCase):
                 self.assertEqual(frame["len"].tolist(), [len(data)])
 
     def test_all_at_once(self):
-        """Packets of many interfaces, in memory, in a file and out of a stream, with bytes behind each that aren't its own."""
+        """Decodes packets of many interfaces, in memory, in a file and from a stream. Other bytes follow each packet's data."""
         links = sorted({link for link, _, _ in CASES})
         data = SECTION + b"".join(map(interface, links))
         data += b"".join(enhanced(links.index(link), n, given) for _ in range(50) for n, (link, given, _) in enumerate(CASES))
@@ -109,7 +109,7 @@ class Decoded(unittest.TestCase):
                         pandas.testing.assert_frame_equal(frame[["time", "len", "link", "offset"]], capture.to_pandas()[["time", "len", "link", "offset"]])
 
     def test_any_bytes(self):
-        """Nothing that a packet holds is an error."""
+        """No bytes of a packet raise an error."""
         chosen = random.Random(5)
         data = SECTION + interface(1) + interface(101) + interface(113)
         for n in range(3000):
@@ -130,7 +130,7 @@ class Decoded(unittest.TestCase):
         self.assertEqual(frame["source"].tolist(), [f"10.0.{n % 7}.1" for n in range(1000)])
 
     def test_many_addresses(self):
-        """More than any table begins with, some of which differ in their version alone."""
+        """There are more addresses than the first tables have room for. Some of them differ only in their version."""
         chosen = random.Random(9)
         numbers = [chosen.randrange(5000) for _ in range(12000)]
         texts, data = [], HEADER
@@ -157,7 +157,7 @@ class Decoded(unittest.TestCase):
 
     @unittest.skipUnless(shutil.which("tshark"), "tshark is not installed")
     def test_tshark_tells_the_same(self):
-        # Fragments it joins first.
+        # tshark reassembles fragments, so the test leaves them out.
         whole = [(data, wanted) for link, data, wanted in CASES if link == 1 and data[20:21] not in (b"\x20", b"\x2c")]
         cases = [data for data, wanted in whole if wanted[4] in (6, 17) and wanted[2] is not None and len(data) > 45]
         with tempfile.NamedTemporaryFile(suffix=".pcap") as file:

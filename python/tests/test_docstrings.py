@@ -1,4 +1,4 @@
-"""Tests of the examples in docstrings: each is run, and each public name has one."""
+"""Tests of the examples in docstrings. Each example is run, and each public name has one."""
 
 import asyncio
 import doctest
@@ -12,7 +12,7 @@ import pcapfile
 from test_pages import CAPTURE, has, has_program, write_captures
 from test_programs import InFolder
 
-# What runs the program, and is left out where that isn't there.
+# The names whose examples run the program. The test leaves them out if the program is missing.
 BY_PROGRAM = ("info", "merge", "cut", "convert", "repair", "ProgramError")
 
 # The packages that other examples need.
@@ -20,7 +20,7 @@ NEEDED = {"Tables.to_pandas": "pandas", "Tables.to_polars": "polars", "Writer.wr
 
 
 def public():
-    """Each public class and function, and the methods that it has of its own or by a class of this package."""
+    """Iterates over the public classes and functions, with their names."""
     for name in pcapfile.__all__:
         found = getattr(pcapfile, name)
         if inspect.isclass(found) or inspect.isfunction(found):

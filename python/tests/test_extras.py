@@ -1,4 +1,4 @@
-"""Tests of what columns have beside the numbers of packets. Each expected value is worked out from the bytes beside it."""
+"""Tests of the optional columns. Each expected value follows from the bytes beside it."""
 
 import datetime
 import io
@@ -21,7 +21,7 @@ ETH0 = interface(1, 0, option(2, b"eth0") + option(0, b""))
 WLAN = interface(1, 0, option(2, b"wlan") + option(0, b""))
 UTC = datetime.timezone.utc
 
-# Two sections, whose interfaces have other names; one without a name, one that isn't there, and one that is described late.
+# Two sections whose interfaces have different names. One interface has no name, one does not exist, and one is described late.
 SECTIONS = b"".join(
     [
         SECTION + ETH0 + INTERFACE + enhanced(0, 1, b"a") + enhanced(1, 2, b"bc") + enhanced(2, 3, b"") + WLAN + enhanced(2, 4, b"defg"),
@@ -33,7 +33,7 @@ BYTES = [b"a", b"bc", b"", b"defg", b"h", b"ij"]
 
 
 def told(batches, *names):
-    """The values of these columns, of all batches; that of `data` are the bytes of each packet."""
+    """Returns the values of these columns over all batches. The values of `data` are the bytes of each packet."""
     got = {name: [] for name in names}
     for columns in batches:
         for name in names:
@@ -47,7 +47,7 @@ def told(batches, *names):
 
 
 class Extras(unittest.TestCase):
-    """Each test with numpy, where it is, and without."""
+    """Each test runs with numpy, if it is installed, and without numpy."""
 
     def setUp(self):
         folder = tempfile.TemporaryDirectory()
@@ -55,7 +55,7 @@ class Extras(unittest.TestCase):
         self.path = Path(folder.name, "capture")
 
     def both(self, data, names, wanted, batches=(65536, 2, 1), /, **words):
-        """In memory, in a file, and out of a stream."""
+        """Checks the columns of a capture in memory, in a file, and from a stream."""
         self.path.write_bytes(data)
         known = _columns.numpy
         for there in {known, None}:
@@ -80,7 +80,7 @@ class Extras(unittest.TestCase):
         self.both(HEADER + b"".join(packet(n, 0, each, 99) for n, each in enumerate(many)), ["data"], [many], [1000], data=True)
 
     def test_data_of_simple_packets(self):
-        # What follows the two bytes of the packet is padding.
+        # The bytes after the first two are padding.
         data = SECTION + INTERFACE + block(3, struct.pack("<I", 2) + b"ab\xff\xff") + enhanced(0, 7, b"c")
         self.both(data, ["data", "time_ns"], [[b"ab", b"c"], [NONE, 7000]], data=True)
 

@@ -1,4 +1,4 @@
-"""Tests of captures in files: how they are read, what happens where they change, and how they are named."""
+"""Tests of captures in files: how the package reads them, what happens if a file changes, and how files are named."""
 
 import errno
 import io
@@ -42,7 +42,8 @@ class Files(unittest.TestCase):
             self.assertEqual([bytes(p.data) for p in capture], [b"abc", long, b"def"])
 
     def test_a_file_that_becomes_shorter_is_incomplete(self):
-        """A walk gives what is there, and then an error, where the file is cut within a packet or between two."""
+        """The file is truncated within a packet or between two packets: a walk returns the packets that are left, and then raises
+        an error."""
         for data, begin, each in ((CLASSIC, len(HEADER), 1016), (BLOCKS, len(SECTION + INTERFACE), 1032)):
             for cut in (begin + 1500 * each, begin + 1500 * each + 100):
                 for walk in (iter, lambda capture: capture.pairs(), lambda capture: capture.columns(7)):
@@ -54,7 +55,7 @@ class Files(unittest.TestCase):
                                 if count == 0:
                                     os.truncate(path, cut)
                                 count += 1
-                    self.assertIn(count, (1500, 215))  # of packets, or of seven at once: 214, and two behind them
+                    self.assertIn(count, (1500, 215))  # packets, or batches of seven: 214 full ones, and one with the last two packets
                     self.assertEqual(told.exception.offset, begin + 1500 * each)
 
     def test_a_file_that_is_cut_to_nothing(self):
@@ -82,7 +83,7 @@ class Files(unittest.TestCase):
 
     @unittest.skipUnless(os.path.exists("/proc/self/status"), "there is no /proc")
     def test_memory_that_is_held(self):
-        """A walk over 64 MiB takes no more than a few rooms."""
+        """A walk over 64 MiB needs only a few buffers."""
         path = self.folder / "large"
         with path.open("wb") as file:
             file.write(HEADER)
@@ -107,7 +108,7 @@ class Files(unittest.TestCase):
         self.assertEqual(len(os.listdir("/proc/self/fd")), before)
 
     def test_the_descriptor_of_a_closed_file_is_not_read(self):
-        """Where a file is closed, and another one opened under its descriptor, a walk doesn't go on with that."""
+        """Another file is opened under the descriptor of the closed file. The walk does not read it."""
         path, other = self.written(CLASSIC), self.written(HEADER + packet(7, 0, bytes(5000)) * 200, "other")
         capture = pcapfile.open(path)
         packets = iter(capture)

@@ -18,7 +18,7 @@ from test_pcapfile import HEADER, SECTION, block, enhanced, interface, packet
 
 
 def udp(source, target, length=8, kind=17):
-    """A datagram of IPv4 with these ports and so many bytes, with no layer below."""
+    """Makes an IPv4 datagram with these ports and lengths, without a link layer."""
     return struct.pack(">BBHHHBBH4s4sHHHH", 0x45, 0, 20 + length, 0, 0, 64, kind, 0, bytes(4), bytes(4), source, target, length, 0)
 
 
@@ -32,7 +32,7 @@ FRAMES = [ethernet(udp(53, 9)), ethernet(udp(9, 9)), ethernet(udp(9, 53, kind=6)
 
 class Times(unittest.TestCase):
     def test_packets_of_a_time(self):
-        """From one time on, and before another one; seconds, also in parts, and datetimes."""
+        """A range of times begins at `since` and ends before `until`: seconds, also with fractions, and datetimes."""
         moment = datetime.datetime(1970, 1, 1, 0, 0, 5, tzinfo=datetime.timezone.utc)
         zone = datetime.timezone(datetime.timedelta(hours=2))
         classic = HEADER + b"".join(packet(n, 500_000, b"") for n in range(10))
@@ -75,7 +75,7 @@ class Filters(unittest.TestCase):
         self.assertEqual([p.seconds for p in pcapfile.parse(data).filter("udp port 53")], [0, 2])
 
     def test_blocks(self):
-        """Each packet by the link type of its interface; one of an interface that isn't there is left out."""
+        """The filter uses the link type of each packet's interface, and skips a packet whose interface is unknown."""
         data = SECTION + interface(1) + interface(101) + enhanced(0, 0, FRAMES[0]) + enhanced(1, 1, udp(53, 9))
         data += enhanced(1, 2, FRAMES[0]) + enhanced(2, 3, FRAMES[0]) + enhanced(0, 4, udp(53, 9)) + enhanced(1, 5, udp(9, 53))
         for strict in (True, False):

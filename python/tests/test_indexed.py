@@ -1,4 +1,4 @@
-"""Tests of packets by their numbers: they are those of a list of all packets."""
+"""Tests of access to packets by number. It gives the same packets as a list of all packets."""
 
 import io
 import os
@@ -86,7 +86,7 @@ class Indexes(unittest.TestCase):
         self.assertEqual(read, [116])
 
     def test_many_interfaces_take_no_more_than_their_bytes_do(self):
-        """What is in force is kept once for each section, and not once for each interface."""
+        """The index keeps its state once for each section, and not once for each interface."""
         data = SECTION + b"".join(INTERFACE + enhanced(n, n, b"") for n in range(3000))
         with pcapfile.parse(data) as capture:
             indexed = capture.indexed()

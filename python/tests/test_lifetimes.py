@@ -1,4 +1,4 @@
-"""Tests of what keeps what alive: packets, their bytes, iterators, and processes."""
+"""Tests of lifetimes: which objects keep packets, their bytes and iterators alive, also at the end of a process and after a fork."""
 
 import gc
 import io
@@ -19,7 +19,7 @@ BLOCKS = SECTION + INTERFACE + b"".join(enhanced(0, n * 10**6, bytes([n % 256]) 
 
 
 class Kept(io.BytesIO):
-    """A stream that can refer to what reads it."""
+    """A stream that can refer to its reader."""
 
 
 class Lifetimes(unittest.TestCase):
@@ -43,7 +43,7 @@ class Lifetimes(unittest.TestCase):
         self.assertEqual((first.interface.link, first.time_ns, first.link), (113, 7000, 113))
 
     def test_an_iterator_that_its_stream_refers_to(self):
-        """A cycle is let go."""
+        """The garbage collector frees a cycle."""
         stream = Kept(CLASSIC)
         stream.capture = pcapfile.open(stream)
         stream.packets = iter(stream.capture)
@@ -66,7 +66,8 @@ class Lifetimes(unittest.TestCase):
 
     @unittest.skipUnless(hasattr(os, "fork"), "there is no fork")
     def test_a_forked_child(self):
-        """Parent and child walk over one capture in a file, each from where it was, and neither moves the other's place."""
+        """Parent and child walk over one capture in a file. Each goes on from where it was, and neither moves the other's
+        position."""
         with tempfile.TemporaryDirectory() as room:
             path = Path(room, "capture")
             for data in (CLASSIC, BLOCKS):

@@ -1,4 +1,4 @@
-"""Tests of captures that are written into numbered files. Each expected value is worked out from the bytes beside it."""
+"""Tests of numbered files. Each expected value follows from the bytes beside it."""
 
 import struct
 import unittest
@@ -9,7 +9,7 @@ from test_columns import option
 from test_pcapfile import INTERFACE, SECTION, enhanced, interface
 from test_programs import InFolder
 
-# What a classic Writer begins with: nanoseconds, low byte first.
+# The header that a classic Writer writes by default: nanoseconds, little-endian.
 HEADER = struct.pack("<IHHiIII", 0xA1B23C4D, 2, 4, 0, 0, 262144, 1)
 
 
@@ -23,7 +23,7 @@ def files(stem="out", extension=".pcap"):
 
 class Numbered(InFolder):
     def test_by_bytes(self):
-        # Each packet has 26 bytes: two and the header are 76.
+        # Each packet has 26 bytes, so the header and two packets have 76.
         with pcapfile.Writer("out.pcap", max_bytes=76) as writer:
             for n in range(5):
                 writer.write(bytes(10), n)
@@ -41,7 +41,7 @@ class Numbered(InFolder):
         self.assertEqual(files("none"), [HEADER])
 
     def test_by_time(self):
-        # The second file begins where 1.5 seconds have passed since the first packet, and time that goes back begins none.
+        # The second file begins 1.5 seconds after the first packet of the first file. A time that goes back begins no file.
         times = [(10, 200_000_000), (11, 699_999_999), (9, 0), (11, 700_000_000), (13, 199_999_999), (13, 200_000_000)]
         with pcapfile.Writer("out.pcap", max_seconds=1.5) as writer:
             for seconds, nanoseconds in times:

@@ -1,4 +1,4 @@
-"""Tests of blocks, their options and their names. Each expected value is worked out from the bytes beside it."""
+"""Tests of blocks, their options and their names. Each expected value follows from the bytes beside it."""
 
 import io
 import struct

@@ -1,4 +1,4 @@
-"""Tests of what packets tell, and of what captures tell beside them. Each expected value is worked out from the bytes beside it."""
+"""Tests of the attributes of packets and captures. Each expected value follows from the bytes beside it."""
 
 import copy
 import datetime
@@ -31,7 +31,7 @@ BIG = (
 
 class Packets(unittest.TestCase):
     def all_ways(self, data):
-        """The capture in memory and out of a stream."""
+        """Returns the capture in memory, and the same capture from a stream."""
         return pcapfile.parse(data), pcapfile.open(io.BytesIO(data))
 
     def test_pairs(self):
@@ -78,7 +78,7 @@ class Packets(unittest.TestCase):
         self.assertEqual((only.comment, only.options, only.block), (None, [], None))
 
     def test_a_simple_packet_is_not_taken_for_what_stands_before_it(self):
-        """The end of the block before it is the head of an enhanced packet without a time, but for the block's length."""
+        """The end of the previous block looks like the head of an enhanced packet without a time, except for the block's length."""
         fake = struct.pack("<IIII", 6, 48, 0, 0)
         for before in (block(99, fake), block(99, fake[:-4]), block(99, fake[:-8])):
             (only,) = pcapfile.parse(SECTION + INTERFACE + before + SIMPLE)
@@ -115,7 +115,7 @@ class Packets(unittest.TestCase):
         self.assertEqual([face.name for face in torn.interfaces], ["eth0"])
 
     def test_interfaces_of_a_file(self):
-        # What stands before the interfaces and behind them is read into the same memory.
+        # The package reads the bytes before the interfaces and the bytes after them into the same buffer.
         data = SECTION + NAMED + COMMENTED + enhanced(0, 1, b"a") * 9000 + interface(9) + enhanced(1, 1, b"b")
         with tempfile.TemporaryDirectory() as folder:
             path = Path(folder, "capture.pcapng")
@@ -171,7 +171,7 @@ class Packets(unittest.TestCase):
                         self.assertEqual((same.time_ns, same.comment, same.link, same.length), (each.time_ns, each.comment, each.link, each.length))
                         self.assertEqual(getattr(same.interface, "name", None), getattr(each.interface, "name", None))
                     self.assertEqual(copy.deepcopy(each), each)
-        # A packet takes its own bytes along, and not the capture.
+        # A pickled packet contains its own bytes, and not the capture.
         with pcapfile.parse(HEADER + packet(1, 2, b"abc") + packet(3, 4, bytes(100_000))) as capture:
             self.assertLess(len(pickle.dumps(next(iter(capture)))), 500)
 

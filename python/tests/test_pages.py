@@ -1,4 +1,4 @@
-"""Tests of the pages about Python: each example is run, and prints what the page shows below it."""
+"""Tests of the pages about Python. Each example is run, and must print what the page shows below it."""
 
 import contextlib
 import importlib.util
@@ -21,7 +21,7 @@ from test_pcapfile import HEADER, block, packet
 
 DOCS = Path(__file__).parents[2] / "docs"
 
-# An example, and what is shown below it.
+# An example, and the output below it.
 EXAMPLE = re.compile(r"^```python\n(.*?)^```$\n*((?:^    [^\n]*\n)*)", re.S | re.M)
 PROGRAM = re.compile(r"^```py\n(.*?)^```$", re.S | re.M)
 
@@ -32,7 +32,7 @@ DESCRIBED = block(1, struct.pack("<HHI", 1, 0, 0) + option(1, b"hm") + option(9,
 TIME = 1_700_000_000 * 10**9
 COMMENTED = block(6, struct.pack("<IIIII", 0, TIME >> 32, TIME & 0xFFFFFFFF, 3, 60) + b"abc\0" + option(1, b"seen") + option(0, b""))
 
-# What each program prints, the packages that it needs, and what it leaves there.
+# For each program its output, the packages that it needs, and the file that it writes.
 PROGRAMS = {
     "PYTHON": [("", ("matplotlib", "pandas"), "bytes.svg")],
     "PYTHON_PARTS": [("98", (), None), ("1      103\n113      2", ("dask", "distributed", "pandas"), None)],
@@ -51,7 +51,7 @@ def has_program():
 
 
 def write_captures():
-    """The captures of the examples, in the folder where these run."""
+    """Writes the captures of the examples into the current folder."""
     for name in ("capture.pcap", "monday.pcap"):
         Path(name).write_bytes(CAPTURE)
     Path("options.pcapng").write_bytes(SECTION + DESCRIBED + COMMENTED)
@@ -117,7 +117,7 @@ class Pages(unittest.TestCase):
 
 
 class Readable(unittest.TestCase):
-    """A page can be read at a sitting."""
+    """A page is short, and so are its sentences."""
 
     @unittest.skipUnless(DOCS.exists(), "the pages")
     def test_lines_and_sentences(self):

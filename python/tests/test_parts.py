@@ -1,4 +1,4 @@
-"""Tests of captures in parts: joined, they are the whole."""
+"""Tests of parts of captures. All parts together are the whole capture."""
 
 import concurrent.futures
 import multiprocessing
@@ -19,7 +19,7 @@ MAKERS = Path(__file__).parents[2] / "tests" / "c"
 
 
 def told(packets):
-    """The packets of a capture or of its parts, and the refusal behind them."""
+    """Returns the packets of a capture or of its parts, with the text and the offset of the error after them, or None."""
     got = []
     try:
         for it in packets:
@@ -30,7 +30,7 @@ def told(packets):
 
 
 def rows(batches):
-    """The rows of all columns, and the refusal behind them."""
+    """Returns the rows of all columns, with the text and the offset of the error after them, or None."""
     got = []
     try:
         for columns in batches:
@@ -55,7 +55,7 @@ def count_of(part):
 
 
 def refusal_in_a_process(path):
-    """The refusal that comes back from a process that walks the whole capture."""
+    """Returns the error of another process that walks over the whole capture."""
     processes = multiprocessing.get_context("spawn")
     with concurrent.futures.ProcessPoolExecutor(1, mp_context=processes) as pool:
         return told(pool.map(count_of, pcapfile.parts(path, 1)))[1:]
@@ -143,7 +143,8 @@ class Parts(unittest.TestCase):
         size = path.stat().st_size - len(HEADER)
 
         def begins(wanted):
-            """A part begins where so many bytes stand behind the beginning of the one before it, and a packet follows."""
+            """Returns where parts begin: at the first packet that is at least `wanted` bytes after the beginning of the previous
+            part."""
             found, place = [len(HEADER)], len(HEADER)
             for n in range(300):
                 if place - found[-1] >= wanted:

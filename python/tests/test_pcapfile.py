@@ -1,4 +1,4 @@
-"""Tests of the package. Each expected value is worked out from the bytes beside it."""
+"""Tests of the package. Each expected value follows from the bytes beside it."""
 
 import os
 import struct
@@ -58,7 +58,7 @@ class Captures(unittest.TestCase):
         with tempfile.TemporaryDirectory() as folder:
             path = Path(folder, "pipe")
             os.mkfifo(path)
-            # more than a pipe holds, so that it is read while it is written
+            # This is more than a pipe buffers, so the package reads while the thread writes.
             data = HEADER + b"".join(packet(n, 0, bytes(1000)) for n in range(500))
             writer = threading.Thread(target=path.write_bytes, args=(data,))
             writer.start()

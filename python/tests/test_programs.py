@@ -1,4 +1,4 @@
-"""Tests of what the program does for the package. Each expected value is worked out from the bytes beside it."""
+"""Tests of the functions that run the program. Each expected value follows from the bytes beside it."""
 
 import datetime
 import os
@@ -17,7 +17,7 @@ from pcapfile import _programs
 from test_columns import inside, option
 from test_pcapfile import HEADER, INTERFACE, SECTION, block, enhanced, interface, packet
 
-# A classic capture in nanoseconds, low byte first.
+# The header of a classic capture with nanoseconds, little-endian.
 NANO_HEADER = struct.pack("<IHHiIII", 0xA1B23C4D, 2, 4, 0, 0, 65535, 1)
 UTC = datetime.timezone.utc
 
@@ -28,7 +28,7 @@ except FileNotFoundError:
 
 
 def texts(path):
-    """The bytes of a capture's packets."""
+    """Returns the bytes of a capture's packets."""
     with pcapfile.open(path) as capture:
         return [bytes(each) for each in capture]
 
@@ -44,7 +44,7 @@ class InFolder(unittest.TestCase):
         there = inside(folder.name)
         there.__enter__()
         self.addCleanup(there.__exit__, None, None, None)
-        # What nobody expects is a failure.
+        # An unexpected warning fails the test.
         strict = warnings.catch_warnings()
         strict.__enter__()
         self.addCleanup(strict.__exit__, None, None, None)

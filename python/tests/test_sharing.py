@@ -1,4 +1,4 @@
-"""Tests of captures that several threads use: each packet comes once, or a ValueError does; nothing else happens."""
+"""Tests of captures that several threads use. Each packet comes once, or a thread gets a ValueError. Nothing else happens."""
 
 import os
 import struct
@@ -15,13 +15,13 @@ from pcapfile import _columns, _library, _stretches
 from test_columns import option
 from test_pcapfile import HEADER, SECTION, enhanced, interface, packet
 
-# Units of 2^-20 seconds, from a time on.
+# An interface whose unit of time is 2^-20 seconds, with an offset of 3600 seconds.
 BINARY = interface(options=option(9, b"\x94") + option(14, struct.pack("<q", 3600)) + option(0, b""))
 BEGIN = 1_600_000_000
 
 
 class Numbered:
-    """A stream of packets whose bytes tell their number."""
+    """A stream of packets whose bytes contain their number."""
 
     def __init__(self, count, most):
         self._data = HEADER + b"".join(packet(n, 0, struct.pack("<I", n) * 100) for n in range(count))
@@ -37,7 +37,7 @@ class Numbered:
 
 
 def in_threads(count, work):
-    """Runs this in so many threads, which the interpreter changes between as often as it can."""
+    """Runs `work` in `count` threads, and returns their errors. The interpreter switches threads as often as it can."""
     failed, before = [], sys.getswitchinterval()
 
     def run(number):
@@ -60,7 +60,7 @@ def in_threads(count, work):
 
 class Sharing(unittest.TestCase):
     def test_the_times_of_one_interface_in_two_threads(self):
-        """Both calls of the library are done before either thread looks at what it was told."""
+        """Both threads return from the library before either of them reads its result."""
         with pcapfile.parse(SECTION + BINARY + enhanced(0, 1, b"")) as capture:
             walk = capture._walk()
             walk.take(), walk.take()
@@ -89,7 +89,8 @@ class Sharing(unittest.TestCase):
                 self.assertEqual(times, [(BEGIN + n + 3600) * 10**9 for n in range(count)])
 
     def test_one_stream_in_many_threads(self):
-        """Each packet comes once, with its own bytes, and who asks while another thread is served gets a ValueError."""
+        """Each packet comes once, with its own bytes. A thread that asks while the stream serves another thread gets a
+        ValueError."""
         count = 20_000
         for walk in (iter, lambda capture: capture.pairs()):
             for most in (5000, 300_000):
@@ -127,7 +128,7 @@ class Sharing(unittest.TestCase):
         self.assertEqual(sorted(set(got)), sorted(got))
 
     def test_one_capture_in_many_threads(self):
-        """Each loop over a capture in memory or in a file is a walk of its own."""
+        """Each loop over a capture in memory or in a file is a pass of its own."""
         data = SECTION + BINARY + b"".join(enhanced(0, n << 20, struct.pack("<I", n)) for n in range(5000))
         with tempfile.TemporaryDirectory() as room:
             path = Path(room, "capture")
@@ -140,7 +141,7 @@ class Sharing(unittest.TestCase):
                 self.assertEqual((failed, got), ([], {k: wanted for k in range(4)}))
 
     def test_two_ways_over_one_stream(self):
-        """What one walk has taken and not given would be lost by another one."""
+        """Another kind of walk would lose the packets that the first one has taken and not yet returned."""
         capture = pcapfile.open(Numbered(100, 300_000))
         self.assertEqual(next(iter(capture)).seconds, 0)
         for other in (capture.columns, capture.pairs):
@@ -160,7 +161,7 @@ class Sharing(unittest.TestCase):
         self.assertEqual(got, list(range(100)))
 
     def test_closing_in_another_thread(self):
-        """In a child, so that a signal would be seen. The library is called after the capture was closed."""
+        """A child process runs this, so that the test sees a signal. The child calls the library after the capture was closed."""
         ran = subprocess.run([sys.executable, "-c", CLOSING], capture_output=True, text=True, env=os.environ)
         self.assertEqual((ran.returncode, ran.stdout, ran.stderr), (0, "done\n", ""))
 

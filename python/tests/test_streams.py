@@ -1,4 +1,4 @@
-"""Tests of captures that come out of streams. Each expected value is worked out from the bytes beside it."""
+"""Tests of captures from streams. Each expected value follows from the bytes beside it."""
 
 import io
 import os
@@ -21,7 +21,7 @@ from test_pcapfile import HEADER, INTERFACE, SECTION, enhanced, packet
 
 
 class Some:
-    """A stream that has `read` alone, which gives so many bytes at most."""
+    """A stream that has only `read`, and returns at most `most` bytes at once."""
 
     def __init__(self, data, most):
         self._left, self._most, self.asked, self.is_closed = io.BytesIO(data), most, [], False
@@ -39,7 +39,7 @@ BLOCKS = SECTION + INTERFACE + b"".join(enhanced(0, n * 10**6, bytes([n]) * n) f
 
 
 class Pauses(io.RawIOBase):
-    """A stream that doesn't wait: it gives so many bytes at most, and before each time has none yet."""
+    """A non-blocking stream. It returns at most `most` bytes at once, and has no bytes every other time."""
 
     def __init__(self, data, most):
         self._data, self._most, self._at, self._has_some = data, most, 0, False
@@ -58,7 +58,7 @@ class Pauses(io.RawIOBase):
 
 
 class ReadPauses(Pauses):
-    """The same with `read` alone."""
+    """The same stream with only `read`."""
 
     readinto1 = property()
     readinto = property()
@@ -70,7 +70,7 @@ class ReadPauses(Pauses):
 
 
 def again(call, *args):
-    """What a call gives once it isn't refused for a while, and how often it was."""
+    """Calls a function until it raises no BlockingIOError. Returns its result, and the number of errors."""
     times = 0
     while True:
         try:
@@ -80,10 +80,10 @@ def again(call, *args):
 
 
 class Waiting(unittest.TestCase):
-    """A stream that has no bytes yet is no stream that has ended: that is told, and nothing is lost."""
+    """A stream without bytes yet has not ended: reading raises a BlockingIOError, and loses nothing."""
 
     def gathered(self, walk, add):
-        """What a walk gives that begins again each time that it was told to wait."""
+        """Adds all packets of a walk, which begins again after each BlockingIOError. Returns the number of errors."""
         times = 0
         while True:
             try:
@@ -191,7 +191,7 @@ class Streams(unittest.TestCase):
                 self.assertEqual(next(packets).seconds, n)
 
     def test_ends(self):
-        """A clean end, a torn one and a refusal are told apart."""
+        """A reader distinguishes a complete stream, a truncated one and a malformed one."""
         self.assertEqual(list(pcapfile.open(Some(HEADER, 5))), [])
         with self.assertRaises(pcapfile.Incomplete) as told:
             list(pcapfile.open(Some(HEADER + packet(1, 2, b"abc") + packet(3, 4, b"defg")[:-1], 5)))
@@ -222,7 +222,7 @@ class Streams(unittest.TestCase):
         self.assertEqual(got, [b"abc"])
 
     def test_what_a_buffered_stream_holds_comes_without_more(self):
-        """A live pipe of which something was read before: the packets that came with that don't wait for others."""
+        """Something was read from a live pipe before. The packets that are in the buffer do not wait for others."""
         reads, writes = os.pipe()
         with os.fdopen(writes, "wb", buffering=0) as file, os.fdopen(reads, "rb") as stream:
             file.write(b"first" + HEADER + packet(1, 0, b"abc") + packet(2, 0, b"def"))
@@ -262,7 +262,7 @@ class Streams(unittest.TestCase):
             list(capture)
 
     def test_memory_that_is_held(self):
-        """A pipe of 64 MiB takes no more than a few chunks."""
+        """A pipe of 64 MiB needs only a few chunks of memory."""
         code = (
             "import pcapfile, resource; before = resource.getrusage(resource.RUSAGE_SELF).ru_maxrss;"
             "count = sum(1 for _ in pcapfile.open('/dev/stdin'));"
@@ -278,7 +278,7 @@ def _opened(file, reads):
 
 
 def _python(code, write):
-    """What another Python prints, whose standard input is a pipe with what `write` writes."""
+    """Returns what another Python process prints. Its standard input is a pipe, to which `write` writes."""
     with subprocess.Popen([sys.executable, "-c", code], stdin=subprocess.PIPE, stdout=subprocess.PIPE, text=False) as child:
         write(child.stdin)
         child.stdin.close()

@@ -1,4 +1,4 @@
-"""Tests of columns by many threads: whatever is guessed, they are those of one walk."""
+"""Tests of columns by several threads. Whatever the guesses are, the columns are those of one walk."""
 
 import struct
 import subprocess
@@ -18,7 +18,7 @@ try:
 except ImportError:
     pandas = None
 
-# A capture that was sent, and captured on its way: what looks like packets in a row stands within packets.
+# A capture that another capture contains, so bytes inside packets look like packets in a row.
 SENT = b"".join(packet(n, 0, bytes([n % 256]) * 60) for n in range(200))
 SENT_BLOCKS = b"".join(enhanced(0, n, bytes(60)) for n in range(200))
 
@@ -86,7 +86,7 @@ class Threads(unittest.TestCase):
         self.assertGreater(walked, 60)
 
     def guesses(self, data):
-        """Where stretches are guessed to begin, and where packets do, by one walk."""
+        """Returns where stretches are guessed to begin, and where packets do begin."""
         source = _source.Memory(data)
         capture = pcapfile._open.capture_of(source)
         walk = capture._walk()

@@ -1,4 +1,4 @@
-"""Tests of captures that asyncio waits for, and of files that grow."""
+"""Tests of captures for asyncio, and of files that grow."""
 
 import asyncio
 import gzip
@@ -17,7 +17,7 @@ WANTED = {CLASSIC: [bytes([n]) * n for n in range(50)], BLOCKS: [*(bytes([n]) * 
 
 
 def fed(data, most):
-    """asyncio's reader of these bytes, which come so many at once."""
+    """Returns asyncio's reader of `data`, and the task that feeds it `most` bytes at once."""
 
     async def feed(reader):
         for begin in range(0, len(data), most):

@@ -1,4 +1,4 @@
-"""Tests of captures that are written. Each expected value is worked out from the bytes beside it."""
+"""Tests of writing captures. Each expected value follows from the bytes beside it."""
 
 import gzip
 import io
@@ -25,7 +25,7 @@ TIME = 1_335_958_313
 
 
 def interface(link, snaplen):
-    """An interface whose times are nanoseconds."""
+    """Makes an interface with a unit of time of a nanosecond."""
     return struct.pack("<IIHHIHHBxxxHHI", 1, 32, link, 0, snaplen, 9, 1, 9, 0, 0, 32)
 
 
@@ -37,7 +37,7 @@ def enhanced(number, time, data, original):
 
 
 class Full:
-    """A file with room for so many bytes, which takes so many at once."""
+    """A file with room for `room` bytes, which accepts at most `most` bytes at once."""
 
     def __init__(self, room, most=1 << 20):
         self.data, self._room, self._most = b"", room, most
@@ -51,7 +51,7 @@ class Full:
 
 
 def written(**words):
-    """A capture of four packets."""
+    """Returns a capture of four packets."""
     file = io.BytesIO()
     with pcapfile.Writer(file, **words) as writer:
         for length in range(4):
@@ -145,7 +145,7 @@ class Writers(unittest.TestCase):
         self.assertRaises(ValueError, writer.write, b"a", 2**32)
 
     def copied(self, capture, **words):
-        """What is written of each packet of a capture that has a time."""
+        """Returns what the Writer writes for each packet of a capture that has a time."""
         file = io.BytesIO()
         with pcapfile.Writer(file, **words) as writer:
             for each in capture:
@@ -154,7 +154,7 @@ class Writers(unittest.TestCase):
         return file.getvalue()
 
     def test_packets_of_another_capture_keep_all_that_they_have(self):
-        """Options, comments, names of interfaces and their clocks."""
+        """Packets keep their options and comments, and the names and clocks of their interfaces."""
         section = given.block(0x0A0D0D0A, struct.pack("<IHHq", 0x1A2B3C4D, 1, 0, -1) + option(1, b"of all") + option(0, b""))
         clock = given.interface(9, 60, option(9, b"\x94") + option(14, struct.pack("<q", 7)) + option(2, b"slow") + option(0, b""))
         packets = COMMENTED + OLD + SIMPLE + given.enhanced(1, 3 << 19, b"x") + given.enhanced(0, 5, b"")
@@ -167,11 +167,11 @@ class Writers(unittest.TestCase):
             self.assertEqual([told(p) for p in capture], wanted)
             self.assertEqual([(face, face.name, face.comment) for face in capture.interfaces], faces)
             self.assertEqual(capture.section.comment, "of all")
-        # Nothing but the simple packet is left out, and the section's length isn't told: the rest stands as it was.
+        # The copy lacks only the simple packet. All other blocks are the same.
         self.assertEqual(sorted(bytes(b.body) for b in pcapfile.parse(copy).blocks()), sorted(bytes(b.body) for b in pcapfile.parse(data.replace(SIMPLE, b"")).blocks()))
 
     def test_interfaces_come_with_their_packets(self):
-        """A packet of the third interface alone: it is the first one here."""
+        """The only packet belongs to the third interface, which becomes the first one of the copy."""
         data = SECTION + NAMED + given.interface(7) + given.interface(9, 60, option(2, b"third") + option(0, b"")) + given.enhanced(2, 5, b"abc")
         with pcapfile.parse(data) as capture:
             copy = self.copied(capture, like=capture)
@@ -207,7 +207,7 @@ class Writers(unittest.TestCase):
 
     @unittest.skipIf(_columns.numpy is None, "numpy is missing")
     def test_rows(self):
-        """Chosen rows of columns, and of a DataFrame, and the bytes where they lie."""
+        """Writes chosen rows of columns and of a DataFrame, with the bytes in the capture."""
         classic = given.HEADER + b"".join(given.packet(n, n, bytes([n]) * n, 100) for n in range(50))
         blocks = given.SECTION + given.INTERFACE + given.NANOSECONDS + b"".join(given.enhanced(n % 2, 10**9 * n, bytes([n]) * n) for n in range(50))
         with tempfile.TemporaryDirectory() as room:
@@ -238,7 +238,7 @@ class Writers(unittest.TestCase):
                 pcapfile.Writer(io.BytesIO(), "pcapng").write_rows(rows, capture)
 
     def test_appending(self):
-        """What is written in two turns is what is written in one."""
+        """Writing in two turns gives the same file as writing in one."""
         with tempfile.TemporaryDirectory() as room:
             for number, words in enumerate(({}, {"byteorder": "big", "nanoseconds": False}, {"format": "pcapng"}, {"format": "pcapng", "byteorder": "big"})):
                 name = os.path.join(room, str(number))
@@ -258,6 +258,42 @@ class Writers(unittest.TestCase):
                 file.write(gzip.compress(written()))
             self.assertRaisesRegex(ValueError, "compressed", pcapfile.Writer, name, append=True)
             self.assertRaises(TypeError, pcapfile.Writer, io.BytesIO(), append=True)
+
+    def test_the_units_of_an_interface(self):
+        """A packet's time is written in the units of its interface, whether the interface was in the file or came from another capture."""
+        clocks = {  # if_tsresol and if_tsoffset, the units of the time below, and the nanoseconds that remain
+            (6, 0): (TIME * 10**6 + 152_630, 152_630_000),
+            (9, 0): (TIME * 10**9 + 152_630_999, 152_630_999),
+            (3, 1000): ((TIME - 1000) * 10**3 + 152, 152_000_000),
+            (0x80 | 1, -5): ((TIME + 5) * 2, 0),
+        }
+        section = struct.pack("<IIIHHqI", 0x0A0D0D0A, 28, 0x1A2B3C4D, 1, 0, -1, 28)
+        interfaces = [
+            struct.pack("<IIHHIHHB3xHHqHHI", 1, 44, 1, 0, 0, 9, 1, resolution, 14, 8, offset, 0, 0, 44) for resolution, offset in clocks
+        ]
+        packet = struct.pack("<IIIIIII", 6, 32, 0, 0, 0, 0, 0) + struct.pack("<I", 32)
+        with tempfile.TemporaryDirectory() as room:
+            name = os.path.join(room, "it")
+            with open(name, "wb") as file:
+                file.write(section + b"".join(interfaces))
+            with pcapfile.Writer(name, append=True) as writer:
+                for number in range(len(clocks)):
+                    writer.write(b"", TIME, 152_630_999, interface=number)
+                writer.write(b"", TIME, 152_630_999, interface=writer.add_interface(1))
+            with pcapfile.open(name) as capture:
+                self.assertEqual([p.timestamp for p in capture], [units for units, _ in clocks.values()] + [TIME * 10**9 + 152_630_999])
+            with pcapfile.open(name) as capture:
+                self.assertEqual([p.nanoseconds for p in capture], [it for _, it in clocks.values()] + [152_630_999])
+        for interface, (units, _) in zip(interfaces, clocks.values()):
+            with pcapfile.parse(section + interface + packet) as source:
+                made = io.BytesIO()
+                with pcapfile.Writer(made, like=source) as writer:
+                    for it in source:
+                        writer.write_packet(it)
+                    writer.write(b"", TIME, 152_630_999)
+            with pcapfile.parse(made.getvalue()) as capture:
+                self.assertEqual([p.timestamp for p in capture], [0, units])
+        self.assertRaises(ValueError, pcapfile.Writer(io.BytesIO(), "pcapng").write, b"", -1)
 
     def test_a_failed_write_leaves_a_beginning(self):
         for words in ({"format": "pcap"}, {"format": "pcapng"}):

@@ -1,4 +1,4 @@
-//! Captures as strangers write them.
+//! Lenient reading of classic captures, which returns malformed packets with their flaws.
 
 use crate::blocks::lent;
 use crate::calls;
@@ -12,42 +12,42 @@ pub struct Flaws {
 }
 
 impl Flaws {
-    /// Whether it breaks none.
+    /// Returns whether the packet breaks no rule.
     pub fn is_empty(&self) -> bool {
         self.bits == 0
     }
 
-    /// The first of them, by which the strict reading refuses it. None where it breaks none.
+    /// Returns the first rule, by which strict reading refuses the packet. None if it breaks no rule.
     pub fn first(&self) -> Option<Rule> {
         Rule::from_number(self.first)
     }
 
-    /// Whether it breaks this rule.
+    /// Returns whether the packet breaks this rule.
     pub fn contains(&self, rule: Rule) -> bool {
         self.bits.checked_shr(rule.number()).unwrap_or(0) & 1 == 1
     }
 
-    /// The rules, in their order.
+    /// Returns the rules, in the order of their numbers.
     pub fn iter(&self) -> impl Iterator<Item = Rule> {
         let bits = self.bits;
         (0..32).filter(move |number| bits >> number & 1 == 1).filter_map(Rule::from_number)
     }
 }
 
-/// A packet of a classic capture as it stands.
+/// A packet of a classic capture, which may break rules.
 #[derive(Clone, Copy, Debug, PartialEq, Eq)]
 pub struct PacketAsIs<'a> {
-    /// When it was captured, exact also where its fraction passes one second.
+    /// The time of the packet. It is exact even if the fraction passes one second.
     pub time: Time,
-    /// How many bytes the packet had on the wire, as it says: they may be less than are stored.
+    /// The length that the packet states it had on the wire. It may be less than the number of stored bytes.
     pub original_len: u32,
-    /// The bytes that are stored.
+    /// The stored bytes.
     pub data: &'a [u8],
-    /// The rules that it breaks, of `FractionTooLarge` to `IncludedPastOriginal`.
+    /// The rules that the packet breaks, from `FractionTooLarge` to `IncludedPastOriginal`.
     pub flaws: Flaws,
 }
 
-/// The packets of a classic capture as they stand, as an iterator. A refusal is its last item.
+/// An iterator over the packets of a classic capture, which may break rules. A refusal is its last item.
 #[derive(Clone, Debug)]
 pub struct PacketsAsIs<'a> {
     capture: Capture<'a>,
@@ -56,15 +56,15 @@ pub struct PacketsAsIs<'a> {
 }
 
 impl<'a> Capture<'a> {
-    /// Its packets as they stand, from the next one on: none is left out for a rule of 2 to 5 that it breaks. One is refused where
-    /// bytes are missing, or where it stores more bytes than the limit; one below 262144 is taken for 262144.
+    /// Reads the packets leniently, from the next one on. It leaves out no packet that breaks a rule from 2 to 5. It refuses a
+    /// packet if bytes are missing, or if the packet stores more bytes than the limit. A limit below 262144 means 262144.
     pub fn as_is(self, limit: u32) -> PacketsAsIs<'a> {
         PacketsAsIs { capture: self, limit, is_done: false }
     }
 }
 
 impl<'a> PacketsAsIs<'a> {
-    /// The bytes after the packets that have been given.
+    /// Returns the bytes after the packets that the iterator has returned.
     pub fn rest(&self) -> &'a [u8] {
         self.capture.rest()
     }
@@ -81,7 +81,7 @@ impl<'a> PacketsAsIs<'a> {
             time: Time::default(),
             bytes: calls::Bytes::of(b""),
         };
-        // SAFETY: each pointer is that of a value of its own, and `left` is a slice's.
+        // SAFETY: each pointer points to a value of its own, and `left` is a slice's.
         let status = unsafe {
             calls::pcapfile_take_packet_as_is(self.capture.header(), &mut left, self.limit, &mut packet, &mut error)
         };

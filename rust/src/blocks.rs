@@ -3,50 +3,50 @@
 use crate::calls;
 use crate::Error;
 
-/// What holds for the blocks of a section.
+/// What applies to the blocks of a section.
 #[repr(C)]
 #[derive(Clone, Copy, Debug, Default, PartialEq, Eq)]
 pub struct Section {
-    /// Read high byte first: 1a2b3c4d in a big-endian section, 4d3c2b1a in a little-endian one.
+    /// The magic number, read with the high byte first: 1a2b3c4d in a big-endian section, 4d3c2b1a in a little-endian one.
     pub magic_number: u32,
-    /// 1 in all captures of today.
+    /// The major version; 1 in all captures of today.
     pub version_major: u16,
-    /// 0 in all captures of today.
+    /// The minor version; 0 in all captures of today.
     pub version_minor: u16,
     /// How many interfaces the section has so far.
     pub interfaces: u32,
 }
 
 impl Section {
-    /// A section of version 1.0 whose numbers stand low byte first, without interfaces.
+    /// A section of version 1.0 without interfaces, whose numbers have the low byte first.
     pub const LITTLE_ENDIAN: Section = Section { magic_number: 0x4d3c_2b1a, version_major: 1, version_minor: 0, interfaces: 0 };
-    /// The same with numbers high byte first.
+    /// The same with the high byte first.
     pub const BIG_ENDIAN: Section = Section { magic_number: 0x1a2b_3c4d, ..Section::LITTLE_ENDIAN };
 }
 
-/// A block, whose body lies in the capture.
+/// A block. Its body is a part of the capture.
 #[derive(Clone, Copy, Debug, PartialEq, Eq)]
 pub struct Block<'a> {
     /// The number of its type.
     pub type_: u32,
-    /// What stands between its lengths: the block is 12 bytes longer.
+    /// The bytes between its lengths. The block is 12 bytes longer.
     pub body: &'a [u8],
     section: Section,
 }
 
-/// An interface.
+/// The description of an interface.
 #[repr(C)]
 #[derive(Clone, Copy, Debug, Default, PartialEq, Eq)]
 pub struct Interface {
     /// The number of the link type of its packets' first layer.
     pub link: u32,
-    /// The most bytes that are stored of a packet; 0 is no limit.
+    /// The snapshot length: the most bytes that are stored for each packet. 0 is no limit.
     pub snaplen: u32,
-    /// The unit of its times in seconds is this, 10 or 2, to the power of minus `ts_exponent`.
+    /// The unit of time in seconds is this, 10 or 2, to the power of minus `ts_exponent`.
     pub ts_base: u8,
-    /// 6 where the capture names no unit.
+    /// The exponent of the unit of time. 6 if the capture names no unit.
     pub ts_exponent: u8,
-    /// Seconds that are added to each time.
+    /// Seconds to add to each time.
     pub ts_offset: i64,
 }
 
@@ -54,29 +54,29 @@ pub struct Interface {
 #[repr(C)]
 #[derive(Clone, Copy, Debug, Default, PartialEq, Eq, PartialOrd, Ord)]
 pub struct Time {
-    /// Since 1970, below 0 before it.
+    /// Seconds since 1970, below 0 before it.
     pub seconds: i64,
-    /// After these seconds, below 1000000000.
+    /// Nanoseconds after these seconds, below 1000000000.
     pub nanoseconds: u32,
 }
 
-/// A packet of an interface, whose bytes lie in the capture.
+/// A packet of an interface. Its bytes are a part of the capture.
 #[derive(Clone, Copy, Debug, PartialEq, Eq)]
 pub struct BlockPacket<'a> {
     /// The number of its interface, from 0 on.
     pub interface_id: u32,
-    /// In units of the interface. 0 for a simple packet, which has no time.
+    /// The time in units of the interface. 0 for a simple packet, which has no time.
     pub timestamp: u64,
     /// How many bytes the packet had on the wire.
     pub original_len: u32,
-    /// The bytes that are stored; for a simple packet with their padding.
+    /// The stored bytes. Those of a simple packet include the padding.
     pub data: &'a [u8],
 }
 
-/// An option of a block as it stands; its value lies in the capture.
+/// An option of a block, unjudged. Its value is a part of the capture.
 #[derive(Clone, Copy, Debug, PartialEq, Eq)]
 pub struct BlockOption<'a> {
-    /// Its code, above 0, which the type of its block gives a meaning.
+    /// Its code, above 0. The type of the block gives it a meaning.
     pub code: u16,
     /// Its value, without padding.
     pub value: &'a [u8],
@@ -85,16 +85,16 @@ pub struct BlockOption<'a> {
 /// An address of a name resolution block, and its names.
 #[derive(Clone, Copy, Debug, PartialEq, Eq)]
 pub struct NameRecord<'a> {
-    /// 1 of an IPv4 address, 2 of an IPv6 address, or another number.
+    /// The type of the address: 1 for IPv4, 2 for IPv6, or another number.
     pub type_: u16,
-    /// Of 4 or 16 bytes; of another type the whole value.
+    /// The address, of 4 or 16 bytes. For another type it is the whole value.
     pub address: &'a [u8],
     names: &'a [u8],
 }
 
 const NOTHING: i32 = 8;
 
-/// The bytes that the library lends of these.
+/// Returns these bytes, which the library lends, as a part of `of`.
 pub(crate) fn lent<'a>(of: &'a [u8], bytes: calls::Bytes) -> &'a [u8] {
     if bytes.len == 0 {
         return &[];
@@ -104,15 +104,15 @@ pub(crate) fn lent<'a>(of: &'a [u8], bytes: calls::Bytes) -> &'a [u8] {
 }
 
 impl Interface {
-    /// An interface whose times are nanoseconds since 1970.
+    /// Returns an interface whose times are nanoseconds since 1970.
     pub const fn nanoseconds(link: u32, snaplen: u32) -> Interface {
         Interface { link, snaplen, ts_base: 10, ts_exponent: 9, ts_offset: 0 }
     }
 
-    /// The time of so many units. None where its seconds pass 64 bits.
+    /// Returns the time of this many units. None if its seconds pass 64 bits.
     pub fn time(&self, timestamp: u64) -> Option<Time> {
         let mut time = Time::default();
-        // SAFETY: each pointer is that of a value of its own.
+        // SAFETY: each pointer points to a value of its own.
         let status = unsafe { calls::pcapfile_time_of(self, timestamp, &mut time) };
         (status == 0).then_some(time)
     }
@@ -123,7 +123,7 @@ impl<'a> Block<'a> {
         Block { type_, body, section }
     }
 
-    /// What is in force after it.
+    /// Returns what applies after this block.
     pub(crate) fn section(&self) -> Section {
         self.section
     }
@@ -132,10 +132,10 @@ impl<'a> Block<'a> {
         calls::Block { type_: self.type_, body: calls::Bytes::of(self.body) }
     }
 
-    /// The interface that it describes. None where its body is good and of another type.
+    /// Returns the interface that the block describes. None if its body is good and of another type.
     pub fn interface(&self) -> Result<Option<Interface>, Error> {
         let (mut interface, mut error) = (Interface::default(), calls::Error::default());
-        // SAFETY: each pointer is that of a value of its own, and the body is a slice's.
+        // SAFETY: each pointer points to a value of its own, and the body is a slice's.
         match unsafe { calls::pcapfile_read_interface(&self.section, &self.raw(), &mut interface, &mut error) } {
             0 => Ok(Some(interface)),
             NOTHING => Ok(None),
@@ -143,12 +143,12 @@ impl<'a> Block<'a> {
         }
     }
 
-    /// The packet that it is. None where its body is good and of another type.
+    /// Returns the packet of the block. None if its body is good and of another type.
     pub fn packet(&self) -> Result<Option<BlockPacket<'a>>, Error> {
         let none = calls::Bytes::of(b"");
         let mut packet = calls::NgPacket { type_: 0, interface_id: 0, orig_len: 0, timestamp: 0, bytes: none };
         let mut error = calls::Error::default();
-        // SAFETY: each pointer is that of a value of its own, and the body is a slice's.
+        // SAFETY: each pointer points to a value of its own, and the body is a slice's.
         match unsafe { calls::pcapfile_read_packet(&self.section, &self.raw(), &mut packet, &mut error) } {
             0 => Ok(Some(self.lent(&packet))),
             NOTHING => Ok(None),
@@ -156,10 +156,11 @@ impl<'a> Block<'a> {
         }
     }
 
-    /// Its options, as an iterator, of which a refusal is the last item. None of a block whose type has no options.
+    /// Returns an iterator over the options of the block, with a refusal as its last item. It is empty if the block's type has
+    /// no options.
     pub fn options(&self) -> Result<Options<'a>, Error> {
         let (mut left, mut error) = (calls::Bytes::of(b""), calls::Error::default());
-        // SAFETY: each pointer is that of a value of its own, and the body is a slice's.
+        // SAFETY: each pointer points to a value of its own, and the body is a slice's.
         match unsafe { calls::pcapfile_options(&self.section, &self.raw(), &mut left, &mut error) } {
             0 => Ok(Options { section: self.section, left: lent(self.body, left) }),
             NOTHING => Ok(Options { section: self.section, left: &[] }),
@@ -167,7 +168,8 @@ impl<'a> Block<'a> {
         }
     }
 
-    /// The addresses of a name resolution block, as an iterator, of which a refusal is the last item. None of another block.
+    /// Returns an iterator over the addresses of a name resolution block, with a refusal as its last item. It is empty for
+    /// another block.
     pub fn records(&self) -> Records<'a> {
         const NAMES: u32 = 4;
         Records { section: self.section, left: self.body, is_done: self.type_ != NAMES }
@@ -183,7 +185,7 @@ impl<'a> Block<'a> {
     }
 }
 
-/// The options of a block.
+/// An iterator over the options of a block.
 #[derive(Clone, Debug)]
 pub struct Options<'a> {
     section: Section,
@@ -196,7 +198,7 @@ impl<'a> Iterator for Options<'a> {
     fn next(&mut self) -> Option<Self::Item> {
         let (mut left, mut error) = (calls::Bytes::of(self.left), calls::Error::default());
         let mut option = calls::BlockOption { code: 0, value: calls::Bytes::of(b"") };
-        // SAFETY: each pointer is that of a value of its own, and `left` is a slice's.
+        // SAFETY: each pointer points to a value of its own, and `left` is a slice's.
         let status = unsafe { calls::pcapfile_take_option(&self.section, &mut left, &mut option, &mut error) };
         let bytes = core::mem::take(&mut self.left);
         match status {
@@ -210,7 +212,7 @@ impl<'a> Iterator for Options<'a> {
     }
 }
 
-/// The addresses of a name resolution block.
+/// An iterator over the addresses of a name resolution block.
 #[derive(Clone, Debug)]
 pub struct Records<'a> {
     section: Section,
@@ -228,7 +230,7 @@ impl<'a> Iterator for Records<'a> {
         let (bytes, none) = (self.left, calls::Bytes::of(b""));
         let (mut left, mut error) = (calls::Bytes::of(bytes), calls::Error::default());
         let mut record = calls::Record { type_: 0, address: none, names: none };
-        // SAFETY: each pointer is that of a value of its own, and `left` is a slice's.
+        // SAFETY: each pointer points to a value of its own, and `left` is a slice's.
         let status = unsafe { calls::pcapfile_take_record(&self.section, &mut left, &mut record, &mut error) };
         self.is_done = status != 0;
         match status {
@@ -244,13 +246,13 @@ impl<'a> Iterator for Records<'a> {
 }
 
 impl<'a> NameRecord<'a> {
-    /// Its names.
+    /// Returns an iterator over the names of the address.
     pub fn names(&self) -> Names<'a> {
         Names { left: self.names }
     }
 }
 
-/// The names of an address.
+/// An iterator over the names of an address.
 #[derive(Clone, Debug)]
 pub struct Names<'a> {
     left: &'a [u8],
@@ -262,7 +264,7 @@ impl<'a> Iterator for Names<'a> {
     fn next(&mut self) -> Option<&'a str> {
         let (bytes, mut left) = (self.left, calls::Bytes::of(self.left));
         let (mut name, mut error) = (calls::Bytes::of(b""), calls::Error::default());
-        // SAFETY: each pointer is that of a value of its own, and `left` is a slice's.
+        // SAFETY: each pointer points to a value of its own, and `left` is a slice's.
         match unsafe { calls::pcapfile_take_name(&mut left, &mut name, &mut error) } {
             0 => {
                 self.left = lent(bytes, left);
@@ -273,7 +275,7 @@ impl<'a> Iterator for Names<'a> {
     }
 }
 
-/// The blocks of a PcapNg capture, as an iterator. A refusal is its last item.
+/// An iterator over the blocks of a PcapNg capture. A refusal is its last item.
 #[derive(Clone, Debug)]
 pub struct Blocks<'a> {
     section: Section,
@@ -282,22 +284,22 @@ pub struct Blocks<'a> {
 }
 
 impl<'a> Blocks<'a> {
-    /// The blocks that these bytes are, the first section header among them.
+    /// Reads these bytes as blocks, and returns the first section header too.
     pub fn parse(bytes: &'a [u8]) -> Blocks<'a> {
         Blocks::at(Section::default(), bytes)
     }
 
-    /// The blocks at the front of these bytes, under what is in force there.
+    /// Reads the blocks at the front of these bytes, in this section.
     pub(crate) fn at(section: Section, left: &'a [u8]) -> Blocks<'a> {
         Blocks { section, left, is_done: false }
     }
 
-    /// What is in force after the blocks that have been given.
+    /// Returns what applies after the blocks that the iterator has returned.
     pub fn section(&self) -> &Section {
         &self.section
     }
 
-    /// The bytes after the blocks that have been given.
+    /// Returns the bytes after the blocks that the iterator has returned.
     pub fn rest(&self) -> &'a [u8] {
         self.left
     }
@@ -306,7 +308,7 @@ impl<'a> Blocks<'a> {
         let mut left = calls::Bytes::of(self.left);
         let mut block = calls::Block { type_: 0, body: calls::Bytes::of(b"") };
         let mut error = calls::Error::default();
-        // SAFETY: each pointer is that of a value of its own, and `left` is a slice's.
+        // SAFETY: each pointer points to a value of its own, and `left` is a slice's.
         let status = unsafe { calls::pcapfile_take_block(&mut self.section, &mut left, &mut block, &mut error) };
         if status != 0 {
             return Err(Error::of(status, error));
@@ -323,7 +325,7 @@ impl<'a> Iterator for Blocks<'a> {
     type Item = Result<Block<'a>, Error>;
 
     fn next(&mut self) -> Option<Self::Item> {
-        // Of no bytes at all the library tells how many are missing of the first block.
+        // If there are no bytes at all, the library returns how many are missing of the first block.
         if self.is_done || (self.left.is_empty() && self.section != Section::default()) {
             return None;
         }

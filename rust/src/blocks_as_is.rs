@@ -1,10 +1,10 @@
-//! PcapNg captures as strangers write them.
+//! Lenient reading of PcapNg captures, which returns malformed blocks with their flaws.
 
 use crate::blocks::lent;
 use crate::calls;
 use crate::{Block, BlockPacket, Blocks, Error, Interface, Rule, Section};
 
-/// What is wrong with the body of a block.
+/// A flaw of a block's body.
 #[repr(C)]
 #[derive(Clone, Copy, Debug, Default, PartialEq, Eq)]
 pub struct BlockFlaw {
@@ -14,47 +14,47 @@ pub struct BlockFlaw {
 }
 
 impl BlockFlaw {
-    /// The error by which the strict reading refuses such a body. None of a place that no call has filled.
+    /// Returns the error by which strict reading refuses such a body. None for a place that no call has filled.
     pub fn error(self) -> Option<Error> {
         (self.status != 0).then(|| Error::of(self.status, calls::Error { rule: self.rule, missing: 0 }))
     }
 
-    /// The rule that is broken. None where a custom option's value is too short, and where a string is not UTF-8.
+    /// Returns the broken rule. None if a custom option's value is too short, or if a string is not UTF-8.
     pub fn rule(self) -> Option<Rule> {
         self.error().and_then(Error::rule)
     }
 
-    /// The code of the option whose value it is. None where it is that of the whole body, or of the list of options.
+    /// Returns the code of the option whose value has the flaw. None if the whole body or the list of options has it.
     pub fn code(self) -> Option<u16> {
         u16::try_from(self.code).ok().filter(|&code| code != 0)
     }
 }
 
-/// A block of a PcapNg capture as it stands.
+/// A block of a PcapNg capture, whose body may break rules.
 #[derive(Clone, Copy, Debug, PartialEq, Eq)]
 pub struct BlockAsIs<'a> {
-    /// The block, whose body may have flaws.
+    /// The block. Its body may have flaws.
     pub block: Block<'a>,
-    /// The interface that it describes, with the first unit of time and the first offset that break no rule. None of another block,
-    /// and where its body has no room for an interface's head: it keeps its number then.
+    /// The interface that the block describes, with the first unit of time and the first offset that break no rule. None for
+    /// another block, and if the body has no room for an interface's head. The interface keeps its number then.
     pub interface: Option<Interface>,
-    /// The packet that it is, where it is an enhanced one. None of another block, and where its body has no room for the packet.
+    /// The packet of the block, if it is an enhanced one. None for another block, and if the body has no room for the packet.
     pub packet: Option<BlockPacket<'a>>,
-    /// How many flaws its body has.
+    /// How many flaws the body has.
     pub flaw_count: usize,
     first: BlockFlaw,
     text: &'a [u8],
 }
 
 impl<'a> BlockAsIs<'a> {
-    /// The first flaw of its body, by which the strict reading refuses it. None where it has none.
+    /// Returns the first flaw of the body, by which strict reading refuses it. None if it has none.
     pub fn first_flaw(&self) -> Option<BlockFlaw> {
         (self.flaw_count > 0).then_some(self.first)
     }
 
-    /// The flaws of its body, in the order in which they stand, as many of the first ones as there are places.
+    /// Returns the flaws of the body in their order: as many of the first ones as there are places.
     pub fn flaws<'p>(&self, places: &'p mut [BlockFlaw]) -> &'p [BlockFlaw] {
-        // A section header is read in its own order, whatever is in force.
+        // A section header is read in its own order, whatever section it follows.
         let section = Section { interfaces: 0, ..self.block.section() };
         let count = match take(section, self.text, places) {
             Ok((_, taken, _)) => taken.flaws.min(places.len()),
@@ -64,7 +64,7 @@ impl<'a> BlockAsIs<'a> {
     }
 }
 
-/// The blocks of a PcapNg capture as they stand, as an iterator. A refusal is its last item.
+/// An iterator over the blocks of a PcapNg capture, whose bodies may break rules. A refusal is its last item.
 #[derive(Clone, Debug)]
 pub struct BlocksAsIs<'a> {
     section: Section,
@@ -73,14 +73,14 @@ pub struct BlocksAsIs<'a> {
 }
 
 impl<'a> Blocks<'a> {
-    /// Its blocks as they stand, from the next one on: none is left out for what is wrong with its body. One is refused where its
-    /// frame is, where the first one is no section header, and where a section header gives no order of bytes.
+    /// Reads the blocks leniently, from the next one on. It leaves out no block whose body has flaws. It refuses a block with a
+    /// malformed frame, a first block that is no section header, and a section header that gives no order of bytes.
     pub fn as_is(self) -> BlocksAsIs<'a> {
         BlocksAsIs { section: *self.section(), left: self.rest(), is_done: false }
     }
 }
 
-/// The block at the front of these bytes, what of them follows it, and what is in force then.
+/// Takes the block at the front of these bytes. Returns the bytes after it, the block, and the section that then applies.
 fn take<'a>(
     mut section: Section,
     bytes: &'a [u8],
@@ -88,7 +88,7 @@ fn take<'a>(
 ) -> Result<(&'a [u8], calls::BlockAsIs, Section), Error> {
     let (mut left, mut error) = (calls::Bytes::of(bytes), calls::Error::default());
     let mut block = calls::BlockAsIs::none();
-    // SAFETY: each pointer is that of a value of its own, `left` is a slice's, and so are the places.
+    // SAFETY: each pointer points to a value of its own, `left` is a slice's, and so are the places.
     let status = unsafe {
         calls::pcapfile_take_block_as_is(
             &mut section,
@@ -106,12 +106,12 @@ fn take<'a>(
 }
 
 impl<'a> BlocksAsIs<'a> {
-    /// What is in force after the blocks that have been given.
+    /// Returns what applies after the blocks that the iterator has returned.
     pub fn section(&self) -> &Section {
         &self.section
     }
 
-    /// The bytes after the blocks that have been given.
+    /// Returns the bytes after the blocks that the iterator has returned.
     pub fn rest(&self) -> &'a [u8] {
         self.left
     }
@@ -132,7 +132,7 @@ impl<'a> Iterator for BlocksAsIs<'a> {
     type Item = Result<BlockAsIs<'a>, Error>;
 
     fn next(&mut self) -> Option<Self::Item> {
-        // Of no bytes at all the library tells how many are missing of the first block.
+        // If there are no bytes at all, the library returns how many are missing of the first block.
         if self.is_done || (self.left.is_empty() && self.section != Section::default()) {
             return None;
         }

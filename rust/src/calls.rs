@@ -103,7 +103,7 @@ pub struct AnyPacket {
     pub bytes: Bytes,
 }
 
-/// What of a room is held, and of a classic capture its header.
+/// Which bytes of a buffer are held, and for a classic capture its header.
 #[cfg(feature = "std")]
 #[repr(C)]
 #[derive(Clone, Copy, Default)]
@@ -120,7 +120,7 @@ pub struct Error {
     pub missing: usize,
 }
 
-// The library itself, where PCAPFILE_ASSEMBLY named it to build.rs.
+// The library itself, if PCAPFILE_ASSEMBLY named it to build.rs.
 #[cfg(all(pcapfile_assembly, target_arch = "x86_64"))]
 core::arch::global_asm!(include_str!(env!("PCAPFILE_ASSEMBLY_FILE")), options(att_syntax, raw));
 #[cfg(all(pcapfile_assembly, not(target_arch = "x86_64")))]
@@ -128,6 +128,8 @@ core::arch::global_asm!(include_str!(env!("PCAPFILE_ASSEMBLY_FILE")), options(ra
 
 extern "C" {
     pub fn pcapfile_take_header(left: *mut Bytes, header: *mut crate::Header, error: *mut Error) -> i32;
+    pub fn pcapfile_link_type(link: u32) -> u32;
+    pub fn pcapfile_fcs_len(link: u32) -> i32;
     pub fn pcapfile_take_packet(
         header: *const crate::Header,
         left: *mut Bytes,
@@ -266,10 +268,10 @@ extern "C" {
     pub fn pcapfile_rule_text(rule: u32, text: *mut Bytes);
 }
 
-/// What one of the two calls that tell of a rule says.
+/// Returns the text from one of the two calls about a rule.
 pub fn text_of(call: unsafe extern "C" fn(u32, *mut Bytes), rule: u32) -> &'static str {
     let mut text = Bytes::of(b"");
-    // SAFETY: `text` is a valid struct, and the call fills it with ASCII that is valid for ever.
+    // SAFETY: `text` is a valid struct, and the call fills it with ASCII that is valid forever.
     unsafe {
         call(rule, &mut text);
         str::from_utf8_unchecked(slice::from_raw_parts(text.ptr, text.len))

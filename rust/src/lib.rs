@@ -1,4 +1,4 @@
-//! Reads packet captures, pcap and PcapNg, out of slices and streams, by a proved parser, and writes both, through its C library.
+//! Reads packet captures, pcap and PcapNg, from slices and streams, by a proved parser, and writes both, through its C library.
 //!
 //! ```
 //! # let bytes: &[u8] = b"\xd4\xc3\xb2\xa1\x02\0\x04\0\0\0\0\0\0\0\0\0\xff\xff\0\0\x01\0\0\0";
@@ -40,52 +40,86 @@ use core::fmt;
 #[repr(C)]
 #[derive(Clone, Copy, Debug, Default, PartialEq, Eq)]
 pub struct Header {
-    /// Read high byte first: a1b2c3d4, d4c3b2a1, a1b23c4d or 4d3cb2a1.
+    /// The magic number, read with the high byte first: a1b2c3d4, d4c3b2a1, a1b23c4d or 4d3cb2a1.
     pub magic_number: u32,
-    /// 2 in all captures of today.
+    /// The major version; 2 in all captures of today.
     pub version_major: u16,
-    /// 4 in all captures of today.
+    /// The minor version; 4 in all captures of today.
     pub version_minor: u16,
-    /// Seconds that are added to each time for UTC; 0 in practice.
+    /// Seconds to add to each time for UTC; 0 in practice.
     pub ts_correction: i32,
     /// How exact the times are; 0 in practice.
     pub ts_accuracy: u32,
-    /// The most bytes that are stored of a packet.
+    /// The snapshot length: the most bytes that are stored for each packet.
     pub snaplen: u32,
     /// The number of the link type of the packets' first layer.
     pub link: u32,
 }
 
-/// A packet of a capture, whose bytes lie in the capture.
+impl Header {
+    /// Returns the link type in the low 16 bits of `link`.
+    pub fn link_type(&self) -> u32 {
+        link_type(self.link)
+    }
+
+    /// Returns the length in bytes of the frame check sequence with which each packet ends. None if `link` declares no length.
+    pub fn fcs_len(&self) -> Option<u8> {
+        fcs_len(self.link)
+    }
+}
+
+/// Returns the link type in the number of a classic header: its low 16 bits. Above them the header may declare a length of the frame check
+/// sequence. The number of a PcapNg interface is the link type itself.
+///
+/// ```
+/// assert_eq!(pcapfile::link_type(0x2400_0001), 1);
+/// ```
+pub fn link_type(number: u32) -> u32 {
+    // SAFETY: the call takes a number and returns a number.
+    unsafe { calls::pcapfile_link_type(number) }
+}
+
+/// Returns the length in bytes of the frame check sequence with which each packet ends, as the number of a link type in a classic
+/// header declares it: twice its bits 28 to 31 if bit 26 is set. None if it declares no length. The data of a packet include the sequence.
+///
+/// ```
+/// assert_eq!((pcapfile::fcs_len(0x2400_0001), pcapfile::fcs_len(1)), (Some(4), None));
+/// ```
+pub fn fcs_len(number: u32) -> Option<u8> {
+    // SAFETY: the call takes a number and returns a number.
+    u8::try_from(unsafe { calls::pcapfile_fcs_len(number) }).ok()
+}
+
+/// A packet of a capture. Its bytes are a part of the capture.
 #[derive(Clone, Copy, Debug, PartialEq, Eq)]
 pub struct Packet<'a> {
-    /// When it was captured, in seconds since 1970.
+    /// The time of the packet, in seconds since 1970.
     pub seconds: u32,
     /// Nanoseconds, whatever the capture's resolution is. They may pass one second.
     pub nanoseconds: u32,
     /// How many bytes the packet had on the wire.
     pub original_len: u32,
-    /// The bytes that are stored.
+    /// The stored bytes.
     pub data: &'a [u8],
 }
 
-/// Why a capture is refused.
+/// The reason why a capture is refused.
 #[derive(Clone, Copy, Debug, PartialEq, Eq)]
 pub enum Error {
-    /// So many bytes are missing of a header, a packet or a block, at least.
+    /// The bytes end inside a header, a packet or a block. At least this many more are needed.
     Incomplete(usize),
-    /// The bytes break this rule, and more bytes change nothing.
+    /// The bytes break this rule, and more bytes would not change that.
     Invalid(Rule),
     /// A value in a block is too short.
     BadValue,
     /// A string in a block is not UTF-8.
     NotUtf8,
-    /// Memory was refused.
+    /// An allocation failed.
     NoMemory,
 }
 
 impl Error {
-    /// The rule that is broken.
+    /// Returns the broken rule.
     pub fn rule(self) -> Option<Rule> {
         match self {
             Error::Invalid(rule) => Some(rule),
@@ -118,7 +152,7 @@ impl fmt::Display for Error {
 
 impl core::error::Error for Error {}
 
-/// A capture: its header, and then its packets, as an iterator. A refusal is its last item.
+/// A capture: its header, and an iterator over its packets. A refusal is its last item.
 #[derive(Clone, Debug)]
 pub struct Capture<'a> {
     header: Header,
@@ -127,12 +161,12 @@ pub struct Capture<'a> {
 }
 
 impl<'a> Capture<'a> {
-    /// The capture that begins these bytes.
+    /// Reads the header of the capture at the front of these bytes.
     pub fn parse(bytes: &'a [u8]) -> Result<Capture<'a>, Error> {
         let mut left = calls::Bytes::of(bytes);
         let mut header = Header::default();
         let mut error = calls::Error::default();
-        // SAFETY: each pointer is that of a value of its own, and `left` is a slice's.
+        // SAFETY: each pointer points to a value of its own, and `left` is a slice's.
         let status = unsafe { calls::pcapfile_take_header(&mut left, &mut header, &mut error) };
         if status != 0 {
             return Err(Error::of(status, error));
@@ -140,17 +174,17 @@ impl<'a> Capture<'a> {
         Ok(Capture::at(header, &bytes[bytes.len() - left.len..]))
     }
 
-    /// The packets at the front of these bytes, under a header that stood before them.
+    /// Reads the packets at the front of these bytes, under a header that came before them.
     fn at(header: Header, left: &'a [u8]) -> Capture<'a> {
         Capture { header, left, is_done: false }
     }
 
-    /// The header of the capture.
+    /// Returns the header of the capture.
     pub fn header(&self) -> &Header {
         &self.header
     }
 
-    /// The bytes after the packets that have been given.
+    /// Returns the bytes after the packets that the iterator has returned.
     pub fn rest(&self) -> &'a [u8] {
         self.left
     }
@@ -159,7 +193,7 @@ impl<'a> Capture<'a> {
         let mut left = calls::Bytes::of(self.left);
         let mut packet = calls::Packet { ts_sec: 0, ts_nsec: 0, orig_len: 0, bytes: calls::Bytes::of(b"") };
         let mut error = calls::Error::default();
-        // SAFETY: each pointer is that of a value of its own, and `left` is a slice's.
+        // SAFETY: each pointer points to a value of its own, and `left` is a slice's.
         let status = unsafe { calls::pcapfile_take_packet(&self.header, &mut left, &mut packet, &mut error) };
         if status != 0 {
             return Err(Error::of(status, error));

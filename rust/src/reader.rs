@@ -1,11 +1,11 @@
-//! Captures that come out of streams.
+//! Captures that come from streams.
 
 use crate::calls;
 use crate::{Error, Header, Interface, Section, Time};
 use std::io::{self, Read};
 use std::vec::Vec;
 
-/// How many bytes of a stream are asked for at once, unless a packet needs more.
+/// How many bytes to read from a stream at once, unless a packet needs more.
 const CHUNK: usize = 1 << 18;
 /// How many packets one call of the library takes at most.
 const BATCH: usize = 64;
@@ -18,45 +18,46 @@ const NO_PLACE: i32 = 11;
 /// A packet of a capture of either format.
 #[derive(Clone, Copy, Debug, PartialEq, Eq)]
 pub struct AnyPacket<'a> {
-    /// The number of the link type of its first layer. None where it names an interface that its section doesn't have.
+    /// The number of the link type of its first layer. None if it names an interface that its section doesn't have.
     pub link: Option<u32>,
     /// The number of its interface in its section; 0 in a classic capture.
     pub interface_id: u32,
-    /// When it was captured. None for a simple packet, which has no time, for one without an interface, and where the seconds
-    /// pass 64 bits. The nanoseconds of a classic packet may pass one second.
+    /// The time of the packet. None for a simple packet, which has no time, for a packet without an interface, and if the
+    /// seconds pass 64 bits. The nanoseconds of a classic packet may pass one second.
     pub time: Option<Time>,
     /// How many bytes the packet had on the wire.
     pub original_len: u32,
-    /// The bytes that are stored, without padding.
+    /// The stored bytes, without padding.
     pub data: &'a [u8],
 }
 
-/// Reads packets of a capture of either format out of a stream, into room that grows to what one packet or block needs. It asks
-/// for more than a packet at once, so the stream needs no buffer of its own.
+/// Reads packets of a capture of either format from a stream, with a buffer that grows to what one packet or block needs. It
+/// reads more than a packet at once, so the stream needs no buffer of its own.
 pub struct Reader<R> {
     stream: R,
     room: Vec<u8>,
-    /// What of the room is held, and of a classic capture its header, whose magic number is 0 until it came.
+    /// Which bytes of the buffer are held. For a classic capture it also has the header, whose magic number is 0 until the
+    /// reader has read it.
     push: calls::Push,
-    /// Of a PcapNg capture, likewise.
+    /// For a PcapNg capture the section in force, whose magic number is likewise 0 at first.
     section: Section,
     interfaces: Vec<Interface>,
-    /// How many bytes of the capture came before the room's first.
+    /// How many bytes of the capture came before the first byte of the buffer.
     gone: u64,
-    /// What stands at the front of what is held was refused.
+    /// Whether the library refused the item at the front of the held bytes.
     has_refused: bool,
-    /// What the last call took of a classic capture, and of a PcapNg one.
+    /// What the last call took from a classic capture, and from a PcapNg one.
     packets: Vec<calls::Packet>,
     ng_packets: Vec<calls::AnyPacket>,
 }
 
-// SAFETY: the pointers in it are those of its own room, and are read only while that is lent.
+// SAFETY: its pointers point into its own buffer, and are read only while that is lent.
 unsafe impl<R: Send> Send for Reader<R> {}
 // SAFETY: nothing reads them behind a shared reference.
 unsafe impl<R: Sync> Sync for Reader<R> {}
 
 impl<R: Read> Reader<R> {
-    /// A reader of the capture that the stream gives, from its first byte on. Nothing is read yet.
+    /// Makes a reader of the capture that begins with the stream's first byte. It reads nothing yet.
     pub fn new(stream: R) -> Reader<R> {
         let bytes = calls::Bytes::of(b"");
         let none = calls::Packet { ts_sec: 0, ts_nsec: 0, orig_len: 0, bytes };
@@ -76,43 +77,45 @@ impl<R: Read> Reader<R> {
         }
     }
 
-    /// The next packet; blocks of other kinds are passed over. None behind the last.
+    /// Returns the next packet, and skips blocks of other kinds. None after the last packet.
     ///
-    /// `UnexpectedEof` over `Error::Incomplete` where the stream ends within a header, a packet or a block, `InvalidData` over
-    /// another `Error` where the capture is refused, and else the stream's errors, but for `Interrupted`, which is repeated.
-    /// A call after an error goes on where the stream does, and behind a packet of PcapNg whose body is refused; else it says
-    /// the error again.
+    /// It fails with `UnexpectedEof` over `Error::Incomplete` if the stream ends inside a header, a packet or a block. It fails
+    /// with `InvalidData` over another `Error` if the capture is refused. Other errors are those of the stream, except
+    /// `Interrupted`, after which it reads again. A call after an error goes on if the stream does, and after a PcapNg packet
+    /// whose body was refused. Otherwise it returns the same error again.
     pub fn next_packet(&mut self) -> io::Result<Option<AnyPacket<'_>>> {
         Ok(self.take_some(1)?.next())
     }
 
-    /// As `next_packet`, for as many packets as are whole in what was read so far, 64 at most and at least one: all are lent
-    /// together. None behind the last. A refusal behind some of them is told by the next call.
+    /// Returns as many packets as are whole in the bytes read so far, at least one and at most 64. All are lent together. None
+    /// after the last packet. If a refused item follows some of them, the next call reports it. Errors are those of
+    /// `next_packet`.
     pub fn next_packets(&mut self) -> io::Result<Packets<'_>> {
         self.take_some(BATCH)
     }
 
-    /// How many bytes of the capture lie before what the next call looks at; after a refusal, where the refused item begins.
+    /// Returns how many bytes of the capture come before what the next call reads. After a refusal the refused item begins
+    /// there.
     pub fn offset(&self) -> u64 {
         self.gone + self.push.begin as u64
     }
 
-    /// The header of a classic capture, once its first packet was asked for.
+    /// Returns the header of a classic capture, after the first call for a packet.
     pub fn header(&self) -> Option<&Header> {
         (self.push.header.magic_number != 0).then_some(&self.push.header)
     }
 
-    /// What is in force in a PcapNg capture behind the packets that were given, once the first was asked for.
+    /// Returns the section in force in a PcapNg capture after the returned packets, once the first call was made.
     pub fn section(&self) -> Option<&Section> {
         (self.section.magic_number != 0).then_some(&self.section)
     }
 
-    /// The interfaces of the section in force, by their numbers; none in a classic capture.
+    /// Returns the interfaces of the section in force, by their numbers; none for a classic capture.
     pub fn interfaces(&self) -> &[Interface] {
         &self.interfaces[..self.section.interfaces as usize]
     }
 
-    /// The stream. Bytes behind the packets that were given may have been read from it.
+    /// Returns the stream. The reader may have read bytes after the returned packets from it.
     pub fn get_ref(&self) -> &R {
         &self.stream
     }
@@ -121,7 +124,7 @@ impl<R: Read> Reader<R> {
         self.header().is_some() || self.section().is_some()
     }
 
-    /// Whether the capture is PcapNg: what is in force says so, or before that its first bytes.
+    /// Returns whether the capture is PcapNg: the header or section in force decides, or before that the first bytes.
     fn is_ng(&self) -> bool {
         if self.has_begun() {
             return self.section().is_some();
@@ -129,7 +132,7 @@ impl<R: Read> Reader<R> {
         self.room[self.push.begin..self.push.end].starts_with(&SECTION)
     }
 
-    /// Takes so many packets at most, and reads until there is one.
+    /// Takes at most this many packets, and reads until there is one.
     fn take_some(&mut self, most: usize) -> io::Result<Packets<'_>> {
         self.pass_refused()?;
         let taken = loop {
@@ -162,14 +165,14 @@ impl<R: Read> Reader<R> {
         })
     }
 
-    /// Passes over a packet whose body the last call refused; what else was refused is refused again.
+    /// Skips a packet whose body the last call refused. Any other refused item is refused again.
     fn pass_refused(&mut self) -> io::Result<()> {
         if !self.has_refused || !self.is_ng() {
             return Ok(());
         }
         let mut block = calls::Block { type_: 0, body: calls::Bytes::of(b"") };
         let (mut error, room) = (calls::Error::default(), &self.room);
-        // SAFETY: each pointer is that of a value of its own, and the room is a slice's.
+        // SAFETY: each pointer points to a value of its own, and the buffer is a slice's.
         let status = unsafe {
             calls::pcapfile_push_block(
                 &mut self.push,
@@ -187,10 +190,10 @@ impl<R: Read> Reader<R> {
         }
     }
 
-    /// Takes so many packets at most of what is held, and tells how many, and why they are no more.
+    /// Takes at most this many packets from the held bytes. Returns why there are no more, and how many it took.
     fn take(&mut self, most: usize, error: &mut calls::Error) -> (i32, usize) {
         let (mut taken, is_ng, room) = (0, self.is_ng(), &self.room);
-        // SAFETY: each pointer is that of a value of its own, and the room and the arrays are slices', `most` places of them.
+        // SAFETY: each pointer points to a value of its own, and the buffer and the arrays are slices', `most` places of them.
         let status = unsafe {
             if is_ng {
                 calls::pcapfile_push_ng_packets(
@@ -220,13 +223,13 @@ impl<R: Read> Reader<R> {
         (status, taken)
     }
 
-    /// Reads once behind what is held, which moves to the front of the room before. How many bytes came.
+    /// Moves the held bytes to the front of the buffer, and reads once after them. Returns how many bytes came.
     fn read_more(&mut self, missing: usize) -> io::Result<usize> {
         let len = self.push.end - self.push.begin;
         self.gone += self.push.begin as u64;
         self.room.copy_within(self.push.begin..self.push.end, 0);
         (self.push.begin, self.push.end) = (0, len);
-        // Twice what is held at most, so that a broken length doesn't take memory for bytes that never come.
+        // At most twice the held bytes, so that a corrupt length allocates nothing for bytes that never arrive.
         let wanted = len + missing.min(len).max(CHUNK);
         if self.room.len() < wanted {
             self.room.try_reserve(wanted - self.room.len())?;
@@ -252,7 +255,7 @@ pub struct Packets<'a> {
 }
 
 impl<'a> Packets<'a> {
-    /// The bytes that the library lends of the room.
+    /// Returns these bytes, which the library lends, as a part of the buffer.
     fn lent(&self, bytes: calls::Bytes) -> &'a [u8] {
         if bytes.len == 0 {
             return &[];

@@ -1,4 +1,4 @@
-//! Captures that are written.
+//! Writers of captures.
 
 use crate::{calls, BlockPacket, Error, Header, Interface, Packet, Section};
 use std::io::{self, Write};
@@ -7,7 +7,7 @@ use std::vec::Vec;
 const INCOMPLETE: i32 = 1;
 const NO_ROOM: i32 = 9;
 
-/// Writes a classic capture to a stream, by one call of its `write_all` for the header and for each packet.
+/// Writes a classic capture to a stream, with one call of its `write_all` for the header and for each packet.
 #[derive(Debug)]
 pub struct Writer<W> {
     out: Out<W>,
@@ -15,23 +15,25 @@ pub struct Writer<W> {
 }
 
 impl<W: Write> Writer<W> {
-    /// A writer of a capture with this header, which goes out first. The order of bytes and the resolution of times are those
-    /// that its magic number tells.
+    /// Makes a writer of a capture with this header, and writes the header. Its magic number gives the order of bytes and the
+    /// resolution of times.
     ///
-    /// `InvalidInput` over `Error::Invalid` where the magic number is none of the four, and else the stream's errors.
+    /// It fails with `InvalidInput` over `Error::Invalid` if the magic number is none of the four. Other errors are those of
+    /// the stream.
     pub fn new(stream: W, header: Header) -> io::Result<Writer<W>> {
         let mut out = Out::new(stream);
         out.write(|room, room_len, written, error| {
-            // SAFETY: the pointers are those of values of their own, and of the room.
+            // SAFETY: the pointers point to values of their own, and into the buffer.
             unsafe { calls::pcapfile_write_header(&header, room, room_len, written, error) }
         })?;
         Ok(Writer { out, header })
     }
 
-    /// Writes a packet. Under microseconds the rest of its nanoseconds is lost. What a reader refuses is written too: lengths
-    /// above 262144, or a stored length above the original one.
+    /// Writes a packet. In a capture of microseconds the rest of its nanoseconds is lost. It also writes what a reader refuses:
+    /// lengths above 262144, or a stored length above the original one.
     ///
-    /// The stream's errors; after one of them every call is refused with `Other`, since a part of a packet may have gone out.
+    /// Errors are those of the stream. After one of them every call fails with `Other`, since a part of a packet may have been
+    /// written.
     pub fn write_packet(&mut self, packet: &Packet<'_>) -> io::Result<()> {
         let raw = calls::Packet {
             ts_sec: packet.seconds,
@@ -41,23 +43,23 @@ impl<W: Write> Writer<W> {
         };
         let header = self.header;
         self.out.write(|room, room_len, written, error| {
-            // SAFETY: the pointers are those of values of their own, and of the room; `raw` shows the packet's slice.
+            // SAFETY: the pointers point to values of their own, and into the buffer; `raw` shows the packet's slice.
             unsafe { calls::pcapfile_write_packet(&header, &raw, room, room_len, written, error) }
         })
     }
 
-    /// The stream.
+    /// Returns the stream.
     pub fn get_ref(&self) -> &W {
         &self.out.stream
     }
 
-    /// The stream, after what was written so far.
+    /// Returns the stream, after what was written so far.
     pub fn into_inner(self) -> W {
         self.out.stream
     }
 }
 
-/// Writes a PcapNg capture to a stream, by one call of its `write_all` for each block: a section, its interfaces, and their
+/// Writes a PcapNg capture to a stream, with one call of its `write_all` for each block: a section, its interfaces, and their
 /// packets.
 ///
 /// ```
@@ -70,7 +72,7 @@ impl<W: Write> Writer<W> {
 /// # Ok::<(), std::io::Error>(())
 /// ```
 ///
-/// Where a write failed every later call is refused with `Other`, since a part of a block may have gone out.
+/// After a failed write every later call fails with `Other`, since a part of a block may have been written.
 #[derive(Debug)]
 pub struct BlockWriter<W> {
     out: Out<W>,
@@ -78,7 +80,7 @@ pub struct BlockWriter<W> {
 }
 
 impl<W: Write> BlockWriter<W> {
-    /// A writer of a capture that begins with this section, whose header goes out first.
+    /// Makes a writer of a capture that begins with this section, and writes the section's header.
     ///
     /// It fails as `begin_section` does.
     pub fn new(stream: W, section: Section) -> io::Result<BlockWriter<W>> {
@@ -87,35 +89,35 @@ impl<W: Write> BlockWriter<W> {
         Ok(writer)
     }
 
-    /// Writes a section header without options. Its magic number tells the order of bytes from here on, and it has no interface
-    /// yet.
+    /// Writes a section header without options. Its magic number gives the order of bytes from here on, and the section has no
+    /// interface yet.
     ///
-    /// `InvalidInput` over `Error::Invalid` with `Rule::SectionMagic` where the magic number is neither order's, and else the
-    /// stream's errors.
+    /// It fails with `InvalidInput` over `Error::Invalid` with `Rule::SectionMagic` if the magic number is neither order's.
+    /// Other errors are those of the stream.
     pub fn begin_section(&mut self, section: Section) -> io::Result<()> {
         self.put(|_| section, |section, room, room_len, written, error| {
-            // SAFETY: the pointers are those of values of their own, and of the room.
+            // SAFETY: the pointers point to values of their own, and into the buffer.
             unsafe { calls::pcapfile_put_section(section, room, room_len, written, error) }
         })
     }
 
-    /// Writes the description of an interface, with its unit of time, and with its offset where it is not 0; gives its number, for
-    /// `interface_id` of its packets. Any `ts_base` but 2 is 10.
+    /// Writes the description of an interface with its unit of time, and with its offset if it is not 0. Returns its number,
+    /// for `interface_id` of its packets. Any `ts_base` except 2 means 10.
     ///
-    /// `InvalidInput` over `Error::Invalid` with `Rule::LinkTooLarge`, with `Rule::InterfacesFull`, or with
-    /// `Rule::InterfaceResolutionLength` where `ts_exponent` is 128 or more; and else the stream's errors.
+    /// It fails with `InvalidInput` over `Error::Invalid` with `Rule::LinkTooLarge`, with `Rule::InterfacesFull`, or with
+    /// `Rule::InterfaceResolutionLength` if `ts_exponent` is 128 or more. Other errors are those of the stream.
     pub fn add_interface(&mut self, interface: &Interface) -> io::Result<u32> {
         self.put(|section| section, |section, room, room_len, written, error| {
-            // SAFETY: the pointers are those of values of their own, and of the room.
+            // SAFETY: the pointers point to values of their own, and into the buffer.
             unsafe { calls::pcapfile_put_interface(section, interface, room, room_len, written, error) }
         })?;
         Ok(self.section.interfaces - 1)
     }
 
-    /// Writes a packet, as an enhanced one without options. Its timestamp is in units of its interface.
+    /// Writes a packet as an enhanced one without options. Its timestamp is in units of its interface.
     ///
-    /// `InvalidInput` over `Error::Invalid` with `Rule::InterfaceMissing` where the section has no interface of its number, or with
-    /// `Rule::BlockTooLong`; and else the stream's errors.
+    /// It fails with `InvalidInput` over `Error::Invalid` with `Rule::InterfaceMissing` if the section has no interface of its
+    /// number, or with `Rule::BlockTooLong`. Other errors are those of the stream.
     pub fn write_packet(&mut self, packet: &BlockPacket<'_>) -> io::Result<()> {
         let raw = calls::NgPacket {
             type_: 6,
@@ -125,27 +127,27 @@ impl<W: Write> BlockWriter<W> {
             bytes: calls::Bytes::of(packet.data),
         };
         self.put(|section| section, |section, room, room_len, written, error| {
-            // SAFETY: the pointers are those of values of their own, and of the room; `raw` shows the packet's slice.
+            // SAFETY: the pointers point to values of their own, and into the buffer; `raw` shows the packet's slice.
             unsafe { calls::pcapfile_put_ng_packet(section, &raw, room, room_len, written, error) }
         })
     }
 
-    /// The section that is being written, with its interfaces so far.
+    /// Returns the section that the writer is writing, with its interfaces so far.
     pub fn section(&self) -> &Section {
         &self.section
     }
 
-    /// The stream.
+    /// Returns the stream.
     pub fn get_ref(&self) -> &W {
         &self.out.stream
     }
 
-    /// The stream, after what was written so far.
+    /// Returns the stream, after what was written so far.
     pub fn into_inner(self) -> W {
         self.out.stream
     }
 
-    /// Puts a block into the stream, and moves the section behind it where that went well.
+    /// Writes a block to the stream, and then changes the section, if that succeeded.
     fn put(
         &mut self,
         start: impl Fn(Section) -> Section,
@@ -158,7 +160,7 @@ impl<W: Write> BlockWriter<W> {
     }
 }
 
-/// A stream, and the room in which what goes out is made.
+/// A stream, and the buffer in which the writer makes what it writes.
 #[derive(Debug)]
 struct Out<W> {
     stream: W,
@@ -171,7 +173,7 @@ impl<W: Write> Out<W> {
         Out { stream, room: Vec::new(), has_failed: false }
     }
 
-    /// Puts what this call writes into the room, which grows until it fits, and then into the stream.
+    /// Puts what this call writes into the buffer, which grows until it fits, and then writes it to the stream.
     fn write(&mut self, mut put: impl FnMut(*mut u8, usize, &mut usize, &mut calls::Error) -> i32) -> io::Result<()> {
         if self.has_failed {
             return Err(io::Error::other("an earlier write failed"));

@@ -1,4 +1,4 @@
-use pcapfile::{Capture, Error, Rule};
+use pcapfile::{fcs_len, link_type, Capture, Error, Rule};
 
 /// Little-endian, microseconds, Ethernet; one packet of three bytes, five on the wire.
 const CAPTURE: &[u8] = b"\xd4\xc3\xb2\xa1\x02\0\x04\0\0\0\0\0\0\0\0\0\xff\xff\0\0\x01\0\0\0\
@@ -13,6 +13,27 @@ fn packets_lie_in_the_capture() {
     assert_eq!((packets[0].seconds, packets[0].nanoseconds, packets[0].original_len), (7, 8000, 5));
     assert_eq!(packets[0].data, b"abc");
     assert_eq!(packets[0].data.as_ptr(), CAPTURE[40..].as_ptr());
+}
+
+/// The low 16 bits are the link type. If bit 26 is set, the bits 28 to 31 count the frame check sequence in units of two bytes.
+#[test]
+fn the_number_of_a_link_type_may_declare_a_check_sequence() {
+    for (number, kind, len) in [
+        (1, 1, None),
+        (0x2400_0001, 1, Some(4)),
+        (0x0400_0001, 1, Some(0)),
+        (0x1400_0069, 105, Some(2)),
+        (0xf400_007f, 127, Some(30)),
+        (0xf000_0000, 0, None),
+        (0x0001_0000, 0, None),
+        (0xfbff_ffff, 65535, None),
+        (0xffff_ffff, 65535, Some(30)),
+    ] {
+        assert_eq!((link_type(number), fcs_len(number)), (kind, len), "{number:#x}");
+        let bytes = [&CAPTURE[..20], &number.to_le_bytes()].concat();
+        let header = *Capture::parse(&bytes).unwrap().header();
+        assert_eq!((header.link, header.link_type(), header.fcs_len()), (number, kind, len));
+    }
 }
 
 #[test]

@@ -1,4 +1,4 @@
-/* A packet of either format as the programs print it that read such packets. */
+/* Prints a packet of either format, for the programs that read such packets. */
 #ifndef ANY_H
 #define ANY_H
 

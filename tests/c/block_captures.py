@@ -1,5 +1,5 @@
-"""block_captures.py FOLDER: writes small PcapNg captures, good and bad, into the folder, and beside each good one the lines
-that `blocks -p` has to print of it, in a file NAME.packets."""
+"""block_captures.py FOLDER: writes small PcapNg captures, sound and malformed, into the folder. Beside each sound one it writes the
+lines that `blocks -p` must print for it, in a file NAME.packets."""
 
 import struct
 import sys
@@ -68,7 +68,7 @@ class Made:
         return self.block(3, struct.pack(self.order + "I", original) + data)
 
     def refused(self, number, body):
-        """A block whose body can't be read: it has no line."""
+        """Adds a block whose body can't be read. It has no line."""
         return self.block(number, body)
 
 

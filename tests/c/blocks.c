@@ -1,14 +1,14 @@
-/* The lines of `capcopy blocks`, and the packets of a PcapNg capture, by the library's C header.
+/* Prints the lines of `capcopy blocks`, and the packets of a PcapNg capture, by the library's C header.
  *
  *   blocks FILE          a line for the first section, and one for each block after it
  *   blocks -p FILE       a line for each packet: block, interface, ticks, seconds, link type, stored and original length, bytes
  *   blocks -n FILE       the same by batches, without the blocks' numbers
- *   blocks -f FILE       of every front of the file: its blocks, and then the status
- *   blocks -t FILE       counts, and prints packets and nanoseconds a packet, the best of ten rounds
+ *   blocks -f FILE       for every beginning of the file its blocks, and then the status
+ *   blocks -t FILE       counts, and prints packets and nanoseconds per packet, the best of ten rounds
  *
- * Before these words `-c PIECE ROOM` takes the blocks by the calls for a capture that comes in pieces: of at most PIECE bytes, into
- * room that is ROOM bytes long at first. Batches are always of a capture in memory. `-k PARTS` cuts the capture into so many parts,
- * and lists the blocks of each by itself.
+ * With `-c PIECE ROOM` before these words the program takes the blocks by the calls for a capture in pieces. A piece has at most PIECE
+ * bytes, and the buffer is ROOM bytes long at first. Batches are always of a capture in memory. With `-k PARTS` it cuts the capture into
+ * this many parts, and lists the blocks of each by itself.
  */
 #include "file.h"
 #include "pieces.h"
@@ -21,9 +21,9 @@
 
 enum { INTERFACES = 64, BATCH = 3, MOST_PARTS = 40, REFUSED = 1, USAGE = 2, ENDED_EARLY = 3, NO_MEMORY = 4, NO_FILE = 4 };
 
-/* A walk, and what it needs of the interfaces of its section. */
+/* A walk, and what it needs to know about the interfaces of its section. */
 struct walk {
-    struct pieces pieces; /* or all in `left`, where there is no room */
+    struct pieces pieces; /* or all bytes are in `left`, if there is no buffer */
     pcapfile_section section;
     pcapfile_block block;
     pcapfile_interface interfaces[INTERFACES];
@@ -65,7 +65,7 @@ static int status_of(int32_t status) {
     }
 }
 
-/* The next block; of an interface what is needed of it too. */
+/* Takes the next block, and reads an interface's description. */
 static int32_t next_block(struct walk *walk) {
     uint32_t before = walk->section.interfaces;
     int32_t status = take_block(walk);
@@ -103,7 +103,7 @@ static void print_section(const struct walk *walk) {
            (unsigned)walk->section.version_major, (unsigned)walk->section.version_minor);
 }
 
-/* The blocks of a capture or of a part. */
+/* Prints the blocks of a capture or of a part. */
 static int32_t list_rest(struct walk *walk) {
     int32_t status = PCAPFILE_OK;
     while (status == PCAPFILE_OK && has_more(walk)) {
@@ -114,7 +114,7 @@ static int32_t list_rest(struct walk *walk) {
     return status;
 }
 
-/* A walk that stands at a cut: over the section header in force there, its interfaces, and then `left`. */
+/* Begins a walk at a cut: over the section header in force there, its interfaces, and then `left`. */
 static int32_t walk_from(struct walk *walk, pcapfile_bytes all, const pcapfile_ng_cut *cut, const size_t *places, size_t len) {
     *walk = walk_of((pcapfile_bytes){ all.ptr + cut->header, all.len - cut->header });
     int32_t status = next_block(walk);
@@ -165,7 +165,7 @@ static size_t least(size_t a, size_t b) {
     return a < b ? a : b;
 }
 
-/* How many bytes are stored of a packet: padding follows those of a simple one. */
+/* Returns how many bytes of a packet are stored. Padding follows those of a simple packet. */
 static size_t stored_of(const struct walk *walk, const pcapfile_ng_packet *packet) {
     size_t len = packet->bytes.len;
     if (packet->type != PCAPFILE_BLOCK_SIMPLE_PACKET) return len;
@@ -199,7 +199,7 @@ static int32_t list_packets(struct walk *walk) {
     return status;
 }
 
-/* What stops a batch is taken as a block: a section, an interface, a packet that can't be read, or a refusal. */
+/* Takes what stops a batch as a block: a section, an interface, a packet that can't be read, or a refusal. */
 static int32_t list_batches(struct walk *walk) {
     pcapfile_ng_packet packets[BATCH] = { PCAPFILE_NG_PACKET_INIT, PCAPFILE_NG_PACKET_INIT, PCAPFILE_NG_PACKET_INIT };
     int32_t status = PCAPFILE_OK;
@@ -225,7 +225,7 @@ static int tell(int32_t status, const pcapfile_error *error) {
     return status_of(status);
 }
 
-/* Each front in room of its own, so that a read past its end is seen. */
+/* Puts each beginning into a buffer of its own, so that a read past its end is seen. */
 static int list_fronts(pcapfile_bytes all) {
     for (size_t len = 0; len <= all.len; len++) {
         uint8_t *front = malloc(len > 0 ? len : 1);

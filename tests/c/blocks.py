@@ -1,7 +1,7 @@
-"""The packets of a PcapNg capture, by the Python package, as `blocks -p` of blocks.c prints them, without the blocks' numbers.
+"""Prints the packets of a PcapNg capture by the Python package, as `blocks -p` of blocks.c does, without the blocks' numbers.
 
-blocks.py FILE: a line a packet. blocks.py -f FILE: of every front of the file, its lines and then its status. Behind `-s N` both
-as a stream that reads N bytes at once. blocks.py -t FILE: counts, and prints packets a second, the best of five rounds.
+blocks.py FILE: a line for each packet. blocks.py -f FILE: for every beginning of the file its lines and then its status. After `-s N` both
+read the capture as a stream of N bytes at once. blocks.py -t FILE: counts, and prints packets per second, the best of five rounds.
 """
 
 import sys

@@ -1,12 +1,12 @@
-/* blocks_as_is [-c PIECE ROOM] FILE: the blocks of a PcapNg capture as they stand, in memory, or as it comes in pieces of at most PIECE
- * bytes, into room that is ROOM bytes long at first. A line `INDEX TYPE` for each block, and behind it
+/* blocks_as_is [-c PIECE ROOM] FILE: reads the blocks of a PcapNg capture leniently, in memory, or in pieces of at most PIECE bytes,
+ * into a buffer that is ROOM bytes long at first. It prints a line `INDEX TYPE` for each block, and after it
  *
  *   flaw NAME CODE                                  for each flaw of its body
  *   interface LINK SNAPLEN BASE EXPONENT OFFSET     for an interface whose body has room for its head
  *   packet INTERFACE TIME STORED/ORIGINAL DATA      for an enhanced packet whose body has room for it, with its time by its interface
  *
- * and at the end `refused REASON` where bytes are left. Beside each block the strict calls take the same one, and have to refuse it
- * by its first flaw, or to take it where it has none. In memory the capture ends where its block of memory does.
+ * and at the end `refused REASON` if bytes are left. The strict calls take each block too. They must refuse it by its first flaw, or
+ * take it if it has none. In memory the capture ends where its block of memory does.
  */
 #include "file.h"
 #include "pieces.h"
@@ -29,7 +29,7 @@ static void print_flaw(const pcapfile_block_flaw *flaw) {
     printf("flaw %.*s %" PRIu32 "\n", (int)name.len, (const char *)name.ptr, flaw->code);
 }
 
-/* Whether a call that reads strictly answers as these flaws say. */
+/* Returns whether a call that reads strictly answers as these flaws require. */
 static int is_strict(int32_t status, const pcapfile_error *error, size_t count, const pcapfile_block_flaw *first) {
     if (count == 0) return status == PCAPFILE_OK;
     return status == first->status && (status == PCAPFILE_INVALID ? error->rule : 0) == first->rule;
@@ -67,7 +67,7 @@ static void print_packet(const pcapfile_ng_packet *packet, const pcapfile_interf
     printf("\n");
 }
 
-/* The flaws of a block that was taken with few places, by a call that has as many as it needs. */
+/* Returns the flaws of a block that was taken with few places, by a call that has as many as it needs. */
 static pcapfile_block_flaw *all_flaws(pcapfile_section section, pcapfile_bytes left, const pcapfile_block_as_is *taken,
                                       const pcapfile_block_flaw *few) {
     pcapfile_block_as_is block = PCAPFILE_BLOCK_AS_IS_INIT;
@@ -93,7 +93,7 @@ static void print_refused(int32_t status, const pcapfile_error *error) {
     printf("refused invalid %.*s\n", (int)text.len, (const char *)text.ptr);
 }
 
-/* Whether more came of the capture, where so many bytes are missing. */
+/* Returns whether more of the capture came, if this many bytes are missing. */
 static int has_come(struct pieces *pieces, int32_t status, pcapfile_error error) {
     if (status != PCAPFILE_INCOMPLETE || pieces->left.len == 0) return 0;
     if (come(pieces, error.missing, &error) != PCAPFILE_OK) exit(NO_FILE);

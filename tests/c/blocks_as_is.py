@@ -1,7 +1,8 @@
-"""blocks_as_is.py PROGRAM FOLDER CAPTURES: what tests/c/blocks_as_is prints of PcapNg captures is what tests/model says of their blocks as they stand.
+"""blocks_as_is.py PROGRAM FOLDER CAPTURES: checks that tests/c/blocks_as_is prints for PcapNg captures what tests/model finds by lenient
+reading.
 
-The captures are those in the second folder, and some that are made here and put into the first: whole ones whose bytes are then
-overwritten and cut anywhere, and each with every option's value of any length.
+The captures are those in the second folder, and some that the script makes and puts into the first. It makes whole ones, and then
+overwrites their bytes and cuts them anywhere. Others have every option with a value of any length.
 """
 
 import random
@@ -22,13 +23,13 @@ ORDERS = {"big": ">", "little": "<"}
 
 
 def flaw_line(flaw):
-    """The name of what is wrong, and the code of the option, or 0."""
+    """Returns the name of the flaw, and the code of the option, or 0."""
     code, broken = flaw.fields["code"], flaw.fields["broken"]
     return f"flaw {broken.parts[0].name if broken.parts else broken.name} {code.parts[0] if code.parts else 0}"
 
 
 def interface_line(block):
-    """Nothing where the body has no room for its head."""
+    """Yields the line of an interface, or nothing if the body has no room for its head."""
     kept, _ = interface(Left(block.body, block.order))
     if kept is None:
         return
@@ -85,7 +86,7 @@ class Made:
         return self.pack("I", number) + length + body + length
 
     def options(self, codes, most):
-        """Some of these codes and custom ones, with values of any length and some that are no strings; ended, cut, or not."""
+        """Returns some of these codes and custom ones, ended, cut, or neither. Their values have any length, and some are no strings."""
         found = b""
         for _ in range(self.choose.randrange(most + 1)):
             code = self.choose.choice([*codes, 2988, 2989, 19372, 65535])
@@ -109,7 +110,7 @@ class Made:
         return self.block(6, self.cut(head + self.choose.randbytes(stored + -stored % 4) + self.options(range(1, 8), 5)))
 
     def cut(self, body):
-        """This body, or now and then a shorter one, or one with a byte changed."""
+        """Returns this body, or now and then a shorter one, or one with a byte changed."""
         if self.choose.random() < 0.2:
             return body[: self.choose.randrange(len(body) + 1) // 4 * 4]
         if self.choose.random() < 0.2:

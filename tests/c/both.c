@@ -1,5 +1,5 @@
-/* both FILE: the packets of a capture of either format in memory by one call, as `open` prints them, and a line `refused` for each
- * refusal. Its array of interfaces grows by one place where one is missing. */
+/* both FILE: prints the packets of a capture of either format in memory by one call, as `open` does, and a line `refused` for each
+ * refusal. Its array of interfaces grows by one place if one is missing. */
 #include "any.h"
 #include "file.h"
 
@@ -20,7 +20,7 @@ static int32_t grow_places(struct walk *walk) {
     return PCAPFILE_OK;
 }
 
-/* Prints packets until none follows. The error stays as it was but under a refusal. */
+/* Prints packets until none follows. Checks that the call sets the error only if it refuses. */
 static int32_t print_packets(struct walk *walk) {
     const pcapfile_error unwritten = { 77, 77 };
     pcapfile_any_packet packet = PCAPFILE_ANY_PACKET_INIT;
@@ -35,7 +35,7 @@ static int32_t print_packets(struct walk *walk) {
     }
 }
 
-/* Passes over a packet whose body is refused. */
+/* Skips a packet whose body is refused. */
 static int passes(struct walk *walk, int32_t status) {
     pcapfile_block block = PCAPFILE_BLOCK_INIT;
     pcapfile_error error = PCAPFILE_ERROR_INIT;

@@ -1,4 +1,4 @@
-/* What the calls answer at the edges, each against what the header says. */
+/* Checks what the calls answer at the edges against what the header says. */
 #include "pcapfile.h"
 
 #include <stdio.h>
@@ -34,6 +34,34 @@ static void headers(void) {
     EXPECT(left.ptr == capture + 1 && left.len == 24 && !memcmp(&header, &before, sizeof header));
 }
 
+/* The draft: the low 16 bits are the link type. If bit 26 is set, the bits 28 to 31 count the frame check sequence in units of two
+ * bytes. All other bits are reserved. */
+static void links(void) {
+    static const struct { uint32_t link, type; int32_t fcs_len; } rows[] = {
+        { 0, 0, -1 },
+        { 1, 1, -1 },
+        { 0x24000001, 1, 4 },
+        { 0x04000001, 1, 0 },
+        { 0x14000069, 105, 2 },
+        { 0x84000071, 113, 16 },
+        { 0xf400007f, 127, 30 },
+        { 0x20000001, 1, -1 },
+        { 0xf0000000, 0, -1 },
+        { 0x08000001, 1, -1 },
+        { 0x02000001, 1, -1 },
+        { 0x0000ffff, 65535, -1 },
+        { 0x00010000, 0, -1 },
+        { 0x03ff0093, 147, -1 },
+        { 0x2fff0001, 1, 4 },
+        { 0xfbffffff, 65535, -1 },
+        { 0xffffffff, 65535, 30 },
+    };
+    for (size_t i = 0; i < sizeof rows / sizeof *rows; i++) {
+        EXPECT(pcapfile_link_type(rows[i].link) == rows[i].type);
+        EXPECT(pcapfile_fcs_len(rows[i].link) == rows[i].fcs_len);
+    }
+}
+
 static void packets(void) {
     pcapfile_bytes left = { capture + 24, sizeof capture - 24 };
     pcapfile_header header = { 0xd4c3b2a1, 2, 4, 0, 0, 65535, 1 };
@@ -55,7 +83,7 @@ static void packets(void) {
     EXPECT(error.rule == PCAPFILE_RULE_CAPTURE_MAGIC && left.len == 19);
 }
 
-/* A head that breaks these rules, and three bytes. */
+/* Checks a head that breaks these rules, before three bytes. */
 static void as_is_row(uint32_t fraction, uint32_t original, uint32_t flaws, uint32_t first, int64_t seconds, uint32_t nanoseconds) {
     uint8_t bytes[19];
     memcpy(bytes, capture + 24, sizeof bytes);
@@ -89,7 +117,7 @@ static void packets_as_is(void) {
     as_is_row(0, 262145, PCAPFILE_FLAW_ORIGINAL_TOO_LONG, PCAPFILE_RULE_ORIGINAL_TOO_LONG, 7, 0);
 }
 
-/* A stored length of 262146 bytes, above and below the limit. */
+/* Checks a stored length of 262146 bytes, above and below the limit. */
 static void packets_as_is_below_a_limit(void) {
     static uint8_t bytes[16 + 262146] = { 0, 0, 0, 0, 0, 0, 0, 0, 2, 0, 4, 0, 1, 0, 4, 0 };
     pcapfile_bytes left = { bytes, sizeof bytes };
@@ -114,7 +142,7 @@ static void packets_as_is_below_a_limit(void) {
     EXPECT(error.rule == PCAPFILE_RULE_CAPTURE_MAGIC && error.missing == 0 && packet.bytes.len == 262146);
 }
 
-/* A section header, and an interface whose body is too short, and then one whose unit of time has two bytes. */
+/* Checks a section header, an interface whose body is too short, and then one whose unit of time has two bytes. */
 static void blocks_as_is(void) {
     static const uint8_t bytes[] = {
         10, 13, 13, 10, 28, 0, 0, 0, 0x4d, 0x3c, 0x2b, 0x1a, 1, 0, 0, 0, 255, 255, 255, 255, 255, 255, 255, 255, 28, 0, 0, 0,
@@ -145,7 +173,7 @@ static void blocks_as_is(void) {
     EXPECT(pcapfile_take_block_as_is(&section, &left, &block, &flaw, 1, &error) == PCAPFILE_INCOMPLETE);
 }
 
-/* Seven bytes of garbage before three packets, and before one that breaks a rule. */
+/* Checks seven corrupt bytes before three packets, and before one that breaks a rule. */
 static void resyncs(void) {
     uint8_t bytes[7 + 3 * 19];
     pcapfile_bytes all = { bytes, sizeof bytes };
@@ -190,7 +218,7 @@ static void batches(void) {
     EXPECT(taken == 0 && error.rule == PCAPFILE_RULE_CAPTURE_MAGIC && left.len == 18);
 }
 
-/* Two packets of 19 bytes, of which the places are counted by hand. */
+/* Checks two packets of 19 bytes, with places counted by hand. */
 static void rows(void) {
     uint8_t twice[2 * 19];
     pcapfile_row rows[3] = { PCAPFILE_ROW_INIT, PCAPFILE_ROW_INIT, PCAPFILE_ROW_INIT };
@@ -217,7 +245,7 @@ static void rows(void) {
     EXPECT(error.rule == PCAPFILE_RULE_CAPTURE_MAGIC && left.len == 18);
 }
 
-/* Two packets of 19 bytes. */
+/* Checks two packets of 19 bytes. */
 static void cuts(void) {
     uint8_t two[24 + 2 * 19];
     pcapfile_cut cuts[3] = { { 9, 9 }, { 9, 9 }, { 9, 9 } };
@@ -241,7 +269,7 @@ static void cuts(void) {
     EXPECT(pcapfile_cut_packets(&all, cuts, 3, &count, &error) == PCAPFILE_INVALID && error.rule == PCAPFILE_RULE_CAPTURE_MAGIC);
 }
 
-/* The same packets in parts of at least so many bytes. */
+/* Checks the same packets in parts of at least a given number of bytes. */
 static void cuts_at_least(void) {
     uint8_t two[24 + 2 * 19];
     pcapfile_cut cuts[5] = { { 9, 9 }, { 9, 9 }, { 9, 9 }, { 9, 9 }, { 9, 9 } };
@@ -289,7 +317,7 @@ static void writes(void) {
     EXPECT(written == 99 && !memcmp(room, before, sizeof room));
 }
 
-/* The capture above in room for 32 bytes: 24 come, then 16, then 3. */
+/* Checks the capture above in a buffer for 32 bytes: 24 come, then 16, then 3. */
 static void pushes(void) {
     uint8_t room[32] = { 0 };
     pcapfile_push push = PCAPFILE_PUSH_INIT;
@@ -319,7 +347,7 @@ static void pushes(void) {
     EXPECT(error.rule == 0 && push.begin == 0 && push.end == 0 && packet.ts_sec == 7);
 }
 
-/* What is refused, with what is held left as it is. */
+/* Checks what the calls refuse, and that the held bytes remain as they were. */
 static void refused_pushes(void) {
     uint8_t room[43], before[43];
     pcapfile_push push = { PCAPFILE_HEADER_INIT, 2, 43 }, other = push;
@@ -350,8 +378,8 @@ static void refused_pushes(void) {
     EXPECT(error.missing == (size_t)-1 - 24 && push.begin == 0 && push.end == 19 && room[8] == 6);
 }
 
-/* A little-endian section, an interface of link type 113 that counts nanoseconds and adds 2 seconds, and an enhanced packet of
- * three bytes, five on the wire, at 7 nanoseconds. */
+/* A little-endian section, an interface of link type 113 that counts nanoseconds and adds 2 seconds, and an enhanced packet of three
+ * bytes, five on the wire, at 7 nanoseconds. */
 static const uint8_t blocks[] = {
     0x0a, 0x0d, 0x0d, 0x0a, 28, 0, 0, 0, 0x4d, 0x3c, 0x2b, 0x1a, 1, 0, 2, 0, 0xff, 0xff, 0xff, 0xff, 0xff, 0xff, 0xff, 0xff, 28, 0, 0, 0,
     1, 0, 0, 0, 40, 0, 0, 0, 113, 0, 0, 0, 0, 1, 0, 0, 9, 0, 1, 0, 9, 0, 0, 0, 14, 0, 8, 0, 2, 0, 0, 0, 0, 0, 0, 0, 40, 0, 0, 0,
@@ -406,7 +434,7 @@ static void bodies(void) {
     EXPECT(error.rule == PCAPFILE_RULE_SECTION_MAGIC && packet.orig_len == 99);
 }
 
-/* The blocks above in two parts: the section's 28 bytes, then the interface's 40 and the packet's 36. */
+/* Checks the blocks above in two parts: the section's 28 bytes, then the interface's 40 and the packet's 36. */
 static void block_cuts(void) {
     pcapfile_bytes all = { blocks, sizeof blocks };
     pcapfile_ng_cut cuts[3] = { { { 9, 9 }, 9, 9, 9 }, { { 9, 9 }, 9, 9, 9 }, { { 9, 9 }, 9, 9, 9 } };
@@ -428,7 +456,7 @@ static void block_cuts(void) {
     EXPECT(error.rule == PCAPFILE_RULE_SECTION_MISSING);
 }
 
-/* The interface's 40 bytes and the packet's 36 in parts of at least so many bytes. */
+/* Checks the interface's 40 bytes and the packet's 36 in parts of at least a given number of bytes. */
 static void block_cuts_at_least(void) {
     pcapfile_bytes all = { blocks, sizeof blocks };
     pcapfile_ng_cut cuts[4] = { PCAPFILE_NG_CUT_INIT };
@@ -495,8 +523,8 @@ static void ng_rows(void) {
     EXPECT(pcapfile_take_ng_rows(&section, &left, rows, 3, &taken, &error) == PCAPFILE_INCOMPLETE && taken == 0 && error.missing == 1);
 }
 
-/* Two enhanced packets of no bytes, with a block of an unknown type before each and one behind, and then a packet whose body says
- * that it has 1 byte and has none. */
+/* Checks two enhanced packets of no bytes, with a block of an unknown type before each and after them. Then comes a packet whose body
+ * states 1 byte and has none. */
 static void passed_blocks(void) {
     static const uint8_t unknown[] = { 99, 0, 0, 0, 12, 0, 0, 0, 12, 0, 0, 0 };
     uint8_t packet[32] = { 6, 0, 0, 0, 32, [28] = 32 }, bytes[3 * 12 + 3 * 32];
@@ -520,7 +548,7 @@ static void passed_blocks(void) {
     EXPECT(pcapfile_take_block(&section, &left, &block, &error) == PCAPFILE_OK && left.len == 0);
 }
 
-/* All of a PcapNg capture is held at first. */
+/* Checks a PcapNg capture of which the buffer holds all at first. */
 static void ng_pushes(void) {
     pcapfile_push push = { PCAPFILE_HEADER_INIT, 0, sizeof blocks };
     pcapfile_section section = PCAPFILE_SECTION_INIT;
@@ -561,7 +589,7 @@ static void options(void) {
     EXPECT(pcapfile_options(&none, &block, &left, &error) == PCAPFILE_INVALID && error.rule == PCAPFILE_RULE_SECTION_MAGIC);
     EXPECT(pcapfile_take_option(&section, &left, &option, &error) == PCAPFILE_OK);
     EXPECT(option.code == 1 && option.value.ptr == option_bytes + 4 && option.value.len == 3 && left.ptr == option_bytes + 8);
-    /* The mark, whatever follows it, each time. */
+    /* The call finds the mark each time, whatever follows it. */
     for (int i = 0; i < 2; i++) EXPECT(pcapfile_take_option(&section, &left, &option, &error) == PCAPFILE_NOTHING);
     EXPECT(left.ptr == option_bytes + 8 && left.len == 8 && option.code == 1);
     left = (pcapfile_bytes){ option_bytes + 12, 4 };
@@ -631,7 +659,7 @@ static void times(void) {
     EXPECT(pcapfile_time_of(&interface, 0, &time) == PCAPFILE_OK && time.seconds == INT64_MAX && time.nanoseconds == 0);
 }
 
-/* A section, an interface and a packet, each at its size and a byte less. */
+/* Checks a section, an interface and a packet, each at its size and at a byte less. */
 static void puts_blocks(void) {
     uint8_t room[160], before[160];
     pcapfile_section section = PCAPFILE_SECTION_LITTLE_ENDIAN, opened = section;
@@ -662,7 +690,7 @@ static void puts_blocks(void) {
     EXPECT(!memcmp(room + 60, "\6\0\0\0\x28\0\0\0\0\0\0\0\x01\x47\x8a\x12\xf0\x4c\x31\xf2\5\0\0\0\x62\0\0\0abcde\0\0\0\x28\0\0\0", 40));
 }
 
-/* What is refused leaves room, section and count as they were. */
+/* Checks that a refused call leaves room, section and count as they were. */
 static void refused_puts(void) {
     uint8_t room[64], before[64];
     pcapfile_section section = { 7, 1, 0, 3 }, other = section;
@@ -682,7 +710,7 @@ static void refused_puts(void) {
     EXPECT(pcapfile_put_ng_packet(&section, &packet, room, sizeof room, &written, &error) == PCAPFILE_INVALID);
     EXPECT(error.rule == PCAPFILE_RULE_INTERFACE_MISSING);
     packet.interface_id = 2;
-    packet.bytes.len = 4294967261; /* refused before any of them is read */
+    packet.bytes.len = 4294967261; /* the call refuses before it reads any of them */
     EXPECT(pcapfile_put_ng_packet(&section, &packet, room, sizeof room, &written, &error) == PCAPFILE_INVALID);
     EXPECT(error.rule == PCAPFILE_RULE_BLOCK_TOO_LONG);
     interface.link = 65536;
@@ -732,6 +760,7 @@ static void version(void) {
 int main(void) {
     version();
     headers();
+    links();
     packets();
     packets_as_is();
     packets_as_is_below_a_limit();

@@ -1,4 +1,4 @@
-"""captures.py FOLDER: writes small captures, good and bad, into the folder."""
+"""captures.py FOLDER: writes small captures, sound and malformed, into the folder."""
 
 import struct
 import sys

@@ -1,4 +1,4 @@
-// The header, read as C++.
+// Reads the header as C++.
 #include "pcapfile.h"
 
 int main() {

@@ -1,4 +1,4 @@
-/* A file whose bytes are all in memory. */
+/* Reads a file whole into memory. */
 #ifndef FILE_H
 #define FILE_H
 

@@ -1,4 +1,4 @@
-/* What the programs share that print the lines of `capcopy list`. */
+/* The common part of the programs that print the lines of `capcopy list`. */
 #ifndef LINES_H
 #define LINES_H
 
@@ -32,7 +32,7 @@ static int tell(int32_t status, const pcapfile_error *error) {
     return status_of(status);
 }
 
-/* Lists every front, each in a block of its own, so that a read past its end is seen. */
+/* Lists every beginning, each in a block of memory of its own, so that a read past its end is seen. */
 static int list_fronts(int32_t (*list)(pcapfile_bytes, pcapfile_error *), pcapfile_bytes all, pcapfile_error *error) {
     for (size_t len = 0; len <= all.len; len++) {
         uint8_t *front = malloc(len > 0 ? len : 1);

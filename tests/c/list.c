@@ -1,11 +1,11 @@
-/* The lines of `capcopy list`, by the library's C header.
+/* Prints the lines of `capcopy list`, by the library's C header.
  *
  *   list FILE            packet by packet
  *   list -b FILE         in batches
- *   list -f FILE         of every front of the file: its lines, and then its status
- *   list -t FILE         counts in batches, and prints packets and nanoseconds a packet, the best of ten rounds
+ *   list -f FILE         for every beginning of the file its lines, and then its status
+ *   list -t FILE         counts in batches, and prints packets and nanoseconds per packet, the best of ten rounds
  *
- * Before these words `-k PARTS` cuts the capture into so many parts, and lists each by itself, packet by packet.
+ * With `-k PARTS` before these words the program cuts the capture into this many parts, and lists each by itself, packet by packet.
  */
 #include "lines.h"
 
@@ -15,7 +15,7 @@ enum { BATCH = 256, MOST_PARTS = 9 };
 
 static size_t parts;
 
-/* The packets of `left`, behind so many. */
+/* Lists the packets of `left`, which come after this many. */
 static int32_t list_behind(uint64_t index, const pcapfile_header *header, pcapfile_bytes left, pcapfile_error *error) {
     pcapfile_packet packet = PCAPFILE_PACKET_INIT;
     int32_t status = PCAPFILE_OK;

@@ -1,7 +1,7 @@
-"""The lines of `capcopy list`, by the Python package.
+"""Prints the lines of `capcopy list`, by the Python package.
 
-list.py FILE: a line a packet. list.py -f FILE: of every front of the file, its lines and then its status. Behind `-s N` both as a
-stream that reads N bytes at once. list.py -t FILE: counts, and prints packets a second, the best of five rounds.
+list.py FILE: a line for each packet. list.py -f FILE: for every beginning of the file its lines and then its status. After `-s N` both read
+the capture as a stream of N bytes at once. list.py -t FILE: counts, and prints packets per second, the best of five rounds.
 """
 
 import sys

@@ -1,7 +1,7 @@
-/* How often bytes that came move to the front of the room.
+/* Counts how often received bytes move to the front of the buffer.
  *
- *   moves PIECE ROOM FILE       a classic capture comes in pieces of at most PIECE bytes, into room that is ROOM bytes long at
- *                               first and grows by what is missing: how many of the calls for space moved bytes, and how many
+ *   moves PIECE ROOM FILE       a classic capture comes in pieces of at most PIECE bytes, into a buffer that is ROOM bytes long at first
+ *                               and grows by what is missing: how many of the calls for space moved bytes, and how many bytes
  */
 #include "file.h"
 #include "pieces.h"
@@ -20,7 +20,7 @@ int main(int argc, char **argv) {
         const pcapfile_push before = walk.push;
         const size_t left = walk.left.len;
         status = come(&walk, error.missing, &error);
-        /* Held are those before, wherever they stand now, and those that came. */
+        /* The buffer holds the bytes of before, wherever they are now, and those that came. */
         if (walk.push.end - walk.push.begin != before.end - before.begin + (left - walk.left.len)) abort();
         if (walk.push.begin != before.begin && before.begin != before.end) {
             moves++;

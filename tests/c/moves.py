@@ -1,7 +1,7 @@
-"""moves.py PROGRAM FOLDER: how often tests/c/moves moves bytes, for given packets, pieces and rooms, is what is worked out here.
+"""moves.py PROGRAM FOLDER: checks how often tests/c/moves moves bytes, for given packets, pieces and buffers.
 
-What is held moves to the front of the room only where what is missing doesn't fit behind it. The first rows are worked out by hand,
-and show that the model works them out alike; the model then tells the others, whose sizes are drawn.
+The library moves the held bytes to the front of the buffer only if the missing bytes don't fit after them. The first rows are worked out by
+hand, and show that the model agrees with them. The model then works out the others, whose sizes are random.
 """
 
 import random
@@ -12,32 +12,32 @@ from pathlib import Path
 
 HEADER, HEAD = 24, 16
 
-# sizes of packets, piece, room, and by hand: how often bytes move, and how many in all
+# Sizes of packets, piece, buffer, and by hand: how often bytes move, and how many in all.
 BY_HAND = [
     # All 1044 bytes have room.
     ([84] * 10 + [4], 7, 1044, 0, 0),
-    # A room of three packets is filled with header and packets, each time to its end: of 250 bytes 26 are left, then thrice 50.
+    # Header and packets fill a buffer of three packets, each time to its end: of 250 bytes 26 are left, then 50 three times.
     ([84] * 10, 1000, 250, 4, 26 + 3 * 50),
-    # Packets fill the room: nothing is held where it ends, so nothing moves.
+    # Packets fill the buffer: at its end it holds nothing, so nothing moves.
     ([8] * 5, 1000, 24, 0, 0),
-    # The room grows for the one packet, behind which there is no other. The header was taken, so what came of it stands first.
+    # The buffer grows for the one packet, after which there is no other. The header was taken, so the packet's bytes are in front.
     ([1000], 1, 24, 0, 0),
-    # By tens into 60: at 60 bytes 36 are held, of which a packet of 36; none is left, and the next one begins in front.
+    # By tens into 60: at 60 bytes it holds 36, a packet of 36. Nothing is left after it, and the next packet begins in front.
     ([20] * 2, 10, 60, 0, 0),
-    # At 40 bytes a head of 16 is held behind the header. The 20 bytes of data have no room in the 10 that are left: 16 move, once.
+    # At 40 bytes it holds a head of 16 after the header. The 20 bytes of data have no room in the 10 that are left: 16 move, once.
     ([20], 10, 50, 1, 16),
 ]
 
 
 def capture(sizes):
-    """Little-endian, microseconds, Ethernet."""
+    """Yields a capture in pieces: little-endian, microseconds, Ethernet."""
     yield struct.pack("<IHHiIII", 0xA1B2C3D4, 2, 4, 0, 0, 65535, 1)
     for size in sizes:
         yield struct.pack("<IIII", 0, 0, size, size) + bytes(size)
 
 
 def model(sizes, piece, room):
-    """What is held is asked for exactly what lacks: of the capture's header, of a packet's head, and then of its data."""
+    """Returns how often bytes move, and how many. The walk asks for exactly what is missing of the header, of a packet's head, and of its data."""
     texts = [HEADER] + [HEAD + size for size in sizes]
     left, held, end, moves, moved = sum(texts), 0, 0, 0, 0
     opened = False

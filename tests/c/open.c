@@ -1,13 +1,13 @@
-/* Lists captures of either format by c/open.c, whose calls of the system and of the allocator fail here where they are told to.
+/* Lists captures of either format by c/open.c. The test makes its system calls and allocations fail on request.
  *
  *   open FILE              a line for each packet: interface, seconds, link type, stored and original length, bytes; a line
- *                          `refused` for one that is refused, behind which the list goes on where it can
+ *                          `refused` for a refused one, after which the list goes on if it can
  *   open -b BATCH FILE     the same by batches
- *   open -r BYTES FILE     the same with reads of at most so many bytes
- *   open -p FILE           the same of standard input
- *   open -q                counts the packets of standard input, and tells how many KiB were resident at most
- *   open -m LEN FILE       whether a limit one byte below the first packet's LEN is told, and the list goes on under LEN
- *   open -x FILE           each read and each allocation fails in turn, and is made again: the lines stay the same
+ *   open -r BYTES FILE     the same with reads of at most BYTES bytes
+ *   open -p FILE           the same for standard input
+ *   open -q                counts the packets of standard input, and prints how many KiB were resident at most
+ *   open -m LEN FILE       checks that a limit one byte below the first packet's LEN is reported, and that the list goes on under LEN
+ *   open -x FILE           each read and each allocation fails in turn, and is repeated: the lines remain the same
  */
 #include "any.h"
 
@@ -62,7 +62,7 @@ static int status_of(int32_t status) {
     }
 }
 
-/* The next packets, one by one or by batches. */
+/* Prints the next packets, one by one or by batches. */
 static int32_t next(FILE *out, pcapfile_reader *reader, pcapfile_error *error) {
     pcapfile_any_packet packets[MOST_BATCH];
     size_t taken = 1;
@@ -72,8 +72,8 @@ static int32_t next(FILE *out, pcapfile_reader *reader, pcapfile_error *error) {
     return status;
 }
 
-/* All packets. A call that failed is made again, and counted; one that refused a packet too: where it refuses the same place
- * again, nothing follows. */
+/* Prints all packets. Repeats a call that failed, and counts the failures. Repeats a call that refused a packet too: if it refuses at
+ * the same place again, nothing follows. */
 static int list(FILE *out, pcapfile_reader *reader, int *failed) {
     pcapfile_error error = PCAPFILE_ERROR_INIT;
     uint64_t refused = UINT64_MAX;
@@ -90,7 +90,7 @@ static int list(FILE *out, pcapfile_reader *reader, int *failed) {
     }
 }
 
-/* The lines of a file and then its status, as a text that the caller frees; NULL where the file was not opened. */
+/* Returns the lines of a file and then its status, as a text that the caller frees. NULL if the file was not opened. */
 static char *told(const char *path, int *failed) {
     char *text = NULL;
     size_t len = 0;
@@ -104,7 +104,7 @@ static char *told(const char *path, int *failed) {
     return text;
 }
 
-/* Whether a file's lines are these although a call fails; `*came` says whether the call that should fail was made at all. */
+/* Returns whether a file's lines are these although a call fails. `*came` says whether the call that should fail was made at all. */
 static int same(const char *path, const char *wanted, int is_seen, int *came) {
     int failed = 0, is_same;
     allocations = reads = 0;
@@ -117,7 +117,7 @@ static int same(const char *path, const char *wanted, int is_seen, int *came) {
     return is_same;
 }
 
-/* Fails each call in turn, by the counter that says which, until one came no more. */
+/* Fails each call in turn, by the counter that selects it, until no more calls come. */
 static int fails(const char *path, const char *wanted, long *failing, int error, int is_seen) {
     int came = 1, is_same = 1;
     read_error = error;
@@ -137,7 +137,7 @@ static int fail_each(const char *path) {
     return is_same ? 0 : DIFFERS;
 }
 
-/* A limit below the next packet is told, with what is missing, and a higher one goes on. */
+/* Checks that a limit below the next packet is reported, with what is missing, and that a higher limit goes on. */
 static int stops_at_the_limit(const char *path, size_t len) {
     pcapfile_reader *reader = pcapfile_open(path);
     pcapfile_any_packet packet = PCAPFILE_ANY_PACKET_INIT;
@@ -160,7 +160,7 @@ static int list_reader(pcapfile_reader *reader) {
     return status;
 }
 
-/* The most KiB that were resident, as the system tells. */
+/* Returns the most KiB that were resident, as the system reports it. */
 static unsigned long resident(void) {
     char line[256];
     unsigned long most = 0;

@@ -1,6 +1,6 @@
-"""The packets of a classic capture as tests/c/open.c prints them, read by struct: `opened.py FILE COUNT`, so many packets of it.
+"""Prints the first COUNT packets of a classic capture, read by struct, as tests/c/open.c does: `opened.py FILE COUNT`.
 
-tests/c/run takes the count from `capcopy list`, which says where a strict reading ends.
+tests/c/run takes COUNT from `capcopy list`, which says where strict reading ends.
 """
 
 import struct

@@ -1,12 +1,12 @@
-/* options FILE: the options and names of each block of a PcapNg capture, as they stand, by the library's calls for them. A line
- * `INDEX TYPE` for each block, and behind it
+/* options FILE: prints the options and names of each block of a PcapNg capture, unjudged, by the library's calls for them. A line `INDEX
+ * TYPE` for each block, and after it
  *
  *   name TYPE ADDRESS NAME     for each name of a record, and for a record without names
  *   option CODE VALUE          for each option
- *   refused REASON             where a record, or what stands before the options, or an option, is refused
+ *   refused REASON             if a record, an option or what comes before the options is refused
  *
- * with addresses, names and values as hexadecimal digits. What is read is copied to the end of a block of memory, so that a read
- * past its end is seen.
+ * with addresses, names and values as hexadecimal digits. The program copies what it reads to the end of a block of memory, so that a
+ * read past its end is seen.
  */
 #include "file.h"
 
@@ -33,7 +33,7 @@ static void print_refused(int32_t status, const pcapfile_error *error) {
     }
 }
 
-/* Names that were taken with their record are not refused, and are strings of C's. */
+/* Prints the names of a record. The record is already taken, so no name is refused, and each is a string of C. */
 static void print_names(const pcapfile_record *record) {
     pcapfile_bytes left = record->names, name = PCAPFILE_NO_BYTES;
     pcapfile_error error = PCAPFILE_ERROR_INIT;
@@ -52,7 +52,7 @@ static void print_names(const pcapfile_record *record) {
     }
 }
 
-/* Whether the records are good up to their end. */
+/* Prints the records. Returns whether they are good up to their end. */
 static int print_records(const pcapfile_section *section, pcapfile_bytes left, pcapfile_error *error) {
     pcapfile_record record = PCAPFILE_RECORD_INIT;
     int32_t status;
@@ -79,7 +79,7 @@ static void print_options(const pcapfile_section *section, const pcapfile_block 
     if (status != PCAPFILE_NOTHING) print_refused(status, &error);
 }
 
-/* The same of a copy of the body, whose end is that of its memory. */
+/* Prints the options of a copy of the body, which ends where its memory does. */
 static int print_block(const pcapfile_section *section, const pcapfile_block *block) {
     uint8_t *copy = malloc(block->body.len + !block->body.len);
     if (!copy) return NO_FILE;

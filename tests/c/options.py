@@ -1,7 +1,7 @@
-"""options.py PROGRAM FOLDER CAPTURES: what tests/c/options prints of PcapNg captures is what tests/model says of their blocks.
+"""options.py PROGRAM FOLDER CAPTURES: checks that tests/c/options prints for PcapNg captures what tests/model finds in their blocks.
 
-The captures are those in the second folder, and some that are made here and put into the first: blocks of each kind with options and
-names, whole, and torn and overwritten at any place of their bodies.
+The captures are those in the second folder, and some that the script makes and puts into the first. These have blocks of each kind with
+options and names, whole, and truncated and overwritten at any place of their bodies.
 """
 
 import random
@@ -27,7 +27,7 @@ PACKETS, NAMES = (2, 6), 4
 
 
 def names_of(left):
-    """The lines of the records before their end, which is taken too."""
+    """Yields the lines of the records before their end, which is taken too."""
     while (found := record(left)).name != "End":
         held = found.parts[0].fields
         if found.name == "Unknown":
@@ -41,7 +41,7 @@ def names_of(left):
 
 
 def before_options(number, left):
-    """The lines of what stands before the options, which is taken; nothing else of it is judged."""
+    """Yields the lines of what comes before the options, which is taken. The function judges nothing else of it."""
     if number in FIXED:
         length, text = FIXED[number]
         if len(left) < length:
@@ -85,7 +85,7 @@ def block_lines(block):
 
 
 def lines(capture):
-    """What is printed of a capture, up to the first block that is refused."""
+    """Yields the lines for a capture, up to the first block that is refused."""
     left, state, index = Left(capture, "big"), None, 0
     while left:
         index += 1
@@ -122,7 +122,7 @@ class Blocks:
         return self.pack("HH", code, len(value)) + value + bytes(-len(value) % 4)
 
     def texts(self):
-        """Some options with good texts, so that a section is not refused for them."""
+        """Returns some options with good texts, so that no section is refused because of them."""
         codes = self.made.choices(range(1, 5), k=self.made.randrange(4))
         return b"".join(self.padded(code, b"text"[: self.made.randrange(5)]) for code in codes)
 
@@ -150,7 +150,7 @@ class Blocks:
         return {3: b"\0\0\0\2ab", NAMES: self.names(), 5: bytes(12)}.get(number, b"journal") + self.options()
 
     def any(self):
-        """A block that is whole, or whose body is cut or has a byte of any value somewhere."""
+        """Returns a block that is whole, or whose body is cut or has a byte of any value somewhere."""
         number = self.made.choice([2, 3, NAMES, NAMES, 5, 6, 6, 9, 77])
         body = bytearray(self.body(number))
         if self.made.random() < 0.4:

@@ -1,8 +1,8 @@
-/* The packets of a PcapNg capture that comes in pieces, by the library's calls for them.
+/* Prints the packets of a PcapNg capture in pieces, by the library's calls for them.
  *
- *   packets [-b COUNT] PIECE ROOM FILE    the file comes in pieces of at most PIECE bytes, into room that is ROOM bytes long at
- *                                         first, and its packets are taken one by one, or up to COUNT in a call: a line for each
- *                                         packet, as `open` prints it, and a line `refused` for each refusal
+ *   packets [-b COUNT] PIECE ROOM FILE    the file comes in pieces of at most PIECE bytes, into a buffer that is ROOM bytes long at
+ *                                         first, and the program takes its packets one by one, or up to COUNT in a call: a line for
+ *                                         each packet, as `open` prints it, and a line `refused` for each refusal
  */
 #include "any.h"
 #include "file.h"
@@ -21,7 +21,7 @@ struct walk {
     pcapfile_error error;
 };
 
-/* One place more, behind the interfaces so far. */
+/* Adds one place after the interfaces so far. */
 static int32_t grow_places(struct walk *walk) {
     pcapfile_interface *more = realloc(walk->interfaces, (walk->interfaces_len + 1) * sizeof *more);
     if (!more) return PCAPFILE_NO_MEMORY;
@@ -30,7 +30,7 @@ static int32_t grow_places(struct walk *walk) {
     return PCAPFILE_OK;
 }
 
-/* Takes packets, one or as many as there are places, and prints them. Places behind them have to stay as they were. */
+/* Takes packets, one or as many as there are places, and prints them. Places after them must remain as they were. */
 static int32_t take(struct walk *walk) {
     const pcapfile_any_packet none = PCAPFILE_ANY_PACKET_INIT;
     struct pieces *pieces = &walk->pieces;
@@ -52,7 +52,7 @@ static int32_t take(struct walk *walk) {
     return status;
 }
 
-/* Prints packets until the capture has ended, or what follows is refused. */
+/* Prints packets until the capture has ended, or the call refuses what follows. */
 static int32_t print_more(struct walk *walk) {
     struct pieces *pieces = &walk->pieces;
     for (;;) {
@@ -65,7 +65,7 @@ static int32_t print_more(struct walk *walk) {
     }
 }
 
-/* Passes over a packet whose body is refused. */
+/* Skips a packet whose body is refused. */
 static int passes(struct walk *walk, int32_t status) {
     struct pieces *pieces = &walk->pieces;
     pcapfile_block block = PCAPFILE_BLOCK_INIT;

@@ -1,4 +1,4 @@
-/* A capture that comes in pieces, as the programs take it that try the calls for one. */
+/* A capture in pieces, for the programs that try the calls for one. */
 #ifndef PIECES_H
 #define PIECES_H
 
@@ -12,14 +12,14 @@ struct pieces {
     pcapfile_push push;
     uint8_t *room;
     size_t room_len;
-    size_t piece; /* so many bytes come at once at most */
+    size_t piece; /* at most this many bytes come at once */
 };
 
 static struct pieces pieces_of(pcapfile_bytes all, size_t piece, size_t room_len) {
     return (struct pieces){ all, PCAPFILE_PUSH_INIT, malloc(room_len), room_len, piece };
 }
 
-/* Puts what is held into another room that is so many bytes longer. */
+/* Puts the held bytes into another buffer that is this many bytes longer. */
 static void grow(struct pieces *pieces, size_t missing) {
     uint8_t *larger = malloc(pieces->room_len + missing);
     if (larger) memcpy(larger, pieces->room, pieces->push.end);
@@ -28,7 +28,7 @@ static void grow(struct pieces *pieces, size_t missing) {
     pieces->room_len += missing;
 }
 
-/* One more piece comes, of which so many bytes have to fit at least. */
+/* Adds one more piece. The buffer must have space for at least `wanted` bytes. */
 static int32_t come(struct pieces *pieces, size_t wanted, pcapfile_error *error) {
     int32_t status = pcapfile_push_space(&pieces->push, pieces->room, pieces->room_len, wanted, error);
     if (status == PCAPFILE_NO_ROOM) {

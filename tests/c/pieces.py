@@ -6,7 +6,7 @@ import pcapfile
 
 
 class Pieces:
-    """A stream over bytes in memory that reads so many of them at most, as a socket may."""
+    """A stream over bytes in memory that reads at most this many of them, as a socket may."""
 
     def __init__(self, data, most):
         self._left, self._most = io.BytesIO(data), most
@@ -19,7 +19,7 @@ class Pieces:
 
 
 def opening(words):
-    """How the words ask for a capture to be opened, by a call over its bytes: `-s N` as a stream that reads N bytes at once."""
+    """Returns a call that opens a capture over its bytes as the words ask for: with `-s N` as a stream that reads N bytes at once."""
     if words[:1] == ["-s"]:
         return lambda data: pcapfile.open(Pieces(data, int(words[1])))
     return pcapfile.parse

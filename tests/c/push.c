@@ -1,8 +1,8 @@
-/* The lines of `capcopy list`, by the library's calls for a capture that comes in pieces.
+/* Prints the lines of `capcopy list`, by the library's calls for a capture in pieces.
  *
- *   push [-b COUNT] PIECE ROOM FILE        the file comes in pieces of at most PIECE bytes, into room that is ROOM bytes long at
- *                                          first, and its packets are taken one by one, or up to COUNT in a call
- *   push [-b COUNT] PIECE ROOM -f FILE     every front of the file so: its lines, and then its status
+ *   push [-b COUNT] PIECE ROOM FILE        the file comes in pieces of at most PIECE bytes, into a buffer that is ROOM bytes long at
+ *                                          first, and the program takes its packets one by one, or up to COUNT in a call
+ *   push [-b COUNT] PIECE ROOM -f FILE     every beginning of the file in this way: its lines, and then its status
  */
 #include "lines.h"
 #include "pieces.h"
@@ -12,7 +12,7 @@ enum { MOST = 8 };
 static size_t piece, first_room, count;
 static pcapfile_packet packets[MOST];
 
-/* Takes packets, one or as many as there are places, and says how many. Places behind them have to stay as they were. */
+/* Takes packets, one or as many as there are places, and gives their number. Places after them must remain as they were. */
 static int32_t take(struct pieces *walk, size_t *taken, pcapfile_error *error) {
     const pcapfile_packet none = PCAPFILE_PACKET_INIT;
     int32_t status;

@@ -1,11 +1,11 @@
-/* Puts blocks by the library's C header: `puts` reads a row for each from its input and writes what was put, each behind the one
- * before it, in room that grows by what is missing.
+/* Writes blocks by the library's C header. `puts` reads a row for each block from its input, and writes the blocks one after another, in
+ * a buffer that grows by what is missing.
  *
  *   s MAGIC MAJOR MINOR                             a section header, the magic number in hexadecimal digits
  *   i LINK SNAPLEN BASE EXPONENT OFFSET             an interface
- *   p INTERFACE TIMESTAMP ORIGINAL LENGTH BYTE      a packet of so many times this byte
+ *   p INTERFACE TIMESTAMP ORIGINAL LENGTH BYTE      a packet of LENGTH times BYTE
  *
- * A row that is refused writes nothing, and `refused RULE` to the error output. */
+ * For a refused row it writes no block, and `refused RULE` to the error output. */
 #include "pcapfile.h"
 
 #include <inttypes.h>
@@ -15,7 +15,7 @@
 
 enum { LONGEST = 1 << 17 };
 
-/* Puts what a row says, or tells that there is no such row. */
+/* Writes what a row asks for. Returns a bad call's status if there is no such row. */
 static int32_t put(const char *row, pcapfile_section *section, uint8_t *room, size_t room_len, size_t *written,
                    pcapfile_error *error) {
     static uint8_t data[LONGEST];

@@ -1,7 +1,7 @@
-"""puts.py PROGRAM FOLDER: gives tests/c/puts rows, and compares what it puts with the texts that tests/model makes of them.
+"""puts.py PROGRAM FOLDER: gives tests/c/puts rows, and compares what it writes with the texts that tests/model makes for them.
 
-The captures go into the folder, and beside each the lines that `blocks -p` has to print of it, in a file NAME.packets. Where
-tshark is installed it has to read the same packets.
+The captures go into the folder. Beside each are the lines that `blocks -p` must print for it, in a file NAME.packets. If tshark is
+installed, it must read the same packets.
 """
 
 import random
@@ -21,7 +21,7 @@ SECTION_MAGIC, RESOLUTION_LENGTH, LINK_TOO_LARGE, INTERFACE_MISSING = 6, 1906, 2
 
 
 class Model:
-    """What is put for rows, and the packets' lines."""
+    """The bytes that the model writes for rows, and the packets' lines."""
 
     def __init__(self):
         self.rows, self.data, self.lines, self.refused, self.blocks, self.interfaces = [], b"", [], [], 0, []
@@ -63,7 +63,7 @@ class Model:
 
 
 def plain(order):
-    """A section, two interfaces and packets of each length of padding."""
+    """Returns a section, two interfaces and packets of each length of padding."""
     model = Model()
     model.section(order)
     model.interface()
@@ -74,7 +74,7 @@ def plain(order):
 
 
 def refused(order):
-    """Rows that are refused between others, which leave the section as it was."""
+    """Returns refused rows between others. They leave the section as it was."""
     model = Model()
     model.refuses("i 1 65535 10 6 0", SECTION_MAGIC)
     model.refuses("p 0 0 0 0 0", SECTION_MAGIC)
@@ -94,7 +94,7 @@ def refused(order):
 
 
 def mixed(seed):
-    """Sections of either order with interfaces and packets of any values."""
+    """Returns sections of either order with interfaces and packets of any values."""
     made, model = random.Random(seed), Model()
     for _ in range(4):
         model.section(made.choice(list(MAGICS)), made.randrange(2**16), made.randrange(2**16))
@@ -108,7 +108,7 @@ def mixed(seed):
 
 
 def agrees_with_tshark(path, model):
-    """tshark reads the packets' times, stored and original lengths."""
+    """Returns whether tshark reads the packets' times, stored and original lengths."""
     words = ["tshark", "-r", str(path), "-T", "fields", "-e", "frame.time_epoch", "-e", "frame.cap_len", "-e", "frame.len"]
     read = subprocess.run(words, capture_output=True, text=True, check=True).stdout.split("\n")[:-1]
     wanted = []

@@ -1,7 +1,7 @@
-"""The example programs and `pcapfile convert` beside tcpdump, tshark, capinfos and editcap, over captures: `compare(files, folder)`.
+"""Compares the example programs and `pcapfile convert` with tcpdump, tshark, capinfos and editcap, over captures: `compare(files, folder)`.
 
-What an example writes has to be what these tools say of the same capture. Where an example refuses a capture, what it wrote
-before has to be a beginning of that. What a tool refuses isn't compared with it, nor is a conversion that leaves packets out.
+An example must write what these tools show for the same capture. If an example refuses a capture, it must have written a beginning of that.
+The test does not compare captures that a tool refuses, and conversions that leave packets out.
 """
 import os
 import re
@@ -14,7 +14,7 @@ TOP = os.path.dirname(os.path.dirname(os.path.dirname(os.path.abspath(__file__))
 TOOLS = ("tcpdump", "tshark", "capinfos", "editcap")
 SECONDS = 600
 PROGRAMS = ("pcapfile", "example_dissect", "example_feed", "example_replay")
-# Where packets begin in a classic capture behind its snaplen, and what is said of packets that are left out of one.
+# The offset after the snaplen of a classic capture, and the message about packets that a conversion leaves out.
 LINK, LEFT_OUT = 20, re.compile(rb"(\d+) packets have no place there")
 
 SAME, BEGINNING, DIFFERENT = range(3)
@@ -25,14 +25,14 @@ def output(*words, stdin=None):
 
 
 def fields(path, *names, options=()):
-    """For each packet the first value of each field, as tshark has it under some options."""
+    """Returns for each packet the first value of each field, as tshark has it under some options."""
     words = [*options, *(word for name in names for word in ("-e", name))]
     ran = output("tshark", "-n", "-r", path, "-o", "ip.defragment:FALSE", "-T", "fields", "-E", "separator=|", "-E", "occurrence=f", *words)
     return [line.split("|") for line in ran.stdout.decode().splitlines()]
 
 
 def carried(time):
-    """A time of tshark's, which doesn't carry microseconds that pass a second."""
+    """Returns a time of tshark's with the microseconds that pass a second carried, which tshark doesn't do."""
     seconds, nanoseconds = time.split(".")
     more, rest = divmod(int(nanoseconds), 10**9)
     return f"{int(seconds) + more}.{rest:09}"
@@ -48,7 +48,7 @@ def replay(path):
 
 
 def ends(names, ports, protocol):
-    """How a packet's addresses and ports are shown."""
+    """Returns a packet's addresses and ports as text."""
     (from_name, to_name), (from_port, to_port) = names, ports
     if protocol not in ("6", "17"):
         return f"{from_name} > {to_name} protocol {protocol}"
@@ -81,7 +81,7 @@ def is_pcapng_file(path):
 
 
 def convert(path):
-    """The packets as editcap converts them."""
+    """Returns the packets as editcap converts them."""
     with tempfile.TemporaryDirectory() as folder:
         converted = os.path.join(folder, "converted.pcap")
         ran = output("editcap", "-F", "nsecpcap", path, converted)
@@ -102,8 +102,8 @@ def run_example(name, path, *words):
 
 
 def converted(path, to):
-    """What `pcapfile convert` writes of a capture in this format, whether it takes the capture whole, and how many packets it leaves
-    out."""
+    """Returns what `pcapfile convert` writes for a capture in this format, whether it takes the whole capture, and how many packets it
+    leaves out."""
     with open(path, "rb") as it:
         ran = output(program("pcapfile"), "convert", "--to", to, "-", "-o", "-", stdin=it.read())
     left_out = LEFT_OUT.search(ran.stderr)
@@ -122,7 +122,7 @@ def text_verdict(name, path, wanted, *words):
 
 
 def lines_verdict(path):
-    """Whether example_feed has as many lines as tcpdump counts packets, where it takes the capture too."""
+    """Returns whether example_feed has as many lines as tcpdump counts packets, if example_feed and tcpdump both take the capture."""
     written, is_accepted = run_example("example_feed", path)
     counted_by = output("tcpdump", "--count", "-r", path)
     if counted_by.returncode or not is_accepted:
@@ -131,7 +131,7 @@ def lines_verdict(path):
 
 
 def verdicts(path):
-    """Each example that takes this capture, with its verdict."""
+    """Yields each example that takes this capture, with its verdict."""
     link = output("capinfos", "-T", "-r", "-E", path).stdout.decode().strip().split("\t")[-1]
     if is_pcapng_file(path):
         wanted = convert(path)
@@ -147,7 +147,7 @@ def verdicts(path):
 
 
 def compare(files, folder):
-    """Prints each difference and a line of sums; whether there is none."""
+    """Prints each difference and a line of sums. Returns whether there is no difference."""
     missing = [name for name in PROGRAMS if not os.path.exists(program(name))]
     if missing:
         print(f"the examples were not compared: {' and '.join(missing)} must be built first")

@@ -1,19 +1,19 @@
-"""The words of pcapfile beside capinfos, tshark, editcap and mergecap, over captures: `compare(files, folder, tool)`.
+"""Compares the words of pcapfile with capinfos, tshark, editcap and mergecap, over captures: `compare(files, folder, tool)`.
 
-Of each capture these have to say the same:
+For each capture these must agree:
 
-- `check` and capinfos: whether it is whole or cut short, and behind how many packets; of PcapNg the first alone
-- `info` and capinfos: packets, bytes, times, rates, and of each interface its snaplen and its packets
-- `info` and tshark: of each interface of one section its packets, their bytes, lengths by classes, first and last time
+- `check` and capinfos: whether it is whole or truncated, and after how many packets; for PcapNg only the former
+- `info` and capinfos: packets, bytes, times, rates, and for each interface its snaplen and its packets
+- `info` and tshark: for each interface of one section its packets, their bytes, lengths by classes, first and last time
 - `list`, `list --utc`, `list --as-is` and tshark: each packet's time, lengths and interface
 - `cut` and editcap: the packets that are left by numbers, by times and in parts of a third of them, as tshark reads them
-- `join` of such parts: the capture's bytes; and by mergecap, which puts them behind each other, the same packets
+- `join` of such parts: the capture's bytes; and by mergecap, which puts them after each other, the same packets
 - `merge` and mergecap: the packets of the capture and of the next one, as tshark reads them
-- `repair`: the packets that tshark reads of the capture, with the changes that a repair makes
-- `list --as-is` and `repair`: the same packets, also behind garbage, where the peers end
+- `repair`: the packets that tshark reads from the capture, with the changes that a repair makes
+- `list --as-is` and `repair`: the same packets, also after corrupt bytes, where the peers end
 
-Where pcapfile refuses a capture, what it tells before has to be a beginning. MEANT has the differences that are meant besides, each
-with its reason, and docs/DIFFERENCES.md has them too. written.py holds `convert` beside editcap.
+If pcapfile refuses a capture, what it shows before that must be a beginning. MEANT has the other intended differences, each with its
+reason, and docs/DIFFERENCES.md has them too. written.py compares `convert` with editcap.
 """
 import bisect
 import collections
@@ -40,7 +40,7 @@ INTERFACE = re.compile(r"Interface #\d+ info:\n(?: +.*\n)*? +Capture length = (\
 LONGEST, WRAPS = 262144, Decimal(2**32) / 10**9
 # The least length of each class of `info`.
 LEAST = (0, 20, 40, 80, 160, 320, 640, 1280, 2560, 5120)
-# By how much the difference of two times of this century may be off, as capinfos has them.
+# The largest error of the difference of two times of this century, as capinfos shows them.
 DOUBLE = Decimal(2) ** -21
 MEANT = {
     "microseconds": "microseconds that 32 bits of nanoseconds don't hold refuse a capture; the peers read on",
@@ -63,14 +63,14 @@ MEANT = {
 
 
 def packets(path):
-    """The packets of a capture as tshark reads them. Blocks without a packet, which it shows too, have no interface."""
+    """Returns the packets of a capture as tshark reads them. Blocks without a packet, which it shows too, have no interface."""
     rows = fields(path, *FIELDS, options=("-t", "ud", "-o", "frame.generate_md5_hash:TRUE"))
     kept = [row for row in rows if row[5]] if is_pcapng_file(path) else [[row[0], unsigned(row[1]), *row[2:]] for row in rows]
     return [Packet(int(record), time, date, int(stored), int(wire), *rest) for record, time, date, stored, wire, *rest in kept]
 
 
 def unsigned(time):
-    """A time of a classic capture. tshark puts the sign of nanoseconds that wrapped below zero before the seconds."""
+    """Returns a time of a classic capture. tshark puts the sign of nanoseconds that wrapped below zero before the seconds."""
     whole, _, fraction = time.partition(".")
     return f"{Decimal(whole[1:]) - Decimal(fraction) / 10**9:.9f}" if time[:1] == "-" else time
 
@@ -84,28 +84,28 @@ class Packet(collections.namedtuple("Packet", "record shown date stored wire int
 
     @property
     def is_carried(self):
-        """Whether its fraction passes a second, which tshark and capinfos don't carry."""
+        """Returns whether its fraction passes a second, which tshark and capinfos don't carry."""
         return len(self.shown.partition(".")[2]) > 9
 
 
 def seconds(time):
-    """A time of tshark's, exactly. It doesn't carry microseconds that pass a second."""
+    """Returns a time of tshark's, exactly. tshark doesn't carry microseconds that pass a second."""
     whole, _, fraction = time.partition(".")
     return Decimal(whole) + Decimal(fraction) / 10**9 if fraction and whole[0] != "-" else Decimal(time) if time else None
 
 
 def unplaced(rows):
-    """Packets without their interfaces."""
+    """Returns packets without their interfaces."""
     return [(it.time, it.stored, it.wire, it.digest) for it in rows]
 
 
 def dated(rows):
-    """Packets with the time that editcap and mergecap give those that have none."""
+    """Returns packets with the time that editcap and mergecap give those that have none."""
     return [(row[0] or Decimal(0), *row[1:]) for row in rows]
 
 
 class Capture:
-    """A capture that the tool is asked of, in a folder of its own, and the differences that are meant."""
+    """A capture on which the tool runs, in a folder of its own, and the intended differences."""
 
     def __init__(self, tool, path, room, meant):
         self.tool, self.path, self.room, self.meant = tool, path, room, meant
@@ -122,7 +122,7 @@ class Capture:
         return os.path.join(self.room, name)
 
     def kept(self, name, ran):
-        """The packets of what was written to standard output, as tshark reads them."""
+        """Returns the packets of what the tool wrote to standard output, as tshark reads them."""
         with open(self.at(name), "wb") as it:
             it.write(ran.stdout)
         return packets(self.at(name)) if ran.stdout else []
@@ -132,17 +132,17 @@ class Capture:
         return BEGINNING
 
     def refusal(self):
-        """Why the tool ends before the peers do."""
+        """Returns the verdict for a tool that ends before the peers do, and counts the reason."""
         return self.means("microseconds" if self.checked and self.checked[4] == "2" else "rule")
 
     def beside(self, found, wanted):
-        """The verdict of lines that were found, where the peer has these."""
+        """Returns the verdict for lines that the tool printed, if the peer has these."""
         if self.is_whole or self.is_torn:
             return SAME if found == wanted else DIFFERENT
         return self.refusal() if found == wanted[: len(found)] else DIFFERENT
 
     def packets_beside(self, found, wanted):
-        """The same of packets, where the peer has written these."""
+        """Returns the same for packets, if the peer has written these."""
         if found and found != wanted and dated(found) == wanted:
             return self.means("simple")
         return self.beside(found, wanted)
@@ -168,12 +168,12 @@ def check(capture):
 
 
 def is_near(ours, theirs, share=Decimal(0)):
-    """Whether a number that is rounded down is one that capinfos rounds to two decimals, but for a share of it."""
+    """Returns whether capinfos rounds to two decimals what the tool rounds down, except for a share of it."""
     return abs(Decimal(ours) - Decimal(theirs)) <= Decimal("0.01") + share * Decimal(theirs)
 
 
 def is_time(ours, theirs):
-    """Whether a time is capinfos', as far as this shows decimals."""
+    """Returns whether a time is capinfos', to as many decimals as capinfos shows."""
     return Decimal(ours).quantize(Decimal(theirs), "ROUND_FLOOR") == Decimal(theirs)
 
 
@@ -223,12 +223,12 @@ def interfaces_verdict(capture, told):
 
 
 def told_by_interface(capture, told):
-    """The figures of each interface, with its number."""
+    """Returns the figures of each interface, with its number."""
     return enumerate(told["interfaces"] if capture.is_pcapng else [told])
 
 
 def has_figures(capture, number, told):
-    """Whether these are the figures of tshark's packets by the interface of this number."""
+    """Returns whether these are the figures of tshark's packets by the interface of this number."""
     packets = [it for it in capture.packets if int(it.interface or 0) == number]
     classes = collections.Counter(bisect.bisect(LEAST, it.wire) - 1 for it in packets)
     wanted = [len(packets), sum(it.stored for it in packets), sum(it.wire for it in packets), [classes[row] for row in range(len(LEAST))]]
@@ -241,7 +241,7 @@ def has_figures(capture, number, told):
 
 
 def lines(capture, shown):
-    """The lines of `list` with times as they are shown, from what tshark says."""
+    """Returns the lines of `list` with times as tshark shows them."""
     rows = enumerate(capture.packets, 1)
     return [f"{number} {shown(it) or '-'} {it.stored}/{it.wire}" + f" {it.interface}" * capture.is_pcapng for number, it in rows]
 
@@ -262,13 +262,13 @@ def listing(capture):
 
 
 def as_is_rows(capture):
-    """The words of the lines of `list --as-is`, but for packets for which their blocks have no room."""
+    """Returns the words of the lines of `list --as-is`, except packets for which their blocks have no room."""
     rows = [it.split(" ") for it in capture.run("list", "--as-is", capture.path).stdout.decode().splitlines()]
     return [it for it in rows if it[1] != "refused"]
 
 
 def as_is_verdict(capture, rows):
-    """Whether `list --as-is` has each packet that tshark has, with its time but for nanoseconds that wrap there."""
+    """Returns whether `list --as-is` has each packet that tshark has, with its time, except for nanoseconds that wrap in tshark."""
     if not capture.packets:
         return capture.means("unread") if rows else SAME
     if [it[2] for it in rows] != [f"{it.stored}/{it.wire}" for it in capture.packets]:
@@ -282,12 +282,12 @@ def as_is_verdict(capture, rows):
 
 
 def time_in(row):
-    """The time in the words of a line, exactly, also where its fraction isn't carried."""
+    """Returns the time in the words of a line, exactly, also if its fraction isn't carried."""
     return None if row[1] == "-" else seconds(row[1])
 
 
 def repaired_lines_verdict(capture, rows):
-    """Whether the capture that `repair` writes has the packets of these lines, as they stand where nothing is wrong with them."""
+    """Returns whether the capture that `repair` writes has the packets of these lines, unchanged if nothing is wrong with them."""
     capture.kept("repaired", capture.run("repair", capture.path, "-o", "-"))
     found = [it.split(" ") for it in capture.run("list", capture.at("repaired")).stdout.decode().splitlines()]
     if len(found) != len(rows):
@@ -297,7 +297,7 @@ def repaired_lines_verdict(capture, rows):
 
 
 def is_wrapped(ours, theirs):
-    """Whether the times are the same but for nanoseconds that wrap at 32 bits."""
+    """Returns whether the times are the same, except for nanoseconds that wrap at 32 bits."""
     return (ours - theirs) % WRAPS == 0
 
 
@@ -329,7 +329,7 @@ def edited_verdict(capture, ours, *words):
 
 
 def parts(capture):
-    """Parts of a third of the packets beside editcap's, and what they become again."""
+    """Compares parts of a third of the packets with editcap's, and what they become when they are joined."""
     count = str(max(1, len(capture.packets) // 3))
     ended = capture.run("cut", "--every", count, capture.path, "-o", capture.at("part.x"))
     ours = sorted(glob.glob(capture.at("part-*.x")))
@@ -401,7 +401,7 @@ def unnumbered(row):
 
 
 def by_time(rows):
-    """The packets, those of one time in a row in an order of their own."""
+    """Returns the packets. Those of one time in a row are sorted, since their order is free."""
     return [sorted(group, key=str) for _, group in itertools.groupby(rows, key=lambda it: it[0])]
 
 
@@ -418,7 +418,7 @@ def repair(capture):
 
 
 def repaired_verdict(capture, found, wanted):
-    """Whether each packet is the peer's, but for what a repair changes."""
+    """Returns whether each packet is the peer's, except for what a repair changes."""
     if len(found) != len(wanted):
         return DIFFERENT
     for (time, stored, wire, digest), (was, were, had, sum_) in zip(found, wanted):
@@ -431,7 +431,7 @@ def repaired_verdict(capture, found, wanted):
 
 
 def verdicts(tool, path, other):
-    """The comparisons of a capture with their verdicts, and what is meant."""
+    """Returns the comparisons of a capture with their verdicts, and the intended differences."""
     meant = collections.Counter()
     with tempfile.TemporaryDirectory() as room:
         capture = Capture(tool, path, room, meant)
@@ -441,7 +441,7 @@ def verdicts(tool, path, other):
 
 
 def compare(files, folder, tool):
-    """Prints each difference, and a line of sums for each comparison; whether there is none."""
+    """Prints each difference, and a line of sums for each comparison. Returns whether there is no difference."""
     if not os.path.exists(tool):
         print(f"the words of pcapfile were not compared: {tool} must be built first")
         return False

@@ -1,15 +1,16 @@
-"""What is written and converted, beside tshark, capinfos and editcap, over captures: `compare(files, folder)`.
+"""Compares written and converted captures with tshark, capinfos and editcap, over captures: `compare(files, folder)`.
 
-A PcapNg capture that is read whole is copied, and written again from its values (pcapfile convert, example_rewrite). The copy has
-to be its bytes. What is written again may differ from it in what the format ignores, which CANONICAL says: then the blocks are
-made so in Python, by the public draft, and have to be those. tshark and capinfos have to read the same packets of both.
-A classic capture becomes a PcapNg capture (pcapfile convert), of which tshark and capinfos have to read the packets that they read of
-what editcap made of it. Where a capture is refused, its packets have to be a beginning of those.
+The test copies a PcapNg capture that is read whole, and writes it again from its values (pcapfile convert, example_rewrite). The copy must
+have its bytes. What is written again may differ from it in what the format ignores, as CANONICAL says. Then the test makes the blocks so in
+Python, by the public draft, and they must be those. tshark and capinfos must read the same packets from both.
 
-A PcapNg capture becomes a classic one (pcapfile convert), which has to be what editcap makes of it, byte for byte but for the snaplen,
-and tshark has to read the same packets of both formats. So are converted what editcap and pcapfile make of a classic capture. Where
-only one of the two converts it whole, MEANT says why, by the message of the one that doesn't, and what goes out has to be the packets,
-in order, without those that are left out.
+A classic capture becomes a PcapNg capture (pcapfile convert). tshark and capinfos must read from it the packets that they read from
+editcap's conversion. If a capture is refused, its packets must be a beginning of those.
+
+A PcapNg capture becomes a classic one (pcapfile convert). It must be what editcap makes of it, byte for byte except for the snaplen, and
+tshark must read the same packets from both formats. The test also converts what editcap and pcapfile make of a classic capture. If only one
+of the two converts a capture whole, MEANT gives the reason, by the message of the other. The output must then be the packets, in order,
+without those that are left out.
 """
 import collections
 import os
@@ -24,9 +25,9 @@ TOOLS = ("tshark", "capinfos", "editcap")
 EXAMPLES = ("pcapfile", "example_rewrite")
 FIELDS = ("frame.time_epoch", "frame.cap_len", "frame.len", "frame.interface_id", "frame.md5_hash")
 SECTION, INTERFACE, PACKET, SIMPLE, NAMES, STATISTICS, ENHANCED = 0x0A0D0D0A, 1, 2, 3, 4, 5, 6
-# Where the options begin in the bodies that have some, behind what has a fixed length.
+# The offset of the options in the bodies that have some, after the fields of fixed length.
 FIXED = {SECTION: 16, INTERFACE: 8, STATISTICS: 12, PACKET: 20, ENHANCED: 20}
-# Messages of editcap where it makes no classic capture, each with what makes it so; and why packets are left out, and why it ends.
+# MEANT has messages of editcap when it makes no classic capture, each with its cause. PLACELESS says why packets are left out, TORN why it ends.
 PLACELESS = "packets without a place in a classic capture are left out: without a time, longer than on the wire, past 262144 bytes, of seconds past 32 bits, of another link type"
 TORN = "the capture is cut short or refused"
 MEANT = {
@@ -41,7 +42,7 @@ def padded(value):
 
 
 def blocks_of(capture):
-    """Each whole block with the order of its section: the order's letter, its type, its body."""
+    """Yields each whole block with the order of its section: the order's letter, its type, its body."""
     order, at, size = "<", 0, 12
     while at + 12 <= len(capture) and size >= 12:
         if capture[at : at + 4] == b"\n\r\r\n":
@@ -53,7 +54,7 @@ def blocks_of(capture):
 
 
 def records_end(order, body):
-    """Where the records of a name resolution body end, behind their own end."""
+    """Returns where the records of a name resolution body end, after the record that ends them."""
     at, kind = 0, 1
     while kind:
         kind, size = struct.unpack_from(order + "HH", body, at)
@@ -62,7 +63,7 @@ def records_end(order, body):
 
 
 def canonical_list(order, rest, found):
-    """A list of values by codes, as it is written: each with zero padding, and a mark where there are any."""
+    """Returns a list of values by codes as the library writes it: each with zero padding, and a mark if there are any."""
     written, at, is_marked = b"", 0, False
     while at < len(rest) and not is_marked:
         code, size = struct.unpack_from(order + "HH", rest, at)
@@ -78,7 +79,7 @@ def canonical_list(order, rest, found):
 
 
 def canonical(order, kind, body, found):
-    """The body as it is written from its values; `found` counts what differs from that."""
+    """Returns the body as the library writes it from its values. `found` counts what differs from that."""
     if kind == NAMES:
         end = records_end(order, body)
         records = canonical_list(order, body[:end], collections.Counter()) or bytes(4)
@@ -93,7 +94,7 @@ def canonical(order, kind, body, found):
 
 
 def canonical_capture(capture, found):
-    """The capture as it is written from the values of its blocks, up to a body that has none."""
+    """Returns the capture as the library writes it from the values of its blocks, up to a body that has none."""
     written = []
     for order, kind, body in blocks_of(capture):
         try:
@@ -106,19 +107,19 @@ def canonical_capture(capture, found):
 
 
 def packets(path):
-    """Each packet as tshark reads it: its time exactly, both lengths, its interface, and the sum of its bytes."""
+    """Returns each packet as tshark reads it: its exact time, both lengths, its interface, and the sum of its bytes."""
     rows = fields(path, *FIELDS, options=("-o", "frame.generate_md5_hash:TRUE"))
     return [(carried(time) if time else "", *rest) for time, *rest in rows]
 
 
 def totals(path):
-    """How many packets and bytes capinfos counts, and the first and the last time, as decimal numbers."""
+    """Returns how many packets and bytes capinfos counts, and the first and the last time, as decimal numbers."""
     numbers = output("capinfos", "-T", "-r", "-S", "-c", "-d", "-a", "-e", path).stdout.decode().split("\t")[1:]
     return [number.rstrip("0\n") if "." in number else number for number in numbers]
 
 
 def read_verdict(written, is_accepted, peer, room):
-    """Whether tshark and capinfos read the same packets of what was written as of the peer's file."""
+    """Returns whether tshark and capinfos read the same packets from the written capture and from the peer's file."""
     path = os.path.join(room, "written.pcapng")
     with open(path, "wb") as it:
         it.write(written)
@@ -141,19 +142,19 @@ def pcapng_verdicts(path, room, found, meant):
 
 
 def without_interfaces(rows):
-    """Packets without their interfaces, which a classic capture doesn't have. What tshark shows of other blocks has none."""
+    """Returns packets without their interfaces, which a classic capture doesn't have. Other blocks that tshark shows have none."""
     return [(time, *lengths, digest) for time, *lengths, interface, digest in rows if interface]
 
 
 def is_without(found, wanted, left_out):
-    """Whether these are the wanted packets in order, without so many of them."""
+    """Returns whether these are the wanted packets in order, without this many of them."""
     rest = iter(wanted)
     return len(found) + left_out == len(wanted) and all(it in rest for it in found)
 
 
 def pcap_verdict(path, room, meant):
-    """Whether a PcapNg capture becomes the classic capture that editcap makes of it, or a part of it for a reason that is meant,
-    which is counted. None where editcap refuses it for another one."""
+    """Returns whether a PcapNg capture becomes the classic capture that editcap makes of it, or a part of it for an intended reason,
+    which it counts. Returns None if editcap refuses the capture for another reason."""
     peer, here = os.path.join(room, "peer.pcap"), os.path.join(room, "here.pcap")
     asked = output("editcap", "-F", "nsecpcap", path, peer)
     made, is_whole, left_out = converted(path, "pcap")
@@ -189,7 +190,7 @@ def classic_verdicts(path, room, meant):
 
 
 def compare(files, folder):
-    """Prints each difference, and a line of sums for each comparison; whether there is none."""
+    """Prints each difference, and a line of sums for each comparison. Returns whether there is no difference."""
     missing = [name for name in EXAMPLES if not os.path.exists(program(name))]
     if missing:
         print(f"what is written was not compared: {' and '.join(missing)} must be built first")

@@ -1,5 +1,5 @@
-"""What `pcapfile` makes of captures for which it keeps much, or that no other test here has: with ample memory none is given up. Each row
-is a run over standard input, so that tests/wrong_bodies/run can try one over an unproved program as well."""
+"""Runs of `pcapfile` over captures for which it keeps much, or that no other test here has. With ample memory it gives up none of them.
+Each row is a run over standard input, so that tests/wrong_bodies/run can also try one over an unproved program."""
 import collections
 import json
 import struct
@@ -9,20 +9,20 @@ import informing
 import listing
 import repairing
 
-# A run: its words, what it reads, its status, and what it writes and says. What it writes is its bytes, or members of one object of JSON.
+# A run: its words, its input, its status, what it writes, and its messages. What it writes is its bytes, or members of one object of JSON.
 Row = collections.namedtuple("Row", "name words given status written said")
 RAW, LITTLE, NANOSECONDS = 101, "<", 0xA1B23C4D
 CUSTOM, MILLION = 2989, 10**6
 
 
 def classic(packets, snaplen=65535, link=RAW):
-    """A little-endian capture of (nanoseconds since 1970, length on the wire, data)."""
+    """Returns a little-endian capture of (nanoseconds since 1970, length on the wire, data)."""
     capture = struct.pack("<IHHiIII", NANOSECONDS, 2, 4, 0, 0, snaplen, link)
     return capture + b"".join(struct.pack("<IIII", *divmod(time, 10**9), len(data), wire) + data for time, wire, data in packets)
 
 
 def informs(name, packets, snaplen=65535):
-    """That `info` tells a classic capture of these packets and this snapshot length."""
+    """Returns a row in which `info` reads a classic capture of these packets and this snapshot length."""
     capture = classic(packets, snaplen)
     lines = [
         f"-: pcap, {len(packets)} packets, {len(capture)} bytes",
@@ -35,7 +35,7 @@ def informs(name, packets, snaplen=65535):
 
 
 def informs_blocks(help, name, interfaces, others):
-    """That `info` tells a capture of so many interfaces, each with a packet, and of other blocks before the packets."""
+    """Returns a row in which `info` reads a capture of this many interfaces, each with a packet, and of other blocks before the packets."""
     packets = [(10**9 * k, 60, bytes([k % 256])) for k in range(interfaces)]
     parts = [*[help.interface(LITTLE, RAW)] * interfaces, *others]
     parts += [help.enhanced(LITTLE, k, time // 1000, wire, data) for k, (time, wire, data) in enumerate(packets)]
@@ -53,7 +53,7 @@ def informs_blocks(help, name, interfaces, others):
 
 
 def info_rows(help):
-    """Captures that `info` tells."""
+    """Yields rows in which `info` reads a capture."""
     few = [(10**9 * k, 60 + k, b"stored") for k in range(9)]
     yield informs("info of a capture without a snapshot length", few, 0)
     yield informs("info of packets that are stored in part", few)
@@ -70,7 +70,7 @@ def info_rows(help):
 
 
 def list_rows(help):
-    """Captures whose packets are listed in a form."""
+    """Yields rows in which `list` lists packets in one of its forms."""
     short = help.enhanced(LITTLE, 0, 1, 9, b"")[1][:12] + struct.pack("<II", 9, 9)
     whole = help.enhanced(LITTLE, 0, 1, 9, b"whole")
     capture, _ = help.blocks(LITTLE, [help.interface(LITTLE, RAW), whole, (listing.ENHANCED, short), whole])
@@ -82,7 +82,7 @@ def list_rows(help):
 
 
 def as_is_rows(help):
-    """Captures that are told as they stand, and repaired."""
+    """Yields rows in which the program reads captures leniently, and repairs them."""
     section = repairing.section(LITTLE)
     head = struct.pack("<HHI", RAW, 0, 0)
     flawed = section + help.block(LITTLE, as_is.INTERFACE, head + repairing.option(LITTLE, 8, b"short") * 99)
@@ -116,7 +116,7 @@ def rows(help):
 
 
 def fault_of(row, status, written, said):
-    """What is wrong with how a row's run ended, what it wrote and what it said; or None."""
+    """Returns what is wrong with how a row's run ended, what it wrote and its messages, or None."""
     if status != row.status or said != row.said:
         return f"it ended with {status} and said {said[-300:]!r}, and not with {row.status} and {row.said[-300:]!r}"
     if isinstance(row.written, bytes):

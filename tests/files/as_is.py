@@ -1,5 +1,5 @@
-"""What `pcapfile check --as-is` and `list --as-is` write, and `repair` of classic captures. Packets, blocks and the gaps between them are
-found here by struct alone, and the rules are said once more."""
+"""Checks what `pcapfile check --as-is` and `list --as-is` write, and `repair` of classic captures. The test finds packets, blocks and
+the gaps between them with struct alone, and states the rules again."""
 import collections
 import functools
 import random
@@ -36,9 +36,9 @@ MESSAGES = {
 }
 SECTION, INTERFACE, OBSOLETE, SIMPLE, ENHANCED = 0x0A0D0D0A, 1, 2, 3, 6
 MAGIC, CUT = b"\n\r\r\n", "cut short"
-# the options that are strings, beside comments, by the block's type and their codes
+# The options that are strings, except comments, by the block's type and their codes.
 STRINGS = {(SECTION, 2), (SECTION, 4), (INTERFACE, 2)}
-# of the options that have one length the rule and that length, by the block's type and their codes
+# The rule and the length of each option that has one length, by the block's type and the option's code.
 LENGTHS = {
     (INTERFACE, 4): (1901, 8),
     (INTERFACE, 8): (1905, 8),
@@ -52,7 +52,7 @@ LENGTHS = {
 
 
 class Packet:
-    """A packet as it stands: its number, the byte at which it stands, its time, its lengths, and the rules that it breaks."""
+    """A packet as it is: its number, its offset, its time, its lengths, and the rules that it breaks."""
 
     def __init__(self, number, place, unit, numbers):
         self.number, self.place = number, place
@@ -63,7 +63,7 @@ class Packet:
 
 
 def opened(capture):
-    """The order and the unit of the fraction, or None where the magic number is none."""
+    """Returns the order and the unit of the fraction, or None if the magic number is not one of the four."""
     for order in "<>":
         unit = MAGICS.get(struct.unpack_from(order + "I", capture)[0])
         if unit:
@@ -71,12 +71,12 @@ def opened(capture):
     return None
 
 
-# Bytes that are left out: their place, how many they are, what they are, and the rule that what stands first there breaks.
+# Bytes that are left out: their offset, how many they are, what they are, and the rule that they break at their beginning.
 Gap = collections.namedtuple("Gap", "place size what rule")
 
 
 def packets_and_gaps(capture, kind):
-    """The packets of a classic capture, and the gaps between them."""
+    """Yields the packets of a classic capture, and the gaps between them."""
     (order, unit), at, count = kind, 24, 0
     while at < len(capture):
         left, packet = len(capture) - at, None
@@ -96,7 +96,8 @@ def packets_and_gaps(capture, kind):
 
 @functools.lru_cache(2)
 def stands_in(capture):
-    """The format of a capture, its packets or blocks with the gaps between them, and what refuses it: a rule, or that it is cut short."""
+    """Returns the format of a capture, and its packets or blocks with the gaps between them. If the capture is refused, it also returns
+    the rule, or that the capture is truncated."""
     kind = opened(capture) if len(capture) >= 24 else None
     if kind:
         return "pcap", list(packets_and_gaps(capture, kind)), None
@@ -111,7 +112,7 @@ def stands_in(capture):
 
 
 def is_torn(item):
-    """Whether a gap is the beginning of a packet or a block."""
+    """Returns whether a gap is the beginning of a packet or a block."""
     return isinstance(item, Gap) and CUT in item.what
 
 
@@ -124,7 +125,7 @@ def left_out(gap):
 
 
 def flaw_lines(name, item):
-    """The lines of what is wrong with a packet or a block, or of a gap."""
+    """Returns the lines for the flaws of a packet or a block, or for a gap."""
     if isinstance(item, Gap):
         return [] if is_torn(item) else [f"{name}: {left_out(item)}{by_rule(item.rule)}\n"]
     if isinstance(item, Packet):
@@ -133,7 +134,7 @@ def flaw_lines(name, item):
 
 
 def checked(name, capture):
-    """The lines of a check, and its status."""
+    """Returns the lines of a check, and its status."""
     kind, items, refused = stands_in(capture)
     lines = [line for it in items for line in flaw_lines(name, it)]
     found = [it for it in items if not isinstance(it, Gap)]
@@ -149,7 +150,7 @@ def checked(name, capture):
 
 
 def option_flaw(number, code, value):
-    """What is wrong with the value of an option, of the codes that are drawn here."""
+    """Returns what is wrong with the value of an option, for the codes that the test draws."""
     if code == 2988 and len(value) < 4:
         return "is too short"
     if code == 1 or (number, code) in STRINGS:
@@ -159,7 +160,7 @@ def option_flaw(number, code, value):
 
 
 def options_in(order, left):
-    """Options as codes and values, up to their mark or the end, and the rule by which no next one is found."""
+    """Returns options as codes and values, up to their mark or the end, and the rule by which no further one is found."""
     options = []
     while left:
         if len(left) < 4:
@@ -176,14 +177,14 @@ def options_in(order, left):
 
 
 def options_flaws(order, number, left):
-    """What is wrong with options: the code of one, or None for the list, and the rule or what is said."""
+    """Returns what is wrong with options: the code of one, or None for the list, and the rule or the message."""
     options, cut = options_in(order, left)
     flaws = [(code, option_flaw(number, code, value)) for code, value in options]
     return [it for it in [*flaws, (None, cut)] if it[1]]
 
 
 def body_flaws(order, number, body):
-    """What is wrong with the body of a block: those of sections and interfaces are read."""
+    """Returns the flaws of a block's body. Only the bodies of sections and interfaces are read."""
     if number == SECTION:
         return options_flaws(order, number, body[16:])
     if number != INTERFACE:
@@ -192,7 +193,7 @@ def body_flaws(order, number, body):
 
 
 def framed(capture, at, order):
-    """The order, the number of the type, and the body of the block that stands there, or what is said of it."""
+    """Returns the order, the number of the type, and the body of the block at this offset, or why there is none."""
     left = len(capture) - at
     if left < 12:
         return "cut short"
@@ -219,7 +220,7 @@ def flaw_line(name, count, at, code, flaw):
 
 
 class Block:
-    """A block as it stands: its number, the byte at which it stands, the number of its type, its body, and what is wrong with it."""
+    """A block as it is: its number, its offset, the number of its type, its body, and its flaws."""
 
     def __init__(self, number, place, order, type_, body):
         self.number, self.place, self.order, self.type, self.body = number, place, order, type_, body
@@ -231,7 +232,7 @@ def is_section(capture, at):
 
 
 def stand(capture, at, order):
-    """Whether a section header stands there, or two blocks in a row, or one to the end."""
+    """Returns whether a section header is at this offset, or two blocks in a row, or one that reaches to the end."""
     if is_section(capture, at):
         return True
     for _ in range(2):
@@ -245,7 +246,7 @@ def stand(capture, at, order):
 
 
 def may_be_cut(capture, at, order):
-    """Whether the block that is cut short there states no length that is too large."""
+    """Returns whether the truncated block at this offset states no length that is too large."""
     if len(capture) - at < 12:
         return True
     if capture.startswith(MAGIC, at):
@@ -254,7 +255,7 @@ def may_be_cut(capture, at, order):
 
 
 def blocks_and_gaps(capture, at):
-    """The blocks from the section header on that stands there, and the gaps between them."""
+    """Yields the blocks from the section header at this offset on, and the gaps between them."""
     order, count = ">", 0
     while at < len(capture):
         found = framed(capture, at, order)
@@ -272,7 +273,7 @@ def blocks_and_gaps(capture, at):
 
 
 def listed(name, capture):
-    """The lines of a list, what is said of the capture, and the status."""
+    """Returns the lines of a list, the messages about the capture, and the status."""
     _, items, refused = stands_in(capture)
     found = [it for it in items if not isinstance(it, Gap)]
     flawed = any(it.flaws for it in found if isinstance(it, Packet))
@@ -291,7 +292,7 @@ def packet_line(packet):
 
 
 def packet_in(order, number, body, interfaces):
-    """The packet in a body: its interface, its units, its lengths, or None where it has no room, and what is wrong."""
+    """Returns the packet in a body (its interface, its units, its lengths) and its flaws. The packet is None if the body has no room for it."""
     if number == SIMPLE:
         if len(body) < 4:
             return None, [15]
@@ -308,7 +309,7 @@ def packet_in(order, number, body, interfaces):
 
 
 def interface_in(order, body):
-    """The snaplen, the units in a second and the offset of an interface, or None where it has no room for its head."""
+    """Returns the snapshot length, the units in a second and the offset of an interface, or None if the body has no room for its head."""
     if len(body) < 8:
         return None
     options, _ = options_in(order, body[8:])
@@ -319,7 +320,7 @@ def interface_in(order, body):
 
 
 def shown_time(interfaces, number, units):
-    """The time of so many units by the clock of an interface, or a hyphen."""
+    """Returns the time of this many units by the clock of an interface, or a hyphen."""
     if units is None or number >= len(interfaces) or not interfaces[number]:
         return "-"
     _, per, offset = interfaces[number]
@@ -332,7 +333,7 @@ def marks(flaws):
 
 
 def block_lines(blocks):
-    """The lines of the packets in blocks, and whether anything has a flaw."""
+    """Returns the lines of the packets in blocks, and whether anything has a flaw."""
     interfaces, lines, flawed = [], [], False
     for it in blocks:
         interfaces, flaws = [] if it.type == SECTION else interfaces, [flaw for _, flaw in it.flaws]
@@ -350,7 +351,7 @@ def block_lines(blocks):
 
 
 def mended(packet, unit, data):
-    """The numbers and the bytes of the packet that breaks no rule, and what is said of each change."""
+    """Returns the numbers and the bytes of the packet after the repair, and a message for each change."""
     seconds, nanoseconds, changes = packet.seconds, packet.fraction * unit, []
     if 2 in packet.flaws:
         seconds, nanoseconds = min(divmod(packet.time, BILLION), (0xFFFFFFFF, 999999000))
@@ -365,7 +366,7 @@ def mended(packet, unit, data):
 
 
 def stands(capture, kind, at):
-    """Whether two packets with data that break no rule stand there in a row, or one to the end."""
+    """Returns whether two packets in a row that have data and break no rule are at this offset, or one that reaches to the end."""
     for _ in range(2):
         if len(capture) - at < 16 or not 0 < struct.unpack_from(kind[0] + "I", capture, at + 8)[0] <= LONGEST:
             return False
@@ -379,7 +380,7 @@ def stands(capture, kind, at):
 
 
 def repaired(name, capture):
-    """What is written of a classic capture, or None; what is said, and the status."""
+    """Returns the repaired classic capture, or None, the messages, and the status."""
     prefix = f"pcapfile: {name}: "
     _, items, refused = stands_in(capture)
     if refused:
@@ -405,7 +406,7 @@ def capture_of(order, magic, packets):
 
 
 def some_packets(draw, count):
-    """Packets, some of which break rules."""
+    """Returns packets, some of which break rules."""
     packets = []
     for k in range(count):
         data = bytes([k % 256]) * draw.choice((0, 1, 15, 60, 300))
@@ -417,7 +418,7 @@ def some_packets(draw, count):
 
 
 def captures():
-    """Captures by their names."""
+    """Yields captures with their names."""
     draw = random.Random(30)
     for order, kind in (("<", "little"), (">", "big")):
         for magic in MAGICS:
@@ -435,7 +436,7 @@ def captures():
 
 
 def some_options(draw, order):
-    """Options, some of whose values break rules, up to a mark, to the end of the body, or to where no next one is found."""
+    """Returns options up to a mark, to the end of the body, or to where no next one is found. Some of their values break rules."""
     options = b""
     for _ in range(draw.randrange(4)):
         code, size = draw.choice((1, 2, 4, 8, 9, 13, 14, 77)), draw.choice((0, 1, 2, 4, 8, 9))
@@ -445,7 +446,7 @@ def some_options(draw, order):
 
 
 def some_packet(draw, order):
-    """A block that holds a packet, or has no room for one."""
+    """Returns a block that holds a packet, or has no room for one."""
     number, size = draw.choice((OBSOLETE, SIMPLE, ENHANCED)), draw.choice((0, 1, 4, 7))
     if number == SIMPLE:
         return number, draw.choice((b"", struct.pack(order + "I", draw.choice((0, 3, 9))) + bytes(size)))
@@ -457,7 +458,7 @@ def some_packet(draw, order):
 
 
 def some_blocks(draw, help, order):
-    """A section and blocks behind it."""
+    """Returns a section with blocks after it."""
     parts = [(SECTION, struct.pack(order + "IHHq", 0x1A2B3C4D, 1, 0, -1) + some_options(draw, order))]
     for _ in range(draw.randrange(12)):
         head = draw.choice((struct.pack(order + "HHI", 1, 0, 0), bytes(8), bytes(8), bytes(4), b""))
@@ -467,7 +468,7 @@ def some_blocks(draw, help, order):
 
 
 def block_captures(help):
-    """Captures of blocks by their names."""
+    """Yields captures of blocks with their names."""
     draw = random.Random(32)
     for count in range(60):
         orders = [draw.choice("<>") for _ in range(draw.choice((1, 1, 2, 3)))]
@@ -483,7 +484,7 @@ def block_captures(help):
 
 
 def gaps():
-    """Captures with bytes between packets that are none."""
+    """Yields captures with bytes between packets that are no packets."""
     draw = random.Random(31)
     few = [((1700000000 + k, k, size, size), bytes([k]) * size) for k, size in enumerate((9, 1, 300, 0, 70, 40))]
     whole = capture_of("<", 0xA1B2C3D4, few)
@@ -495,7 +496,7 @@ def gaps():
     yield "a torn packet that breaks a rule", whole + torn + whole[24:]
     yield "a torn packet that breaks none", whole + struct.pack("<IIII", 1, 2, 1000, 1000) + whole[24:]
     for count in range(3):
-        # packets that are as long as can be, at the end of what is looked at at once
+        # Packets as long as possible, at the end of what the program looks at in one go.
         long = [((k, 1, LONGEST, LONGEST), bytes(LONGEST)) for k in range(count + 1)]
         size = 2097152 - 524320 + draw.randrange(-300, 66000)
         yield f"a gap of {size} bytes", whole + b"\xff" * size + capture_of("<", 0xA1B2C3D4, long)[24:] + whole[24:]
@@ -507,7 +508,7 @@ def ran(tally, folder, *words, given=b""):
 
 
 def tell(tally, help, name, capture):
-    """A capture as a file and through a pipe."""
+    """Checks a check of the capture, as a file and through a pipe, and a list of it."""
     with tempfile.TemporaryDirectory() as folder:
         help.put(folder, "in", capture)
         check = ran(tally, folder, "check", "--as-is", "in")
@@ -528,7 +529,7 @@ def try_each(tally, help):
 
 
 def by_hand(help):
-    """Captures with bytes between packets or blocks, the lines of their check, those of their list, and what is said beside these."""
+    """Yields captures with bytes between packets or blocks, the lines of their check, the lines of their list, and the messages."""
     few = capture_of("<", 0xA1B2C3D4, [((k, 5, 4, 4), b"data") for k in range(3)])
     yield few + b"\xff" * 30 + few[24:44] + few[24:44] + few[24:30], """\
 in: 30 bytes at byte 84 are no packets, and are left out by rule 3: PacketHeader incl_len > 0x40000
@@ -566,7 +567,7 @@ def try_by_hand(tally, help):
 
 
 def try_repairs(tally, help):
-    """Each capture, repaired into a file and through pipes, and the other one is listed and repaired again without a word."""
+    """Repairs each capture into a file and through pipes, and checks that the repaired one is listed and repaired again without a message."""
     for name, capture in (*captures(), *gaps()):
         out, said, status = repaired("in", capture)
         wanted = {"in": capture, "out": b"old" if out is None else out}
@@ -589,7 +590,7 @@ def try_repairs(tally, help):
 
 
 def try_sound(tally, help):
-    """Where no packet breaks a rule a list as it stands is the list."""
+    """Checks that a lenient list is the strict list if no packet breaks a rule."""
     packets = [((1700000000 + k, k % 1000000, k % 90, k % 90 + k % 3), bytes(k % 90)) for k in range(2000)]
     for order in "<>":
         for magic in MAGICS:
@@ -601,7 +602,7 @@ def try_sound(tally, help):
 
 
 def try_several(tally, help):
-    """The status of several files is that of the worst, and the lines stand in their order, whatever failed."""
+    """Checks that several files give the worst of their statuses, and their lines in order, whatever failed."""
     flawed = capture_of("<", 0xA1B23C4D, [((1, 2, 3, 2), b"abc")])
     sound = capture_of("<", 0xA1B23C4D, [((1, 2, 3, 3), b"abc")])
     blocks = help.blocks("<", [])[0]
@@ -623,7 +624,7 @@ def try_several(tally, help):
 
 
 def statuses(help):
-    """Captures, and the statuses of their check and their list as they stand."""
+    """Yields captures with the statuses of their lenient check and list."""
     section = help.block("<", SECTION, struct.pack("<IHHq", 0x1A2B3C4D, 1, 0, -1))
     interface = struct.pack("<HHI", 1, 0, 0)
     sound, flawed = (help.block("<", INTERFACE, interface + it) for it in (b"", option_of(9, b"two")))
@@ -643,7 +644,8 @@ def option_of(code, value):
 
 
 def try_statuses(tally, help):
-    """A check as it stands reads no packet's body of PcapNg, and a list does: so their statuses differ there, and nowhere else."""
+    """Checks the statuses of lenient checks and lists. A lenient check reads the body of no PcapNg packet, and a list does. So their
+    statuses differ there, and nowhere else."""
     for name, capture, checks, lists in statuses(help):
         with tempfile.TemporaryDirectory() as folder:
             help.put(folder, "in", capture)

@@ -1,5 +1,5 @@
-"""How often `pcapfile` asks its input and its output. At a terminal one end of the input is enough, also behind many reads; and what is
-written goes out in as few writes as its buffer needs, whatever is left out between."""
+"""Checks how often `pcapfile` reads its input and writes its output. At a terminal one end of the input is enough, also after many
+reads. The program writes no more often than its buffer needs, whatever it leaves out."""
 import os
 import socket
 import subprocess
@@ -9,7 +9,7 @@ import termios
 import ample
 
 SECONDS, BUFFER = 20, 65536
-# The character that ends the input at a terminal, which no capture here has.
+# The character that ends the input at a terminal. No capture here has it.
 END = 0xFE
 WORDS = (
     ["check"], ["check", "--as-is"], ["info"], ["info", "--json"], ["info", "--repair"], ["list"], ["list", "--utc"], ["list", "--as-is"],
@@ -19,7 +19,7 @@ WORDS = (
 
 
 def terminal():
-    """A terminal, and what types into it: each byte is passed on as it is, but for the one that ends the input."""
+    """Returns a terminal, and the descriptor that types into it. The terminal passes each byte on unchanged, except the one that ends the input."""
     typed, input_ = os.openpty()
     mode = termios.tcgetattr(input_)
     mode[:4] = 0, 0, mode[2], termios.ICANON
@@ -30,7 +30,7 @@ def terminal():
 
 
 def ends_at_one_end(tally, words, capture):
-    """That a word ends with the end of its input at a terminal, as it does with that of a pipe."""
+    """Checks that a word ends with the end of its input at a terminal, as it does at the end of a pipe."""
     piped = subprocess.run([tally.program, *words, "-"], input=capture, capture_output=True, timeout=SECONDS)
     typed, input_ = terminal()
     with subprocess.Popen([tally.program, *words, "-"], stdin=input_, stdout=subprocess.PIPE, stderr=subprocess.PIPE) as ran:
@@ -60,7 +60,7 @@ def try_ends(tally, help):
 
 
 def writes(tally, words, files):
-    """How a run ended, and what each write to its standard output had."""
+    """Returns how a run ended, and the bytes of each write to its standard output."""
     left, right = socket.socketpair(socket.AF_UNIX, socket.SOCK_SEQPACKET)
     with tempfile.TemporaryDirectory() as folder:
         for name, content in files.items():
@@ -73,7 +73,7 @@ def writes(tally, words, files):
 
 
 def try_writes(tally, help):
-    """What is written of captures of several buffers goes out by whole buffers. Every other packet is of another time."""
+    """Checks that the program writes captures of several buffers by whole buffers. Every second packet has another time."""
     packets = [(10**9 * (1000 + k % 2), 300, bytes([k % 256]) * 300) for k in range(2000)]
     blocks, _ = help.blocks("<", [help.interface("<", 1), *(help.enhanced("<", 0, time // 1000, wire, data) for time, wire, data in packets)])
     held = {"in": ample.classic(packets), "blocks": blocks}

@@ -1,4 +1,4 @@
-"""What `pcapfile cut` and `pcapfile join` write. Packets are sliced here by struct alone, and found by editcap where it is there."""
+"""Checks what `pcapfile cut` and `pcapfile join` write. The test slices packets with struct alone, and also with editcap if that is installed."""
 import os
 import stat
 import struct
@@ -16,12 +16,12 @@ def ran(tally, folder, *words, given=b"", most=None):
 
 
 def pieces(capture, ends):
-    """The header of a classic capture, and each packet's bytes."""
+    """Returns the header of a classic capture, and each packet's bytes."""
     return capture[: ends[0]], [capture[a:b] for a, b in zip(ends, ends[1:])]
 
 
 def expects(tally, help, name, held, words, wanted, status=DONE, said=""):
-    """That the words end so, and leave these files beside those that were there."""
+    """Checks that the words end with this status, and leave these files beside those that existed before."""
     with tempfile.TemporaryDirectory() as folder:
         for path, content in held.items():
             help.put(folder, path, content)
@@ -49,7 +49,7 @@ def joins(tally, help, name, parts, capture):
 
 
 def try_parts(tally, help):
-    """Parts of every so many packets, so many bytes and so many in all, by slices; and joined they are the capture again."""
+    """Checks parts by their number of packets, by their bytes, and by how many parts there are. Joined, they are the capture again."""
     for order, magic, fraction, counts in (("<", 0xA1B2C3D4, 1000, (0, 1, 9)), (">", 0xA1B23C4D, 1, (7,))):
         for count in counts:
             packets = [(k * 1000003000, 90, bytes([k]) * (k * k)) for k in range(count)]
@@ -69,7 +69,7 @@ def try_parts(tally, help):
 
 
 def heaped(header, texts, size):
-    """Parts that end with the packet at which they have so many bytes."""
+    """Returns parts that end with the packet at which they reach this many bytes."""
     parts = [header]
     for k, text in enumerate(texts):
         parts[-1] += text
@@ -79,7 +79,7 @@ def heaped(header, texts, size):
 
 
 def shares(header, texts, n):
-    """Parts that end with the packet at which the next of n equal shares of the bytes ends."""
+    """Returns parts that end with the packet at which the next of n equal shares of the bytes ends."""
     total = sum(map(len, texts))
     share = (max(total, 1) - 1) // n + 1
     ends = [share * k for k in range(1, n)]
@@ -93,7 +93,7 @@ def shares(header, texts, n):
 
 
 def try_sizes(tally, help):
-    """Sizes with units; and what is no size is refused."""
+    """Checks sizes with units, and that anything else is refused."""
     capture, ends = help.classic("<", 0xA1B2C3D4, 1000, 1, [(k, 1000, bytes(1000)) for k in range(60)])
     header, texts = pieces(capture, ends)
     for size, count in (("2000", 2000), ("2K", 2048), ("2KB", 2000), ("1M", 1 << 20), ("1GB", 10**9), ("1T", 1 << 40)):
@@ -105,7 +105,7 @@ def try_sizes(tally, help):
 
 
 def try_ranges(tally, help):
-    """Ranges of packets and of times, by slices, and as editcap has them."""
+    """Checks ranges of packets and of times, by slices and by editcap."""
     count = 6
     packets = [(1700000000250000000 + k * 500000000, 90, bytes([k]) * k) for k in range(count)]
     capture, ends = help.classic("<", 0xA1B2C3D4, 1000, 1, packets)
@@ -150,7 +150,7 @@ def edited(capture, words):
 
 
 def try_faults(tally, help):
-    """A capture that is cut at each byte or breaks a rule; what can't be opened, written, named or joined."""
+    """Checks a capture that is truncated at each byte or breaks a rule, and files that can't be opened, written, named or joined."""
     packets = [(k * 1000, 60, bytes(range(k))) for k in (3, 0, 9)]
     capture, ends = help.classic(">", 0xA1B2C3D4, 1000, 1, packets)
     header, texts = pieces(capture, ends)
@@ -198,7 +198,7 @@ def try_faults(tally, help):
 
 
 def fails(tally, help, name, held, words, status, said, most=None):
-    """That the words end so, say so, and leave what was there."""
+    """Checks that the words end with this status and this message, and leave the files that existed before."""
     with tempfile.TemporaryDirectory() as folder:
         for path, content in held.items():
             help.put(folder, path, content)
@@ -213,7 +213,7 @@ def fails(tally, help, name, held, words, status, said, most=None):
 
 
 def try_pipes(tally, help):
-    """Standard input and output."""
+    """Checks standard input and output."""
     packets = [(k * 1000, 60, bytes(range(k))) for k in range(5)]
     capture, ends = help.classic("<", 0xA1B2C3D4, 1000, 1, packets)
     header, texts = pieces(capture, ends)
@@ -239,7 +239,7 @@ def try_pipes(tally, help):
 
 
 def try_special(tally, help):
-    """What stands under the name of an output and is no regular file is written to, and stands there after it."""
+    """Checks an output whose name is that of something that is no regular file. The program writes into it, and leaves it in place."""
     capture, ends = help.classic("<", 0xA1B2C3D4, 1000, 1, [(k * 1000, 60, bytes(range(k))) for k in (3, 0, 9)])
     header, texts = pieces(capture, ends)
     held = {"in": capture, "a": header + texts[0], "b": header + texts[1]}
@@ -274,7 +274,7 @@ SECTION, INTERFACE, SIMPLE, NAMES, STATISTICS, PACKET = 0x0A0D0D0A, 1, 3, 4, 5, 
 
 
 def sections(help, order, count):
-    """A capture of blocks as (number, text): two sections, interfaces between packets, names, and statistics at the end."""
+    """Returns a capture of blocks as (number, text): two sections, interfaces between packets, names, and statistics at the end."""
     def one(number, body):
         return number, help.block(order, number, body)
 
@@ -293,7 +293,7 @@ def sections(help, order, count):
 
 
 def block_parts(found, is_enough):
-    """Parts that end before the packet at which is_enough(where the part began, its packets, its blocks' bytes, its opening's bytes)."""
+    """Returns parts that end before the packet at which is_enough(where the part began, its packets, its blocks' bytes, its opening's bytes)."""
     in_force, parts, passed = [found[0][1]], [found[0][1]], 0
     opening, begun, count, size = len(found[0][1]), 0, 0, 0
     for number, text in found[1:]:
@@ -312,7 +312,7 @@ def block_parts(found, is_enough):
 
 
 def try_blocks(tally, help):
-    """Parts of blocks, by what is in force where each begins; and joined they are the capture again."""
+    """Checks parts of blocks, by what is in force where each begins. Joined, they are the capture again."""
     for order, counts in (("<", (0, 9)), (">", (7,))):
         for count in counts:
             found = sections(help, order, count)

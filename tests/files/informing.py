@@ -1,5 +1,5 @@
-"""What `pcapfile info` writes: of captures that are made here the figures that are counted here, and of files what capinfos tells
-where it is there."""
+"""Checks what `pcapfile info` writes. The test makes captures and counts their figures itself, and compares files with capinfos if that
+is installed."""
 import json
 import os
 import subprocess
@@ -24,7 +24,7 @@ def hundredths(number):
 
 
 def part_of(count, largest, whole):
-    """As large a part of a whole as the count is of the largest, rounded up."""
+    """Returns the part of the whole that the count is of the largest, rounded up."""
     return -(-count * whole // largest)
 
 
@@ -37,7 +37,7 @@ def sizes(packets):
 
 
 def counts_over_time(times):
-    """The smallest power of two of nanoseconds with which the packets lie in at most 64 spans, and the packets of each span."""
+    """Returns the packets of each span, and the span: the smallest power of two of nanoseconds with which they take at most 64 spans."""
     if not times:
         return None
     width = 1
@@ -51,14 +51,14 @@ def counts_over_time(times):
 
 
 def spans(times):
-    """The sign of each span."""
+    """Yields the line of spans, with a sign for each."""
     width, counts = (counts_over_time(times)[it] for it in ("width", "packets"))
     yield f"  Packets over time: each sign is {width // BILLION}.{width % BILLION:09} seconds"
     yield f"  |{''.join(HEIGHTS[part_of(it, max(counts), 8)] for it in counts)}|"
 
 
 def figures(packets):
-    """The lines of packets of (nanoseconds since 1970 or None, length on the wire, data)."""
+    """Yields the lines of figures for packets of (nanoseconds since 1970 or None, length on the wire, data)."""
     wire, stored = sum(it[1] for it in packets), sum(len(it[2]) for it in packets)
     yield f"  Packets:           {len(packets)}"
     yield f"  Data size:         {wire} bytes, of which {stored} are stored"
@@ -99,7 +99,7 @@ def decimals(number, digits):
 
 
 def members(packets):
-    """The figures of packets as --json has them."""
+    """Returns the figures of packets as --json has them."""
     times = [it[0] for it in packets if it[0] is not None]
     wire = sum(it[1] for it in packets)
     duration = max(times) - min(times) if times else None
@@ -136,7 +136,7 @@ PACKETS = [(1700000000 * BILLION + k * k * 777_000_000, 60 + 37 * k % 1500, byte
 
 
 def try_classic(tally, help):
-    """Captures of both orders and resolutions, of no packet and of some; a torn one and one without a header."""
+    """Checks captures of both orders and resolutions, with and without packets, a truncated one, and one without a header."""
     for order, order_name in (("<", "little-endian"), (">", "big-endian")):
         for magic, fraction, unit in ((0xA1B2C3D4, 1000, "microseconds"), (0xA1B23C4D, 1, "nanoseconds")):
             for count in (0, 1, 2, 300):
@@ -161,7 +161,7 @@ def try_classic(tally, help):
 
 
 def try_blocks(tally, help):
-    """Two interfaces, one of them in nanoseconds, and packets of both, one without a time; one of an interface that isn't there."""
+    """Checks two interfaces, one of them in nanoseconds, and packets of both. One packet has no time, and one names a missing interface."""
     for order, order_name in (("<", "little-endian"), (">", "big-endian")):
         own = [(time, wire, data) for time, wire, data in PACKETS[:40]]
         parts = [help.interface(order, help.ETHERNET, 96), help.interface(order, help.RAW, 0, True)]
@@ -197,7 +197,7 @@ def try_blocks(tally, help):
 
 
 def try_files(tally, help):
-    """A file that isn't there, a folder, and one after another the captures of several files."""
+    """Checks a missing file, a folder, and the captures of several files one after another."""
     capture, _ = help.classic("<", 0xA1B23C4D, 1, help.ETHERNET, PACKETS[:2])
     with tempfile.TemporaryDirectory() as folder:
         help.put(folder, "a", capture)
@@ -212,13 +212,13 @@ def try_files(tally, help):
 
 
 def told_by_capinfos(path):
-    """How many packets, the sum of their lengths, and the first and the last time."""
+    """Returns how many packets capinfos counts, the sum of their lengths, and the first and the last time."""
     words = ["capinfos", "-T", "-r", "-S", "-c", "-d", "-a", "-e", path]
     return subprocess.run(words, capture_output=True, timeout=SECONDS, check=True).stdout.decode().split("\t")[1:]
 
 
 def try_capinfos(tally, help):
-    """A capture beside what capinfos tells of it."""
+    """Compares the figures of a capture with those of capinfos."""
     if not left_out.has("capinfos", "info beside capinfos, in tests/files/run"):
         return
     for order, magic, fraction in (("<", 0xA1B2C3D4, 1000), (">", 0xA1B23C4D, 1)):

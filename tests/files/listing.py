@@ -1,4 +1,4 @@
-"""What `pcapfile list` writes with `--utc`, `--csv` and `--json`. The packets are taken here by struct alone, times by datetime."""
+"""Checks what `pcapfile list` writes with `--utc`, `--csv` and `--json`. The test takes packets with struct alone, and times by datetime."""
 import datetime
 import itertools
 import json
@@ -14,12 +14,12 @@ COLUMNS = "index", "seconds", "nanoseconds", "captured", "original", "interface"
 MAGICS = {0xA1B2C3D4: 1000, 0xA1B23C4D: 1}
 SECTION, INTERFACE, OLD, SIMPLE, ENHANCED = 0x0A0D0D0A, 1, 2, 3, 6
 EPOCH = datetime.datetime(1970, 1, 1)
-# The calendar ends here, in seconds, since each of its instants has a date everywhere on earth.
+# The calendar ends here, in seconds, since each earlier instant has a date everywhere on earth.
 LAST = 253402207200
 
 
 def classic_rows(capture):
-    """(time in nanoseconds, stored, on the wire, interface) of each packet of a classic capture."""
+    """Yields (time in nanoseconds, stored, on the wire, interface) of each packet of a classic capture."""
     order = "<" if struct.unpack_from("<I", capture)[0] in MAGICS else ">"
     unit = MAGICS[struct.unpack_from(order + "I", capture)[0]]
     at = 24
@@ -30,7 +30,7 @@ def classic_rows(capture):
 
 
 def clock_of(order, body):
-    """How many units a second of an interface has, its offset in seconds, and its snaplen."""
+    """Returns how many units a second of an interface has, its offset in seconds, and its snapshot length."""
     units, offset, at = 10**6, 0, 8
     while at + 4 <= len(body):
         code, length = struct.unpack_from(order + "HH", body, at)
@@ -43,7 +43,7 @@ def clock_of(order, body):
 
 
 def packet_in(order, number, body, clocks):
-    """The row of a packet in a block, or None where its body is refused."""
+    """Returns the row of a packet in a block, or None if its body is refused."""
     if number == SIMPLE:
         (wire,) = struct.unpack_from(order + "I", body)
         snaplen = clocks[0][2] if clocks and clocks[0][2] else wire
@@ -72,7 +72,7 @@ def block_rows(capture):
 
 
 def rows_of(capture):
-    """Numbers in place of names: index, seconds, nanoseconds, captured, original, interface; and the time in nanoseconds."""
+    """Yields numbers without names: index, seconds, nanoseconds, captured, original, interface; and the time in nanoseconds."""
     rows = block_rows(capture) if capture[:4] == b"\n\r\r\n" else classic_rows(capture)
     for index, row in enumerate(rows, 1):
         time, *rest = row or (None,) * 4
@@ -112,7 +112,7 @@ class Lists:
         self.tally, self.lib = tally, lib
 
     def run(self, captures, words, piped=False):
-        """The status of a list of these files, its lines, and what it said."""
+        """Returns the status of a list of these files, its lines, and its messages."""
         with tempfile.TemporaryDirectory() as folder:
             for name, capture in captures.items():
                 self.lib.put(folder, name, capture)
@@ -124,7 +124,7 @@ class Lists:
         return code, out.decode(), said
 
     def lists(self, name, capture, status=DONE, said="", whole=None):
-        """That a capture has its lines in each form, off a file and a pipe. `whole` is what the lines are of, if less."""
+        """Checks the lines of a capture in each form, from a file and from a pipe. If only a part has lines, `whole` is that part."""
         whole = capture if whole is None else whole
         for piped in (False, True):
             told = said.format("-" if piped else "in")
@@ -153,7 +153,7 @@ def try_classic(lists):
 
 
 def clock(order, resolution, offset):
-    """The description of an interface with this clock."""
+    """Returns the description of an interface with this clock."""
     options = struct.pack(order + "HHB3xHHqHH", 9, 1, resolution, 14, 8, offset, 0, 0)
     return INTERFACE, struct.pack(order + "HHI", 1, 0, 64) + options
 
@@ -173,7 +173,7 @@ def try_blocks(lists):
 
 
 def try_cut(lists):
-    """A capture that is cut, or refused, behind the lines of the packets before."""
+    """Checks a truncated or refused capture: the lines of the packets before come first."""
     lib = lists.lib
     parts = [lib.interface("<", 1), *(lib.enhanced("<", 0, time // 1000, wire, data) for time, wire, data in lib.FEW)]
     for capture, ends in (lib.classic("<", 0xA1B23C4D, 1, lib.RAW, lib.FEW), lib.blocks("<", parts)):
@@ -188,7 +188,7 @@ def try_cut(lists):
 
 
 def try_several(lists):
-    """Names stand before lines, and not before rows and objects, which begin again at 1."""
+    """Checks several files: names come before lines, but not before rows and objects, which begin again at 1."""
     lib, tally = lists.lib, lists.tally
     one, _ = lib.classic("<", 0xA1B23C4D, 1, lib.RAW, lib.FEW)
     two, _ = lib.blocks(">", [lib.interface(">", 1), lib.enhanced(">", 0, 1, 2, b"3")])
@@ -206,7 +206,7 @@ def try_several(lists):
 
 
 def try_live(lists):
-    """The lines of a live capture are out before the program waits."""
+    """Checks that the program writes the lines of a live capture before it waits."""
     lib = lists.lib
     capture, ends = lib.classic("<", 0xA1B23C4D, 1, lib.RAW, lib.FEW)
     for form, lines in (("--utc", utc(capture)), ("--csv", csv(capture)), ("--json", objects(capture))):
@@ -223,7 +223,7 @@ def try_live(lists):
 
 
 def memory_of(lists, form, capture):
-    """The most memory of a list of this capture, in KiB."""
+    """Returns the peak memory of a list of this capture, in KiB."""
     with tempfile.TemporaryDirectory() as folder:
         lists.lib.put(folder, "in", capture)
         ran = subprocess.Popen([lists.tally.program, "list", form, f"{folder}/in"], stdout=subprocess.DEVNULL)

@@ -1,4 +1,4 @@
-"""Outputs of `pcapfile`: links, the access to a file that is replaced, captures that are read, unfinished files and names of parts."""
+"""Checks outputs of `pcapfile`: links, the access to a replaced file, captures that are read, unfinished files, and names of parts."""
 import fcntl
 import os
 import signal
@@ -17,6 +17,11 @@ def packet(seconds, data):
     return struct.pack("<IIII", seconds, 0, len(data), len(data)) + data
 
 
+def block(kind, body):
+    body += bytes(-len(body) % 4)
+    return struct.pack("<II", kind, len(body) + 12) + body + struct.pack("<I", len(body) + 12)
+
+
 HEADER = struct.pack("<IHHiIII", 0xA1B23C4D, 2, 4, 0, 0, 65535, 1)
 CAPTURE = HEADER + b"".join(packet(k, bytes([k]) * k) for k in range(1, 6))
 TORN = CAPTURE + b"\0" * 5
@@ -24,7 +29,7 @@ OTHER_CAPTURE = HEADER + packet(3, b"other")
 
 
 class Folder:
-    """A folder of files, and what the program leaves there."""
+    """A folder of files, in which the test sees what the program leaves there."""
 
     def __init__(self, program, **held):
         self.program, self.room = program, tempfile.TemporaryDirectory()
@@ -46,7 +51,7 @@ class Folder:
             it.write(content)
 
     def get(self, name):
-        """The bytes of a file, or None where there is none."""
+        """Returns the bytes of a file, or None if it does not exist."""
         if not os.path.isfile(self.at(name)):
             return None
         with open(self.at(name), "rb") as it:
@@ -56,7 +61,7 @@ class Folder:
         return sorted(os.listdir(self.path))
 
     def run(self, *words, **how):
-        """The status, and what was written and said."""
+        """Returns the status, the output and the messages."""
         ran = subprocess.run([self.program, *words], cwd=self.path, capture_output=True, timeout=SECONDS, **how)
         return ran.returncode, ran.stdout, ran.stderr.decode()
 
@@ -65,7 +70,7 @@ COPY = ("convert", "--to", "pcap", "in", "-o")
 
 
 def try_links(tally):
-    """A link is followed, also one that leads nowhere yet, and over folders."""
+    """Checks that the program follows a link, also one to a missing file, and one over folders."""
     for name, prepare, target in (
         ("a link", lambda it: os.symlink("real", it.at("out")), "real"),
         ("a link to a link", lambda it: (os.symlink("next", it.at("out")), os.symlink("real", it.at("next"))), "real"),
@@ -92,7 +97,7 @@ def try_links(tally):
 
 
 def try_standard_output(tally):
-    """/dev/stdout is what standard output is: a file keeps what stands in it before, and stays the same file."""
+    """Checks that /dev/stdout is standard output. A file keeps what it has in front, and remains the same file."""
     with Folder(tally.program, **{"in": CAPTURE, "f": b"before"}) as folder:
         number = os.stat(folder.at("f")).st_ino
         with open(folder.at("f"), "ab") as out:
@@ -114,7 +119,7 @@ def access(path):
 
 
 def try_access(tally):
-    """The access to a file that is replaced stays, and nobody gets more where its owner or group can't."""
+    """Checks that a replaced file keeps its access. If its owner or group can't be kept, nobody gets more access."""
     for mode in (0o600, 0o640, 0o444, 0o664, 0o755):
         with Folder(tally.program, **{"in": CAPTURE, "out": b"old"}) as folder:
             os.chmod(folder.at("out"), mode)
@@ -168,7 +173,7 @@ def as_nobody():
 
 
 def try_inputs(tally):
-    """No spelling of a name costs an input."""
+    """Checks that no spelling of a name destroys an input."""
     spellings = ["in", "./in", "../{}/in", "{}/in", "link", "hard", "here/in", "here/link", "absolute"]
     words = [
         ("convert", ["convert", "in", "-o"]),
@@ -215,7 +220,7 @@ def try_inputs(tally):
 
 
 def try_parts(tally):
-    """Parts of a capture have no names but those of files beside the one that is named."""
+    """Checks that parts get only names of files beside the named one, and that the program refuses any other output for them."""
     for way in (("--every", "1"), ("--bytes", "1"), ("--parts", "2")):
         for out in ("-", "here/", "here", ".", "..", "/dev/null", "/dev/none", "link", "/dev/shm/../none"):
             with Folder(tally.program, **{"in": CAPTURE}) as folder:
@@ -250,7 +255,7 @@ def try_parts(tally):
 
 
 def try_unfinished(tally):
-    """What an ended run left is taken away, what a run writes is not, nor what is no file of a run."""
+    """Checks that a run removes what an ended run left. It does not remove what another run writes, or what is no file of a run."""
     with Folder(tally.program, **{"in": CAPTURE, "out.part": b"left", "out": b"old"}) as folder:
         ended = folder.run(*COPY, "out")
         tally.note(
@@ -291,13 +296,13 @@ def try_unfinished(tally):
 
 
 def heed_signals():
-    """A shell has what it starts in the background ignore SIGINT, and this test with it."""
+    """Makes the program heed signals. A shell makes what it starts in the background ignore SIGINT, and so this test and its children."""
     for number in (signal.SIGINT, signal.SIGTERM, signal.SIGHUP):
         signal.signal(number, signal.SIG_DFL)
 
 
 def begun(folder):
-    """A run that has begun to write OUT and waits for more of its input."""
+    """Starts a run that has begun to write OUT and waits for more of its input."""
     words = [folder.program, "convert", "--to", "pcap", "-", "-o", "out"]
     run = subprocess.Popen(words, cwd=folder.path, stdin=subprocess.PIPE, stderr=subprocess.PIPE, preexec_fn=heed_signals)
     run.stdin.write(CAPTURE)
@@ -310,7 +315,7 @@ def begun(folder):
 
 
 def try_ended_runs(tally):
-    """A run that a signal ends spares OUT, and the next run writes it; of two runs at once the second one gives up."""
+    """Checks that a run spares OUT if a signal ends it, and that the next run writes OUT. Of two runs at once the second one gives up."""
     for number in (signal.SIGINT, signal.SIGTERM, signal.SIGHUP, signal.SIGKILL):
         with Folder(tally.program, **{"in": CAPTURE, "out": b"old"}) as folder:
             run = begun(folder)
@@ -330,7 +335,7 @@ def try_ended_runs(tally):
 
 
 def try_long_names(tally):
-    """Names up to the longest one that the system has work, and a longer one has a line."""
+    """Checks that names up to the system's longest one work, and that a longer one gives a message."""
     for length in (250, 251, 254, 255):
         for sign in ("a", "é"):
             name = (sign * 255).encode()[:length].decode(errors="ignore")
@@ -343,20 +348,21 @@ def try_long_names(tally):
 
 
 def try_merges(tally):
-    """A merge of nothing that can be read replaces nothing, and one leaves out what has no place in PcapNg."""
+    """Checks that a merge replaces nothing if it can read no input. A merge keeps the length of the frame check sequence."""
     for names in (["/dev/null"], ["text"], ["/dev/null", "text"]):
         with Folder(tally.program, text=b"this is no capture of packets", out=b"old") as folder:
             status, _, said = folder.run("merge", *names, "-o", "out")
             tally.note(f"a merge of {names}", status != AT_FAULT and f"it ended with {status}: {said}", folder.get("out") != b"old" and "the output was replaced", folder.names() != ["out", "text"] and f"it left {folder.names()}")
     large = struct.pack("<IHHiIII", 0xA1B23C4D, 2, 4, 0, 0, 65535, 0x24000001) + packet(1, b"fcs")
-    with Folder(tally.program, **{"in": CAPTURE, "large": large}) as folder:
-        alone = folder.run("merge", "in", "-o", "alone")
-        status, _, said = folder.run("merge", "large", "in", "-o", "out")
+    section = block(0x0A0D0D0A, struct.pack("<IHHq", 0x1A2B3C4D, 1, 0, -1))
+    described = block(1, struct.pack("<HHIHHB3xHHB3xHH", 1, 0, 65535, 9, 1, 9, 13, 1, 32, 0, 0))
+    stored = block(6, struct.pack("<IIIII", 0, 0, 10**9, 3, 3) + b"fcs")
+    with Folder(tally.program, large=large) as folder:
+        ended = folder.run("merge", "large", "-o", "out")
         tally.note(
-            "a merge with a link type above 65535",
-            alone[0] != DONE and f"it ended with {alone}",
-            (status, said) != (AT_FAULT, "pcapfile: large: is left out, since PcapNg has no link types above 65535\n") and f"it ended with {status}: {said}",
-            folder.get("out") != folder.get("alone") and "it isn't that of the others",
+            "a merge with the length of a check sequence",
+            ended != (DONE, b"", "") and f"it ended with {ended}",
+            folder.get("out") != section + described + stored and f"it has {folder.get('out')}",
         )
         status, _, said = folder.run("convert", "large", "-o", "converted")
         tally.note("a conversion of a link type above 65535", status != AT_FAULT and f"it ended with {status}", not said.startswith("pcapfile: large: ") and said, "converted" in folder.names() and "it left a file")

@@ -1,4 +1,4 @@
-"""What is said of how far a capture is read: on a terminal, behind a second, but for --quiet."""
+"""Checks the progress that the program prints: on a terminal, after a second, but not with --quiet."""
 import os
 import pty
 import re
@@ -9,8 +9,8 @@ import tempfile
 import time
 
 MILLION = 10**6
-# Bytes that come at once, and what is said of them behind more than a second: how many million, packets, and how many million a second.
-# On a slow machine it may be said before that as well.
+# Bytes that come at once. After more than a second the program prints how many million it read, how many packets, and how many million a
+# second. On a slow machine it may print that earlier as well.
 HALF = 12 * MILLION
 LINE = r"(\d+)(?: of (\d+))? MB read, (\d+) packets, (\d+) MB a second\x1b\[K\r"
 HEADER = struct.pack("<IHHiIII", 0xA1B23C4D, 2, 4, 0, 0, 262144, 1)
@@ -18,13 +18,13 @@ TAKEN_AWAY = "\x1b[K"
 
 
 def packets(size):
-    """So many bytes of packets of 100000 bytes each."""
+    """Returns this many bytes of packets of 100000 bytes each."""
     text = struct.pack("<IIII", 1, 2, 100000 - 16, 100000) + bytes(100000 - 16)
     return text * (size // len(text))
 
 
 def small_packets(order, count):
-    """So many packets of few bytes, some of which look like heads."""
+    """Returns this many packets of few bytes, some of which look like heads."""
     return b"".join(struct.pack(order + "IIII", 1, 2, k % 21, 21) + bytes([k]) * (k % 21) for k in range(count))
 
 
@@ -34,7 +34,7 @@ def block(order, number, body):
 
 
 def blocks(order):
-    """A section and an interface with seven packets: three enhanced ones, two simple ones and two of the obsolete kind."""
+    """Returns a section and an interface with seven packets: three enhanced ones, two simple ones and two of the obsolete kind."""
     section = block(order, 0x0A0D0D0A, struct.pack(order + "IHHq", 0x1A2B3C4D, 1, 0, -1))
     parts = [section, block(order, 1, struct.pack(order + "HHI", 1, 0, 0)), block(order, 4, bytes(4))]
     for k in range(3):
@@ -47,12 +47,12 @@ def blocks(order):
 
 
 def lines(said):
-    """The numbers of each line of what was said, or None where it is something else."""
+    """Returns the numbers of each line of the messages, or None if there is anything else."""
     return [it.groups() for it in re.finditer(LINE, said)] if re.fullmatch(f"(?:{LINE})*", said) else None
 
 
 def taken(terminal):
-    """What was said on a terminal."""
+    """Returns what the program printed on a terminal."""
     came = b""
     while select.select([terminal], [], [], 0)[0]:
         try:
@@ -63,8 +63,7 @@ def taken(terminal):
 
 
 def said_by(tally, words, folder, pause, on_terminal=True, first=(HEADER + packets(HALF),), then=packets(100000), last=packets(HALF)):
-    """What a word says of a capture of which these pieces come one by one, and behind a pause one more and then the last one; and its
-    status."""
+    """Returns what a word prints, and its status. These pieces of the capture come one by one, then one more after a pause, and then the last."""
     ours, theirs = pty.openpty()
     errors = {"stderr": theirs if on_terminal else subprocess.DEVNULL}
     with subprocess.Popen([tally.program, *words], stdin=subprocess.PIPE, stdout=subprocess.DEVNULL, cwd=folder, **errors) as ran:
@@ -86,7 +85,7 @@ def said_by(tally, words, folder, pause, on_terminal=True, first=(HEADER + packe
 
 
 def try_words(tally, folder):
-    """Each word says how many bytes and packets it read, and takes the line away."""
+    """Checks that each word prints how many bytes and packets it read, and clears the line."""
     with open(f"{folder}/whole", "wb") as it:
         it.write(HEADER + packets(HALF))
     words = (
@@ -105,7 +104,7 @@ def try_words(tally, folder):
 
 
 def try_packets(tally, folder):
-    """Packets of each kind are counted, wherever the bytes are cut, up to where they make no sense."""
+    """Checks that packets of each kind are counted, wherever the bytes are cut, up to where they make no sense."""
     big = struct.pack(">IHHiIII", 0xA1B2C3D4, 2, 4, 0, 0, 262144, 1)
     few = small_packets("<", 3)
     for name, capture, more, count, word in (
@@ -126,7 +125,7 @@ def try_packets(tally, folder):
 
 
 def try_faults(tally, folder):
-    """A line of what is wrong stands alone."""
+    """Checks that a message about a fault has a line of its own."""
     torn = struct.pack("<IIII", 1, 2, 10, 9) + bytes(10)
     for word in (["list"], ["convert", "-o", "out"], ["cut", "-o", "out"], ["join", "-o", "out"], ["merge", "-o", "out"], ["repair", "-o", "out"]):
         _, behind, status = said_by(tally, [*word, "-"], folder, 1.3, last=torn)
@@ -137,7 +136,7 @@ def try_faults(tally, folder):
 
 
 def try_all_lengths(tally, folder):
-    """Of several files it is said how many bytes all have."""
+    """Checks that for several files the program prints how many bytes all have."""
     ours, theirs = pty.openpty()
     with subprocess.Popen([tally.program, "merge", "whole", "whole", "-o", "-"], stdout=subprocess.PIPE, cwd=folder, stderr=theirs) as ran:
         time.sleep(1.3)
@@ -151,7 +150,7 @@ def try_all_lengths(tally, folder):
 
 
 def try_silence(tally, folder):
-    """Nothing is said where nothing is to be."""
+    """Checks that the program prints no progress if it must not."""
     for name, more, pause, on_terminal in (("quiet", ["--quiet"], 1.3, True), ("at once", [], 0, True), ("on no terminal", [], 1.3, False)):
         before, behind, status = said_by(tally, ["check", *more, "-"], folder, pause, on_terminal)
         tally.note(f"check, {name}", (before, behind, status) != ("", "", 0) and f"it said {before!r}, {behind!r} and ended with {status}")

@@ -1,5 +1,5 @@
-"""What `pcapfile repair` makes of captures of blocks, and that `--repair` of other words reads what it makes of captures of either format.
-What becomes of a block is said here once more, over `as_is`, which takes blocks by struct alone."""
+"""Checks what `pcapfile repair` makes of captures of blocks, and that other words with `--repair` read what it makes of captures of
+either format. The test states again what becomes of a block, over `as_is`, which takes blocks with struct alone."""
 import random
 import struct
 import subprocess
@@ -15,7 +15,7 @@ LEFT = "options that break rules are left out"
 
 
 def sound_options(order, number, left):
-    """The options whose values break no rule, as their bytes stand."""
+    """Returns the bytes of the options whose values break no rule."""
     kept = b""
     while len(left) >= 4:
         code, length = struct.unpack_from(order + "HH", left)
@@ -28,14 +28,14 @@ def sound_options(order, number, left):
 
 
 def with_options(order, number, body, front):
-    """A body without the options that break rules, behind so many bytes, and whether any does."""
+    """Returns a body without the options that break rules, which begin after this many bytes, and whether there are any."""
     if not options_flaws(order, number, body[front:]):
         return body, False
     return body[:front] + sound_options(order, number, body[front:]), True
 
 
 def mended(order, number, body):
-    """The body that a block has then, or None, and what is said of it."""
+    """Returns the body of a block after the repair, or None, and the messages about it."""
     if number == SECTION:
         made, is_flawed = with_options(order, number, body, 16)
         stated = ["the length of its section is stated no more"] * (body[8:16] != UNSTATED)
@@ -59,7 +59,7 @@ def block(order, number, body):
 
 
 def repaired(name, capture):
-    """The capture that is written, or None; what is said, and the status."""
+    """Returns the repaired capture, or None, the messages, and the status."""
     kind, items, refused = as_is.stands_in(capture)
     if kind == "pcap" or refused:
         return as_is.repaired(name, capture)
@@ -90,12 +90,12 @@ def enhanced(order, number, units, data, options=b""):
 
 
 def with_others(order, options, place, code, value):
-    """A bad option of this code before, between or behind good ones, all of which stay."""
+    """Returns good options with a bad one of this code before, between or after them. The repair keeps all good ones."""
     return options[:place] + option(order, code, value) + options[place:]
 
 
 def flawed_options(order):
-    """Captures with an option that breaks a rule before, between and behind good ones, what they become, and what is said of them."""
+    """Yields captures with an option that breaks a rule before, between and after good ones, what they become, and the messages."""
     good = option(order, 1, b"good") + option(order, 1, b"and good")
     clock = option(order, 9, b"\x09")
     head, packet = struct.pack(order + "HHI", 1, 0, 0), enhanced(order, 0, 1700000000000000001, b"data")
@@ -121,7 +121,7 @@ pcapfile: in: 1 of 4 blocks are changed or left out
 
 
 def by_hand(order):
-    """Captures, what they become, and what is said of them: a section of 28 bytes, an interface of 28 and four packets of 36."""
+    """Yields captures, what they become, and the messages. They have a section of 28 bytes, an interface of 28 and four packets of 36."""
     interface = block(order, INTERFACE, struct.pack(order + "HHI", 1, 0, 0) + option(order, 9, b"\x09"))
     packets = [enhanced(order, 0, 1700000000000000001 + k, bytes([k] * (k + 1))) for k in range(4)]
     sound = section(order) + interface + b"".join(packets)
@@ -165,7 +165,7 @@ pcapfile: in: 3 bytes at byte 164 are of a block that is cut short, and are left
 
 
 def captures(help):
-    """Captures of blocks, broken at random and at each byte, and with gaps that are longer than what is looked at at once."""
+    """Yields captures of blocks: broken at random and at each byte, and with gaps longer than what the program looks at in one go."""
     yield from as_is.block_captures(help)
     draw = random.Random(34)
     for count in range(40):
@@ -191,7 +191,7 @@ def captures(help):
 
 
 def repair(tally, help, capture):
-    """How a repair of a file ended, what lies in its folder then, and what a check and a list say of the other one."""
+    """Returns how a repair of a file ended, what its folder then has, and what a check and a list print of the repaired one."""
     with tempfile.TemporaryDirectory() as folder:
         help.put(folder, "in", capture)
         help.put(folder, "out", b"old")
@@ -201,8 +201,8 @@ def repair(tally, help, capture):
 
 
 def try_blocks(tally, help):
-    """Each capture of blocks, told as it stands, and repaired into a file and through pipes; the strict reading takes the other one, and
-    lists its packets."""
+    """Checks each capture of blocks: it is read leniently, and repaired into a file and through pipes. Strict reading takes the repaired
+    one, and lists its packets."""
     for name, capture in captures(help):
         as_is.tell(tally, help, name, capture)
         out, said, status = repaired("in", capture)
@@ -220,7 +220,7 @@ def try_blocks(tally, help):
 
 
 def try_by_hand(tally, help):
-    """The captures that are broken by hand: what they become, and what is said of them."""
+    """Checks the captures that are broken by hand: what they become, and the messages."""
     for order in "<>":
         for name, capture, wanted, said in (*by_hand(order), *flawed_options(order)):
             ended, left, check, _ = repair(tally, help, capture)
@@ -234,7 +234,7 @@ def try_by_hand(tally, help):
 
 
 def shown(help, capture):
-    """Time, stored length and length on the wire of each packet, where each has an interface."""
+    """Returns time, stored length and length on the wire of each packet, if each has an interface."""
     try:
         return [f"{time // 10**9}.{time % 10**9:09}\t{len(data)}\t{wire}" for _, time, wire, data in help.packets_of(capture)]
     except IndexError:
@@ -242,7 +242,7 @@ def shown(help, capture):
 
 
 def shown_by_tshark(capture):
-    """The same as tshark tells it, where it is there and takes the capture."""
+    """Returns the same as tshark shows it, if tshark is installed and takes the capture."""
     if not left_out.has("tshark", "repaired captures as tshark reads them, in tests/files/run"):
         return None
     with tempfile.TemporaryDirectory() as folder:
@@ -270,7 +270,7 @@ WORDS = (
 
 
 def as_repaired(tally, help, words, capture, out, said, status):
-    """The faults of a word that reads a repaired capture, where `repair` writes this, and the word without `--repair` reads that."""
+    """Returns the faults of a word that reads a repaired capture. With `--repair` it must do what it does without it on `out`."""
     sound = as_is.capture_of("<", 0xA1B2C3D4, [((1700000001, 2, 3, 3), b"abc")])
     with tempfile.TemporaryDirectory() as folder:
         help.put(folder, "in", capture)
@@ -295,7 +295,7 @@ def as_repaired(tally, help, words, capture, out, said, status):
 
 
 def try_words(tally, help):
-    """Each word with `--repair`, over broken captures of both formats; and the older spelling, with its notice."""
+    """Checks each word with `--repair` over broken captures of both formats, and the older spelling with its notice."""
     draw = random.Random(35)
     classic = [it for it in (*as_is.captures(), *as_is.gaps()) if len(it[1]) < 100000 and (len(it[1]) > 300 or draw.randrange(20) == 0)]
     blocks = [it for it in captures(help) if len(it[1]) < 100000 and (" blocks " in it[0] or draw.randrange(8) == 0)]
@@ -306,7 +306,7 @@ def try_words(tally, help):
 
 
 def try_older_spelling(tally, help):
-    """What `--as-is` of these words was, `--repair` is; the older spelling has a notice on standard error."""
+    """Checks that `--as-is` of these words does what `--repair` does, with a notice on standard error."""
     capture = as_is.capture_of("<", 0xA1B2C3D4, [((1700000001, 2, 3, 3), b"abc")]) + b"torn"
     for words in WORDS:
         ends = []
@@ -322,7 +322,7 @@ def try_older_spelling(tally, help):
 
 
 def try_parts(tally, help):
-    """Parts of equal length want to know how long the capture is, which isn't known of a repaired one."""
+    """Checks parts of equal length. They need the length of the capture, and that of a repaired one is unknown."""
     with tempfile.TemporaryDirectory() as folder:
         help.put(folder, "in", section("<"))
         ended = as_is.ran(tally, folder, "cut", "in", "--parts", "2", "--repair", "-o", "out")

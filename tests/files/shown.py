@@ -1,7 +1,7 @@
-"""Whether docs/PCAPFILE.md, docs/PCAPFILE_FILES.md and docs/CAPCOPY.md show what the programs write: each command there is run where the
-captures of crates/pcapfile/data lie, and `capcopy` is the one beside the program, or the one that is proved in this checkout.
+"""Checks that docs/PCAPFILE.md, docs/PCAPFILE_FILES.md and docs/CAPCOPY.md show what the programs write. The test runs each command there
+in the folder of the captures of crates/pcapfile/data. `capcopy` is the one beside the program, or the proved one in this checkout.
 
-A block of a page is commands, each behind '$ ', with what it writes to standard output and standard error below it.
+A block of a page has commands, each after '$ '. Below a command it shows what the command writes to standard output and standard error.
 """
 import os
 import re

@@ -1,4 +1,4 @@
-"""Standard streams of the programs, closed ones and those that nobody reads any more, and what is shown of names, words and captures."""
+"""Checks the standard streams of the programs if they are closed or no longer read, and how the programs show names, words and captures."""
 import gzip
 import itertools
 import json
@@ -17,7 +17,7 @@ REMEDIES = (
 )
 FLAWED = CAPTURE + struct.pack("<IIII", 9, 0, 4, 1) + b"data"
 CAPCOPY = os.path.join(os.path.dirname(os.path.dirname(os.path.dirname(os.path.abspath(__file__)))), "crates/capcopy/out/capcopy")
-# The words, with what they write to standard output and whether they say something on standard error of a sound run.
+# The words, with what they write to standard output, and whether a sound run prints a message on standard error.
 WORDS = (
     (["check", "in"], True, False),
     (["check", "--as-is", "flawed"], True, False),
@@ -43,7 +43,7 @@ WORDS = (
 
 
 def without_remedy(status, said):
-    """What was said of a run, without its last line where that says how more is read of a capture at fault."""
+    """Returns the messages of a run, without the last line if it names the way to read more of a malformed capture."""
     for remedy in REMEDIES:
         if status == AT_FAULT and said.endswith(remedy):
             return said.removesuffix(remedy)
@@ -63,7 +63,7 @@ def closing(numbers):
 
 
 def try_closed(tally):
-    """Each word with each of the standard streams closed: none of its lines ever lands in a file, and no file is lost."""
+    """Checks each word with each of the standard streams closed. None of its lines may get into a file, and no file may be lost."""
     held = {"in": CAPTURE, "flawed": FLAWED, "out": b"old"}
     for words, writes, says in WORDS:
         with Folder(tally.program, **held) as folder:
@@ -87,7 +87,7 @@ def try_closed(tally):
 
 
 def try_unread(tally):
-    """A run whose output nobody reads any more ends and says nothing."""
+    """Checks that a run ends without a message if nobody reads its output any more."""
     many = HEADER + packet(1, b"") * 200000
     flaws = HEADER + (struct.pack("<IIII", 1, 0, 4, 1) + b"data") * 20000
     words = [["list", "in"], ["list", "--json", "in"], ["list", "--csv", "in"], ["list", "--as-is", "in"], ["check", "--as-is", "flaws"]]
@@ -125,7 +125,7 @@ def option(code, text):
 
 
 def try_shown(tally):
-    """No character of a name, a word or a capture acts on a terminal or begins a line."""
+    """Checks that no character of a name, a word or a capture acts on a terminal or begins a line."""
     for sign in SIGNS:
         try_names(tally, sign)
         text = f"a{sign}b"
@@ -165,7 +165,7 @@ def try_names(tally, sign):
 
 
 def try_other_names(tally):
-    """A name that isn't UTF-8 is said to be one, and the others are read."""
+    """Checks that a name that isn't UTF-8 gives a message that says so, and that the other names are read."""
     for name in (b"caf\xe9", b"\xff", b"a\xc3", b"\xed\xa0\x80", b"\xf0\x9f\x98"):
         with Folder(tally.program, **{"in": CAPTURE}) as folder:
             with open(os.path.join(folder.path.encode(), name), "wb") as it:
@@ -187,7 +187,7 @@ def try_other_names(tally):
 
 
 def try_remedies(tally):
-    """Where a capture at fault ends a word, the last line says how more is read, and no line does else."""
+    """Checks that the last line names a way to read more if a malformed capture ends a word, and that no line does otherwise."""
     for words, remedy in (
         *((it, REMEDIES[0]) for it in (["check", "torn"], ["list", "torn"])),
         *((it, REMEDIES[1]) for it in (["info", "torn"], ["convert", "torn", "-o", "out"], ["cut", "torn", "-o", "out"], ["merge", "torn", "-o", "out"])),
@@ -202,7 +202,7 @@ def try_remedies(tally):
 
 
 def try_foreign(tally):
-    """Of a file that is no capture no line says how more is read, whatever stands beside it, but where a capture at fault does too."""
+    """Checks that for a file that is no capture no line names a way to read more, unless another file is a malformed capture."""
     section = block(0x0A0D0D0A, struct.pack("<IHHq", 0x1A2B3C4D, 1, 0, -1))
     files = {
         "empty": b"", "zipped": gzip.compress(CAPTURE), "page": b"<!DOCTYPE html>", "text": b"\nsome text, which begins with a newline", "one": b"\x0b",
@@ -231,18 +231,20 @@ def try_foreign(tally):
 
 
 def try_times(tally):
-    """A packet whose body is refused ends no cut by time, and every time of RFC 3339 is understood."""
+    """Checks that a cut by time goes on past packets without a known time and counts them, and that it accepts every time of RFC 3339."""
     section = block(0x0A0D0D0A, struct.pack("<IHHq", 0x1A2B3C4D, 1, 0, -1)) + block(1, struct.pack("<HHI", 1, 0, 0))
     sound = block(6, struct.pack("<IIIII", 0, 0, 5, 4, 4) + b"data")
     refused = block(6, struct.pack("<IIIII", 0, 0, 5, 400, 400) + b"data")
+    simple = block(3, struct.pack("<I", 4) + b"data")
+    malformed, timeless = "1 packet with a malformed body, which has no known time", "2 packets without a time"
     for times in (["--from", "0"], ["--until", "9"], ["--from", "0", "--until", "9"]):
-        with Folder(tally.program, **{"in": section + sound + refused + sound}) as folder:
+        with Folder(tally.program, **{"in": section + sound + refused + simple + sound + simple}) as folder:
             checked = folder.run("check", "in")[0]
             status, _, said = folder.run("cut", "in", *times, "-o", "out")
             tally.note(
                 f"a packet that is refused, cut {times}",
                 status != checked and f"it ended with {status}, and check with {checked}",
-                said != "pcapfile: in: 1 packets whose body is refused are left out, since their time isn't known\n" and said,
+                said != f"pcapfile: in: left out {malformed}\npcapfile: in: left out {timeless}\n" and said,
                 folder.get("out") != section + sound * 2 and "it has other packets",
             )
     with Folder(tally.program, **{"in": CAPTURE}) as folder:
@@ -255,7 +257,7 @@ def try_times(tally):
 
 
 def try_first_block(tally):
-    """A first block that is cut short, or has an option that is, is said to be so."""
+    """Checks that the program reports a truncated first block, and one with a truncated option."""
     front = struct.pack("<IHHq", 0x1A2B3C4D, 1, 0, -1)
     for name, capture in (
         ("a first block that is cut short", block(0x0A0D0D0A, front)[:-3]),

@@ -37,7 +37,7 @@ def tcp(source, to, flags, data=b""):
 
 
 def whole():
-    """The packets, whole."""
+    """Returns the packets, whole."""
     query, request = udp(12345, 53), tcp(40000, 80, 0x18, b"GET / HTTP/1.1\r\n")
     datagrams = [ipv4(17, query), ipv4(17, udp(53, 12345), first=0x47), ipv4(17, udp(9, 55), fragment=3), ipv6(17, query),
                  ipv4(17, udp(1, 2, bytes(100)), source=bytes((10, 9, 8, 7)))]
@@ -49,11 +49,11 @@ def whole():
 
 
 def packets():
-    """Each packet whole and cut at many places, with its original length."""
+    """Returns each packet whole and cut at many places, with its original length."""
     return [(it[:end], len(it)) for it in whole() for end in (len(it), 14, 20, 24, 33, 34, 36, 38, 40, 47, 54, 57) if end <= len(it)]
 
 
 def compiled(expression):
-    """The program that tcpdump makes of an expression."""
+    """Returns the program that tcpdump makes from an expression."""
     ran = subprocess.run(["tcpdump", "-y", "EN10MB", "-ddd", expression], capture_output=True, check=True, timeout=SECONDS)
     return [tuple(map(int, line.split())) for line in ran.stdout.splitlines()[1:]]

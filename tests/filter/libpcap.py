@@ -1,4 +1,4 @@
-"""libpcap's interpreter of filters, through ctypes, where the library is installed."""
+"""Calls libpcap's interpreter of filters through ctypes, if the library is installed."""
 import ctypes
 import functools
 
@@ -13,7 +13,7 @@ class Instruction(ctypes.Structure):
 
 @functools.lru_cache(maxsize=None)
 def library():
-    """libpcap, or None where it isn't installed; a line says so once."""
+    """Returns libpcap, or None if it isn't installed; then it prints one line, once."""
     try:
         found = ctypes.CDLL(LIBRARY)
     except OSError:
@@ -31,7 +31,7 @@ def array(program):
 
 
 def result(program, packet, length):
-    """What a program that libpcap takes returns for a packet."""
+    """Returns the result of a program that libpcap accepts, for a packet."""
     return library().bpf_filter(array(program), bytes(packet), length, len(packet))
 
 

@@ -1,4 +1,4 @@
-"""Random programs that are valid, and random packets."""
+"""Makes random programs that are valid, and random packets."""
 import random
 
 CELLS = 16
@@ -12,7 +12,7 @@ SHIFTS = (0x64, 0x74)
 TESTS = (0x15, 0x1d, 0x25, 0x2d, 0x35, 0x3d, 0x45, 0x4d)
 JUMP = 0x05
 RETURNS = (0x06, 0x16)
-# What often ends a program early.
+# Codes that often end a program early.
 ENDING = (0x40, 0x48, 0x50, 0x3c, 0x9c) + RETURNS
 CODES = LOADS_OF_PACKETS + OF_CELLS + OF_NUMBERS + OF_REGISTERS + DIVISIONS + SHIFTS + TESTS + (JUMP,) + RETURNS
 NUMBERS = (0, 1, 2, 3, 7, 8, 31, 32, 33, 255, 256, 65535, 65536, 2**31 - 1, 2**31, 2**32 - 2, 2**32 - 1)
@@ -23,7 +23,7 @@ def number(rng):
 
 
 def instruction(rng, behind):
-    """A random instruction where so many are behind it."""
+    """Returns a random instruction that this many others follow."""
     code = rng.choice(CODES)
     while code in ENDING and rng.random() < 0.8:
         code = rng.choice(CODES)
@@ -43,14 +43,14 @@ def instruction(rng, behind):
 
 
 def program(rng):
-    """A random valid program. It first sets each cell to 0, since libpcap leaves them as they are."""
+    """Returns a random valid program. It first sets each cell to 0, since libpcap leaves them as they are."""
     cleared = [(0x02, 0, 0, cell) for cell in range(CELLS)]
     count = rng.randrange(1, 40)
     return cleared + [instruction(rng, count - place) for place in range(count)] + [rng.choice((RETURN_A, (0x06, 0, 0, number(rng))))]
 
 
 def broken(rng):
-    """A program in which one instruction is another, whatever it is."""
+    """Returns a program in which one instruction is replaced by any other."""
     rows = program(rng)
     code = rng.choice(CODES + (0x08, 0x0e, 0x8c, 0xff, 0xffff))
     rows[rng.randrange(len(rows))] = (code, rng.randrange(60), rng.randrange(60), number(rng))
@@ -58,13 +58,13 @@ def broken(rng):
 
 
 def packet(rng):
-    """Random bytes, and the original length."""
+    """Returns random bytes, and the original length."""
     data = rng.randbytes(rng.choice((0, 3, 5, rng.randrange(80), 64, 64, 64, 64)))
     return data, len(data) + rng.choice((0, 0, 1000))
 
 
 def text(rows):
-    """A program as `tcpdump -ddd` prints it, with commas between the lines."""
+    """Returns a program as `tcpdump -ddd` prints it, with commas between the lines."""
     return ",".join([str(len(rows))] + [f"{code} {jt} {jf} {k}" for code, jt, jf, k in rows])
 
 

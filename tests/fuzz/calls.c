@@ -1,5 +1,6 @@
-/* calls SEED SECONDS CAPTURE..: makes every call of pcapfile.h on damaged captures whose bytes, like all that a call may write, end at a page
- * that can't be touched, and refuses allocations. Prints how many captures were tried, or what was wrong, and how to see it again.
+/* calls SEED SECONDS CAPTURE..: makes every call of pcapfile.h on damaged captures, and refuses allocations. Their bytes, and all rooms
+ * that a call may write, end at a page that can't be touched. Prints how many captures it tried, or what was wrong and how to see it
+ * again.
  *
  * Linked with --wrap=malloc and --wrap=realloc. */
 #include "pcapfile.h"
@@ -23,7 +24,7 @@ void *__real_realloc(void *memory, size_t len);
 void *__wrap_malloc(size_t len) { return allocations++ == failing ? NULL : __real_malloc(len); }
 void *__wrap_realloc(void *memory, size_t len) { return allocations++ == failing ? NULL : __real_realloc(memory, len); }
 
-/* The next number of the row that the seed begins. */
+/* Returns the next number of the sequence that the seed begins. */
 static uint64_t next_number(void) {
     state ^= state << 13;
     state ^= state >> 7;
@@ -39,7 +40,7 @@ static void expect(bool holds, int line, const char *what) {
 }
 #define EXPECT(what) expect(what, __LINE__, #what)
 
-/* Room of this length that ends at a page that can't be touched, as does room for `alignment`. */
+/* Returns room of this length, suitable for `alignment`, that ends at a page that can't be touched. */
 typedef struct room { uint8_t *pages; size_t len; } room;
 static size_t page;
 static room make_room(size_t len) {
@@ -55,7 +56,7 @@ static room capture_room, written_room, array_room;
 static const uint32_t edges[EDGES] = { 0, 1, 3, 4, 7, 8, 11, 12, 13, 16, 20, 28, 32, 255, 65535, 65536, 4294967, 4294968, 262143, 262144, 262145,
                                        0x7fffffff, 0xfffffffc, 0xffffffff };
 
-/* Damages the capture in place, and gives its new length. */
+/* Damages the capture in place, and returns its new length. */
 static size_t damage(uint8_t *bytes, size_t len) {
     for (size_t times = below(5); times > 0 && len > 8; times--) {
         size_t at = below(len - 4);
@@ -75,7 +76,7 @@ static bool lies_in(const pcapfile_bytes *inner, const pcapfile_bytes *outer) {
     return inner->len == 0 || (inner->ptr >= outer->ptr && inner->len <= outer->len && inner->ptr - outer->ptr <= (ptrdiff_t)(outer->len - inner->len));
 }
 
-/* Whether a call's error says what its status says. */
+/* Checks that a call's error agrees with its status. */
 static void told(int32_t status, const pcapfile_error *error, const pcapfile_error *before) {
     switch (status) {
     case PCAPFILE_OK: case PCAPFILE_NOTHING: case PCAPFILE_BAD_CALL: case PCAPFILE_NO_PLACE:
@@ -88,7 +89,7 @@ static void told(int32_t status, const pcapfile_error *error, const pcapfile_err
     }
 }
 
-/* Whether what is left is a rest of what was, and all of it where nothing was taken. */
+/* Checks that the bytes that are left are an end of those before, and all of them if the call took nothing. */
 static void leaves(int32_t status, const pcapfile_bytes *left, const pcapfile_bytes *was) {
     EXPECT(left->len <= was->len && left->ptr + left->len == was->ptr + was->len);
     if (status != PCAPFILE_OK) EXPECT(left->ptr == was->ptr);
@@ -96,7 +97,7 @@ static void leaves(int32_t status, const pcapfile_bytes *left, const pcapfile_by
 
 #define CALL(status, call) do { before = error; status = (call); told(status, &error, &before); } while (0)
 
-/* The packets of a classic capture one by one, many at once, as rows and leniently. */
+/* Reads the packets of a classic capture one by one, many at once, as rows and leniently. */
 static void classic(pcapfile_bytes capture) {
     pcapfile_error error = { 77, 77 }, before;
     pcapfile_header header = PCAPFILE_HEADER_INIT;
@@ -143,7 +144,7 @@ static void classic(pcapfile_bytes capture) {
     EXPECT(status == PCAPFILE_OK ? place <= left.len : place == SIZE_MAX);
 }
 
-/* The parts of a capture of either format: their bounds rise, and lie in the capture. */
+/* Checks the parts of a capture of either format: their bounds rise, and are in the capture. */
 static void cuts(pcapfile_bytes capture) {
     pcapfile_error error = { 77, 77 }, before;
     size_t parts = below(MANY), count = 0, known = 0, at_least = below(capture.len + 2);
@@ -162,7 +163,7 @@ static void cuts(pcapfile_bytes capture) {
         EXPECT(places[i].at.offset <= capture.len && places[i].header <= places[i].at.offset && places[i].first + places[i].interfaces <= known);
 }
 
-/* Everything that is read of one block. */
+/* Reads everything that the calls give of one block. */
 static void read_block(const pcapfile_section *section, const pcapfile_block *block, pcapfile_bytes capture) {
     pcapfile_error error = { 77, 77 }, before;
     pcapfile_interface interface = PCAPFILE_INTERFACE_INIT;
@@ -196,7 +197,7 @@ static void read_block(const pcapfile_section *section, const pcapfile_block *bl
     }
 }
 
-/* The blocks of a capture one by one, strictly and leniently, with an allocation refused now and then. */
+/* Reads the blocks of a capture one by one, strictly and leniently, and refuses an allocation now and then. */
 static void walk_blocks(pcapfile_bytes capture) {
     pcapfile_error error = { 77, 77 }, before;
     pcapfile_section section = PCAPFILE_SECTION_INIT, lenient = section, old;
@@ -224,7 +225,7 @@ static void walk_blocks(pcapfile_bytes capture) {
     }
 }
 
-/* The packets of a capture of either format: in memory, many at once, and in pieces, which all give the same number. */
+/* Reads the packets of a capture of either format in memory, many at once, and in pieces. All ways must give the same number. */
 static size_t walk_any(pcapfile_bytes capture) {
     pcapfile_error error = { 77, 77 }, before;
     pcapfile_capture kept = PCAPFILE_CAPTURE_INIT;
@@ -270,7 +271,7 @@ static size_t walk_pieces(pcapfile_bytes capture) {
     return count;
 }
 
-/* A packet and its blocks are written into room that is just long enough, and not where a byte of it is missing. */
+/* Writes a packet and its blocks into room that is just long enough. It must fail if a byte of room is missing. */
 static void writes(void) {
     pcapfile_error error = { 77, 77 }, before;
     pcapfile_header header = { 0xd4c3b2a1, 2, 4, 0, 0, 65535, 1 };

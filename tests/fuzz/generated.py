@@ -1,4 +1,4 @@
-"""Random captures of both formats, sound ones and damaged ones, and the packets of sound ones as a reader made with struct finds them."""
+"""Makes random captures of both formats, sound and damaged, and finds the packets of sound ones as a reader made with struct does."""
 import collections
 import glob
 import os
@@ -9,11 +9,11 @@ MICROSECONDS, NANOSECONDS = 0xA1B2C3D4, 0xA1B23C4D
 MAGICS = {struct.pack(order + "I", magic): (order, magic) for order in "<>" for magic in (MICROSECONDS, NANOSECONDS)}
 ORDERS = {b"\x4d\x3c\x2b\x1a": "<", b"\x1a\x2b\x3c\x4d": ">"}
 LONGEST = 262144
-# Numbers at which the formats or their readers turn.
+# Numbers at which the formats or their readers change their behaviour.
 EDGES = [0, 1, 3, 4, 7, 8, 11, 12, 16, 20, 28, 32, 255, 256, 65535, 65536, 999_999, 1_000_000, 4_294_967, 4_294_968, LONGEST - 1, LONGEST,
          LONGEST + 1, 524_320, 524_324, 16_777_216, 16_777_217, 999_999_999, 1_000_000_000, 2**31 - 1, 2**31, 2**32 - 4, 2**32 - 1]
 TEXTS = [b"", b"hello", "f\u00fcr \u202e\u2028\ufeff".encode(), b"\x1b[31m", b"\xff\xfe", b"\x9b31m", b'"q\\"\n\r\t', b"\xed\xa0\x80", b"x" * 300]
-# What packets have: nanoseconds since 1970, the length on the wire, the bytes that are stored, and the link type.
+# The time of a packet in nanoseconds since 1970, its length on the wire, its stored bytes, and its link type.
 Packet = collections.namedtuple("Packet", "time wire data link")
 
 
@@ -28,7 +28,7 @@ def option(order, code, value):
 
 
 def classic(order, magic, link, packets):
-    """A classic capture of packets whose times its unit of time can tell."""
+    """Returns a classic capture of packets whose times its unit of time can express."""
     unit = 1 if magic == NANOSECONDS else 1000
     capture = struct.pack(order + "IHHiIII", magic, 2, 4, 0, 0, LONGEST, link)
     for packet in packets:
@@ -38,7 +38,7 @@ def classic(order, magic, link, packets):
 
 
 def blocks(order, resolution, packets):
-    """A PcapNg capture of one section, with an interface for each link type of the packets, or one where there are none."""
+    """Returns a PcapNg capture of one section, with an interface for each link type of the packets, or one interface if there are no packets."""
     links = sorted({packet.link for packet in packets}) or [1]
     capture = block(order, SECTION, struct.pack(order + "IHHq", 0x1A2B3C4D, 1, 0, -1))
     for link in links:
@@ -51,7 +51,7 @@ def blocks(order, resolution, packets):
 
 
 def packets(random, unit, links):
-    """Packets of times that are whole multiples of `unit` nanoseconds, in the order of time or in none."""
+    """Returns packets with times that are whole multiples of `unit` nanoseconds, in the order of time or in none."""
     count, time, found = random.choice([0, 1, 2, 5, 20, 80]), 1_700_000_000 * 10**9, []
     is_ordered = random.random() < 0.7
     for _ in range(count):
@@ -62,7 +62,7 @@ def packets(random, unit, links):
 
 
 def sound(random):
-    """A sound capture, and its packets. A classic one has one link type."""
+    """Returns a sound capture, and its packets. A classic one has one link type."""
     order = random.choice("<>")
     if random.random() < 0.5:
         magic, link = random.choice([MICROSECONDS, NANOSECONDS]), random.choice([1, 101, 113])
@@ -74,7 +74,7 @@ def sound(random):
 
 
 def odd_block(random, order):
-    """A block of any kind, with options that may be odd."""
+    """Returns a block of any kind, with options that may be odd."""
     options = b"".join(option(order, random.choice([1, 2, 3, 4, 5, 9, 14, 2988, 2989, 0x7777]), random.choice(TEXTS + [bytes([9]), bytes(8)]))
                        for _ in range(random.choice([0, 0, 1, 3]))) + option(order, 0, b"") * random.randrange(2)
     units, length = random.choice([0, 2**64 - 1, 1_700_000_000 * 10**6]), random.choice([0, 1, 5, 60])
@@ -96,7 +96,7 @@ def odd_block(random, order):
 
 
 def odd(random):
-    """A capture of blocks of any kind, in several sections."""
+    """Returns a capture of blocks of any kind, in several sections."""
     capture = b""
     for _ in range(random.choice([1, 1, 2, 3])):
         order = random.choice("<>")
@@ -106,7 +106,7 @@ def odd(random):
 
 
 def items(capture):
-    """(offset, order, offsets of its lengths) of each packet or block that is framed, up to the first that is not."""
+    """Yields (offset, order, offsets of its lengths) of each packet or block with a sound frame, up to the first that has none."""
     if capture[:4] in MAGICS:
         order, at = MAGICS[capture[:4]][0], 24
         while at + 16 <= len(capture):
@@ -125,7 +125,7 @@ def items(capture):
 
 
 def damaged(random, capture, others):
-    """The capture with one thing wrong."""
+    """Returns the capture with one thing wrong."""
     if not capture:
         return random.randbytes(random.randrange(40))
     at, known = random.randrange(len(capture)), list(items(capture))
@@ -156,7 +156,7 @@ def damaged(random, capture, others):
 
 
 def any_capture(random, stored):
-    """A capture that may have anything wrong."""
+    """Returns a capture that may have anything wrong."""
     capture = random.choice([lambda: sound(random)[0], lambda: odd(random), lambda: random.choice(stored)])()
     for _ in range(random.choice([0, 1, 1, 2, 3, 6])):
         capture = damaged(random, capture, stored)
@@ -164,7 +164,7 @@ def any_capture(random, stored):
 
 
 def stored(folders):
-    """The captures of these folders that are small enough to be tried often."""
+    """Returns the captures of these folders that are small enough to be tried often."""
     paths = sorted(path for folder in folders for path in glob.glob(f"{folder}/**/*", recursive=True))
     small = [path for path in paths if os.path.isfile(path) and os.path.getsize(path) < 20_000]
     return [open(path, "rb").read() for path in small if not path.endswith((".json", ".py", ".txt"))]

@@ -1,7 +1,7 @@
-"""threads.py SEED SECONDS: the Python package over random captures: each way of reading gives the same packets, and threads that share a
-capture, or close it, get each packet once or an error that docs/PYTHON.md names.
+"""threads.py SEED SECONDS: checks the Python package over random captures. Each way of reading must give the same packets. Threads that
+share a capture, or close it, must get each packet once or an error that docs/PYTHON.md names.
 
-It is run in a process of its own, since a fault of the library would end it.
+The test runs in a process of its own, since a fault of the library would end it.
 """
 import io
 import os
@@ -16,7 +16,7 @@ import pcapfile
 
 HERE = os.path.dirname(os.path.abspath(__file__))
 STORED = [os.path.join(HERE, "..", "files", "stored"), os.path.join(HERE, "..", "..", "crates", "pcapfile", "data")]
-# What sharing a capture, or closing it while it is read, may answer.
+# The errors that a thread may get if it shares a capture, or if another one closes it during the reading.
 REFUSALS = (ValueError, RuntimeError)
 
 
@@ -35,7 +35,7 @@ class Trickle(io.RawIOBase):
 
 
 def told(capture):
-    """The packets of a capture, and the name of what ended them."""
+    """Returns the packets of a capture, and the name and offset of the error that ended them."""
     rows = []
     try:
         for packet in capture:
@@ -46,7 +46,7 @@ def told(capture):
 
 
 def opened(make):
-    """What is read of the capture that `make` opens, or what it says of its beginning."""
+    """Returns what the package reads from the capture that `make` opens, or the error at its beginning."""
     try:
         with make() as capture:
             return told(capture)
@@ -55,14 +55,14 @@ def opened(make):
 
 
 def ways_agree(source, path, data):
-    """A file, bytes in memory and a stream in pieces give the same packets."""
+    """Checks that a file, bytes in memory and a stream in pieces give the same packets."""
     most = source.choice([1, 7, 100, 65536])
     found = [opened(lambda: pcapfile.open(path)), opened(lambda: pcapfile.parse(data)), opened(lambda: pcapfile.open(Trickle(data, most)))]
     assert found[0] == found[1] == found[2], f"{[(len(it[0]), it[1], it[2]) for it in found]} in pieces of {most}"
 
 
 def shared(source, path, data):
-    """Threads that iterate one stream get each packet once, or a refusal."""
+    """Checks that threads that iterate one stream get each packet once, or a refusal."""
     wanted = opened(lambda: pcapfile.parse(data))[0]
     found, faults = [], []
 
@@ -72,7 +72,7 @@ def shared(source, path, data):
                 found.append((packet.time, bytes(packet.data), packet.original_length))
         except (*REFUSALS, pcapfile.CaptureError):
             pass
-        except BaseException as fault:  # anything else is a fault of the package
+        except BaseException as fault:  # any other error is a fault of the package
             faults.append(fault)
 
     try:
@@ -93,7 +93,7 @@ def shared(source, path, data):
 
 
 def closed(source, path, data):
-    """A capture that is closed while another thread reads it ends that walk by a refusal, or not at all."""
+    """Checks that if a thread closes a capture during another thread's reading, the reading ends with a refusal, or goes on."""
     faults = []
 
     def walk(capture):
@@ -102,7 +102,7 @@ def closed(source, path, data):
                 bytes(packet.data)
         except (*REFUSALS, pcapfile.CaptureError):
             pass
-        except BaseException as fault:  # anything else is a fault of the package
+        except BaseException as fault:  # any other error is a fault of the package
             faults.append(fault)
 
     try:

@@ -1,5 +1,5 @@
-"""Properties of the words of pcapfile, each of which holds of every capture. A property is a function that runs words in a folder of its own
-and fails by an assertion. tests/model is the independent reading of the strict grammar."""
+"""Properties of the words of pcapfile that hold for every capture. A property is a function that runs words in a folder of its own and
+fails by an assertion. tests/model is the independent reading of the strict grammar."""
 import csv
 import io
 import json
@@ -17,8 +17,8 @@ import runs  # noqa: E402
 
 SECONDS = 20
 DONE, AT_FAULT, USAGE, FAILED, NO_MEMORY = range(5)
-# Bytes that nothing that a capture holds may bring to a terminal: of ASCII all controls but tab and newline, DEL, and as UTF-8 the controls of
-# Latin-1, the marks of direction and the separators of lines.
+# Bytes that no content of a capture may bring to a terminal: all controls of ASCII except tab and newline, DEL, and as UTF-8 the controls
+# of Latin-1, the marks of direction and the separators of lines.
 CONTROLS = [bytes([it]) for it in [*range(9), 11, 12, *range(14, 32), 127]]
 CONTROLS += [chr(it).encode() for it in [*range(0x80, 0xA0), 0x061C, 0x200E, 0x200F, *range(0x2028, 0x202F), *range(0x2066, 0x206A)]]
 
@@ -38,7 +38,7 @@ class Folder:
             return it.read()
 
     def run(self, *words, statuses=(DONE, AT_FAULT)):
-        """What the word writes, where it ends with one of these statuses and puts no control character out."""
+        """Returns the word's run. Checks that it ends with one of these statuses and prints no control character."""
         ran = subprocess.run([self.program, *words], cwd=self.room, capture_output=True, timeout=SECONDS, check=False)
         assert ran.returncode in statuses, f"{words}: status {ran.returncode}: {ran.stderr[-300:]}"
         for output in (ran.stdout, ran.stderr) if "-" not in words else (ran.stderr,):
@@ -48,12 +48,12 @@ class Folder:
 
 
 def is_stored(capture):
-    """The form that tests/model reads the capture by."""
+    """Returns the format in which tests/model reads the capture."""
     return runs.Packets() if capture[:4] in MAGICS else runs.Blocks()
 
 
 def modelled(capture):
-    """The run of the model over the capture, or None where its beginning is refused or missing."""
+    """Returns the run of the model over the capture, or None if its beginning is refused or missing."""
     try:
         return runs.Run(is_stored(capture), capture)
     except (refusals.Lacks, refusals.Refused):
@@ -61,13 +61,13 @@ def modelled(capture):
 
 
 def packets_of(folder, name, *options, statuses=(DONE, AT_FAULT)):
-    """The rows of `list --csv`."""
+    """Returns the rows of `list --csv`."""
     ran = folder.run("list", "--csv", *options, name, statuses=statuses)
     return list(csv.DictReader(io.StringIO(ran.stdout.decode())))
 
 
 def check_is_the_model(folder, random, capture):
-    """`check` counts the items that the model finds, and ends with status 0 just where nothing is left."""
+    """Checks that `check` counts the items that the model finds, and ends with status 0 exactly if nothing is left."""
     folder.write("in", capture)
     model, ran = modelled(capture), folder.run("check", "in", statuses=(DONE, AT_FAULT, FAILED))
     if model is None:
@@ -80,7 +80,7 @@ def check_is_the_model(folder, random, capture):
 
 
 def words_agree(folder, random, capture):
-    """`check`, `info` and `list` agree about what a capture holds and how it ends, and their forms can be parsed."""
+    """Checks that `check`, `info` and `list` agree about what a capture has and how it ends, and that their forms can be parsed."""
     folder.write("in", capture)
     listed = packets_of(folder, "in", statuses=(DONE, AT_FAULT, FAILED))
     lines = folder.run("list", "in", statuses=(DONE, AT_FAULT, FAILED)).stdout.splitlines()
@@ -93,7 +93,7 @@ def words_agree(folder, random, capture):
 
 
 def lenient_is_strict_on_sound(folder, random, capture):
-    """Of a sound capture lenient reading gives what strict reading gives."""
+    """Checks that for a sound capture lenient reading gives what strict reading gives."""
     capture, found = sound(random)
     folder.write("in", capture)
     for word in ("check", "list"):
@@ -105,7 +105,7 @@ def lenient_is_strict_on_sound(folder, random, capture):
 
 
 def repair_is_stable(folder, random, capture):
-    """What is repaired is sound, and a second repair changes nothing."""
+    """Checks that a repaired capture is sound, and that a second repair changes nothing."""
     folder.write("in", capture)
     if folder.run("repair", "in", "-o", "out", statuses=(DONE, AT_FAULT, FAILED)).returncode != DONE:
         assert not os.path.exists(f"{folder.room}/out")
@@ -116,7 +116,7 @@ def repair_is_stable(folder, random, capture):
 
 
 def parts_join(folder, random, capture):
-    """The parts of a sound capture join to its bytes."""
+    """Checks that the parts of a sound capture join to its bytes."""
     capture, found = sound(random)
     folder.write("in", capture)
     way = random.choice([["--every", str(random.randrange(1, 30))], ["--bytes", str(random.randrange(1, 3000))], ["--parts", str(random.randrange(1, 9))]])
@@ -134,7 +134,7 @@ def seconds_of(row):
 
 
 def conversion_goes_round(folder, random, capture):
-    """A sound classic capture becomes blocks and packets again with the same times, lengths and bytes."""
+    """Checks that a sound classic capture becomes blocks and packets again with the same times, lengths and bytes."""
     capture, found = sound(random)
     while capture[:4] not in MAGICS:
         capture, found = sound(random)
@@ -152,7 +152,7 @@ def conversion_goes_round(folder, random, capture):
 
 
 def merge_is_the_sorted_union(folder, random, capture):
-    """The packets of captures that are each in order are merged by time, and none is lost."""
+    """Checks that the packets of captures that are each in order are merged by time, and that none is lost."""
     every = []
     for number in range(random.choice([1, 2, 3])):
         capture, found = sound(random)
@@ -169,7 +169,7 @@ def merge_is_the_sorted_union(folder, random, capture):
 
 
 def lenient_words_end(folder, random, capture):
-    """Words that read leniently end with a documented status, and what they write is sound."""
+    """Checks that words that read leniently end with a documented status, and that what they write is sound."""
     folder.write("in", capture)
     folder.run("check", "--as-is", "in", statuses=(DONE, AT_FAULT, FAILED))
     folder.run("list", "--as-is", "in", statuses=(DONE, AT_FAULT, FAILED))
@@ -184,7 +184,7 @@ PROPERTIES = [check_is_the_model, words_agree, lenient_is_strict_on_sound, repai
 
 
 def tried(program, random, capture, of):
-    """What a property says of the capture, or None where it holds."""
+    """Returns the message of a property that the capture breaks, or None."""
     with tempfile.TemporaryDirectory(prefix="fuzz-") as room:
         try:
             of(Folder(program, room), random, capture)

@@ -1,12 +1,12 @@
-// Loaded into a program by LD_PRELOAD: makes allocations, reads and writes fail, or moves few bytes at once.
+// LD_PRELOAD loads this shim into a program. It makes allocations, reads and writes fail, or moves few bytes at once.
 //   HOSTILE_CALL=memory|read|write  HOSTILE_AT=n  the nth such call fails
-//   HOSTILE_ON=1                    and so does each later one
-//   HOSTILE_FOR=n                   or so many of them in a row do
-//   HOSTILE_ERROR=n                 the number of the error, in place of ENOMEM or EIO
-//   HOSTILE_CUT=n                   each read of standard input and write to standard output moves n bytes at most
-//   HOSTILE_MARK=file               is made once a call was refused, and says how many bytes the reads before it gave
-//   HOSTILE_FILES=1               and files count as the standard streams do
-// Reads are those of standard input, writes those to standard output.
+//   HOSTILE_ON=1                    and each later one
+//   HOSTILE_FOR=n                   or n of them in a row
+//   HOSTILE_ERROR=n                 the number of the error, instead of ENOMEM or EIO
+//   HOSTILE_CUT=n                   each read of standard input and write to standard output moves at most n bytes
+//   HOSTILE_MARK=file               the shim makes this file when it refuses a call; it has how many bytes the reads before gave
+//   HOSTILE_FILES=1                 files count as the standard streams do
+// Reads are those of standard input, and writes those to standard output.
 #include <errno.h>
 #include <fcntl.h>
 #include <stdlib.h>

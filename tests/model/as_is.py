@@ -1,11 +1,11 @@
-"""Classic captures as they stand: what is wrong with each packet, and where packets stand again."""
+"""Reads classic captures leniently: the flaw of each packet, and where packets follow after corrupt bytes."""
 from captures import LONGEST_PACKET, MAGICS, capture_header, packet
 from left import Left
 from refusals import Lacks, Refused
 
 
 def first_flaw(resolution, fraction, included, original):
-    """The message of the first rule that these numbers break, if they break one."""
+    """Returns the message of the first rule that these numbers break, or that there is no flaw."""
     nanoseconds = fraction * 1000 if resolution == "micro" else fraction
     broken = {
         "PacketHeader ts_usec * 1000 > 0xFFFFFFFF": nanoseconds.bit_length() > 32,
@@ -17,7 +17,7 @@ def first_flaw(resolution, fraction, included, original):
 
 
 def stands(bytes_, order, resolution, count):
-    """Whether so many packets with data and without a flaw are in front of these bytes, or fewer, at least one, to their end."""
+    """Returns whether this many packets with data and without a flaw are in front of these bytes, or fewer, at least one, up to their end."""
     left = Left(bytes_, order)
     for _ in range(count):
         try:
@@ -31,12 +31,12 @@ def stands(bytes_, order, resolution, count):
 
 
 def passed_over(bytes_, order, resolution, count):
-    """How many bytes lie before such packets: all of them where there are none."""
+    """Returns how many bytes come before such packets: all of them if there are none."""
     return next((at for at in range(len(bytes_)) if stands(bytes_[at:], order, resolution, count)), len(bytes_))
 
 
 def line(left, resolution):
-    """The packet in front of the bytes that are left, which it takes, or why there is none."""
+    """Returns the line of the packet in front of the bytes that are left, and takes it. Raises the reason if there is none."""
     if len(left) < 16:
         raise Lacks(16 - len(left))
     seconds, fraction, included, original = (left.number(4) for _ in range(4))
@@ -51,7 +51,7 @@ def line(left, resolution):
 
 
 def answers(bytes_):
-    """What calling_as_is prints for a capture."""
+    """Returns what calling_as_is prints for a capture."""
     left = Left(bytes_, "big")
     capture_header(left)
     _, resolution = MAGICS[bytes_[:4]]

@@ -1,4 +1,4 @@
-"""PcapNg captures as they stand: what is wrong with each section, interface and packet, and the times of these."""
+"""Reads PcapNg captures leniently: the flaws of each section, interface and packet, and the times of packets."""
 import os
 import re
 
@@ -15,7 +15,7 @@ SECTION, INTERFACE, ENHANCED = 0x0A0D0D0A, 1, 6
 
 
 def rule_names():
-    """The name of each rule, by its message, from the page that has them."""
+    """Returns the name of each rule, by its message, from docs/REFUSALS.md."""
     with open(f"{TOP}/docs/REFUSALS.md", encoding="utf-8") as page:
         rows = re.findall(r"^\| V[0-9.]+ \| \d+ \| `(\w+)` \|.*\| ([^|]+) \|$", page.read(), re.M)
     return {message: name for name, message in rows}
@@ -26,14 +26,14 @@ NOT_RULES = {"io": Value("TooShort"), "utf8": Value("NotUtf8")}
 
 
 def flaw(why, code=None):
-    """What is wrong with the value of an option of this code, or with a whole body."""
+    """Returns the flaw of the value of an option of this code, or of a whole body."""
     text = str(why)
     broken = NOT_RULES[text] if text in NOT_RULES else Value("Rule", Value(NAMES[text.removeprefix("invalid ")]))
     return Value("Flaw", code=Value("None") if code is None else Value("Some", code), broken=broken)
 
 
 def options_as_is(kind, left):
-    """The options whose values break no rule, and what is wrong: with each other one, and with the list's end."""
+    """Returns the options whose values break no rule, and the flaws: those of the other options, and that of the list's end."""
     found, flaws = [], []
     while left:
         if len(left) < 4:
@@ -53,14 +53,14 @@ def options_as_is(kind, left):
 
 
 def section(left):
-    """What is wrong with a section. One that gives no order is refused."""
+    """Returns the flaws of a section. A section that gives no order is refused."""
     at_least(left, 16, "SectionHeaderBlock: block length < 16")
     left.take(16)
     return options_as_is("SectionHeaderOption", left)[1]
 
 
 def interface(left):
-    """An interface, or none where it has no room for its head, and what is wrong with it."""
+    """Returns an interface, or None if the body has no room for its head, and its flaws."""
     if len(left) < 8:
         return None, [flaw(rule("InterfaceDescriptionBlock: block length < 8"))]
     left.take(8)
@@ -69,7 +69,7 @@ def interface(left):
 
 
 def enhanced(left, interfaces):
-    """What is wrong with a packet, and its time by its interface's clock, where it has one."""
+    """Returns the flaws of a packet, and its time by its interface's clock, if it has one."""
     if len(left) < 20:
         return [flaw(rule("EnhancedPacketBlock: block length length < 20"))], None
     number, units, stored, _ = left.number(4), left.time(), left.number(4), left.number(4)
@@ -88,13 +88,13 @@ def shown_time(time):
 
 
 class Reading:
-    """What was read of a capture so far: the order of its section, and the interfaces of this."""
+    """Keeps what was read of a capture so far: the order of its section, and the section's interfaces."""
 
     def __init__(self):
         self.order, self.interfaces = None, []
 
     def flaws_of(self, block):
-        """What is wrong with the body of a section or an interface, which is in force from then on."""
+        """Returns the flaws of the body of a section or an interface, which applies from then on."""
         body = Left(block.body, block.order)
         if block.number == SECTION:
             flaws = section(body)
@@ -109,7 +109,7 @@ class Reading:
         return flaws
 
     def told(self, block):
-        """What a block is: its type, what is wrong with it, and of a packet its time."""
+        """Describes a block: its type, its flaws, and for a packet its time."""
         text = f"{block_type(block.number)} {shown(self.flaws_of(block))}"
         if block.number == ENHANCED:
             wrong, time = enhanced(Left(block.body, block.order), self.interfaces)
@@ -122,7 +122,7 @@ def block_type(number):
 
 
 def told(bytes_):
-    """What is told of a capture: each block, and why no other follows, where bytes are left."""
+    """Describes a capture: each block, and why no other follows if bytes are left."""
     left, reading, words = Left(bytes_, "big"), Reading(), []
     while left or not words:
         try:
@@ -135,8 +135,8 @@ def told(bytes_):
 
 
 def run_told(bytes_):
-    """What is told of a run over a capture: how many blocks there are and how many of them have flaws, the first of these with its
-    place, how many bytes all take, and what follows."""
+    """Describes a run over a capture: how many blocks there are, how many of them have flaws, the first of these with its place, how
+    many bytes all take, and what follows."""
     left, reading, flaws, ends = Left(bytes_, "big"), Reading(), [], [0]
     end = "clean"
     while left or not flaws:
@@ -155,8 +155,8 @@ def run_told(bytes_):
 
 
 def row(bytes_, order, count):
-    """Whether so many blocks stand in a row in front of these bytes, each in the order of the one before it, or fewer, at least one,
-    to their end. A section header that gives no order is none."""
+    """Returns whether this many blocks in a row are in front of these bytes, each in the order of the one before it, or fewer, at least
+    one, up to their end. A section header that gives no order does not count."""
     if count == 0:
         return True
     left = Left(bytes_, order)
@@ -170,12 +170,13 @@ def row(bytes_, order, count):
 
 
 def header(bytes_):
-    """Whether a section header stands in front of these bytes."""
+    """Returns whether a section header is in front of these bytes."""
     return bytes_.startswith(SECTION.to_bytes(4, "big")) and row(bytes_, "big", 1)
 
 
 def again_told(bytes_):
-    """Where blocks stand again behind the first one, by rows of one, of two and of three, or a section header; and where one does."""
+    """Returns the places after the first block at which blocks follow, by rows of one, of two and of three, or a section header. The
+    last place is that of a section header."""
     left = Left(bytes_, "big")
     order, behind = frame(left).order, left.bytes
     places = range(len(behind))

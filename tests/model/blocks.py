@@ -1,4 +1,4 @@
-"""Bodies of blocks, and their records of names."""
+"""Reads the bodies of blocks, and their records of names."""
 from left import Left, padding
 from links import link_type
 from options import options, string
@@ -41,7 +41,7 @@ def interface(left):
 
 
 def stored_packet(name, left, head):
-    """What both kinds of packet share: a head, a time, two lengths, data with padding, options."""
+    """Reads what both kinds of packet share: a head, a time, two lengths, data with padding, options."""
     at_least(left, 20, "EnhancedPacketBlock: block length length < 20")
     fields = {name: left.number(width) for name, width in head}
     fields |= {"timestamp": left.time(), "captured_len": left.number(4), "original_len": left.number(4)}
@@ -80,7 +80,7 @@ def journal_entry(left):
 
 
 def name(left):
-    """The bytes before the first zero byte, as a string."""
+    """Returns the bytes before the first zero byte, as a string."""
     text, end, rest = left.bytes.partition(b"\0")
     if not end:
         raise rule("Non null terminated string")
@@ -89,7 +89,7 @@ def name(left):
 
 
 def named_address(kind, length, value):
-    """An address and the names for it."""
+    """Returns an address and the names for it."""
     at_least(value, length + 2, f"NameResolutionBlock: {kind} len < {length + 2}")
     address, names = Lent(value.take(length)), []
     while value:
@@ -147,7 +147,7 @@ TYPES = {
 
 
 def parsed(number, left):
-    """The body of a block of this type. Of an unknown type all bytes are the value, and are left as well."""
+    """Reads the body of a block of this type. For an unknown type all bytes are the value, and are left as well."""
     if number in TYPES:
         variant, _, read = TYPES[number]
         return Value(variant, read(left))

@@ -1,4 +1,4 @@
-"""Calls on slices: what each gives, as test_replay prints it."""
+"""Answers calls on slices as test_replay prints them."""
 from blocks import TYPES, ipv4_record, ipv6_record, name, parsed, record
 from captures import capture_header, packet, packet_header
 from left import Left
@@ -26,7 +26,7 @@ CALLS = {
 
 
 def answer(line):
-    """What the call of this line gives: CALL|order|resolution|code|slice in hexadecimal digits."""
+    """Returns what the call of this line gives: CALL|order|resolution|code|slice in hexadecimal digits."""
     call, order, resolution, code, digits = line.split("|")
     left = Left(bytes.fromhex(digits), order)
     try:

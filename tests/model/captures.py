@@ -1,4 +1,4 @@
-"""Classic captures: their header and packets."""
+"""Reads classic captures: their header and packets."""
 from left import Left
 from links import link_type
 from refusals import Lacks, rule
@@ -14,7 +14,7 @@ LONGEST_PACKET = 262144
 
 
 def capture_header(left):
-    """The header, from which on numbers have its order."""
+    """Reads the header. From then on numbers have its order."""
     if len(left) < 24:
         raise Lacks(24 - len(left))
     magic = left.take(4)

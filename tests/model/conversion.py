@@ -1,4 +1,4 @@
-"""Captures that are converted to the other format: what goes out, and how it ends."""
+"""Converts captures to the other format: the bytes that it writes, and how it ends."""
 from captures import LONGEST_PACKET, MAGICS, capture_header, packet
 from frames import first_state, frame
 from left import Left
@@ -21,17 +21,17 @@ class Run:
         self.data, self.left, self.out, self.packets, self.fault = data, Left(data, "big"), b"", 0, "none"
 
     def take(self, count):
-        """The next bytes, so many or all that are left."""
+        """Takes the next bytes: this many, or all that are left."""
         return Left(self.left.take(min(count, len(self.left))), "big")
 
     def told(self):
-        """How many packets went out, how many bytes were taken, and why it ended."""
+        """Returns how many packets were written, how many bytes were taken, and why the conversion ended."""
         taken = len(self.data) if self.fault == EARLY else len(self.data) - len(self.left)
         return f"{self.packets} {taken} {self.fault}"
 
 
 def to_pcapng(data, most):
-    """A classic capture as blocks: a section, an interface, and an enhanced packet for each packet."""
+    """Converts a classic capture to blocks: a section, an interface, and an enhanced packet for each packet."""
     run = Run(data)
     try:
         front = run.take(HEADER)
@@ -50,7 +50,7 @@ def to_pcapng(data, most):
 
 
 def opening(header):
-    """The section and the interface of a capture with this header."""
+    """Returns the section and the interface of a capture with this header."""
     link = header.fields["datalink"]
     if link.name == "Unknown" and link.parts[0] >= 1 << 16:
         raise Refused("invalid InterfaceDescriptionBlock: linktype > 65535")
@@ -62,7 +62,7 @@ def opening(header):
 
 
 def enhanced(packet):
-    """The block of a packet, whose time is in nanoseconds."""
+    """Returns the block of a packet, whose time is in nanoseconds."""
     header, data = packet.fields["header"].fields, packet.fields["data_"]
     block = Value(
         "EnhancedPacketBlock",
@@ -81,7 +81,7 @@ class Unplaced(Refused):
 
 
 def to_pcap(data, header, leaves_out, most):
-    """The blocks of a capture as packets behind this header of a classic one, which has gone out."""
+    """Converts the blocks of a capture to packets. This header of the classic one was written before."""
     front = Left(header, "big")
     link = capture_header(front).fields["datalink"]
     writer = Packets(front.order, MAGICS[header[:4]][1], link)
@@ -120,18 +120,18 @@ class BlockRun(Run):
             self.left_out += 1
 
     def told(self):
-        """How many blocks, packets and packets that were left out there are, and why it ended."""
+        """Returns the numbers of blocks, of packets and of packets that were left out, and why the conversion ended."""
         return f"{self.blocks} {self.packets} {self.left_out} {self.fault}"
 
 
 class Packets:
-    """What makes packets of a classic capture, in one order, resolution and link type."""
+    """Makes packets of a classic capture, in one order, resolution and link type."""
 
     def __init__(self, order, resolution, link):
         self.order, self.resolution, self.link = order, resolution, shown(link)
 
     def record(self, body, interfaces):
-        """The bytes of the packet of a body."""
+        """Returns the bytes of the packet of a body."""
         if body.name == "SimplePacket":
             raise Unplaced("SimplePacketBlock: no time")
         fields = body.parts[0].fields
@@ -153,7 +153,7 @@ class Packets:
 
 
 def time_of(interface, units):
-    """The seconds and nanoseconds of so many units of an interface's clock."""
+    """Returns the seconds and nanoseconds of this many units of an interface's clock."""
     unit, offset = first(interface, "IfTsResol", 6), first(interface, "IfTsOffset", 0)
     in_second = 10**unit if unit < 128 else 2 ** (unit - 128)
     seconds, nanoseconds = divmod(units * 10**9 // in_second, 10**9)
@@ -161,5 +161,5 @@ def time_of(interface, units):
 
 
 def first(interface, name, otherwise):
-    """The number in the first option of this name."""
+    """Returns the number in the first option of this name."""
     return next((it.parts[0] for it in interface["options"] if it.name == name), otherwise)

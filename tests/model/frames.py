@@ -1,4 +1,4 @@
-"""Blocks of PcapNg captures: their frames, and what a parser knows after each."""
+"""Reads the frames of blocks of PcapNg captures, and keeps what a parser knows after each."""
 from blocks import SECTION_ORDERS, TYPES, parsed
 from left import Left
 from refusals import Lacks, rule
@@ -13,7 +13,7 @@ class Block:
         self.number, self.length, self.order, self.body = number, length, order, body
 
     def value(self):
-        """The body's value. It raises what refuses the body."""
+        """Returns the body's value. Raises the reason if the body is refused."""
         return parsed(self.number, Left(self.body, self.order))
 
     def kind(self):
@@ -21,7 +21,7 @@ class Block:
 
 
 def frame(left):
-    """The next block. A section has the order of its own magic number."""
+    """Takes the next block. A section has the order of its own magic number."""
     if len(left) < 12:
         raise Lacks(12 - len(left))
     order = left.order
@@ -51,7 +51,7 @@ class State:
         self.order, self.section, self.interfaces = order, section, interfaces
 
     def after(self, block):
-        """The state that a block leads to. A refused section or interface refuses the block."""
+        """Returns the state after a block. If its section or interface is refused, the block is refused."""
         if block.number == 0x0A0D0D0A:
             return State(block.order, block.value().parts[0])
         if block.number == 1:
@@ -60,7 +60,7 @@ class State:
 
 
 def first_state(left):
-    """The state after the first block, which is a section header. Its body is parsed whatever its type is."""
+    """Returns the state after the first block, which is a section header. The function parses its body whatever its type is."""
     block = frame(left)
     block.value()
     if block.number != 0x0A0D0D0A:

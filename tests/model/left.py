@@ -1,4 +1,4 @@
-"""Bytes that are taken from the front."""
+"""Takes bytes from the front."""
 
 
 class Left:
@@ -19,7 +19,7 @@ class Left:
         return int.from_bytes(self.take(width), self.order, signed=signed)
 
     def time(self):
-        """A timestamp: its high half, and then its low half."""
+        """Takes a timestamp: its high half, and then its low half."""
         high = self.number(4)
         return high << 32 | self.number(4)
 
@@ -28,5 +28,5 @@ class Left:
 
 
 def padding(length):
-    """How many bytes follow a value of this length, up to the next multiple of 4."""
+    """Returns how many bytes follow a value of this length, up to the next multiple of 4."""
     return -length % 4

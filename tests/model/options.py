@@ -1,4 +1,4 @@
-"""Options of blocks: their lists, and what each code of each kind holds."""
+"""Reads the options of blocks: their lists, and what each code of each kind holds."""
 from left import Left, padding
 from refusals import no_string, rule, too_short
 from shown import Lent, Value
@@ -11,7 +11,7 @@ def string(value):
         raise no_string() from None
 
 
-# What an option's value is, of its bytes, their order, and the names of its kind and variant.
+# Each function below returns an option's value from its bytes, their order, and the names of its kind and variant.
 
 
 def text(value, order, kind, name):
@@ -45,14 +45,14 @@ def number_of(length):
 
 
 def count(value, order, kind, name):
-    """Eight bytes; what follows them is ignored."""
+    """Reads eight bytes, and ignores what follows them."""
     if len(value) < 8:
         raise too_short()
     return Left(value, order).number(8)
 
 
 def moment(value, order, kind, name):
-    """Two halves of a time; what follows them is ignored."""
+    """Reads two halves of a time, and ignores what follows them."""
     if len(value) < 8:
         raise too_short()
     return Left(value, order).time()
@@ -115,7 +115,7 @@ CUSTOM_BYTES = (2989, 19373)
 
 
 def custom(name, code, value, order, read):
-    """An option of an enterprise: its number, and then a text or bytes."""
+    """Reads an option of an enterprise: its number, and then a text or bytes."""
     if len(value) < 4:
         raise too_short()
     left = Left(value, order)
@@ -142,7 +142,7 @@ def option(kind, code, value, order):
 
 
 def options(kind, left):
-    """The options up to the end's mark, or to the end of the bytes."""
+    """Reads the options up to the end's mark, or to the end of the bytes."""
     found = []
     while left:
         if len(left) < 4:

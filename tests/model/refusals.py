@@ -1,4 +1,4 @@
-"""Why bytes are refused, and how many are missing."""
+"""The reasons why bytes are refused, and how many are missing."""
 
 
 class Refused(Exception):
@@ -6,7 +6,7 @@ class Refused(Exception):
 
 
 class Lacks(Exception):
-    """So many bytes are missing."""
+    """This many bytes are missing."""
 
     def __init__(self, count):
         super().__init__(count)

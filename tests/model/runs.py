@@ -1,4 +1,4 @@
-"""Whole runs over a capture: what each call gives, as test_runs prints it."""
+"""Answers whole runs over a capture as test_runs prints them."""
 import zlib
 
 from captures import MAGICS, capture_header, packet
@@ -93,7 +93,7 @@ def parse(form, data, argument):
 
 
 def read(form, data, argument):
-    """A reader that asks for what is missing: where the stream ends first, that is an input error."""
+    """Answers a reader that asks for what is missing. If the stream ends before that, it is an input error."""
     most = int(argument)
     try:
         run = Run(form, data)
@@ -106,7 +106,7 @@ def read(form, data, argument):
 
 
 def pieces(form, data, argument):
-    """After each piece the number of items in the pieces so far."""
+    """Returns the number of items in the pieces so far, after each piece."""
     run, fed, numbers = Run(form, data), 0, []
     for length in argument.split(",") if argument != "-" else ():
         fed += int(length)
@@ -115,7 +115,7 @@ def pieces(form, data, argument):
 
 
 def exact(form, data, argument):
-    """Counts what is asked for: each time just the bytes that are missing, while there are enough."""
+    """Counts the requests: each asks for exactly the missing bytes, while there are enough."""
     run, requests = Run(form, data), 0
     for number, start in enumerate([0, *run.ends]):
         given, is_asking = 0, start < len(data)
@@ -137,7 +137,7 @@ CALLS = {"parse": parse, "read": read, "pieces": pieces, "exact": exact}
 
 
 def answer(line):
-    """What the call of this line gives: CALL|argument|capture in hexadecimal digits."""
+    """Returns what the call of this line gives: CALL|argument|capture in hexadecimal digits."""
     call, argument, digits = line.split("|")
     name, _, form = call.partition("_")
     try:

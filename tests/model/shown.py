@@ -1,4 +1,4 @@
-"""Values, and their texts as `Debug` writes them."""
+"""Makes the texts of values as `Debug` writes them."""
 
 
 class Value:
@@ -9,7 +9,7 @@ class Value:
 
 
 class Lent(bytes):
-    """Bytes of `CowBytes::Borrowed`."""
+    """The bytes of `CowBytes::Borrowed`."""
 
 
 ESCAPES = {"\0": r"\0", "\t": r"\t", "\n": r"\n", "\r": r"\r", '"': r"\"", "\\": r"\\"}
@@ -22,7 +22,7 @@ def character(one):
 
 
 def shown(it):
-    """The text of a number, a string, bytes, a list or a value."""
+    """Returns the text of a number, a string, bytes, a list or a value."""
     if isinstance(it, Lent):
         return f"Borrowed({shown(list(it))})"
     if isinstance(it, bytes):

@@ -1,4 +1,4 @@
-"""Blocks as they are written: their bytes, by their values."""
+"""Writes blocks: their bytes, from their values."""
 from blocks import TYPES
 from left import padding
 from links import NAMES
@@ -8,7 +8,7 @@ NUMBERS = {variant: number for number, (variant, _, _) in TYPES.items()}
 LINKS = {name: int(number) for number, name in NAMES.items()}
 CODES = {(kind, name): code for kind, rows in KINDS.items() for code, (name, _) in rows.items()}
 CUSTOM = ("CustomUtf8", "CustomBinary")
-# How many bytes the number has that is the value of an option of this name; a time has two halves.
+# The number of bytes of the number in an option of this name. A time has two halves.
 WIDTHS = {"IfTsResol": 1, "IfFcsLen": 1, "IfTzone": 4, "Flags": 4}
 COUNTS = ("IfEuIAddr", "IfSpeed", "IfTsOffset", "DropCount", "IsbIfRecv", "IsbIfDrop", "IsbFilterAccept", "IsbOsDrop", "IsbUsrDeliv")
 WIDTHS |= {name: 8 for name in COUNTS}
@@ -16,7 +16,7 @@ TIMES = ("IsbStartTime", "IsbEndTime")
 
 
 class Writer:
-    """What makes bytes of values, in one order."""
+    """Makes bytes of values, in one order."""
 
     def __init__(self, order):
         self.order = order
@@ -25,11 +25,11 @@ class Writer:
         return number.to_bytes(width, self.order, signed=signed)
 
     def time(self, time):
-        """A timestamp: its high half, and then its low half."""
+        """Writes a timestamp: its high half, and then its low half."""
         return self.number(4, time >> 32) + self.number(4, time & 0xFFFFFFFF)
 
     def coded(self, code, value):
-        """A code or a type, the length of a value, the value, and its padding."""
+        """Writes a code or a type, the length of a value, the value, and its padding."""
         return self.number(2, code) + self.number(2, len(value)) + padded(value)
 
     def option(self, kind, option):
@@ -41,13 +41,13 @@ class Writer:
         return self.coded(CODES[kind, option.name], self.held(option.name, held))
 
     def held(self, name, held):
-        """The value of an option of this name."""
+        """Writes the value of an option of this name."""
         if name in TIMES:
             return self.time(held)
         return self.number(WIDTHS[name], held) if name in WIDTHS else plain(held)
 
     def options(self, kind, options):
-        """A list of options, and the mark of its end; nothing where there are none."""
+        """Writes a list of options, and the mark of its end. It writes nothing if there are no options."""
         return b"".join(self.option(kind, it) for it in options) + bytes(4) * bool(options)
 
     def record(self, record):
@@ -93,7 +93,7 @@ class Writer:
         return padded(fields["value"])
 
     def body(self, block):
-        """The body of a block, which ends with its options where its kind has them."""
+        """Writes the body of a block. It ends with the options, if the block's kind has them."""
         (held,) = block.parts
         body = HEADS[block.name](self, held.fields)
         if "options" in held.fields:

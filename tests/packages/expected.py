@@ -1,4 +1,4 @@
-"""expected.py CAPTURE: a line for each packet of a little-endian classic capture in nanoseconds, with nothing of pcap_file."""
+"""expected.py CAPTURE: prints a line for each packet of a little-endian classic capture in nanoseconds, without pcap_file."""
 
 import struct
 import sys

@@ -1,4 +1,4 @@
-// packets CAPTURE: a line for each packet, from C++.
+// packets CAPTURE: prints a line for each packet, from C++.
 #include <pcapfile_open.h>
 
 #include <cstdio>

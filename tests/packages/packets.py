@@ -1,4 +1,4 @@
-"""packets.py CAPTURE: a line for each packet, by the installed package."""
+"""packets.py CAPTURE: prints a line for each packet, by the installed package."""
 
 import sys
 

@@ -1,4 +1,4 @@
-//! packets CAPTURE: a line for each packet.
+//! packets CAPTURE: prints a line for each packet.
 
 use pcapfile::{Blocks, Capture, Error};
 

@@ -1,8 +1,11 @@
-"""differential.py SEED COUNT FOLDER: so many random captures of both formats, whole, broken and cut, and for each a line with a digest
-of all that the package tells of it: in memory, in a file and out of a stream, strictly and as it stands, packet by packet, in pairs,
-in columns, by numbers and in blocks. `run` compares the lines of the package with its extension to those without.
+"""differential.py SEED COUNT FOLDER: prints for COUNT random captures a line each, with a digest of all that the package gives.
 
-With FOLDER/NUMBER in place of a folder it writes that capture there, and prints all that is told of it."""
+The captures have both formats, and are whole, damaged or cut. The package reads each in memory, in a file and as a stream, strictly and
+leniently: packet by packet, in pairs, in columns, by numbers and in blocks. `run` compares the lines of the package with its extension
+to those without.
+
+With FOLDER/NUMBER instead of a folder the script writes that capture there, and prints all that the package gives.
+"""
 
 import hashlib
 import io
@@ -21,7 +24,7 @@ COLUMNS = ("time_ns", "len", "orig_len", "interface", "link", "offset")
 
 
 class Some:
-    """A stream that gives so many bytes at most."""
+    """A stream that gives at most this many bytes."""
 
     def __init__(self, data, most):
         self._data, self._most = io.BytesIO(data), most
@@ -45,7 +48,7 @@ def classic(chosen):
 
 
 def described(chosen):
-    """An interface, of any clock, and perhaps with a name."""
+    """Returns an interface of any clock, perhaps with a name."""
     clock = option(9, bytes([chosen.choice([0, 3, 6, 9, 12, 0x81, 0x8A, 20, 127])]))
     moved = option(14, struct.pack("<q", chosen.randrange(-(2**40), 2**40)))
     parts = [part for part in (option(2, b"eth0"), clock, moved) if chosen.random() < 0.4]
@@ -53,7 +56,7 @@ def described(chosen):
 
 
 def commented(chosen):
-    """An enhanced packet with options, some of which are no text."""
+    """Returns an enhanced packet with options, some of which are no text."""
     data = chosen.randbytes(chosen.randrange(9))
     body = struct.pack("<IIIII", chosen.randrange(3), 5, chosen.randrange(2**32), len(data), 60) + data + bytes(-len(data) % 4)
     options = [option(1, b"seen"), option(1, b"\xff"), option(2, bytes(4)), option(2, b"ab")]
@@ -75,7 +78,7 @@ def blocks(chosen):
 
 
 def damaged(chosen, data):
-    """The same capture, perhaps with a few other bytes, and perhaps cut."""
+    """Returns the same capture, perhaps with a few other bytes, and perhaps cut."""
     data = bytearray(data)
     for _ in range(chosen.randrange(1, 4) if data and chosen.random() < 0.5 else 0):
         data[chosen.randrange(len(data))] = chosen.choice([0, 1, 255, chosen.randrange(256)])
@@ -83,7 +86,7 @@ def damaged(chosen, data):
 
 
 def plain(value):
-    """A value without views, and without the types that the ways have for packets."""
+    """Returns a value without views, and without the types that the ways have for packets."""
     if isinstance(value, memoryview):
         return bytes(value)
     if isinstance(value, (tuple, list)) or hasattr(value, "_fields"):
@@ -111,7 +114,7 @@ def of_numbers(capture):
 
 
 def walked(opened, walk, tell):
-    """All that a walk gives, and the error behind it."""
+    """Returns all that a walk gives, and the error after it."""
     got = []
     try:
         with opened() as capture:
@@ -143,7 +146,7 @@ def told(data, path, most):
 
 
 def joined(batches):
-    """The rows of all batches, whose lengths are no promise."""
+    """Yields the rows of all batches, since their lengths are no promise."""
     for rows in batches:
         yield from zip(*of_rows(rows))
 

@@ -1,5 +1,5 @@
-"""leaks.py [MILLIONS]: walks over so many million packets, two unless told, of both formats in all ways, and fails where the process
-grows, or keeps an object."""
+"""leaks.py [MILLIONS]: walks over this many million packets, by default two, of both formats in all ways. It fails if the process grows,
+or keeps objects."""
 
 import gc
 import os
@@ -23,7 +23,7 @@ def resident():
 
 
 def walk(path, data):
-    """Goes over a capture's packets in each way, and back."""
+    """Walks over a capture's packets in each way, and returns their number."""
     with pcapfile.open(path) as capture:
         count = sum(1 for _ in capture)
         for each in capture:

@@ -1,7 +1,7 @@
-"""The ledger of refused wrong bodies, and which edits a run has to try.
+"""The ledger of refused wrong bodies, and the edits that a run must try.
 
-tests/refusals/kept/CRATE has a line `EDIT SUM` for each edit of a crate that was refused at what it names; the sum is that of all that the
-verdict can depend on (`sums`), so a line never goes stale. A line of another form, as one that a merge left, counts for nothing.
+tests/refusals/kept/CRATE has a line `EDIT SUM` for each edit of a crate that was refused at what it names. The sum covers everything that
+the verdict can depend on (`sums`), so a line never goes stale. A line of another form, for example one that a merge left, does not count.
 """
 import glob
 import os
@@ -17,19 +17,19 @@ from commit import git, seed_of
 FOLDER = "tests/refusals/kept"
 LINE = re.compile(r"(\S+) ([0-9a-f]{32})")
 DRAWN = 40
-# What a change brings is tried for so long, and so many edits at least.
+# A run tries the edits whose lines the change brings for this long, and at least this many of them.
 BROUGHT_SECONDS, BROUGHT_AT_LEAST = 30 * 60, 60
 SECONDS_OF_A_DAY = 24 * 3600
 
 
 def lines_in(text):
-    """The edits and sums of the lines that are whole."""
+    """Returns the edits and sums of the lines that are whole."""
     found = (LINE.fullmatch(line) for line in text.split("\n"))
     return {(it[1], it[2]) for it in found if it}
 
 
 def kept(top=checks.TOP):
-    """The lines of the ledger in this checkout, each with its crate."""
+    """Returns the lines of the ledger in this checkout, each with its crate."""
     found = set()
     for path in glob.glob(f"{top}/{FOLDER}/*"):
         with open(path, encoding="utf-8", errors="replace") as it:
@@ -38,8 +38,9 @@ def kept(top=checks.TOP):
 
 
 def write(crate, refused, failed, sums, top=checks.TOP):
-    """Writes the lines of a crate: those of this run's refusals by name and sum, and of the earlier ones those that are
-    still true of these sums and did not fail in this run. The file is put in place whole, so that nobody reads half of it."""
+    """Writes the lines of a crate: this run's refusals by name and sum, and the earlier lines that are still true. An earlier line is
+    true if it has the edit's present sum, and the edit did not fail in this run. The function replaces the file whole, so nobody reads
+    half of it."""
     earlier = {(edit, it) for owner, edit, it in kept(top) if owner == crate and sums.get(edit) == it and edit not in failed}
     path = f"{top}/{FOLDER}/{crate}"
     os.makedirs(os.path.dirname(path), exist_ok=True)
@@ -50,8 +51,9 @@ def write(crate, refused, failed, sums, top=checks.TOP):
 
 
 def bases(top=checks.TOP):
-    """The commits whose lines are older than the change: where it left the main branch of `origin`, and on the way of first
-    parents the newest commit that is a day older than it, which tells even where main has the change. None where one isn't known."""
+    """Returns the commits whose lines are older than the change, or None if one isn't known. One is where the change left the main
+    branch of `origin`. The other is the newest commit among the first parents that is a day older than the change. It counts even if
+    main has the change."""
     date = git(top, "log", "-1", "--format=%ct", "HEAD")
     if date is None:
         return None
@@ -62,7 +64,7 @@ def bases(top=checks.TOP):
 
 
 def kept_at(commit, top=checks.TOP):
-    """The lines of the ledger as a commit has it."""
+    """Returns the lines of the ledger in a commit."""
     found = set()
     for path in (git(top, "ls-tree", "-r", "--name-only", commit, f"{FOLDER}/") or "").split():
         text = git(top, "show", f"{commit}:{path}") or ""
@@ -71,14 +73,14 @@ def kept_at(commit, top=checks.TOP):
 
 
 def older(top=checks.TOP):
-    """The lines of the ledger that the change does not bring."""
+    """Returns the lines of the ledger that the change does not bring."""
     found, commits = kept(top), bases(top)
     return found.intersection(*(kept_at(it, top) for it in commits)) if commits else set()
 
 
 class Plan:
-    """Of the edits with these sums, by crate and name, those that have to be tried, those that are tried as long as there is
-    time for them, in an order that the seed draws, and those of the rest that it draws."""
+    """Divides the edits with these sums, by crate and name, into three groups. A run must try the first. It tries the second while there
+    is time, in an order that the seed draws. The third is drawn by the seed from the rest."""
 
     def __init__(self, sums, lines, old, seed, drawn=DRAWN):
         known = [key for key in sorted(sums) if (*key, sums[key]) in lines]
@@ -91,13 +93,13 @@ class Plan:
 
 
 def older_than_their_sources(crate, top=checks.TOP):
-    """The libraries below a crate whose sources are newer than what was built of them, so that a verdict over them is not one on these texts."""
+    """Returns the libraries below a crate whose sources are newer than their build. A verdict over such a library isn't one on these sources."""
     known = checks.crates(top)
     return [it for it in sorted(checks.below(known.get(crate, ([], False))[0], known)) if is_older(f"{top}/crates/{it}", it)]
 
 
 def is_older(folder, library):
-    """Whether a file of a crate is newer than the folder of its built library, which is made anew wherever `rt` puts one."""
+    """Returns whether a file of a crate is newer than the folder of its built library. `rt` makes that folder anew each time it puts one there."""
     built = f"{folder}/out/rlib/{library}.rlib"
     sources = [path for part in ("src", "specs", "proofs") for path in glob.glob(f"{folder}/{part}/**", recursive=True) if os.path.isfile(path)]
     return not os.path.isdir(built) or max(map(os.path.getmtime, sources)) > os.path.getmtime(built)

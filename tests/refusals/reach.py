@@ -1,8 +1,8 @@
 """The items of a crate and of the libraries below it that texts reach by name.
 
-Items of sources are functions by their heads and contracts, types, traits and macros whole; items of specs are whole; items of proofs are lemmas
-by their statements. Names are taken as words, so a name that means two things reaches both. Comments, layout, the bodies of functions and
-what is written of their proofs are no part of any item.
+The items of sources are functions with their heads and contracts, and whole types, traits and macros. The items of specs are whole. The
+items of proofs are lemmas with their statements. Names count as words, so a name with two meanings reaches both. Items have no comments, no
+layout, no bodies of functions, and none of the proofs of functions.
 """
 import collections
 import functools
@@ -12,9 +12,9 @@ import re
 Item = collections.namedtuple("Item", "name owners text kind")
 FUNCTION, TYPE, SPEC, LEMMA, MACRO = (1 << at for at in range(5))
 EVERY = FUNCTION | TYPE | SPEC | LEMMA | MACRO
-# What an item of each kind can name: from contracts and specs no lemma is reached.
+# The kinds that an item of each kind can name. Contracts and specs reach no lemma.
 NAMES_OF = {FUNCTION: TYPE | SPEC | MACRO, TYPE: TYPE | SPEC | MACRO, SPEC: TYPE | SPEC, LEMMA: TYPE | SPEC | LEMMA, MACRO: EVERY}
-# The item of this name is reached by every text.
+# Every text reaches the item of this name.
 ALWAYS = "*"
 # Methods that code calls without naming them.
 UNNAMED = (
@@ -42,19 +42,19 @@ PART_OF_DATA = re.compile(r"^\s+(?:pub )?([^\s:(){},]+)\s*:", re.M)
 
 
 def lines_of(text):
-    """The text without empty lines and ends of lines that show nothing."""
+    """Returns the text without empty lines and without line ends that mean nothing."""
     return "\n".join(line.rstrip() for line in text.split("\n") if line.strip())
 
 
 @functools.lru_cache(maxsize=None)
 def code(text):
-    """A source without comments."""
+    """Returns a source without its comments."""
     return lines_of(TOKEN_OR_COMMENT.sub(lambda it: "" if it[0].startswith("//") else it[0], text))
 
 
 @functools.lru_cache(maxsize=None)
 def proof(text):
-    """Specs or proofs without comments."""
+    """Returns specs or proofs without their comments."""
     return lines_of(COMMENT_OF_PROOF.sub("", text))
 
 
@@ -64,7 +64,7 @@ def words(text):
 
 
 def head_of(lines, at, indent):
-    """Of a function whose head begins at this line: the line at which its body opens, or None, and the last line of its head."""
+    """Returns two lines of a function whose head begins at this line: where its body opens, or None, and the last line of its head."""
     for line in range(at, len(lines)):
         text = lines[line]
         is_outer = len(text) - len(text.lstrip()) == len(indent)
@@ -76,7 +76,7 @@ def head_of(lines, at, indent):
 
 
 def without_bodies(text):
-    """A source whose functions have no bodies."""
+    """Returns a source without the bodies of its functions."""
     lines, out, at = text.split("\n"), [], 0
     while at < len(lines):
         head = HEAD.match(lines[at])
@@ -90,7 +90,7 @@ def without_bodies(text):
 
 
 def end_of_item(lines, at):
-    """The last line of the item that begins at this line of a source without bodies."""
+    """Returns the last line of the item that begins at this line of a source without bodies."""
     for line in range(at, len(lines)):
         if not lines[line].startswith((" ", "#")) and lines[line].endswith((";", "}")):
             return line
@@ -98,7 +98,7 @@ def end_of_item(lines, at):
 
 
 def chunks_of_code(text):
-    """The items of a source, each as its lines with the attributes above it; functions without their bodies."""
+    """Yields the items of a source, each as its lines with the attributes above it. Functions have no bodies there."""
     lines = [it for it in without_bodies(IDLE.sub("", code(text))).split("\n") if it.strip()]
     at, attributes = 0, []
     while at < len(lines):
@@ -115,7 +115,7 @@ def chunks_of_code(text):
 
 
 def members(lines):
-    """The members of an impl or a trait, each as its text."""
+    """Yields the members of an impl or a trait, each as its text."""
     gathered = []
     for line in lines:
         gathered.append(line)
@@ -125,7 +125,8 @@ def members(lines):
 
 
 def items_of_impl(lines):
-    """The items of an impl or a trait: each method with its head, reached where a name of the head is, too; the rest by each name of the head."""
+    """Yields the items of an impl or a trait. Each method is an item with its head, which is reached by its own name together with a
+    name of the head. The rest of the impl is an item for each name of the head."""
     cut = next((at for at, line in enumerate(lines) if line.endswith("{")), 0) + 1
     head, loose = "\n".join(lines[:cut]), []
     owners = frozenset(it for it in words(head) if it[:1].isupper() and len(it) > 1)
@@ -141,7 +142,7 @@ def items_of_impl(lines):
 
 @functools.lru_cache(maxsize=None)
 def items_of_code(text):
-    """The items of a source."""
+    """Returns the items of a source."""
     found = []
     for first, lines in chunks_of_code(text):
         if IMPL_OR_TRAIT.match(first):
@@ -157,7 +158,7 @@ def items_of_code(text):
 
 
 def declarations(text):
-    """The declarations of specs or proofs with their lines: a signature and all that follows it under its name."""
+    """Returns the declarations of specs or proofs with their lines: a signature and all that follows it under its name."""
     groups = []
     for line in proof(text).split("\n"):
         if line[:1] in (" ", "}", ")", ""):
@@ -174,7 +175,7 @@ def declarations(text):
 
 
 def statement(name, lines):
-    """What a lemma says; whether its proof holds is another check's to find. A definition among proofs is whole."""
+    """Returns the statement of a lemma; another check judges its proof. A definition among proofs is whole."""
     if not re.match(r"(pub )?" + re.escape(name) + r"\s*:", lines[0]):
         return lines
     return lines[: next((at for at, line in enumerate(lines) if at and not line.startswith(" ")), len(lines))]
@@ -182,7 +183,7 @@ def statement(name, lines):
 
 @functools.lru_cache(maxsize=None)
 def items_of_proof(text, kind):
-    """The items of specs, or of lemmas."""
+    """Returns the items of specs, or of lemmas."""
     found = []
     for name, lines in declarations(text):
         chunk = "\n".join(statement(name, lines) if kind == LEMMA else lines)
@@ -193,7 +194,7 @@ def items_of_proof(text, kind):
 
 
 def items_of(path, text):
-    """The items of a file by its path in its crate; what is written of one function's proof has none."""
+    """Returns the items of a file by its path in its crate. A file with the proof of one function has none."""
     if path.endswith(".rt"):
         return items_of_code(text)
     if path.startswith("specs/"):
@@ -202,7 +203,7 @@ def items_of(path, text):
 
 
 class Reach:
-    """The items of a crate and of the libraries below it, given as their texts by path."""
+    """Finds the items of a crate and of the libraries below it, given as their texts by path."""
 
     def __init__(self, texts_by_crate):
         self.items, self.named = collections.defaultdict(list), {}
@@ -212,21 +213,21 @@ class Reach:
                     self.items[item.name].append((item.owners, (item.text, f"{crate}/{path}", item.kind)))
 
     def names_in(self, text):
-        """The words of an item's text that name items."""
+        """Returns the words of an item's text that name items."""
         if text not in self.named:
             self.named[text] = [it for it in words(text) if it in self.items]
         return self.named[text]
 
     def from_words(self, start):
-        """The items that these words reach: each as its text, its place and its kind."""
+        """Returns the items that these words reach, each with its text, its place and its kind."""
         return Walk(self).reached(start)
 
 
 class Walk:
-    """One walk over the items of a `Reach`."""
+    """Walks once over the items of a `Reach`."""
 
     def __init__(self, reach):
-        # By each word the kinds that it was looked up for, and the methods that wait for a name of their owner.
+        # For each word, the kinds that the walk looked up for it, and the methods that wait for a name of their owner.
         self.reach, self.kinds, self.waiting = reach, {}, collections.defaultdict(list)
         self.found, self.left = set(), []
 

@@ -1,6 +1,6 @@
 """Rows for tests/refusals/selftest: which changes give a wrong body another sum, and what the ledger and its draws do.
 
-A crate of two functions stands on a library of one; nothing of them is checked, since sums are found from texts alone.
+The rows use a crate of two functions over a library of one function. Nothing of them is checked, since texts alone give the sums.
 """
 import os
 import subprocess
@@ -68,7 +68,7 @@ returns c = c.step.ensures
 TEXTS = {"tried/src/lib.rt": ROOT, "tried/specs/Words.antt": WORDS, "tried/proofs/Steps.antt": STEPS, "tried/proofs/next/Answers.antt": ANSWER,
          "tried/proofs/same/Answers.antt": ANSWER, "low/src/lib.rt": LOW}
 EDIT = edits.Edit("wrong", "next", ["returns"], [edits.Change("src/lib.rt", "    step(n)\n", "    n\n")])
-# What is changed in which file, and whether the edit has another sum with it.
+# Each change, the file that it changes, and whether the edit then has another sum.
 CHANGES = [
     ("another_body", "tried/src/lib.rt", "    step(n)\n", "    let n = n;\n    step(n)\n", True),
     ("another_contract", "tried/src/lib.rt", "n < 200", "n < 199", True),
@@ -106,7 +106,7 @@ def write(path, text):
 
 
 def changes():
-    """Each change, and whether it has the sum that it has to have."""
+    """Yields each change, and whether the edit has the sum that it must have."""
     before = sum_with()
     for name, path, old, new, is_other in CHANGES:
         assert TEXTS[path].count(old) == 1, name
@@ -114,14 +114,14 @@ def changes():
     yield "another_edit_of_that_name_misses", sum_with(edit=EDIT._replace(refused=["returns-clause-next"])) != before
     yield "another_row_of_the_crate_misses", sum_with(row=(["low"], True)) != before
     yield "another_judge_misses", sum_with(judge="another") != before
-    # of an edit that reaches beyond one function every text counts
+    # If an edit reaches beyond one function, every text counts.
     wide = EDIT._replace(changes=[*EDIT.changes, edits.Change("src/lib.rt", "use low::step;\n", "")])
     other = {**TEXTS, "low/src/lib.rt": LOW.replace("    n + 1\n", "    1 + n\n")}
     yield "a_body_below_misses_where_an_edit_is_wide", sum_with(other, wide) != sum_with(edit=wide)
 
 
 def judges(room):
-    """The sum of the judge with other sources and another kit."""
+    """Checks the sum of the judge with other sources and with another kit."""
     folder, kit = f"{room}/runner", f"{room}/kit"
     for name in sums.JUDGE:
         write(f"{folder}/{name}", "as it was")
@@ -137,7 +137,7 @@ def judges(room):
 
 
 def checkouts(room):
-    """The sum of an edit as it stands in a checkout, whoever has built the libraries there."""
+    """Checks that the sum of an edit in a checkout does not depend on how the libraries there were built."""
     write(f"{room}/crates.txt", "tried: low\nlow:\n")
     for path, text in TEXTS.items():
         write(f"{room}/crates/{path}", text)
@@ -150,7 +150,7 @@ def checkouts(room):
 
 
 def lines(room):
-    """The lines of a ledger as they are written and read."""
+    """Checks how lines of a ledger are written and read."""
     of = {"a": 32 * "a", "b": 32 * "b", "c": 32 * "c"}
     ledger.write("tried", {"a": of["a"], "b": of["b"]}, [], of, room)
     yield "refusals_are_kept", ledger.kept(room) == {("tried", "a", of["a"]), ("tried", "b", of["b"])}
@@ -170,7 +170,7 @@ def git(room, *words, date=0):
 
 
 def commits(room):
-    """Which lines a change brings, on a branch and in a clone of what has it."""
+    """Checks which lines a change brings, on a branch and in a clone of a repository that has it."""
     of = {it: 32 * it for it in "abcd"}
 
     def commit(names, date):
@@ -192,7 +192,7 @@ def commits(room):
 
 
 def plans():
-    """What a plan tries of ten edits of which one has no line, two are brought, and three are drawn."""
+    """Checks what a plan tries of ten edits: one has no line, two are brought, and three are drawn."""
     of = {("tried", name): 32 * name for name in "abcdef0123"}
     all_lines = {(*key, it) for key, it in of.items()}
     old = {it for it in all_lines if it[1] not in "bc"}
@@ -207,7 +207,7 @@ def plans():
 
 
 def rows():
-    """Each row's name, and whether it is as it must be."""
+    """Yields each row's name, and whether it is as it must be."""
     yield from changes()
     yield from plans()
     for part in (judges, checkouts, lines, commits):

@@ -1,9 +1,10 @@
-"""Of each wrong body the sum of all that its verdict can depend on, from texts alone: nothing has to be built.
+"""Computes a sum for each wrong body over everything that its verdict can depend on. Texts alone give the sums, so nothing has to be built.
 
-A function is judged by its own code and what is written of its proof, and by the contracts of what it calls. So the sum has the toolchain, the
-judge's sources, the crate's line of crates.txt, the edit, the function's own text with the head of its impl, its folder of proofs, the imports
-of its file that it names, and every item that these reach by name in this crate and the libraries below it (`reach`). An edit that
-isn't within one function's text and folder has the whole texts of the crate and of those below in its sum.
+The check judges a function by its own code, by what is written of its proof, and by the contracts of what it calls. So the sum covers the
+toolchain, the judge's sources, the crate's line of crates.txt and the edit. It covers the function's own text with the head of its impl,
+its folder of proofs, and the imports of its file that it names. It covers every item that these reach by name in this crate and the
+libraries below it (`reach`). If an edit reaches beyond one function's text and folder, the sum covers the whole texts of the crate and of
+the libraries below.
 """
 import functools
 import glob
@@ -32,7 +33,7 @@ def content(path):
 
 
 def sum_of_judge(folder=os.path.dirname(os.path.abspath(__file__)), kit=checks.KIT):
-    """The sum of the toolchain, by the texts that name it, and of the sources that judge."""
+    """Returns the sum of the toolchain, by the texts that name it, and of the judge's sources."""
     return sum_of([content(f"{kit}/{it}") for it in KIT], [content(f"{folder}/{it}") for it in JUDGE])
 
 
@@ -41,7 +42,8 @@ def folder_of(edit):
 
 
 def own_function(text, at, length, name):
-    """The text of the function of this name that has these bytes, with the attributes above it and the head of its impl; None where it is another."""
+    """Returns the text of the function of this name that has these bytes, or None if they are in another. The text has the attributes
+    above it and the head of its impl."""
     heads = list(reach.HEAD.finditer(text, 0, at + length))
     if not heads or heads[-1][2] != name:
         return None
@@ -54,7 +56,8 @@ def own_function(text, at, length, name):
 
 
 def own_texts(texts, edit):
-    """The function that an edit turns, by its file; None where the edit reaches beyond its text and its folder of proofs."""
+    """Returns the function that an edit changes, with its file. Returns None if the edit reaches beyond its text and its folder of
+    proofs."""
     found, name = set(), edit.function.split("::")[-1]
     for path, old, _ in edit.changes:
         if path.startswith(folder_of(edit)):
@@ -68,7 +71,7 @@ def own_texts(texts, edit):
 
 
 def imports(text, named):
-    """The paths of a source's imports of these names, so that a name that comes from elsewhere is another."""
+    """Returns the paths of a source's imports of these names. So a name that is imported from elsewhere gives another sum."""
     found = set()
     for line in IMPORT.findall(reach.code(text)):
         head, _, inside = line.partition("{")
@@ -77,7 +80,8 @@ def imports(text, named):
 
 
 def attributes_of_files(texts, paths):
-    """What is said at the head of the crate's root and of these files of all their functions, as the tactics of their proofs."""
+    """Returns the attributes at the head of the crate's root and of these files, for example tactics. They apply to the proofs of all
+    functions."""
     return [OF_A_FILE.findall(reach.IDLE.sub("", texts.get(path, ""))) for path in ("src/lib.rt", "src/main.rt", *paths)]
 
 
@@ -86,7 +90,7 @@ def crate_texts(edit, texts, below):
 
 
 def reached_texts(edit, own, texts, reached_from):
-    """All that this edit of one function is judged by."""
+    """Returns everything by which the check judges this edit of one function."""
     written = [(path, reach.proof(it)) for path, it in sorted(texts.items()) if path.startswith(folder_of(edit))]
     named = set().union(*(reach.words(it) for _, it in [*own, *written]), *(reach.words(it.new) for it in edit.changes))
     items = sorted(map(sum_of, reached_from.from_words(sorted(named))))
@@ -95,11 +99,12 @@ def reached_texts(edit, own, texts, reached_from):
 
 
 def of_crate(crate, wanted, texts, below, row, judge):
-    """The sums of edits of a crate, by their names: of its texts by path, those of the libraries below by crate, and its row of crates.txt."""
+    """Returns the sums of edits of a crate, by their names. It takes the crate's texts by path, the texts of the libraries below by
+    crate, and the crate's row of crates.txt."""
     reached_from, found = reach.Reach({crate: texts, **below}), {}
     for edit in wanted:
         own = own_texts(texts, edit)
-        # a function of a cycle of calls is judged with the others of it
+        # The check judges a function of a cycle of calls together with the others of the cycle.
         is_alone = own is not None and not any("cycle(" in it for _, it in own)
         parts = reached_texts(edit, own, texts, reached_from) if is_alone else crate_texts(edit, texts, below)
         found[edit.name] = sum_of(judge, crate, row, parts)
@@ -112,7 +117,7 @@ def texts_of(crate, top):
 
 
 def of_repository(names, top=checks.TOP):
-    """The sums of the edits of these crates, by crate and name, with the files as they are."""
+    """Returns the sums of the edits of these crates, by crate and name, from the files in the checkout."""
     known, judge, found = checks.crates(top), sum_of_judge(), {}
     for crate in names:
         row = known.get(crate, ([], False))

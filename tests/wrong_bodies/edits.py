@@ -1,4 +1,4 @@
-"""Wrong bodies of what is only tested, as they stand in files, and the tests that each says fails with it."""
+"""Reads the wrong bodies of code that is only tested, and the tests that each wrong body names as failing with it."""
 import collections
 import functools
 import glob
@@ -14,7 +14,7 @@ Edit = collections.namedtuple("Edit", "changes wanted")
 
 @functools.cache
 def sample():
-    """tests/files/ample.py, and its rows by their names."""
+    """Returns tests/files/ample.py, and its rows by their names."""
     folder = os.path.join(os.path.dirname(HERE), "files")
     sys.path.insert(0, folder)
     loader = importlib.machinery.SourceFileLoader("files_run", f"{folder}/run")
@@ -28,7 +28,7 @@ def names():
 
 
 def read_edit(name):
-    """The changes of an edit, each a file with an old and a new text, and the tests that fail with it, each with its crate."""
+    """Returns the changes of an edit, each a file with an old and a new text, and the tests that fail with it, each with its crate."""
     changes, wanted, path, old = [], [], None, None
     with open(f"{HERE}/{name}.edit", encoding="utf-8") as lines:
         for line in lines:
@@ -49,7 +49,7 @@ def read_edit(name):
 
 
 def changed(top, changes):
-    """The files that are changed, each with its text before and after; each old text stands there once."""
+    """Returns the changed files, with their texts before and after. Each old text occurs once in its file."""
     before, after = {}, {}
     for path, old, new in changes:
         if path not in after:

@@ -1,4 +1,4 @@
-//! Calls on little-endian block bodies in memory, each behind its length in four bytes, as `measured_calls` makes them.
+//! Makes calls on little-endian block bodies in memory, each after its length in four bytes, as `measured_calls` does.
 
 use byteorder::{ByteOrder, LittleEndian};
 use pcap_file::pcapng::{
@@ -9,7 +9,7 @@ use pcap_file::PcapError;
 
 type Number = fn(&[u8]) -> Result<usize, PcapError>;
 
-/// What is made of a body, and a number that the parsed value has.
+/// Returns a function that parses a body, and gives a number of the parsed value.
 pub fn number_of(call: &str) -> Option<Number> {
     let number: Number = match call {
         "enhanced" => |body| {

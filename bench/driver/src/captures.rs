@@ -1,4 +1,4 @@
-//! Calls on a classic capture in memory, as `measured_calls` makes them.
+//! Makes calls on a classic capture in memory, as `measured_calls` does.
 
 use pcap_file::pcap::{PcapParser, PcapReader, PcapWriter};
 use pcap_file::PcapError;

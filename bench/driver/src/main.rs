@@ -1,5 +1,5 @@
-//! The Rust crate, to measure beside it: `driver list|copy|blocks` writes what `capcopy` writes, and `driver CALL PASSES`
-//! makes the calls of `measured_calls`; `driver packets` writes what the example `stream` in `rust/` prints.
+//! Runs the Rust crate, for measurements beside it. `driver list|copy|blocks` writes what `capcopy` writes. `driver CALL PASSES` makes the
+//! calls of `measured_calls`. `driver packets` writes what the example `stream` in `rust/` prints.
 
 mod bodies;
 mod captures;

@@ -1,4 +1,4 @@
-//! The packets of a capture of either format, as the example `stream` of the crate in `rust/` prints them.
+//! Prints the packets of a capture of either format, as the example `stream` of the crate in `rust/` does.
 
 use pcap_file::pcap::PcapReader;
 use pcap_file::pcapng::{
@@ -9,7 +9,7 @@ use std::io::{BufRead, Read, Write};
 
 type Done = Result<(), Box<dyn Error>>;
 
-/// Prints each packet, `refused` for one whose body is, and then `end`, or `refused` where the capture goes on otherwise.
+/// Prints each packet, `refused` for one whose body is refused, and then `end`, or `refused` if the capture goes on in another way.
 pub fn print(mut input: impl BufRead, output: &mut impl Write) -> Done {
     let is_ng = input.fill_buf()?.starts_with(&[0x0a, 0x0d, 0x0d, 0x0a]);
     let is_whole = if is_ng { print_blocks(input, output)? } else { print_classic(input, output)? };
@@ -20,7 +20,7 @@ fn hex(bytes: &[u8]) -> String {
     bytes.iter().map(|byte| format!("{byte:02x}")).collect()
 }
 
-/// Whether the capture ends behind a packet, or behind its header.
+/// Returns whether the capture ends after a packet, or after its header.
 fn print_classic(input: impl Read, output: &mut impl Write) -> Result<bool, Box<dyn Error>> {
     let Ok(reader) = PcapReader::new(input) else { return Ok(false) };
     let link = u32::from(reader.header.datalink);
@@ -33,7 +33,7 @@ fn print_classic(input: impl Read, output: &mut impl Write) -> Result<bool, Box<
     Ok(true)
 }
 
-/// The same of blocks.
+/// Does the same for blocks.
 fn print_blocks(input: impl Read, output: &mut impl Write) -> Result<bool, Box<dyn Error>> {
     let Ok(mut reader) = PcapNgReader::new(input) else { return Ok(false) };
     while let Some(block) = reader.next() {
@@ -50,7 +50,7 @@ fn print_blocks(input: impl Read, output: &mut impl Write) -> Result<bool, Box<d
     Ok(true)
 }
 
-/// A packet, whichever block it comes in.
+/// A packet, from any block.
 fn told(parsed: ParsedBlock, interfaces: &[InterfaceDescriptionBlock], is_little: bool) -> String {
     match parsed {
         ParsedBlock::EnhancedPacket(it) => line(it.interface_id, Some(it.timestamp), it.original_len, &it.data, interfaces, is_little),
@@ -83,7 +83,7 @@ fn line(
     format!("{id} {time} {link} {}/{original} {}", data.len(), hex(data))
 }
 
-/// Seconds and nanoseconds by the interface's clock, or `none` where the seconds pass 64 bits.
+/// Returns seconds and nanoseconds by the interface's clock, or `none` if the seconds pass 64 bits.
 fn time_of(interface: &InterfaceDescriptionBlock, units: u64) -> String {
     let (mut resolution, mut offset) = (6, 0);
     for option in interface.options.iter().rev() {

@@ -1,5 +1,5 @@
-//! calling_as_is < capture: a line for each packet as it stands, with the first rule that it breaks; and where packets stand
-//! again behind what is no packet.
+//! calling_as_is < capture: prints a line for each packet, with the first rule that it breaks, and the places where packets are found
+//! again after corrupt bytes.
 #![tactic(auto)]
 
 use pcap_file::PcapError;

@@ -1,4 +1,4 @@
-//! calling_slice < capture: a line for each packet of a capture that lies in memory, and what follows the packets.
+//! calling_slice < capture: prints a line for each packet of a capture in memory, and what follows the packets.
 #![tactic(auto)]
 
 use pcap_file::PcapError;

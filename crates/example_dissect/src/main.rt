@@ -1,5 +1,5 @@
-//! example_dissect < capture: a line for each packet of an Ethernet capture: its number and time, its addresses, and of TCP
-//! and UDP its ports.
+//! example_dissect < capture: prints a line for each packet of an Ethernet capture: its number and time, its addresses, and the ports of
+//! TCP and UDP.
 #![tactic(auto)]
 
 use anyhow::{Result, bail};
@@ -8,7 +8,7 @@ use std::fmt;
 use std::io::BufReader;
 use std::net::{IpAddr, Ipv4Addr, Ipv6Addr, SocketAddr};
 
-/// What an IP packet says of its way, and what it carries.
+/// The addresses and the protocol of an IP packet, and its payload.
 #[derive(Clone, Copy)]
 struct Datagram<'a> {
     from: IpAddr,
@@ -53,7 +53,7 @@ fn ipv6(bytes: &[u8]) -> Option<Datagram<'_>> {
     })
 }
 
-/// What an Ethernet frame carries. None where that is no IP, or not all of its head is there.
+/// Returns what an Ethernet frame carries, or None if that isn't IP or its header is truncated.
 fn datagram_in(frame: &[u8]) -> Option<Datagram<'_>> {
     let payload = frame.get(14..)?;
     match number(frame.get(12..)?)? {
@@ -64,7 +64,7 @@ fn datagram_in(frame: &[u8]) -> Option<Datagram<'_>> {
 }
 
 impl Datagram<'_> {
-    /// The two ends of a TCP or UDP packet.
+    /// Returns the two ends of a TCP or UDP packet.
     fn ends(&self) -> Option<(SocketAddr, SocketAddr)> {
         let from_port = number(self.payload)?;
         let to_port = number(self.payload.get(2..)?)?;

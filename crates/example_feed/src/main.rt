@@ -1,7 +1,8 @@
-//! example_feed < capture: a line for each packet of a capture that comes in pieces, as off a socket.
+//! example_feed < capture: prints a line for each packet of a capture that comes in pieces, as from a socket.
 //!
-//! The parser says how many bytes it lacks. Exactly these are waited for before it is asked again, so a packet is asked for
-//! twice at most, however few bytes a read gives, and nothing stands behind it.
+//! The parser returns how many bytes it lacks. The program waits for exactly these bytes before it calls the parser again. So it waits
+//! at most twice for each packet, however few bytes a read gives, and holds no bytes after the packet.
+
 #![tactic(auto)]
 
 use anyhow::{Result, bail};
@@ -21,15 +22,15 @@ impl<R: Read> Read for Socket<R> {
     }
 }
 
-/// What was done with the bytes that came.
+/// The result of supplying bytes.
 enum Fed {
-    /// The packet at their front is whole, and was shown.
+    /// The packet at their start is whole, and was printed.
     Shown,
-    /// So many bytes are missing of it.
+    /// This many bytes of it are missing.
     Lacks(usize),
 }
 
-/// Shows the packet that the bytes hold, once all of them are there.
+/// Prints the packet in the held bytes, once all of them are there.
 fn feed(rt: &HostRuntime, parser: &PcapParser, held: &[u8]) -> Result<Fed> {
     match parser.next_packet(held) {
         Ok((_rest, packet)) => {
@@ -43,7 +44,7 @@ fn feed(rt: &HostRuntime, parser: &PcapParser, held: &[u8]) -> Result<Fed> {
     }
 }
 
-/// Waits for so many bytes more, and keeps them. Fewer come only where the source ends.
+/// Waits for `missing` bytes more, and keeps them. It gets fewer only if the source ends.
 fn wait_for<R: Read>(missing: usize, socket: &mut R, held: &mut Vec<u8>) -> io::Result<bool> {
     let came = socket.take(missing as u64).read_to_end(held)?;
     Ok(came == missing)

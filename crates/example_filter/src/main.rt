@@ -1,5 +1,5 @@
-//! example_filter < PcapNg > PcapNg: the capture without its enhanced packets of less than 60 bytes on the wire. Each other block
-//! stays byte for byte as it stood.
+//! example_filter < PcapNg > PcapNg: copies a capture without its enhanced packets of less than 60 bytes on the wire. It copies each
+//! other block byte for byte.
 #![tactic(auto)]
 
 use anyhow::Result;
@@ -11,7 +11,7 @@ use std::io::{BufReader, BufWriter, Write};
 /// The length of the shortest Ethernet frame, without its checksum, in bytes.
 const SHORTEST: u32 = 60;
 
-/// Whether a block is kept.
+/// Returns whether a block is kept.
 fn is_kept(alloc: Global, block: &Block) -> Result<bool> {
     match block.parsed(alloc)? {
         ParsedBlock::EnhancedPacket(packet) => Ok(packet.original_len >= SHORTEST),

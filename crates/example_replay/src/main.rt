@@ -1,5 +1,5 @@
-//! example_replay FACTOR < capture: prints each packet when its time has come, so many times as fast as it was captured. At
-//! factor 0 no time passes.
+//! example_replay FACTOR < capture: prints each packet when its time has come, FACTOR times as fast as it was captured. At factor 0 it
+//! doesn't wait.
 #![tactic(auto)]
 
 use anyhow::{Context, Result};
@@ -8,13 +8,13 @@ use std::io::BufReader;
 use std::time::{Duration, Instant};
 use std::{env, thread};
 
-/// The factor that the first word names.
+/// Returns the factor in the first argument.
 fn factor(rt: &HostRuntime) -> Result<u32> {
     let word = env::args(rt)?.nth(1).context("which factor?")?;
     Ok(word.parse::<u32>().context("no such factor")?)
 }
 
-/// Sleeps until so much time has passed since the start.
+/// Sleeps until the time `due` has passed since the start.
 fn sleep_until(rt: &HostRuntime, start: Instant, due: Duration) -> Result<()> {
     thread::sleep(rt, due.saturating_sub(start.elapsed(rt)?));
     Ok(())

@@ -1,5 +1,5 @@
-//! example_rewrite < PcapNg > PcapNg: a capture written again from the values of its blocks, in each section's own order. Lists
-//! of options get their mark, and padding is zero.
+//! example_rewrite < PcapNg > PcapNg: writes a capture again from the values of its blocks, in each section's own byte order. Lists of
+//! options get their end mark, and padding is zero.
 #![tactic(auto)]
 
 use anyhow::Result;

@@ -1,4 +1,4 @@
-//! Calls on little-endian block bodies in memory, each behind its length in four bytes.
+//! Calls on little-endian block bodies in memory, each after its length in four bytes.
 
 ghost use Rattle.std.specs.Prelude.{◌<◌, length, IfSome};
 
@@ -11,7 +11,7 @@ use pcap_classic::ResultParsing;
 use std::alloc::Global;
 use test_support::sum_of_passes;
 
-// What the bodies are parsed as.
+// The types that the bodies are parsed as.
 #[derive(Clone, Copy)]
 pub(crate) enum Body {
     Enhanced,
@@ -46,7 +46,7 @@ fn names_in(record: &Record<'_>) -> usize {
     }
 }
 
-// A number that the parsed value has.
+// Returns a number from the parsed value.
 fn number_in(alloc: Global, body: Body, bytes: &[u8]) -> ResultParsing<usize> {
     match body {
         Body::Enhanced => {
@@ -84,7 +84,7 @@ fn number_in(alloc: Global, body: Body, bytes: &[u8]) -> ResultParsing<usize> {
     }
 }
 
-// The next body, and what follows it.
+// Returns the next body, and the bytes after it.
 fn body_at(left: &[u8]) -> Option<(&[u8], &[u8])>
     ensures { IfSome result (λ found. length found.1.now < length left.now) }
 {

@@ -7,10 +7,10 @@ use std::alloc::Global;
 use std::io::BufReader;
 use test_support::sum_of_passes;
 
-// The reader's buffer of `copy_buffered`, in bytes.
+// The size of the reader's buffer for `copy_buffered`, in bytes.
 const ROOM: usize = 65536;
 
-// The sum over the values of all passes, or nothing where no call has this name.
+// Returns the sum over the values of all passes, or None if no call has this name.
 pub(crate) fn passes_of(
     alloc: Global,
     call: &str,
@@ -47,7 +47,7 @@ fn next_packet(passes: u64, bytes: &[u8]) -> ResultParsing<u64> {
     Ok(sum)
 }
 
-// The length of the next packet.
+// Returns the length of the next packet.
 fn read_one(reader: &mut PcapReader<&[u8]>) -> ResultParsing<Option<u64>> {
     match reader.next() {
         None => Ok(None),
@@ -72,7 +72,7 @@ fn next(alloc: Global, passes: u64, bytes: &[u8]) -> ResultParsing<u64> {
     sum_of_passes!(passes { read_all(alloc, bytes)? })
 }
 
-// The length of the next packet, which is lent.
+// Returns the length of the next packet, which is lent.
 fn lend_one(reader: &mut PcapReader<&[u8]>) -> ResultParsing<Option<u64>> {
     match reader.next_header() {
         None => Ok(None),
@@ -135,7 +135,7 @@ fn copy(alloc: Global, passes: u64, bytes: &[u8]) -> ResultParsing<u64> {
     })
 }
 
-// The reader's buffer is made anew for each pass.
+// Copies the capture through a reader's buffer, which is allocated anew for each pass.
 #[inline(never)]
 fn copy_out_of_a_buffer(alloc: Global, passes: u64, bytes: &[u8]) -> ResultParsing<u64> {
     let mut out: Vec<u8> = Vec::with_capacity(alloc, bytes.len())?;
@@ -156,7 +156,7 @@ fn copy_out_of_a_buffer(alloc: Global, passes: u64, bytes: &[u8]) -> ResultParsi
     })
 }
 
-// What is below all others: the bytes are copied, and nothing else is done.
+// Copies the bytes and does nothing else, as a baseline for all other calls.
 fn memcpy(alloc: Global, passes: u64, bytes: &[u8]) -> ResultParsing<u64> {
     let mut out: Vec<u8> = Vec::with_capacity(alloc, bytes.len())?;
     sum_of_passes!(passes {

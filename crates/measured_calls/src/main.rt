@@ -1,5 +1,5 @@
-//! Makes one library call over and over on the bytes of standard input, so that its instructions can be counted, each of them one
-//! that the Rust crate has too: `measured_calls CALL PASSES < bytes`. Another call here changes the counts of those that stand here.
+//! Repeats one library call on the bytes of standard input, so that its instructions can be counted: `measured_calls CALL PASSES <
+//! bytes`. The Rust crate has each of these calls too. Another call here changes the counts of the others.
 #![tactic(auto)]
 
 mod bodies;
@@ -11,7 +11,7 @@ use std::alloc::Global;
 use std::io;
 use test_support::passes::{Asked, tell};
 
-// The sum over the values of all passes, or nothing where no call has this name.
+// Returns the sum over the values of all passes, or None if no call has this name.
 fn passes_of(alloc: Global, call: &str, passes: u64, bytes: &[u8]) -> Option<ResultParsing<u64>> {
     if let Some(body) = bodies::named(call) {
         return Some(bodies::parse(alloc, body, passes, bytes));

@@ -4,7 +4,7 @@ use pcap_classic::ResultParsing;
 use pcap_classic::run::{pieces_fit, pieces_pcap};
 use std::alloc::Global;
 
-// The sum over the runs of all passes, or nothing where no call has this name. The pieces are made once, before the passes.
+// Returns the sum over the runs of all passes, or None if no call has this name. The pieces are made once, before the passes.
 pub(crate) fn passes_of(
     alloc: Global,
     call: &str,

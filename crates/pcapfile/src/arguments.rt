@@ -5,11 +5,11 @@ use std::alloc::{AllocError, Global};
 use std::env::{Env, FillError};
 use std::str;
 
-/// How many bytes an argument may have at first. Where one has more, there is twice the room.
+/// The length of the first buffer for an argument, in bytes. For a longer argument the program doubles it.
 const ROOM: usize = 256;
 
-/// All arguments, the name of the program first. The bytes of one that isn't UTF-8 stand there as `\x` and two digits, and the mark of
-/// such a name behind it.
+/// Returns all arguments, beginning with the name of the program. Each byte that isn't UTF-8 is written as `\x` and two
+/// hexadecimal digits, and such an argument ends with a mark.
 pub(crate) fn read_arguments(rt: &HostRuntime) -> Result<Vec<String>, AllocError> {
     let mut all = Vec::new(rt.alloc());
     for index in 0..usize::MAX {
@@ -21,7 +21,7 @@ pub(crate) fn read_arguments(rt: &HostRuntime) -> Result<Vec<String>, AllocError
     Ok(all)
 }
 
-// The bytes of an argument, if there is one.
+// Returns the bytes of an argument, if there is one.
 fn argument(rt: &HostRuntime, index: usize) -> Result<Option<Vec<u8>>, AllocError> {
     let mut bytes = Vec::new(rt.alloc());
     let mut room = ROOM;

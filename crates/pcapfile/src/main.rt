@@ -1,4 +1,4 @@
-//! Tells what captures in files hold: `pcapfile --help` lists the words.
+//! The program `pcapfile`, for captures in files: `pcapfile --help` lists its words.
 #![tactic(auto)]
 
 mod arguments;
@@ -23,7 +23,7 @@ fn main(rt: HostRuntime) -> ExitCode {
         Err(error) => {
             let status = status_of(&error);
             if status != UNREAD {
-                // There is nowhere left to say that this write failed.
+                // There is nowhere left to report that this write failed.
                 let _ = eprintln!(rt; "pcapfile: {error}");
             }
             ExitCode::from(status)
@@ -31,7 +31,7 @@ fn main(rt: HostRuntime) -> ExitCode {
     }
 }
 
-// Says what is wrong with the words, or what they ask to be told of the program, and gives the status.
+// Reports an error in the arguments, or writes the help or version that they request, and returns the exit status.
 fn tell_words(rt: &HostRuntime, error: &Error, words: &[String]) -> io::Result<u8> {
     if error.kind() == ErrorKind::OutOfMemory {
         return Err(io::Error::from(AllocError));
@@ -40,7 +40,7 @@ fn tell_words(rt: &HostRuntime, error: &Error, words: &[String]) -> io::Result<u
         error.print(rt)?;
         return Ok(0);
     }
-    // What is wrong with them is said with words of which no character acts on a terminal.
+    // The message is made from escaped arguments, so that none of their characters acts on a terminal.
     let shown = shown_words(rt, words)?;
     match words::command(rt.alloc())?.try_get_matches_from(shown.as_slice()) {
         Ok(_) => return tell_unknown(rt),
@@ -58,7 +58,7 @@ fn shown_words(rt: &HostRuntime, words: &[String]) -> io::Result<Vec<String>> {
     Ok(all)
 }
 
-// Does what the words ask for, and gives the status.
+// Does what the arguments request, and returns the exit status.
 fn run(rt: &HostRuntime) -> io::Result<u8> {
     keep_standard_streams(rt)?;
     let words = read_arguments(rt)?;
@@ -96,7 +96,7 @@ fn run(rt: &HostRuntime) -> io::Result<u8> {
     Ok(status)
 }
 
-// Says how to read more of a truncated or malformed capture. A failed write of this stops nothing.
+// Reports how to read more of a truncated or malformed capture. A failed write of this message is ignored.
 fn tell_remedy(console: &Console, task: &Task) {
     let Some(remedy) = task.remedy() else {
         return;
@@ -104,7 +104,7 @@ fn tell_remedy(console: &Console, task: &Task) {
     let _ = eprintln!(console.for_line(); "pcapfile: {remedy}");
 }
 
-// Says that no word of the program is there, and gives the status.
+// Reports that the arguments name no word of the program, and returns the exit status.
 fn tell_unknown(rt: &HostRuntime) -> io::Result<u8> {
     eprintln!(rt; "error: the words are not understood; 'pcapfile --help' lists them")?;
     Ok(USAGE)

@@ -14,7 +14,7 @@ use pcapfile_words_cut::{Cutting, Joining, Way, cut_file, join_files, ranges};
 use pcapfile_words_repair::{Repair, check_files_as_is, list_files_as_is, repair_file};
 use std::io;
 
-/// What a word asks for.
+/// A word of the program with its arguments.
 #[derive(Drop)]
 pub(crate) enum Task<'a> {
     /// A check of these files.
@@ -22,7 +22,7 @@ pub(crate) enum Task<'a> {
     /// A lenient check of these files.
     CheckAsIs(&'a [&'a str]),
     Info(Informing<'a>),
-    /// A list of the packets of these files, in this form or for people.
+    /// A list of the packets of these files, in this form; `None` is the default form for people.
     List(&'a [&'a str], Option<Form>),
     /// A lenient list of the packets of these files.
     ListAsIs(&'a [&'a str]),
@@ -34,7 +34,7 @@ pub(crate) enum Task<'a> {
 }
 
 impl<'a> Task<'a> {
-    /// What this word asks for with these arguments, or the name of one whose value isn't understood.
+    /// Returns the task of this word with these arguments, or the name of an argument with an invalid value.
     pub(crate) fn new(word: Word, words: &'a ArgMatches<'_>) -> Result<Task<'a>, &'static str> {
         Ok(match word {
             Word::Check if words.get_flag(words::AS_IS) => Task::CheckAsIs(files(words)),
@@ -50,7 +50,7 @@ impl<'a> Task<'a> {
         })
     }
 
-    /// Whether it writes lines for people while it reads, which show the progress.
+    /// Returns whether the task writes lines for people while it reads; these lines show the progress.
     pub(crate) fn tells_meanwhile(&self) -> bool {
         matches!(
             self,
@@ -58,7 +58,7 @@ impl<'a> Task<'a> {
         )
     }
 
-    /// How to read more of a truncated or malformed capture, where this task stops there.
+    /// Returns how to read more of a truncated or malformed capture, if this task stops there.
     pub(crate) fn remedy(&self) -> Option<&'static str> {
         match self {
             Task::Check(_) | Task::List(..) => Some(
@@ -81,7 +81,7 @@ impl<'a> Task<'a> {
         }
     }
 
-    /// Does it, and gives the status.
+    /// Runs the task, and returns the exit status.
     pub(crate) fn run(&self, console: &Console) -> io::Result<u8> {
         match self {
             Task::Check(names) => check_files(console, names),
@@ -98,7 +98,7 @@ impl<'a> Task<'a> {
     }
 }
 
-// Whether captures are read as `repair` would write them.
+// Returns whether the task reads what `repair` would write of the captures.
 fn is_repaired(words: &ArgMatches) -> bool {
     words.get_flag(words::REPAIRED) || words.get_flag(words::AS_IS)
 }
@@ -107,7 +107,7 @@ fn files<'a>(words: &'a ArgMatches<'_>) -> &'a [&'a str] {
     words.get_strs(words::FILES).unwrap_or_default()
 }
 
-// What the word `convert` is asked for.
+// Returns the arguments of the word `convert`.
 fn conversion<'a>(words: &ArgMatches<'a>) -> Conversion<'a> {
     let to = match words.get_str(words::TO) {
         Some("pcap") => Some(Format::Pcap),
@@ -122,7 +122,7 @@ fn conversion<'a>(words: &ArgMatches<'a>) -> Conversion<'a> {
     }
 }
 
-// How a capture is cut, or the argument whose value is not understood.
+// Returns how to cut a capture, or the name of the argument with an invalid value.
 fn way(words: &ArgMatches) -> Result<Way, &'static str> {
     if let Some(packets) = words.get_one::<u64>(words::EVERY) {
         return Ok(Way::Every(packets));
@@ -148,7 +148,7 @@ fn way(words: &ArgMatches) -> Result<Way, &'static str> {
     Ok(Way::One(Wanted::Times { from, until }))
 }
 
-// What the word `cut` is asked for, or which of its arguments isn't understood.
+// Returns the arguments of the word `cut`, or the name of one with an invalid value.
 fn cutting<'a>(words: &ArgMatches<'a>) -> Result<Cutting<'a>, &'static str> {
     Ok(Cutting {
         from: words.get_str(words::CAPTURE).unwrap_or_default(),
@@ -158,7 +158,7 @@ fn cutting<'a>(words: &ArgMatches<'a>) -> Result<Cutting<'a>, &'static str> {
     })
 }
 
-// What the word `join` is asked for.
+// Returns the arguments of the word `join`.
 fn joining<'a>(words: &'a ArgMatches<'_>) -> Joining<'a> {
     Joining {
         parts: words.get_strs(words::PARTS_IN).unwrap_or_default(),
@@ -166,7 +166,7 @@ fn joining<'a>(words: &'a ArgMatches<'_>) -> Joining<'a> {
     }
 }
 
-// The form that is asked for of the lines of `list`.
+// Returns the form of the lines of `list`.
 fn form(words: &ArgMatches) -> Option<Form> {
     if words.get_flag(words::UTC) {
         return Some(Form::Utc);
@@ -180,7 +180,7 @@ fn form(words: &ArgMatches) -> Option<Form> {
     None
 }
 
-// What the word `merge` is asked for.
+// Returns the arguments of the word `merge`.
 fn merging<'a>(words: &'a ArgMatches<'_>) -> Merge<'a> {
     Merge {
         names: files(words),
@@ -189,7 +189,7 @@ fn merging<'a>(words: &'a ArgMatches<'_>) -> Merge<'a> {
     }
 }
 
-// What the word `info` is asked for.
+// Returns the arguments of the word `info`.
 fn informing<'a>(words: &'a ArgMatches<'_>) -> Informing<'a> {
     Informing {
         names: files(words),
@@ -198,7 +198,7 @@ fn informing<'a>(words: &'a ArgMatches<'_>) -> Informing<'a> {
     }
 }
 
-// What the word `repair` is asked for.
+// Returns the arguments of the word `repair`.
 fn repairing<'a>(words: &ArgMatches<'a>) -> Repair<'a> {
     Repair {
         from: words.get_str(words::BROKEN).unwrap_or_default(),

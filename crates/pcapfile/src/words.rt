@@ -4,64 +4,64 @@ use clap::builder::ValueParser;
 use clap::{Arg, ArgAction, Command};
 use std::alloc::{AllocError, Global};
 
-/// The name of the files among the arguments of a word.
+/// The argument that names the files of a word.
 pub(crate) const FILES: &str = "FILE";
 
-/// The name of the capture that is converted.
+/// The argument that names the capture to convert.
 pub(crate) const IN: &str = "IN";
 
-/// The name of the capture that is cut.
+/// The argument that names the capture to cut.
 pub(crate) const CAPTURE: &str = "CAPTURE";
 
-/// The name of the capture that is repaired.
+/// The argument that names the capture to repair.
 pub(crate) const BROKEN: &str = "BROKEN";
 
-/// The name of the parts that are joined.
+/// The argument that names the parts to join.
 pub(crate) const PARTS_IN: &str = "PART";
 
-/// The name of the packets that are cut out.
+/// The option for the packets of a part.
 pub(crate) const PACKETS: &str = "packets";
 
-/// The name of the earliest time that is cut out.
+/// The option for the earliest time of a part.
 pub(crate) const FROM: &str = "from";
 
-/// The name of the time before which it is cut out.
+/// The option for the time before which the packets of a part are.
 pub(crate) const UNTIL: &str = "until";
 
-/// The name of how many packets a part has.
+/// The option for the number of packets of each part.
 pub(crate) const EVERY: &str = "every";
 
-/// The name of how many parts there are.
+/// The option for the number of parts.
 pub(crate) const PARTS: &str = "parts";
 
-/// The name of how many bytes a part has.
+/// The option for the number of bytes of each part.
 pub(crate) const BYTES: &str = "bytes";
 
-/// The name of lenient reading.
+/// The option for lenient reading.
 pub(crate) const AS_IS: &str = "as-is";
 
-/// The name of reading what `repair` makes of a capture.
+/// The option to read what `repair` would write of a capture.
 pub(crate) const REPAIRED: &str = "repair";
 
-/// The name of JSON as the form of a report.
+/// The option for JSON output.
 pub(crate) const JSON: &str = "json";
 
-/// The name of showing no progress.
+/// The option that hides the progress.
 pub(crate) const QUIET: &str = "quiet";
 
-/// The name of listing times in UTC.
+/// The option to list times in UTC.
 pub(crate) const UTC: &str = "utc";
 
-/// The name of listing in columns.
+/// The option to list packets as CSV.
 pub(crate) const CSV: &str = "csv";
 
-/// The name of the output.
+/// The option for the name of the output.
 pub(crate) const OUT: &str = "output";
 
-/// The name of the output's format.
+/// The option for the format of the output.
 pub(crate) const TO: &str = "to";
 
-/// The formats.
+/// The names of the formats.
 const FORMATS: &[&str] = &["pcap", "pcapng"];
 
 const VERSION: &str = "0.2.0";
@@ -195,7 +195,7 @@ pub(crate) enum Word {
     Repair,
 }
 
-/// All words, in the order in which the help has them.
+/// All words, in the order of the help.
 const WORDS: [Word; 8] = [
     Word::Check,
     Word::Info,
@@ -208,7 +208,7 @@ const WORDS: [Word; 8] = [
 ];
 
 impl Word {
-    /// The word that is called so, if there is one.
+    /// Returns the word of this name, if there is one.
     pub(crate) fn of_name(name: &str) -> Option<Word> {
         for word in WORDS {
             if word.name() == name {
@@ -218,7 +218,7 @@ impl Word {
         None
     }
 
-    /// Whether it can read a capture as `repair` would write it.
+    /// Returns whether the word can read what `repair` would write of a capture.
     pub(crate) fn reads_repaired(self) -> bool {
         match self {
             Word::Info | Word::Convert | Word::Cut | Word::Merge => true,
@@ -239,7 +239,7 @@ impl Word {
         }
     }
 
-    // Its arguments and its help.
+    // Adds the arguments and the help of the word.
     fn command<'a>(self, alloc: Global) -> Result<Command<'a>, AllocError> {
         let command = Command::new(alloc, self.name()).after_help(STATUSES);
         match self {
@@ -255,7 +255,7 @@ impl Word {
     }
 }
 
-/// The program's command line.
+/// Returns the command line of the program.
 pub(crate) fn command<'a>(alloc: Global) -> Result<Command<'a>, AllocError> {
     let mut command = program(alloc)?;
     for word in WORDS {
@@ -442,7 +442,7 @@ fn repaired<'a>(alloc: Global) -> Arg<'a> {
     flag(alloc, REPAIRED).help(REPAIRED_HELP)
 }
 
-// The spelling that --repair had in version 0.2.
+// Returns the spelling that `--repair` had in version 0.2.
 fn once_as_is<'a>(alloc: Global) -> Arg<'a> {
     flag(alloc, AS_IS).hide(true)
 }

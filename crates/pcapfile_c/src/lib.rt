@@ -14,6 +14,7 @@ mod blocks_as_is;
 mod bodies;
 mod cuts;
 pub mod laws;
+mod link_field;
 mod options;
 mod pcap;
 mod push;

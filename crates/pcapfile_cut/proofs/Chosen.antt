@@ -1,4 +1,4 @@
--- The packets that are wanted, one packet after another.
+-- Lemmas on the wanted packets, one packet after another.
 use Rattle.std.proofs.Common.{◌≡◌, ◌<◌, ◌≤◌, ◌+◌, ◌-◌, ℕ, List, [], ◌∷◌, ◌++◌, length, take, drop, Bool, true, false, refl, sym, arith, append-nil, length-append, inl, inr}
 use Rattle.std.specs.Prelude.{◌&&◌, if◌then◌else◌, nat_le}
 use Rattle.std.proofs.lemmas.Bool.{cases_lt}
@@ -10,7 +10,7 @@ use Rattle.pcapfile_cut.specs.declared.wanted.Wanted.{Wanted}
 use Rattle.pcapfile_cut.specs.declared.wanted.Wanted.TheVariants.{All, Numbers, Times, Bytes}
 use Rattle.pcapfile_cut.specs.Choice.{Stored, chosen, is_within, takes, time_of}
 
--- one more, where the test says so
+-- A list of one element if the test holds, and of none otherwise.
 abbrev pub one_if : {X : Type 0} → Bool → X → List X
 one_if b x = if b then x ∷ [] else []
 
@@ -56,7 +56,7 @@ chosen_none (Numbers first last) =
 chosen_none (Times from until) = refl
 chosen_none (Bytes most) = refl
 
--- one packet more is wanted where its number or its time says so
+-- One more packet is wanted if its number or its time is.
 pub chosen_push : (wanted : Wanted) (ps : List Stored) (p : Stored) → chosen wanted (ps ++ p ∷ []) ≡ chosen wanted ps ++ one_if (takes wanted (length ps + 1) p.packet.header) p
 chosen_push All ps p = refl
 chosen_push (Numbers first last) ps p = numbers_push first last ps p

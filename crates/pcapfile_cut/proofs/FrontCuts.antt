@@ -1,4 +1,4 @@
--- What a cut says of the front of the bytes behind a header.
+-- Lemmas on a cut of known bytes in terms of their front.
 use Rattle.std.proofs.Common.{◌≡◌, ◌+◌, ℕ, List, [], ◌∷◌, ◌++◌, length, Option, Some, None, refl, sym, ap, ◌∙◌, subst, append_assoc, append-nil, inl, inr, lit<}
 use Rattle.std.specs.Prelude.{All}
 use Rattle.std.specs.Option.{IsSomeAnd}
@@ -24,7 +24,7 @@ use Rattle.pcapfile_cut.proofs.Chosen.{chosen_push, one_if}
 lawful : (header : PcapHeader) → IsLawful (packets_under header)
 lawful header = under_lawful packet_limit header
 
--- stored packets are texts
+-- Packets with their bytes are texts of the format.
 pub stored_texts : (header : PcapHeader) (xs : List Stored) (rest : List ℕ) → All (IsStored header) xs → Texts (packets_under header) tt (packets_of xs) (text_of xs ++ rest) rest
 stored_texts header [] rest each = refl
 stored_texts header (x ∷ xs) rest each =
@@ -34,7 +34,7 @@ stored_texts header (x ∷ xs) rest each =
     let text : f.says tt (x.text ++ behind) (whole x.packet behind) = ((lawful header).stable tt).text x.text behind [] x.packet is in
     (behind, subst (λ (t : List ℕ). f.says tt t (whole x.packet behind)) (sym (append_assoc x.text (text_of xs) rest)) text, stored_texts header xs rest (All-tail (IsStored header) x xs each))
 
--- texts are stored packets
+-- Texts of the format are packets with their bytes.
 pub store : (header : PcapHeader) (vs : List Captured) (s rest : List ℕ) → Texts (packets_under header) tt vs s rest
     → (xs : List Stored) × (packets_of xs ≡ vs) × All (IsStored header) xs × (s ≡ text_of xs ++ rest)
 store header [] s rest texts = ([], refl, All-nil (IsStored header), texts)
@@ -48,7 +48,7 @@ store header (v ∷ vs) s rest texts =
       one.1 ∙ ap (λ (t : List ℕ). one.0 ++ t) more.3 ∙ sym (append_assoc one.0 (text_of more.0) rest),
     )
 
--- the packets that are wanted of the first ones are the first that are wanted
+-- The wanted ones of the first packets are the first wanted packets.
 pub chosen_append : (wanted : Wanted) (xs ys : List Stored) → (others : List Stored) × (chosen wanted (xs ++ ys) ≡ chosen wanted xs ++ others)
 chosen_append wanted xs [] = ([], ap (chosen wanted) (append-nil xs) ∙ sym (append-nil (chosen wanted xs)))
 chosen_append wanted xs (y ∷ ys) =
@@ -66,7 +66,7 @@ some_more : {P Q : PcapError → Type 0} (fault : Option PcapError) → ((e : Pc
 some_more None step is = absurd is
 some_more (Some e) step is = step e is
 
--- the packet that was taken is the next of the front
+-- The packet that was read is the next packet of the front.
 next_of : (header : PcapHeader) (packet : Captured) (t left rest : List ℕ) (now : Option (List ℕ)) (more : List Captured) → Front (packets_under header) tt more left rest
     → PacketIsSaid header t (whole packet []) → Consumes (Some left) now t → (others : List Captured) × (more ≡ packet ∷ others)
 next_of header packet t left rest None more front is took = absurd took

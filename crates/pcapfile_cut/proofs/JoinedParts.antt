@@ -1,4 +1,4 @@
--- Parts that are cut and joined.
+-- Lemmas on parts that are cut and joined.
 use Rattle.std.proofs.Common.{◌≡◌, ◌≤◌, ℕ, List, [], ◌∷◌, ◌++◌, length, drop, Option, Some, None, refl, sym, ap, ◌∙◌, subst, arith, append_assoc, append-nil, length-append, inl, inr}
 use Rattle.std.specs.Prelude.{All as Each}
 use Rattle.std.specs.List.{flat_map}
@@ -27,7 +27,7 @@ use Rattle.pcapfile_cut.specs.Joins.{JoinsPart}
 use Rattle.pcapfile_cut.specs.Openings.{bytes_of, header_of}
 use Rattle.pcapfile_cut.proofs.FrontCuts.{stored_texts}
 
--- where all packets that are passed are wanted, all are chosen
+-- If every packet that is read is wanted, all are chosen.
 chosen_all : (wanted : Wanted) (packets : List Stored) → TakesAll wanted → LastIsWanted wanted packets → chosen wanted packets ≡ packets
 chosen_all All packets is needed = refl
 chosen_all (Numbers first last) packets is needed =
@@ -43,7 +43,7 @@ none_fails : (P : PcapError → Type 0) (fault : Option PcapError) → fault ≡
 none_fails P None fine is = is
 none_fails P (Some e) fine is = absurd cc
 
--- a cut without a fault ended whole
+-- A cut without an error ended at the end of the stream or of the wanted packets.
 ended : (header : PcapHeader) (wanted : Wanted) (packets : List Stored) (left now mid out_now : Option (List ℕ)) (outcome : Outcome) → outcome.fault ≡ None
     → Ends header wanted packets left now mid out_now outcome → EndsWhole wanted left now mid out_now outcome
 ended header wanted packets left now mid out_now outcome fine ends =
@@ -52,7 +52,7 @@ ended header wanted packets left now mid out_now outcome fine ends =
       | inr fault ↦ elim fault.1 [ inl tear ↦ absurd (none_fails IsIo outcome.fault fine tear.refused) | inr refuses ↦ absurd (none_fails (HasCause (PacketIsSaid header) left outcome.read_failed) outcome.fault fine refuses.refused) ]
     ]
 
--- a part is the opening and what was taken
+-- A part is the opening and the bytes that the cut read.
 cut_part_is : (opening : Opening) (wanted : Wanted) (s behind part : List ℕ) (outcome : Outcome) → TakesAll wanted → OpensPart opening wanted (Some s) (Some behind) (Some []) (Some part) outcome → outcome.fault ≡ None
     → (xs : List Stored) × (part ≡ bytes_of opening ++ text_of xs) × (s ≡ text_of xs ++ behind) × Each (IsStored (header_of opening)) xs
 cut_part_is opening wanted s behind part outcome all opens fine =
@@ -70,7 +70,7 @@ at_end : (t text : List ℕ) (left : Option (List ℕ)) → Consumes (Some t) le
 at_end t text None took end = absurd took
 at_end t text (Some rest) took end = took ∙ ap (λ (l : List ℕ). text ++ l) end ∙ append-nil text
 
--- all of a part goes out
+-- All packets of a part are written.
 all_goes : (header : PcapHeader) (t out mid : List ℕ) (now : Option (List ℕ)) (outcome : Outcome) → CutsBehind header All (Some t) now (Some out) (Some mid) outcome
     → outcome.fault ≡ None → WantsMore All outcome.packets outcome.bytes → mid ≡ out ++ t
 all_goes header t out mid now outcome cuts fine more =
@@ -110,7 +110,7 @@ opened_known : (front : List ℕ) (behind : Option (List ℕ)) → Appends (Some
 opened_known front None opened = absurd opened
 opened_known front (Some b) opened = ap Some opened
 
--- the first part goes out as it is
+-- The first part is written unchanged.
 first_is : (opening : Opening) (behind first_out : List ℕ) (now : Option (List ℕ)) (outcome : Outcome) → OpensPart opening All (Some behind) now (Some []) (Some first_out) outcome → outcome.fault ≡ None
     → WantsMore All outcome.packets outcome.bytes → first_out ≡ bytes_of opening ++ behind
 first_is opening behind first_out now outcome opens fine more =
@@ -118,7 +118,7 @@ first_is opening behind first_out now outcome opens fine more =
     subst (λ (b : Option (List ℕ)). CutsBehind (header_of opening) All (Some behind) now b (Some first_out) outcome) (opened_known (bytes_of opening) opens.behind opens.opened) opens.cuts in
     all_goes (header_of opening) behind (bytes_of opening) first_out now outcome cuts fine more
 
--- the parts of a cut, joined, are the opening and the bytes that were cut
+-- The parts of a cut, joined, are the opening and the bytes that were cut.
 pub parts_join : (opening : Opening) (wanted : Wanted) (wants : List Wanted) (part behind : List ℕ) (parts : List (List ℕ)) (s left first_out out : List ℕ) (now : Option (List ℕ)) (outcome : Outcome)
     → CutsInto opening (wanted ∷ wants) (part ∷ parts) s left → part ≡ bytes_of opening ++ behind → OpensPart opening All (Some behind) now (Some []) (Some first_out) outcome
     → outcome.fault ≡ None → WantsMore All outcome.packets outcome.bytes → JoinsOthers opening parts first_out out → out ++ left ≡ bytes_of opening ++ s
@@ -131,7 +131,7 @@ parts_join opening wanted wants part behind parts s left first_out out now outco
     ∙ ap (λ (l : List ℕ). l ++ this.0) (first ∙ ap (λ (l : List ℕ). bytes_of opening ++ l) same) ∙ append_assoc (bytes_of opening) (text_of cut.0) this.0
     ∙ ap (λ (l : List ℕ). bytes_of opening ++ l) (sym cut.2)
 
--- the packets of parts that are cut one after another
+-- Parts that are cut one after another have all packets in between.
 pub parts_hold : (opening : Opening) (wants : List Wanted) (parts : List (List ℕ)) (s left : List ℕ) → CutsInto opening wants parts s left → HoldsPackets opening parts s left
 parts_hold opening [] [] s left cuts = record { packets = []; each = tt; all = cuts }
 parts_hold opening (w ∷ ws) [] s left cuts = absurd cuts

@@ -1,4 +1,4 @@
--- Packets that are passed, one after another.
+-- Lemmas on the packets that a cut reads, one after another.
 use Rattle.std.proofs.Common.{◌≡◌, Err, ◌+◌, ℕ, List, [], ◌∷◌, ◌++◌, length, Bool, true, false, Option, refl, sym, ap, ◌∙◌, subst, arith, append-nil, length-append, inl, inr}
 use Rattle.std.specs.Prelude.{if◌then◌else◌}
 use Rattle.std.specs.Io.KnownBytes.{Appends, Consumes}
@@ -20,11 +20,11 @@ text_if : (b : Bool) (x : Stored) → text_of (one_if b x) ≡ (if b then x.text
 text_if true x = append-nil x.text
 text_if false x = refl
 
--- the bytes of one packet more
+-- The bytes of one more packet.
 text_push : (xs : List Stored) (x : Stored) → text_of (xs ++ x ∷ []) ≡ text_of xs ++ x.text
 text_push xs x = flat_map-append (λ (stored : Stored). stored.text) xs (x ∷ []) ∙ ap (λ (t : List ℕ). text_of xs ++ t) (append-nil x.text)
 
--- the bytes of one packet more that is wanted where a test says so
+-- The bytes of one more packet, if the test says that it is wanted.
 chosen_text_push : (wanted : Wanted) (xs : List Stored) (x : Stored)
     → text_of (chosen wanted (xs ++ x ∷ [])) ≡ text_of (chosen wanted xs) ++ (if takes wanted (length xs + 1) x.packet.header then x.text else [])
 chosen_text_push wanted xs x =
@@ -33,7 +33,7 @@ chosen_text_push wanted xs x =
     ∙ ap (λ (t : List ℕ). text_of (chosen wanted xs) ++ t) (text_if b x)
 
 module _ (header : PcapHeader) (wanted : Wanted) where
-  -- nothing is passed yet
+  -- The cut has read no packets yet.
   pub passes_none : (before out : Option (List ℕ)) (outcome : Outcome) → outcome.packets ≡ 0 → outcome.bytes ≡ 0 → Passes header wanted [] before before out out outcome
   passes_none before out outcome none no_bytes = record {
     each = All-nil (IsStored header);
@@ -44,7 +44,7 @@ module _ (header : PcapHeader) (wanted : Wanted) where
     needed = inl refl;
   }
 
-  -- one packet more
+  -- The cut reads one more packet.
   pub passes_more : (xs : List Stored) (before left now out mid out_now : Option (List ℕ)) (old new : Outcome) → Passes header wanted xs before left out mid old
       → WantsMore wanted old.packets old.bytes → (one : PassesOne header wanted left now mid out_now old new) → Passes header wanted (xs ++ one.stored ∷ []) before now out out_now new
   passes_more xs before left now out mid out_now old new so_far wants one =
@@ -64,7 +64,7 @@ module _ (header : PcapHeader) (wanted : Wanted) where
         needed = inr (xs, x, refl, last);
       }
 
-  -- the packet in whose text a write failed is wanted
+  -- The packet in which a write failed is wanted.
   pub torn_wanted : (xs : List Stored) (n : ℕ) (x : Stored) → n ≡ length xs → takes wanted (n + 1) x.packet.header ≡ true → chosen wanted (xs ++ x ∷ []) ≡ chosen wanted xs ++ x ∷ []
   torn_wanted xs n x count is =
       let here : takes wanted (length xs + 1) x.packet.header ≡ true = subst (λ (k : ℕ). takes wanted (k + 1) x.packet.header ≡ true) count is in
@@ -84,7 +84,7 @@ module _ (header : PcapHeader) (wanted : Wanted) where
   wants_same : (p q a b : ℕ) → q ≡ p → b ≡ a → WantsMore wanted p a → WantsMore wanted q b
   wants_same p q a b packets bytes wants = subst (λ (k : ℕ). WantsMore wanted q k) (sym bytes) (subst (λ (n : ℕ). WantsMore wanted n a) (sym packets) wants)
 
-  -- the next packet is refused, or a write failed in it
+  -- The next packet is truncated or malformed, or a write failed in it.
   pub ends_refused : (xs : List Stored) (before left now out mid out_now : Option (List ℕ)) (old new : Outcome) (e : PcapError) → Passes header wanted xs before left out mid old
       → WantsMore wanted old.packets old.bytes → StepsCut header wanted left now mid out_now old new (Err e) → CutsBehind header wanted before now out out_now (outcome_of new (Err e))
   ends_refused xs before left now out mid out_now old new e so_far wants found = record {

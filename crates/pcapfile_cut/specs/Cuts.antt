@@ -1,4 +1,4 @@
--- What a cut takes and writes.
+-- The bytes that a cut reads and writes.
 use Rattle.std.specs.Prelude.{◌≡◌, ◌+◌, ◌-◌, ◌^◌, ◌++◌, ◌⊎◌, ℕ, List, [], ◌∷◌, length, min, All, Bool, true, false, Option, None, Result, Ok, Err, if◌then◌else◌}
 use Rattle.std.specs.Option.{IsSomeAnd}
 use Rattle.std.specs.Result.{result_err}
@@ -18,39 +18,39 @@ use Rattle.pcapfile_cut.specs.declared.wanted.Wanted.{Wanted}
 use Rattle.pcapfile_cut.specs.Choice.{Stored, WantsMore, chosen, takes, text_of}
 use Rattle.pcapfile_cut.specs.Openings.{bytes_of, header_of}
 
--- a number as it is counted: the largest of 64 bits stands for all above it
+-- A saturated count: 2^64 - 1 for every number above it.
 abbrev pub counted : ℕ → ℕ
 counted n = min n (2 ^ 64 - 1)
 
--- packets behind a header
+-- The format of packets under a header.
 abbrev pub packets_under : PcapHeader → Format (Unit {0}) Captured
 packets_under header = format_under packet_limit header
 
--- what a grammar says of packets behind this header
+-- The verdict of the grammar on the next packet under this header.
 abbrev pub PacketIsSaid : PcapHeader → List ℕ → Verdict Captured → Type 0
 PacketIsSaid header = (packets_under header).says tt
 
--- nothing was passed yet, and nothing failed
+-- A cut that has read no packets, and had no failure.
 pub record IsNew (outcome : Outcome) : Type 0 where
   pub packets : outcome.packets ≡ 0
   pub bytes : outcome.bytes ≡ 0
   pub no_read_failed : outcome.read_failed ≡ false
   pub no_write_failed : outcome.write_failed ≡ false
 
--- a cut that ended with this result
+-- A cut that ended with this result.
 abbrev pub outcome_of : Outcome → Result (Unit {0}) PcapError → Outcome
 outcome_of outcome result = record outcome { fault = result_err result }
 
--- there are no packets, or the last of them was looked for behind those before it
+-- There are no packets, or the cut went on to read the last of them.
 abbrev pub LastIsWanted : Wanted → List Stored → Type 0
 LastIsWanted wanted packets =
     (packets ≡ []) ⊎ ((before : List Stored) × (last : Stored) × (packets ≡ before ++ last ∷ []) × WantsMore wanted (length before) (counted (length (text_of before))))
 
--- the text is the packet's and no more
+-- The text is exactly the packet's bytes.
 abbrev pub IsStored : PcapHeader → Stored → Type 0
 IsStored header stored = PacketIsSaid header stored.text (whole stored.packet [])
 
--- packets were passed and no more, and exactly the bytes of those that are wanted went out
+-- The cut read exactly these packets, and wrote exactly the bytes of the wanted ones.
 pub record Passes (header : PcapHeader) (wanted : Wanted) (packets : List Stored) (before left out mid : Option (List ℕ)) (outcome : Outcome) : Type 0 where
   pub each : All (IsStored header) packets
   pub took : Consumes before left (text_of packets)
@@ -59,7 +59,7 @@ pub record Passes (header : PcapHeader) (wanted : Wanted) (packets : List Stored
   pub bytes : outcome.bytes ≡ counted (length (text_of packets))
   pub needed : LastIsWanted wanted packets
 
--- nothing was refused, nothing more was taken and nothing more went out: the stream is at its end, or no more is wanted
+-- The cut ended without an error, a further read or a further write: the stream is at its end, or no more packets are wanted.
 pub record EndsWhole (wanted : Wanted) (left now mid out_now : Option (List ℕ)) (outcome : Outcome) : Type 0 where
   pub fine : outcome.fault ≡ None
   pub no_read_failed : outcome.read_failed ≡ false
@@ -68,7 +68,7 @@ pub record EndsWhole (wanted : Wanted) (left now mid out_now : Option (List ℕ)
   pub went : Keeps mid out_now
   pub why : IsAtEnd left ⊎ (WantsMore wanted outcome.packets outcome.bytes → ⊥)
 
--- the next packet was taken, which is wanted, and a write failed in its text
+-- The cut read the next packet, which is wanted, and a write failed within its bytes.
 pub record EndsTorn (header : PcapHeader) (wanted : Wanted) (packets : List Stored) (left now mid out_now : Option (List ℕ)) (outcome : Outcome) : Type 0 where
   pub torn : Stored
   pub is_stored : IsStored header torn
@@ -79,20 +79,20 @@ pub record EndsTorn (header : PcapHeader) (wanted : Wanted) (packets : List Stor
   pub write_failed : outcome.write_failed ≡ true
   pub went : AppendsPart mid out_now torn.text
 
--- what is left was refused, a part of it was taken, and nothing more went out
+-- The cut returned an error for the rest after reading part of it, and wrote nothing more.
 pub record EndsRefused (header : PcapHeader) (left now mid out_now : Option (List ℕ)) (outcome : Outcome) : Type 0 where
   pub refused : IsSomeAnd outcome.fault (HasCause (PacketIsSaid header) left outcome.read_failed)
   pub part : TakesAsked (PacketIsSaid header) left now
   pub no_write_failed : outcome.write_failed ≡ false
   pub went : Keeps mid out_now
 
--- why a cut ended behind these packets: more was looked for where there was a fault
+-- The end of a cut after these packets; it ended with an error only if it had to go on.
 abbrev pub Ends : PcapHeader → Wanted → List Stored → Option (List ℕ) → Option (List ℕ) → Option (List ℕ) → Option (List ℕ) → Outcome → Type 0
 Ends header wanted packets left now mid out_now outcome =
     EndsWhole wanted left now mid out_now outcome
     ⊎ (WantsMore wanted outcome.packets outcome.bytes × (EndsTorn header wanted packets left now mid out_now outcome ⊎ EndsRefused header left now mid out_now outcome))
 
--- packets behind a header were passed, and those that are wanted went out, until the cut ended
+-- The cut read packets under a header, and wrote the wanted ones, until it ended.
 pub record CutsBehind (header : PcapHeader) (wanted : Wanted) (before now out out_now : Option (List ℕ)) (outcome : Outcome) : Type 0 where
   pub packets : List Stored
   pub left : Option (List ℕ)
@@ -100,7 +100,7 @@ pub record CutsBehind (header : PcapHeader) (wanted : Wanted) (before now out ou
   pub passes : Passes header wanted packets before left out mid outcome
   pub ends : Ends header wanted packets left now mid out_now outcome
 
--- a write failed in the opening, and nothing was taken or counted
+-- A write failed in the opening, and the cut read and counted nothing.
 pub record TearsOpening (opening : Opening) (before now out out_now : Option (List ℕ)) (outcome : Outcome) : Type 0 where
   pub none : outcome.packets ≡ 0
   pub no_bytes : outcome.bytes ≡ 0
@@ -110,17 +110,17 @@ pub record TearsOpening (opening : Opening) (before now out out_now : Option (Li
   pub taken : Keeps before now
   pub went : AppendsPart out out_now (bytes_of opening)
 
--- the opening went out, and then packets
+-- The cut wrote the opening, and then packets.
 pub record OpensPart (opening : Opening) (wanted : Wanted) (before now out out_now : Option (List ℕ)) (outcome : Outcome) : Type 0 where
   pub behind : Option (List ℕ)
   pub opened : Appends out behind (bytes_of opening)
   pub cuts : CutsBehind (header_of opening) wanted before now behind out_now outcome
 
--- one part: a write failed in its opening, or packets were cut out behind that
+-- One part: a write failed in its opening, or packets follow the opening.
 abbrev pub CutsPart : Opening → Wanted → Option (List ℕ) → Option (List ℕ) → Option (List ℕ) → Option (List ℕ) → Outcome → Type 0
 CutsPart opening wanted before now out out_now outcome = TearsOpening opening before now out out_now outcome ⊎ OpensPart opening wanted before now out out_now outcome
 
--- the next packet was passed, and went out where it is wanted
+-- The cut read the next packet, and wrote it if it is wanted.
 pub record PassesOne (header : PcapHeader) (wanted : Wanted) (before now out out_now : Option (List ℕ)) (old new : Outcome) : Type 0 where
   pub stored : Stored
   pub is_stored : IsStored header stored
@@ -131,7 +131,7 @@ pub record PassesOne (header : PcapHeader) (wanted : Wanted) (before now out out
   pub no_read_failed : new.read_failed ≡ false
   pub no_write_failed : new.write_failed ≡ false
 
--- there is no next packet
+-- There is no next packet.
 pub record FindsEnd (before now out out_now : Option (List ℕ)) (new : Outcome) : Type 0 where
   pub no_read_failed : new.read_failed ≡ false
   pub no_write_failed : new.write_failed ≡ false
@@ -139,7 +139,7 @@ pub record FindsEnd (before now out out_now : Option (List ℕ)) (new : Outcome)
   pub taken : Keeps before now
   pub went : Keeps out out_now
 
--- the next packet was taken, which is wanted, and a write failed in its text
+-- The cut read the next packet, which is wanted, and a write failed within its bytes.
 pub record TearsOne (header : PcapHeader) (wanted : Wanted) (before now out out_now : Option (List ℕ)) (old new : Outcome) (e : PcapError) : Type 0 where
   pub stored : Stored
   pub is_stored : IsStored header stored
@@ -150,14 +150,14 @@ pub record TearsOne (header : PcapHeader) (wanted : Wanted) (before now out out_
   pub write_failed : new.write_failed ≡ true
   pub went : AppendsPart out out_now stored.text
 
--- what is left was refused
+-- The cut returned an error for the rest.
 pub record RefusesOne (header : PcapHeader) (before now out out_now : Option (List ℕ)) (new : Outcome) (e : PcapError) : Type 0 where
   pub refused : HasCause (PacketIsSaid header) before new.read_failed e
   pub part : TakesAsked (PacketIsSaid header) before now
   pub no_write_failed : new.write_failed ≡ false
   pub went : Keeps out out_now
 
--- one step of a cut
+-- One step of a cut.
 abbrev pub StepsCut : PcapHeader → Wanted → Option (List ℕ) → Option (List ℕ) → Option (List ℕ) → Option (List ℕ) → Outcome → Outcome → Result Bool PcapError → Type 0
 StepsCut header wanted before now out out_now old new (Ok true) = PassesOne header wanted before now out out_now old new
 StepsCut header wanted before now out out_now old new (Ok false) = (new.packets ≡ old.packets) × (new.bytes ≡ old.bytes) × FindsEnd before now out out_now new

@@ -1,4 +1,4 @@
--- What a cut says of the front of the bytes behind a header, and what is said of parts that are cut and joined.
+-- A cut of known bytes, in terms of their front, and the parts that are cut and joined.
 use Rattle.std.specs.Prelude.{⊤, ◌≡◌, ◌++◌, ◌⊎◌, ℕ, List, [], ◌∷◌, length, map, Option, None, Some, Bool, true, false}
 use Rattle.std.specs.List.{AllZip, flat_map}
 use Rattle.std.specs.Option.{IsSomeAnd}
@@ -20,36 +20,36 @@ use Rattle.pcapfile_cut.specs.Cuts.{EndsTorn, OpensPart, PacketIsSaid, packets_u
 use Rattle.pcapfile_cut.specs.Joins.{JoinsPart}
 use Rattle.pcapfile_cut.specs.Openings.{bytes_of, header_of}
 
--- the packets alone
+-- The packets without their bytes.
 abbrev pub packets_of : List Stored → List Captured
 packets_of stored = map (λ (s : Stored). s.packet) stored
 
--- no packet of the front is left and nothing behind it, or no more is wanted; and nothing was refused
+-- The cut ended without an error: no bytes are left, or no more packets are wanted.
 pub record EndsAll (wanted : Wanted) (more : List Stored) (rest left : List ℕ) (now mid out_now : Option (List ℕ)) (outcome : Outcome) : Type 0 where
   pub fine : outcome.fault ≡ None
   pub taken : Keeps (Some left) now
   pub went : Keeps mid out_now
   pub why : ((more ≡ []) × (rest ≡ [])) ⊎ (WantsMore wanted outcome.packets outcome.bytes → ⊥)
 
--- the next packet of the front was taken, which is wanted, and a write failed in its text
+-- The cut read the next packet of the front, which is wanted, and a write failed within its bytes.
 pub record TearsNext (header : PcapHeader) (wanted : Wanted) (packets more : List Stored) (left : List ℕ) (now mid out_now : Option (List ℕ)) (outcome : Outcome) : Type 0 where
   pub ends : EndsTorn header wanted packets (Some left) now mid out_now outcome
   pub others : List Captured
   pub next : packets_of more ≡ ends.torn.packet ∷ others
 
--- why packets behind some of the front's were refused: a read failed, or memory, or they are all and the rest is refused
+-- The reason for an error: a read failed, memory ran out, or the front is complete and the rest is truncated or malformed.
 abbrev pub StopsFront : PcapHeader → List Captured → List ℕ → Bool → PcapError → Type 0
 StopsFront header more rest failed e =
     (IsIo e × (failed ≡ true)) ⊎ (IsMemory e × (failed ≡ false)) ⊎ ((more ≡ []) × HasCause (PacketIsSaid header) (Some rest) failed e)
 
--- what is behind the packets was refused: a read failed, or memory, or they are all of the front and the rest is refused
+-- The cut ended with an error after the packets that it read: of a read, of memory, or of the rest after the whole front.
 pub record RefusesRest (header : PcapHeader) (more : List Stored) (rest left : List ℕ) (now mid out_now : Option (List ℕ)) (outcome : Outcome) : Type 0 where
   pub refused : IsSomeAnd outcome.fault (StopsFront header (packets_of more) rest outcome.read_failed)
   pub part : TakesAsked (PacketIsSaid header) (Some left) now
   pub went : Keeps mid out_now
 
--- the packets of the front of s are those that were passed and more; of those that were passed the ones that are wanted went out,
--- which are the first of all of the front that are wanted
+-- The packets of the front of s are those that the cut read, and more. The cut wrote the wanted ones of those that it read, which are the
+-- first wanted ones of the whole front.
 pub record CutsFront (header : PcapHeader) (wanted : Wanted) (s : List ℕ) (now out out_now : Option (List ℕ)) (outcome : Outcome) : Type 0 where
   pub packets : List Stored
   pub more : List Stored
@@ -65,37 +65,36 @@ pub record CutsFront (header : PcapHeader) (wanted : Wanted) (s : List ℕ) (now
   pub ends : EndsAll wanted more rest left now mid out_now outcome ⊎ TearsNext header wanted packets more left now mid out_now outcome
       ⊎ RefusesRest header more rest left now mid out_now outcome
 
--- all packets that are passed are wanted
+-- Every packet that such a cut reads is wanted.
 abbrev pub TakesAll : Wanted → Type 0
 TakesAll All = ⊤
 TakesAll (Numbers first last) = first ≡ 1
 TakesAll (Times from until) = ⊥
 TakesAll (Bytes most) = ⊤
 
--- these parts are cut one after another, each into a writer that held nothing, out of packets whose bytes are s, without a fault;
--- what no part took is left
+-- The packets s are cut into these parts one after another, each into an empty writer, without an error; `left` is in no part.
 abbrev pub CutsInto : Opening → List Wanted → List (List ℕ) → List ℕ → List ℕ → Type 0
 CutsInto opening [] [] s left = s ≡ left
 CutsInto opening (wanted ∷ wants) (part ∷ parts) s left =
     TakesAll wanted × ((behind : List ℕ) × (outcome : Outcome) × OpensPart opening wanted (Some s) (Some behind) (Some []) (Some part) outcome × (outcome.fault ≡ None) × CutsInto opening wants parts behind left)
 CutsInto opening _ _ s left = ⊥
 
--- the part is the opening and the texts of these packets
+-- The part is the opening and the bytes of these packets.
 abbrev pub IsPart : Opening → List Captured → List ℕ → Type 0
 IsPart opening packets part = (text : List ℕ) × (part ≡ bytes_of opening ++ text) × Texts (packets_under (header_of opening)) tt packets text []
 
--- the packets of s up to left are those of the parts, joined
+-- The packets of s before `left` are the packets of the parts, concatenated.
 pub record HoldsPackets (opening : Opening) (parts : List (List ℕ)) (s left : List ℕ) : Type 0 where
   pub packets : List (List Captured)
   pub each : AllZip (IsPart opening) packets parts
   pub all : Texts (packets_under (header_of opening)) tt (flat_map (λ (ps : List Captured). ps) packets) s left
 
--- a part was joined without a fault, and had fewer packets than can be counted
+-- A part was joined without an error, and had fewer packets than can be counted.
 abbrev pub IsJoined : Joined → Type 0
 IsJoined (Packets outcome) = (outcome.fault ≡ None) × WantsMore All outcome.packets outcome.bytes
 IsJoined _ = ⊥
 
--- these parts were joined behind others, one after another
+-- These parts were appended to others, one after another.
 abbrev pub JoinsOthers : Opening → List (List ℕ) → List ℕ → List ℕ → Type 0
 JoinsOthers opening [] out out_now = out_now ≡ out
 JoinsOthers opening (part ∷ parts) out out_now =

@@ -1,4 +1,4 @@
--- What the join of a part takes and writes.
+-- The bytes that the join of a part reads and writes.
 use Rattle.std.specs.Prelude.{◌≢◌, ℕ, List, Bool, Option, Err}
 use Rattle.std.specs.Io.KnownBytes.{Consumes, Keeps}
 use Rattle.pcap_items.specs.Reading.{ReadsTold}
@@ -10,8 +10,8 @@ use Rattle.pcapfile_cut.specs.declared.wanted.Wanted.TheVariants.{All}
 use Rattle.pcapfile_cut.specs.Cuts.{CutsBehind}
 use Rattle.pcapfile_cut.specs.Openings.{bytes_of, header_of}
 
--- one part that is joined behind others: its header is refused, or has other bytes, and nothing goes out; or its packets go out,
--- read under the header of the first part, which has the same bytes
+-- The join of one part: nothing is written if its header can't be read, is malformed or has other bytes than the first. Otherwise its
+-- packets are written, read under the first part's header.
 abbrev pub JoinsPart : Opening → Option (List ℕ) → Option (List ℕ) → Option (List ℕ) → Option (List ℕ) → Joined → Type 0
 JoinsPart first before now out out_now (Unopened e) = ((failed : Bool) × ReadsTold HeaderSays header_of before now failed (Err e)) × Keeps out out_now
 JoinsPart first before now out out_now OtherHeader = ((other : Opening) × Consumes before now (bytes_of other) × (bytes_of other ≢ bytes_of first)) × Keeps out out_now

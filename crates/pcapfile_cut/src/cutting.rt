@@ -1,4 +1,4 @@
-//! Packets that are cut out of a classic capture.
+//! Cutting packets out of a classic capture.
 
 ghost use Rattle.std.specs.Prelude.{◌≡◌, ◌<◌, ◌+◌, ◌^◌, [], true, false, if◌then◌else◌, IsTrue, IfErr, OnOk, MatchResult};
 ghost use Rattle.pcap_items.specs.Held.{held_bytes};
@@ -14,23 +14,23 @@ use pcap_items::stream::{Held, fill_item, put};
 use std::alloc::Global;
 use std::io::{Read, Write};
 
-/// How a cut ended.
+/// The outcome of a cut.
 #[derive(Debug, Drop)]
 pub struct Outcome {
-    /// How many whole packets were passed, those that were cut out among them.
+    /// The number of whole packets that were read, including those that weren't written.
     pub packets: u64,
-    /// How many bytes these packets take. The largest number stands for all above it.
+    /// The number of bytes of these packets, at most 2^64 - 1.
     pub bytes: u64,
-    /// Why the cut ended before the end of the capture and before the last packet that is wanted.
+    /// The error that ended the cut before the end of the capture and before the last wanted packet. `None` if there was none.
     pub fault: Option<PcapError>,
-    /// Whether a read failed.
+    /// True if a read failed.
     pub read_failed: bool,
-    /// Whether a write failed.
+    /// True if a write failed.
     pub write_failed: bool,
 }
 
 impl Outcome {
-    // A cut of which nothing is done.
+    // Returns the outcome of a cut that has done nothing.
     pub(crate) fn none() -> Outcome
         ensures { IsNew result }
     {
@@ -44,13 +44,13 @@ impl Outcome {
     }
 }
 
-/// Writes a part of a capture: its opening, and the packets that are wanted, as their bytes stood. The input stands behind the
-/// opening, or behind an earlier part.
+/// Writes one part of a capture: its opening, and the bytes of the wanted packets. The caller has read the opening, or an
+/// earlier part, from the input.
 ///
-/// Where there is no fault exactly the packets that are counted were taken: they end with the input, or with the last one that is
-/// wanted. A rest that is refused gives what `PcapReader` gives there, all that is wanted before it has gone out, and no more of
-/// it was taken than was missing. `IoError` also where a write failed: a beginning of the text that comes next has gone out then,
-/// and that packet was taken. `OutOfMemory` where a packet can't be held.
+/// Without an error, the function has read exactly the packets that it counts, up to the end of the input or the last wanted
+/// one. For a truncated or malformed rest it returns the error of `PcapReader`, after it has written all wanted packets before.
+/// It then has read no more of the rest than was missing. `IoError` also if a write failed: the output then has a beginning of
+/// the next bytes, and that packet has been read. `OutOfMemory` if there is no memory for a packet.
 pub fn cut_part<R: Read, W: Write>(
     alloc: Global,
     opening: &Opening,
@@ -65,7 +65,7 @@ pub fn cut_part<R: Read, W: Write>(
     outcome
 }
 
-// Writes the opening and the packets, and counts these.
+// Writes the opening and the packets, and counts the packets.
 fn cut_under<R: Read, W: Write>(
     alloc: Global,
     opening: &Opening,
@@ -82,7 +82,7 @@ fn cut_under<R: Read, W: Write>(
     cut_packets(alloc, opening.header(), input, output, wanted, outcome)
 }
 
-// Writes the packets that are wanted, and counts all that are passed.
+// Writes the wanted packets, and counts all packets that it reads.
 pub(crate) fn cut_packets<R: Read, W: Write>(
     alloc: Global,
     header: &PcapHeader,
@@ -105,7 +105,7 @@ pub(crate) fn cut_packets<R: Read, W: Write>(
     Ok(())
 }
 
-// Passes the next packet, which is held meanwhile, writes it where it is wanted, and says whether there was one.
+// Reads the next packet, writes it if it is wanted, and returns whether there was one.
 fn cut_next<R: Read, W: Write>(
     header: &PcapHeader,
     input: &mut R,
@@ -140,7 +140,7 @@ fn cut_next<R: Read, W: Write>(
     Ok(true)
 }
 
-// Writes the bytes where they are wanted.
+// Writes the bytes if they are wanted.
 fn put_if<W: Write>(
     output: &mut W,
     has_failed: &mut bool,

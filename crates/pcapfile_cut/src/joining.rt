@@ -1,4 +1,4 @@
-//! Parts of a classic capture that are joined.
+//! Joining parts of a classic capture.
 
 ghost use Rattle.pcapfile_cut.specs.Joins.{JoinsPart};
 
@@ -9,21 +9,21 @@ use pcap_core::PcapError;
 use std::alloc::Global;
 use std::io::{Read, Write};
 
-/// How a part was joined.
+/// The outcome of joining a part.
 #[derive(Debug, Drop)]
 pub enum Joined {
-    /// Its header can't be read, or is refused. Nothing was written.
+    /// The part's header can't be read, or is malformed. Nothing was written.
     Unopened(PcapError),
-    /// Its header has other bytes. Nothing was written.
+    /// The part's header has other bytes than the first part's. Nothing was written.
     OtherHeader,
-    /// Its packets were written so.
+    /// The part's packets were written, with this outcome.
     Packets(Outcome),
 }
 
-/// Writes the packets of a further part behind those of the first one, which has this opening. The input stands at the part's
-/// beginning.
+/// Appends the packets of a further part to those of the first one, which has this opening. The caller has read nothing of the
+/// part.
 ///
-/// The part's header has to have the same bytes, and is left out; what fails behind it is told as by `cut_part`.
+/// The part's header must have the same bytes, and isn't written again. Errors after it are those of `cut_part`.
 pub fn join_part<R: Read, W: Write>(
     alloc: Global,
     first: &Opening,

@@ -1,4 +1,4 @@
-//! What the words `cut` and `join` of the program `pcapfile` do, over any input and output.
+//! The words `cut` and `join` of the program `pcapfile`, for classic captures over any input and output.
 #![tactic(auto)]
 
 mod cutting;

@@ -11,7 +11,7 @@ use pcap_core::ResultParsing;
 use pcap_items::stream::fill_array;
 use std::io::Read;
 
-/// The header of a classic capture, with its 24 bytes as they stood.
+/// The header of a classic capture, with its 24 bytes.
 #[derive(Clone, Copy, Debug)]
 pub struct Opening {
     pub(crate) header: PcapHeader,
@@ -22,10 +22,10 @@ pub struct Opening {
 impl Opening {
     ghost use Rattle.pcapfile_cut.specs.Openings.{bytes_of, header_of};
 
-    /// Reads the header of a capture off a stream that has not failed, and says whether it failed then. Exactly 24 bytes are
-    /// taken.
+    /// Reads the header of a capture from a stream that hasn't failed, and sets `read_failed` if a read fails. On success it
+    /// has read exactly 24 bytes.
     ///
-    /// `InvalidField` where the magic number is none of the four. `IoError` where a read failed, or the stream ended early.
+    /// `InvalidField` if the magic number is none of the four. `IoError` if a read failed, or the stream ended early.
     pub fn read<R: Read>(input: &mut R, read_failed: &mut bool) -> ResultParsing<Opening>
         requires { read_failed.old ≡ false }
         ensures told { ReadsTold HeaderSays header_of (R.remaining input.old) (R.remaining input.new) read_failed.new result }
@@ -38,7 +38,7 @@ impl Opening {
         Ok(Opening { header, bytes })
     }
 
-    /// The header.
+    /// Returns the header.
     pub fn header(&self) -> &PcapHeader
         ensures header { result.now ≡ header_of self.now }
         ensures valid { IsTrue (is_magic (header_of self.now).magic_number) }
@@ -46,14 +46,14 @@ impl Opening {
         &self.header
     }
 
-    /// Its bytes as they stood.
+    /// Returns the bytes of the header as they were read.
     pub fn bytes(&self) -> &[u8]
         ensures { result.now ≡ bytes_of self.now }
     {
         &self.bytes
     }
 
-    /// Whether the bytes of both are the same.
+    /// Returns whether both openings have the same bytes.
     pub fn is_same(&self, other: &Opening) -> bool
         ensures { IsTrue result ↔ (bytes_of self.now ≡ bytes_of other.now) }
     {

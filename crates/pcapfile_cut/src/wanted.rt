@@ -1,34 +1,35 @@
-//! Which packets are cut out of a capture.
+//! The packets that a cut writes.
 
 ghost use Rattle.std.specs.Prelude.{◌≡◌, ◌↔◌, IsTrue};
 ghost use Rattle.pcapfile_cut.specs.Choice.{WantsMore, takes, time_of};
 
 use pcap_classic::pcap::PacketHeader;
 
-/// Which packets are cut out, of those that stand behind a header or behind an earlier cut.
+/// The packets that a cut writes, out of those after the header or after an earlier cut.
 #[derive(Clone, Copy, Debug, PartialEq, Eq)]
 pub enum Wanted {
-    /// All of them.
+    /// All packets.
     All,
-    /// Those of these numbers, the last one too, where the first packet has number 1. Behind the last one no other is looked at.
+    /// The packets from one number to another, both included; the first packet has number 1. The cut reads nothing after the
+    /// last.
     Numbers {
-        /// The number of the first of them.
+        /// The number of the first wanted packet.
         first: u64,
-        /// The number of the last of them.
+        /// The number of the last wanted packet.
         last: u64,
     },
-    /// Those of these times, in nanoseconds since 1970.
+    /// The packets in a range of time, in nanoseconds since 1970.
     Times {
-        /// The earliest time.
+        /// The earliest wanted time.
         from: u64,
-        /// The time before which they are.
+        /// The end of the range: wanted times are before it.
         until: u64,
     },
-    /// The first ones, up to the first bound of packets at which there are so many bytes. Behind it no other is looked at.
+    /// The first packets, until they have at least this many bytes. The cut reads nothing after them.
     Bytes(u64),
 }
 
-// The time of a packet in nanoseconds since 1970.
+// Returns the time of a packet in nanoseconds since 1970.
 fn nanoseconds(head: &PacketHeader) -> u64
     ensures { result ≡ time_of head.now }
 {
@@ -41,7 +42,7 @@ fn nanoseconds(head: &PacketHeader) -> u64
 }
 
 impl Wanted {
-    // Whether a packet is looked for behind so many packets of so many bytes.
+    // Returns whether the cut goes on after this many packets of this many bytes.
     pub(crate) fn wants_more(self, packets: u64, bytes: u64) -> bool
         ensures { IsTrue result ↔ WantsMore self packets bytes }
     {
@@ -52,7 +53,7 @@ impl Wanted {
         }
     }
 
-    // Whether the packet of this number is one of them.
+    // Returns whether the packet of this number is wanted.
     pub(crate) fn takes(self, number: u64, head: &PacketHeader) -> bool
         ensures { result ≡ takes self number head.now }
     {

@@ -1,4 +1,4 @@
--- Packets that all came by one interface.
+-- Lemmas on packets that all come from one interface.
 use Rattle.std.proofs.Common.{◌≡◌, ◌+◌, ◌++◌, ◌∷◌, [], ℕ, List, length, set, refl, sym, ap, ◌∙◌, subst, arith}
 use Rattle.std.specs.Prelude.{All, count_by, filter, sum_by}
 use Rattle.std.proofs.lemmas.List.{get_or-set_same, length-set}
@@ -14,7 +14,7 @@ use Rattle.pcapfile_info.specs.Tallies.{Tallies}
 use Rattle.pcapfile_info.specs.Telling.{AreSights}
 use Rattle.pcapfile_info.specs.Totals.{AllAre, TotalsAre, IsBelow, packet_in, packets_of, interfaces_in, is_refused, is_section, is_by, is_undescribed}
 
--- none of what is seen is anything else than a packet by interface 0
+-- Every sight is a packet from interface 0.
 record ByOne (sights : List Sight) : Type 0 where
   undescribed : filter is_undescribed (packets_of sights) ≡ []
   by_it : filter (is_by 0) (packets_of sights) ≡ packets_of sights
@@ -39,7 +39,7 @@ by_one n [] (sight ∷ sights) are = absurd are
 by_one n (packet ∷ packets) [] are = absurd are
 by_one n (packet ∷ packets) (sight ∷ sights) (first, are) = subst (λ (s : Sight). ByOne (s ∷ sights)) (sym first) (by_one_more packet sights (by_one (n + interfaces_in sight) packets sights are))
 
--- nothing is counted of no packet
+-- The totals of no items count no packet.
 pub alone_none : (totals : Totals) → TotalsAre 1 [] totals → AllAre [] totals
 alone_none totals nothing = record {
   all = nothing.all;
@@ -49,7 +49,7 @@ alone_none totals nothing = record {
   sections = nothing.sections;
 }
 
--- one packet more
+-- The totals count one more packet.
 pub alone_push : (sights : List Sight) (seen : Seen) (old new : Totals) → AllAre sights old → Tallies (packets_of sights ++ seen ∷ []) new.all → new.undescribed ≡ old.undescribed → new.interfaces ≡ old.interfaces → new.refused ≡ old.refused
     → new.sections ≡ old.sections → AllAre (sights ++ Packet seen ∷ []) new
 alone_push sights seen old new before all undescribed interfaces refused sections = record {
@@ -60,7 +60,7 @@ alone_push sights seen old new before all undescribed interfaces refused section
   sections = sections ∙ before.sections;
 }
 
--- what is counted of all is what is counted by the interface
+-- After the copy, the interface has the counts of all packets.
 pub given_to_it : (packets : List Captured) (sights : List Sight) → AreSights IsPacketSight 1 packets sights → (old new : Totals) → AllAre sights old → new.all ≡ old.all → new.undescribed ≡ old.undescribed
     → new.interfaces.items ≡ set old.interfaces.items 0 old.all → new.refused ≡ old.refused → new.sections ≡ old.sections → TotalsAre 1 sights new
 given_to_it packets sights are old new before all undescribed interfaces refused sections =

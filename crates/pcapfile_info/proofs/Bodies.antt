@@ -1,4 +1,4 @@
--- What is seen of bodies.
+-- Lemmas on what the totals use of bodies.
 use Rattle.std.proofs.Common.{◌≡◌, ℕ, List, Option, Some, None, Result, Ok, Err, IfErr, true, refl, inl, inr}
 use Rattle.pcap_blocks.specs.declared.block_type.BlockType.{BlockType}
 use Rattle.pcap_blocks.specs.declared.block_type.BlockType.TheVariants as types
@@ -15,7 +15,7 @@ use Rattle.pcap_ng.specs.State.{is_kept}
 use Rattle.pcapfile_run.specs.BlockPackets.{InBlock, packet_in}
 use Rattle.pcapfile_info.specs.Sights.{IsBodySight, IsInBlockSight, IsSightOf, IsStoredSight}
 
--- any other body is no packet
+-- A body of any other type has no packet.
 pub other_sight : (described : ℕ) (interfaces : List Interface) (parsed : ParsedBlock)
     → ((b : EnhancedPacketBlock) → parsed ≡ block_of.EnhancedPacket b → ⊥) → ((b : PacketBlock) → parsed ≡ block_of.Packet b → ⊥)
     → ((b : SimplePacketBlock) → parsed ≡ block_of.SimplePacket b → ⊥) → IsBodySight described interfaces (body_of parsed) sights.Other
@@ -29,7 +29,7 @@ other_sight described interfaces (block_of.EnhancedPacket b) no_enhanced no_pack
 other_sight described interfaces (block_of.SystemdJournalExport b) no_enhanced no_packet no_simple = refl
 other_sight described interfaces (block_of.Unknown b) no_enhanced no_packet no_simple = refl
 
--- a packet in a block isn't the description of an interface
+-- A packet in a block isn't the description of an interface.
 in_block_other : (described : ℕ) (interfaces : List Interface) (packet : Option InBlock) → IsInBlockSight described interfaces packet sights.Interface → ⊥
 in_block_other described interfaces (Some packet) is = is
 in_block_other described interfaces None is = absurd cc
@@ -38,7 +38,7 @@ stored_other : (described : ℕ) (interfaces : List Interface) (block : Framed) 
 stored_other described interfaces block (inl (body, rest, says, is)) = in_block_other described interfaces (packet_in interfaces body) is
 stored_other described interfaces block (inr (fault, says, is)) = absurd cc
 
--- the body of a block that describes an interface is kept
+-- The reader keeps the body of a block that describes an interface.
 pub interface_kept : (type : BlockType) (described : ℕ) (interfaces : List Interface) (block : Framed) → IsSightOf type described interfaces block sights.Interface → is_kept type ≡ true
 interface_kept types.SectionHeader described interfaces block is = refl
 interface_kept types.InterfaceDescription described interfaces block is = refl
@@ -50,7 +50,7 @@ interface_kept types.InterfaceStatistics described interfaces block is = absurd 
 interface_kept types.SystemdJournalExport described interfaces block is = absurd cc
 interface_kept (types.Unknown n) described interfaces block is = absurd cc
 
--- what holds anyway is said of each refusal
+-- A fact that always holds also holds of each error.
 pub err_says : {A E : Type 0} (P : Type 0) → P → (result : Result A E) → IfErr result (λ _. P)
 err_says P p (Ok x) = tt
 err_says P p (Err e) = p

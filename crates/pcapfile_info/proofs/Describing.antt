@@ -1,4 +1,4 @@
--- Descriptions and comments, one block after another.
+-- Lemmas on descriptions and comments, one block after another.
 use Rattle.std.proofs.Common.{◌≡◌, ◌<◌, ◌+◌, ◌⊎◌, ◌++◌, ◌∷◌, [], ℕ, List, Bool, true, false, cond, length, map, take, drop, get_or, suc, inl, inr, refl, sym, ap, ◌∙◌, arith, add-one, append_assoc, append-nil, length-append, Option, Some, None}
 use Rattle.std.specs.Prelude.{⊤, count_by, filter, IsSomeAnd, MatchResult, Result, Ok, Err, String, Vec}
 use Rattle.std.specs.Global.{Global}
@@ -40,7 +40,7 @@ given_of (Some x) = refl
 one_given : {E X : Type 0} (h : E → Option X) (e : E) → filter_map h (e ∷ []) ≡ option_to_list (h e)
 one_given h e = given_of (h e)
 
--- what is given of one element more, behind what stood there
+-- One more element appends what it gives.
 pub given_more : {O E X : Type 0} (view : O → E) (h : E → Option X) (items : List O) (i : ℕ) (o : O) (start before after : List X) → i < length items → o ≡ get_or items i o
     → before ≡ start ++ filter_map h (map view (take i items)) → after ≡ before ++ option_to_list (h (view o)) → after ≡ start ++ filter_map h (map view (take (i + 1) items))
 given_more view h items i o start before after less is so_far adds =
@@ -55,7 +55,7 @@ length_some : {X : Type 0} (x : Option X) → IsSomeAnd x (λ given. ⊤) → le
 length_some None some = absurd some
 length_some (Some x) some = refl
 
--- an option that is a comment is one of those among all
+-- If an option is a comment, there is a comment among the options.
 pub some_among : {O : Type 0} (view : O → Entry) (options : List O) (i : ℕ) (o : O) → i < length options → o ≡ get_or options i o
     → IsSomeAnd (under 1 string_in (view o)) (λ given. ⊤) → HasComment (map view options)
 some_among view options i o less is some =
@@ -95,7 +95,7 @@ comments_push : (items : List Item) (item : Item) → comments_in (items ++ item
 comments_push items item =
     flat_map-append (λ (i : Item). commented_by i.block.type_ i.after) items (item ∷ []) ∙ ap (λ (l : List (List ℕ)). comments_in items ++ l) (append-nil (commented_by item.block.type_ item.after))
 
--- one block more
+-- One more block adds its descriptions and comments.
 pub described_more : (first : State) (items : List Item) (block : Framed) (section : Section) (interfaces : List Interface) (old new : Progress) → DescribesBlocks first items old.described.items old.comments.items
     → old.section ≡ counted (1 + count_by is_begin items) → AddsDescribed block.type_ section interfaces old new
     → DescribesBlocks first (items ++ record { block = block; after = within section interfaces } ∷ []) new.described.items new.comments.items
@@ -113,14 +113,14 @@ number_push : (starts : Bool) (number n : ℕ) → number ≡ counted (1 + n) �
 number_push true number n is = omega (arith, is)
 number_push false number n is = omega (arith, is)
 
--- and the number of its section
+-- One more block updates the number of the current section.
 pub section_more : (items : List Item) (block : Framed) (section : Section) (interfaces : List Interface) (old new : Progress) → old.section ≡ counted (1 + count_by is_begin items) → AddsDescribed block.type_ section interfaces old new
     → new.section ≡ counted (1 + count_by is_begin (items ++ record { block = block; after = within section interfaces } ∷ []))
 section_more items block section interfaces old new number adds =
     let item : Item = record { block = block; after = within section interfaces } in
     adds.section_is ∙ number_push (begins block.type_) old.section (count_by is_begin items) number ∙ ap (λ (k : ℕ). counted (1 + k)) (sym (count_push is_begin items item))
 
--- what is described stays where only counts change
+-- Descriptions are unchanged if only counts change.
 pub described_behind : (type : BlockType) (section : Section) (interfaces : List Interface) (old mid new : Progress) → AddsDescribed type section interfaces old mid → SameDescribed mid new → AddsDescribed type section interfaces old new
 described_behind type section interfaces old mid new adds (number, described, comments) = record {
   section_is = number ∙ adds.section_is;
@@ -128,14 +128,14 @@ described_behind type section interfaces old mid new adds (number, described, co
   comments_are = ap (λ (v : Vec (String Global) Global). map string_bytes v.items) comments ∙ adds.comments_are;
 }
 
--- nothing is lost where nothing was added
+-- Nothing is lost if nothing changed.
 pub same_loses : (old new : Progress) → new.described.items ≡ old.described.items → new.comments.items ≡ old.comments.items → LosesNone old new
 same_loses old new described comments = record {
   described_begin = ([], ap (map told_of) described ∙ sym (append-nil (map told_of old.described.items)));
   comments_begin = ([], ap (map string_bytes) comments ∙ sym (append-nil (map string_bytes old.comments.items)));
 }
 
--- the description of an interface was kept, or nothing was
+-- The description of an interface was added, or nothing was.
 pub describes_or_loses : (section : Section) (interfaces : List Interface) (old new : Progress) (r : Result (Unit {0}) AllocError)
     → new.section ≡ old.section → new.comments ≡ old.comments
     → MatchResult r (λ done. map told_of new.described.items ≡ map told_of old.described.items ++ option_to_list (last_description old.section interfaces))
@@ -148,7 +148,7 @@ describes_or_loses section interfaces old new (Ok done) number comments describe
 }
 describes_or_loses section interfaces old new (Err e) number comments described = same_loses old new described (ap (λ (v : Vec (String Global) Global). v.items) comments)
 
--- the comments on a section were kept, or some of them
+-- The comments on a section were added, or some of them.
 pub comments_or_loses : (section : Section) (interfaces : List Interface) (old new : Progress) (r : Result (Unit {0}) AllocError)
     → new.section ≡ counted (old.section + 1) → new.described ≡ old.described
     → MatchResult r (λ done. map string_bytes new.comments.items ≡ map string_bytes old.comments.items ++ comments_among section.options)
@@ -164,14 +164,14 @@ comments_or_loses section interfaces old new (Err e) number described comments =
   comments_begin = comments.0;
 }
 
--- nor where a block's were added
+-- A block that adds descriptions and comments loses none.
 pub adds_loses : (type : BlockType) (section : Section) (interfaces : List Interface) (old mid new : Progress)
     → AddsDescribed type section interfaces old mid → SameDescribed mid new → LosesNone old new
 adds_loses type section interfaces old mid new adds same =
     let all = described_behind type section interfaces old mid new adds same in
     record { described_begin = (described_by type old.section interfaces, all.described_are); comments_begin = (commented_by type (within section interfaces), all.comments_are) }
 
--- what is told of blocks is there behind a step that loses nothing
+-- A step that loses nothing keeps the descriptions and comments of the blocks before it.
 pub front_kept : (first : State) (items : List Item) (old new : Progress) → DescribesBlocks first items old.described.items old.comments.items → LosesNone old new
     → DescribesFront first items new.described.items new.comments.items
 front_kept first items old new told loses = record {
@@ -179,7 +179,7 @@ front_kept first items old new told loses = record {
   comments_begin = (loses.comments_begin.0, loses.comments_begin.1 ∙ ap (λ (l : List (List ℕ)). l ++ loses.comments_begin.0) told.comments_are);
 }
 
--- a run that memory ended says so
+-- A run that ends out of memory reports it.
 pub memory_end : (e : PcapError) (failed : Bool) (end : End) → IsMemory e → FaultIs e failed end → end ≡ Memory
 memory_end (errors.OutOfMemory x) failed Short memory is = absurd is.0
 memory_end (errors.OutOfMemory x) failed (Breaks rule) memory is = absurd is

@@ -1,4 +1,4 @@
--- Enhanced packets that are read where they lie.
+-- Lemmas on enhanced packets that are read in the input's buffer.
 use Rattle.std.proofs.Common.{◌≡◌, ◌-◌, ℕ, List, [], length, refl, sym, subst, ◌∙◌, inl, arith}
 use Rattle.std.specs.List.{slice_get}
 use Rattle.std.proofs.lemmas.Slice.Zip.{AllZip-long}
@@ -34,7 +34,7 @@ packet_said e section interfaces order len body t says =
     let text = subst (λ (o : Endianness). FrameText o (enhanced_frame e len body) t []) (sym order) says.frame in
     omega (arith, enhanced_long e len body t [] text)
 
--- what is seen of an enhanced packet, by its clocks
+-- The data of an enhanced packet follow from the clocks of its section.
 pub packet_seen : (clocks : Clocks) (section : Section) (interfaces : List Interface) → AreInForce clocks (within section interfaces) → (described : ℕ) (packet : EnhancedNumbers) (seen : Seen) (s rest : List ℕ) → (text : PacketText clocks.order packet s rest)
     → Sees (place_of described (length clocks.clocks.items) packet.interface) packet.stored packet.original seen → IsClocked (slice_get clocks.clocks.items packet.interface) packet.units seen.time
     → IsBlockSight described (packet_item clocks.order text.frame.0 text.body (within section interfaces)) (Packet seen)
@@ -47,7 +47,7 @@ packet_seen clocks section interfaces known described packet seen s rest text se
     rw (← long, ← tells.interface_is, ← tells.stored_is, ← tells.original_is, ← tells.units_are) (sees, clocked) in
     inl (EnhancedBody enhanced, text.tells.1, (enhanced, refl, text.tells.2), both)
 
--- a walk goes on with an enhanced packet
+-- A walk continues with an enhanced packet.
 pub walk_on : (clocks : Clocks) (q : State) → AreInForce clocks q → (shown rest after : List ℕ) (mid new next : Progress) (packet : EnhancedNumbers) (seen : Seen) → Walked block_format IsBlockSight 0 KeepsBlocks q q shown rest mid new
     → PacketText clocks.order packet rest after → Sees (place_of (length new.totals.interfaces.items) (length clocks.clocks.items) packet.interface) packet.stored packet.original seen
     → IsClocked (slice_get clocks.clocks.items packet.interface) packet.units seen.time → AddsItem (Packet seen) (length rest - length after) new next → SameDescribed new next → Walked block_format IsBlockSight 0 KeepsBlocks q q shown after mid next

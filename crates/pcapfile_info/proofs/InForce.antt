@@ -1,4 +1,4 @@
--- The section and the interfaces in force, their order and their clocks.
+-- Lemmas on the current section and its interfaces, their byte order and their clocks.
 use Rattle.std.proofs.Common.{◌≡◌, ◌∙◌, ◌-◌, ℕ, List, [], ◌∷◌, ◌++◌, length, map, Option, Some, None, refl, sym, ap, subst, arith, length-append}
 use Rattle.std.specs.Prelude.{MatchOption}
 use Rattle.std.specs.List.{AllZip, slice_get}
@@ -41,18 +41,18 @@ section_in s t is js e = cc
 interfaces_in : (s t : Section) (is js : List Interface) → within s is ≡ within t js → is ≡ js
 interfaces_in s t is js e = cc
 
--- the order is that of the section alone
+-- The byte order depends on the section alone.
 pub order_within : (section : Section) (interfaces : List Interface) → order_at (within section interfaces) ≡ or_big (magic_order section.magic)
 unfolding order_at
 order_within section interfaces = refl
 
--- behind a section header there are none
+-- After a section header its order is in force, with no clocks.
 pub section_followed : (order : Endianness) (clocks : List Clock) (section : Section) (interfaces : List Interface) → order ≡ or_big (magic_order section.magic) → clocks ≡ [] → (before : State)
     → LeadsOn types.SectionHeader before (within section interfaces) → OrderAndClocks order clocks (within section interfaces)
 section_followed order clocks section interfaces named none before leads =
     (named ∙ sym (order_within section interfaces), rw (interfaces_in section leads.0 interfaces [] leads.1, none) tt)
 
--- the last of interfaces behind which one more came is that one
+-- The last interface after one was appended is the appended one.
 last_is : (before interfaces : List Interface) (one last : Interface) → interfaces ≡ before ++ one ∷ [] → slice_get interfaces (length interfaces - 1) ≡ Some last → one ≡ last
 last_is before interfaces one last split at =
     let there : length interfaces - 1 ≡ length before = omega (arith, ap length split, length-append before (one ∷ [])) in
@@ -64,13 +64,13 @@ last_is before interfaces one last split at =
     some_in : (a b : Interface) → Some a ≡ Some b → a ≡ b
     some_in a b e = cc
 
--- the last of them as it is seen
+-- The last parsed interface gives the last interface of the specification.
 pub last_seen : (interfaces : List InterfaceDescriptionBlock) (last : InterfaceDescriptionBlock) → Some last ≡ slice_get interfaces (length interfaces - 1)
     → slice_get (map interface_of interfaces) (length (map interface_of interfaces) - 1) ≡ Some (interface_of last)
 last_seen interfaces last at =
     rw (length-map interfaces interface_of) (slice_get-map interface_of interfaces (length interfaces - 1) ∙ ap (option_map interface_of) (sym at))
 
--- behind an interface description the clock of the last interface is known, too
+-- After an interface description the clock of the last interface is known, too.
 pub interface_followed : (order : Endianness) (old new : List Clock) (section : Section) (interfaces : List Interface) (last : Interface) (clock : Clock) → new ≡ old ++ clock ∷ []
     → slice_get interfaces (length interfaces - 1) ≡ Some last → IsClockOf last clock → (q : State) → OrderAndClocks order old q → LeadsOn types.InterfaceDescription q (within section interfaces) → OrderAndClocks order new (within section interfaces)
 interface_followed order old new section interfaces last clock more at is opening known leads = absurd known
@@ -84,16 +84,16 @@ interface_followed order old new section interfaces last clock more at is (withi
       rw (split, more) (zip_push IsClockOf before old one clock known.1 its),
     )
 
--- a body of a block of this type, read as such
+-- The body of a block of this type is read as a body of this type.
 body_as : (b : Framed) (type : BlockType) (body : Body) (rest : List ℕ) → b.type_ ≡ type → SaysOfBody b (whole body rest) → BodySays (number_in b.endianness) type b.body (whole body rest)
 body_as b type body rest is says = subst (λ (t : BlockType). BodySays (number_in b.endianness) t b.body (whole body rest)) is says
 
--- where a body leads, once it is known
+-- Equal bodies lead to the same state.
 leads_as : (q next : State) (body other : Body) → body ≡ other → leads q body ≡ good next → leads q other ≡ good next
 leads_as q next body other is e = subst (λ (x : Body). leads q x ≡ good next) is e
 
 module _ (section : Section) (interfaces : List Interface) (b : Framed) (after : State) where
-  -- a block leads on by its type
+  -- The type of a block determines how it leads on.
   type_leads : (type : BlockType) → b.type_ ≡ type → MeansIf (is_kept type) (within section interfaces) b (good after) → LeadsOn type (within section interfaces) after
   type_leads types.SectionHeader is m =
       let y = body_as b types.SectionHeader m.0 m.1 is m.2 in
@@ -103,12 +103,12 @@ module _ (section : Section) (interfaces : List Interface) (b : Framed) (after :
       (y.0, sym (good_in (within section (interfaces ++ y.0 ∷ [])) after (leads_as (within section interfaces) after m.0 (InterfaceBody y.0) y.1 m.3)))
   type_leads _ is m = m
 
--- a block that is taken leads on
+-- A block that was read leads from the state before it to the state after it.
 pub taken_leads : (section : Section) (interfaces : List Interface) (item : Item) (t rest : List ℕ) → block_format.says (within section interfaces) t (whole item rest) → LeadsOn item.block.type_ (within section interfaces) item.after
 unfolding block_format
 taken_leads section interfaces item t rest says = type_leads section interfaces item.block item.after item.block.type_ refl says.means
 
--- a first section has no interface
+-- The first section has no interface.
 pub opens_bare : (section : Section) (interfaces : List Interface) (text rest : List ℕ) → OpeningSays text (whole (within section interfaces) rest) → interfaces ≡ []
 opens_bare section interfaces text rest says =
     let m = says.1.means in
@@ -118,7 +118,7 @@ opens_bare section interfaces text rest says =
     by_body (SectionBody s) e = sym (interfaces_in s section [] interfaces (good_in (within s []) (within section interfaces) e))
     by_body _ e = absurd (bad_no_good _ (within section interfaces) e)
 
--- a clock tells the time of its interface
+-- The clock of an interface gives the interface's times.
 clock_tells : (interface : Option Interface) (clock : Option Clock) → MatchOption interface (Unit {0}) (λ x. IsSomeAnd clock (IsClockOf x)) → MatchOption clock (Unit {0}) (λ y. IsSomeAnd interface (λ x. IsClockOf x y))
     → (units : ℕ) (time : Option Timestamp) → IsClocked clock units time → IsTimeSeen interface units time
 clock_tells None None left right units time is = is

@@ -1,4 +1,4 @@
--- Captures of which it is told what they hold.
+-- Lemmas on the information on whole captures.
 use Rattle.std.proofs.Common.{◌≡◌, ◌<◌, ◌≤◌, ◌+◌, ◌^◌, ℕ, List, [], ◌++◌, length, Bool, true, Option, Some, None, Err, inl, inr, refl, sym, ap, ◌∙◌, subst, arith, length-append, append_assoc}
 use Rattle.std.specs.Prelude.{⊤, IfSome, String}
 use Rattle.std.specs.Global.{Global}
@@ -45,11 +45,11 @@ use Rattle.pcapfile_info.specs.Totals.{TotalsAre}
 use Rattle.pcapfile_info.proofs.Describing.{described_to_end}
 use Rattle.pcapfile_info.proofs.Telling.{tells_as}
 
--- what a check finds
+-- The result of a check with these counts and this end.
 abbrev pub checked_of : CaptureFormat → ℕ → ℕ → End → Checked
 checked_of format items bytes end = record { format = format; items = items; bytes = bytes; end = end }
 
--- items that were passed behind so many, as they are told
+-- The information on items that follow the opening.
 module _ {S V : Type 0} (f : Format S V) (laws : IsLawful f) (q : S) (IsSight : ℕ → V → Sight → Type 0) (first : ℕ) (s opening after : List ℕ) (joined : s ≡ opening ++ after) (now : Option (List ℕ)) (failed : Bool) (old new : Progress) (fault : Option PcapError) (checked : Checked) (n : ℕ) where
   informed_left : (vs : List V) (left : Option (List ℕ)) (took : TakesTexts f q vs (Some after) left) → length vs ≤ most_passed → Stops (f.says (state_after f q vs)) left now failed (length vs) most_passed fault
       → (sights : List Sight) → AreSights IsSight first vs sights → TotalsAre first sights new.totals
@@ -85,7 +85,7 @@ module _ {S V : Type 0} (f : Format S V) (laws : IsLawful f) (q : S) (IsSight : 
   items_informed tells none before items bytes end =
       informed_left tells.items tells.run.left tells.run.took tells.run.within tells.run.stops tells.sights tells.are_sights tells.kept before (omega (arith, items, tells.number, none)) (bytes ∙ tells.bytes) end
 
--- the header is refused
+-- The header is malformed or can't be read.
 pub packets_refused : (known now : Option (List ℕ)) (failed : Bool) (e : PcapError) (end : End) (totals : Totals) → TotalsAre 1 [] totals → ReadsTold HeaderSays (λ (header : PcapHeader). header) known now failed (Err e) → FaultIs e failed end
     → IfSome known (λ s. InformsPackets s (checked_of Pcap 0 0 end) None totals)
 packets_refused None now failed e end totals nothing reads is = tt
@@ -102,7 +102,7 @@ packets_refused (Some s) now failed e end totals nothing reads is = (
   ),
 )
 
--- the header is read, and then packets under it
+-- The header is read, and then packets under it.
 pub packets_informed : (header : PcapHeader) (known after now : Option (List ℕ)) (failed : Bool) (old new : Progress) (fault : Option PcapError) (end : End) → old.items ≡ 0 → old.bytes ≡ 24
     → Takes HeaderSays known after header → TellsItems (format_under packet_limit header) tt IsPacketSight 1 (KeepsTotals (TotalsAre 1)) after now failed most_passed old new fault → EndIs fault failed new.items most_passed end
     → IfSome known (λ s. InformsPackets s (checked_of Pcap new.items new.bytes end) (Some header) new.totals)
@@ -115,7 +115,7 @@ packets_informed header (Some s) (Some after) now failed old new fault end items
     let informs = items_informed (format_under packet_limit header) (packets_lawful packet_limit (number_in (order_of header.magic_number)) (resolution_of header.magic_number)) tt IsPacketSight 1 s took.0 after took.2 now failed old new fault checked 0 tells items long (omega arith) refl is in
     (refl, inr (header, after, text, refl, informs.0))
 
--- the first block is refused
+-- The first block is malformed or can't be read.
 pub blocks_refused : (described : List Described) (comments : List (String Global)) → described ≡ [] → comments ≡ [] → (known : Option (List ℕ)) (e : PcapError) (end : End) (totals : Totals) → TotalsAre 0 [] totals
     → RefusesOpening known e → FaultIs e true end → IfSome known (λ s. InformsBlocks s (checked_of PcapNg 0 0 end) None totals None described comments)
 blocks_refused described comments no_described no_comments None e end totals nothing why is = tt
@@ -135,7 +135,7 @@ blocks_refused described comments no_described no_comments (Some s) e end totals
   ),
 )
 
--- the first block is read, and then blocks
+-- The first block is read, and then the blocks after it.
 pub blocks_informed : (told : Option Opened) (known after now : Option (List ℕ)) (text : List ℕ) (first : State) (n : ℕ) → n ≡ length text → n < 2 ^ 64 → (failed : Bool) (old new : Progress) (fault : Option PcapError) (end : End) → old.items ≡ 0 → old.bytes ≡ n
     → TakesText OpeningSays known after text first → TellsItems block_format first IsBlockSight 0 (EndsBlocks fault) after now failed most_passed old new fault → EndIs fault failed (new.items + 1) 18446744073709551615 end → told ≡ opened_at first
     → IfSome known (λ s. InformsBlocks s (checked_of PcapNg (new.items + 1) new.bytes end) None new.totals told new.described.items new.comments.items)
@@ -155,7 +155,7 @@ blocks_informed told (Some s) (Some after) now text first n long room failed old
     (DescribesBlocks first tells.items new.described.items new.comments.items) tells.kept.described is in
     (refl, refl, inr (first, after, opens, opens_as, informs.0, elim ended [ inl memory ↦ inl (memory.0, begun memory.1) | inr d ↦ inr (same d) ]))
 
--- the first block is read, and there is a comment on it
+-- The first block is read, and has a comment.
 pub opens_commented : (known after : Option (List ℕ)) (text : List ℕ) (first : State) → TakesText OpeningSays known after text first → 0 < length (section_comments first)
     → IfSome known OpensCommented
 opens_commented None after text first took some = tt

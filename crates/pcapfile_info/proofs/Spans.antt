@@ -1,4 +1,4 @@
--- Instants that lie in spans.
+-- Lemmas on instants in spans.
 use Rattle.std.proofs.Common.{◌≡◌, ◌<◌, ◌≤◌, ◌+◌, ◌-◌, ◌*◌, ◌/◌, ◌%◌, ◌^◌, ◌⊎◌, ◌++◌, ◌∷◌, [], ℕ, List, Bool, true, false, cond, length, min, max, replicate, inl, inr, refl, sym, ap, ◌∙◌, arith}
 use Rattle.std.specs.Prelude.{All, Contains, count_by, slice_index, slice_set, ◌==◌}
 use Rattle.std.proofs.Math.Nat.{div-div-eq-div-mul, div-mul-le_self, div-one, mul-le-mul_right}
@@ -11,11 +11,11 @@ use Rattle.pcapfile_info.specs.declared.spread.Spread.{Spread}
 use Rattle.pcapfile_info.specs.Spreads.{HasRoom, IsFine, is_at, lies_in, Rows, Spreads}
 use Rattle.pcapfile_info.proofs.Tallying.{count_push, counted_push}
 
--- what is counted of a list goes by its first element and the others
+-- The count over a list is the count of its first element and of the others.
 count_cons : {X : Type 0} (p : X → Bool) (x : X) (xs : List X) → count_by p (x ∷ xs) ≡ cond (p x) 1 0 + count_by p xs
 count_cons p x xs = sum_by-cons (λ y. cond (p y) 1 0) x xs
 
--- what two tests say alike of each element is counted alike
+-- Two tests that agree on each element count the same.
 count_same : {X : Type 0} (p q : X → Bool) (xs : List X) → All (λ x. p x ≡ q x) xs → count_by p xs ≡ count_by q xs
 count_same p q [] same = refl
 count_same p q (x ∷ xs) same =
@@ -30,7 +30,7 @@ count_none p (x ∷ xs) none =
     let one : cond {A = ℕ} (p x) 1 0 ≡ cond false 1 0 = ap (λ (b : Bool). cond {A = ℕ} b 1 0) first in
     omega (arith, count_cons p x xs, one, count_none p xs (All-tail (λ x. p x ≡ false) x xs none))
 
--- a span of twice the width is two spans
+-- A span of twice the width is two spans.
 half_one : (q c : ℕ) → cond (q / 2 == c) 1 0 ≡ cond (q == c * 2) 1 0 + cond (q == c * 2 + 1) 1 0
 half_one q c = elim (cases_eq q (c * 2)) [
   | inl even ↦
@@ -59,14 +59,14 @@ count_both w c (x ∷ xs) =
     ap (λ (q : ℕ). cond (q == c) 1 0) (sym (div-div-eq-div-mul x w 2)) ∙ half_one (x / w) c in
     omega (arith, head, count_both w c xs, count_cons (lies_in (w * 2) c) x xs, count_cons (lies_in w (c * 2)) x xs, count_cons (lies_in w (c * 2 + 1)) x xs)
 
--- spans less than 64 apart are told apart by their remainders
+-- Spans less than 64 apart have different remainders.
 near_same : (a b first last : ℕ) → first ≤ a → a ≤ last → first ≤ b → b ≤ last → last < first + 64 → (a % 64 == b % 64) ≡ (a == b)
 near_same a b first last one two three four few = elim (cases_eq a b) [
   | inl same ↦ eq-eqb (a % 64) (b % 64) (ap (λ (n : ℕ). n % 64) same) ∙ sym (eq-eqb a b same)
   | inr other ↦ ne_eqb (a % 64) (b % 64) (λ at. omega (arith, at, other, one, two, three, four, few)) ∙ sym (ne_eqb a b other)
 ]
 
--- the count at a span's place is that of the span
+-- The count at a span's index is the count of that span.
 pub place_counts : (width first last span slot : ℕ) (xs : List ℕ) → All (λ x. (first ≤ x / width) × (x / width ≤ last)) xs → first ≤ span → span ≤ last → last < first + 64 → span % 64 ≡ slot
     → count_by (is_at width slot) xs ≡ count_by (lies_in width span) xs
 place_counts width first last span slot xs within from to few is =
@@ -74,14 +74,14 @@ place_counts width first last span slot xs within from to few is =
     (All-weaker (λ x. (first ≤ x / width) × (x / width ≤ last)) (λ x. is_at width slot x ≡ lies_in width span x)
     (λ x at. ap (λ (s : ℕ). x / width % 64 == s) (sym is) ∙ near_same (x / width) span first last at.0 at.1 from to few) xs within)
 
--- no instant lies in a span outside of the row
+-- No instant is in a span outside of the row.
 pub outside_none : (width first last span : ℕ) (xs : List ℕ) → All (λ x. (first ≤ x / width) × (x / width ≤ last)) xs → (span < first) ⊎ (last < span) → count_by (lies_in width span) xs ≡ 0
 outside_none width first last span xs within outside =
     count_none (lies_in width span) xs
     (All-weaker (λ x. (first ≤ x / width) × (x / width ≤ last)) (λ x. lies_in width span x ≡ false)
     (λ x at. ne_eqb (x / width) span (λ same. elim outside [ inl before ↦ omega (arith, same, before, at.0) | inr behind ↦ omega (arith, same, behind, at.1) ])) xs within)
 
--- counts of two spans together
+-- The counts of two spans add up.
 pub counted_both : (a b m n : ℕ) → a ≡ counted m → b ≡ counted n → counted (a + b) ≡ counted (m + n)
 counted_both a b m n e f = omega (arith, e, f)
 
@@ -103,7 +103,7 @@ places_push old new width slot more xs x is within long is_more is_new before k 
           there ∙ before k less ∙ ap counted (omega (arith, counts))
     ]
 
--- the first and the last span with one instant more
+-- The first and the last span with one more instant.
 pub first_push : (width first least : ℕ) (xs : List ℕ) (x : ℕ) → least ≡ min first (x / width) → ((early : ℕ) × Contains xs early × (early / width ≡ first)) → (early : ℕ) × Contains (xs ++ x ∷ []) early × (early / width ≡ least)
 first_push width first least xs x is (early, among, at) = elim (cases_lt (x / width) first) [
   | inl less ↦ (x, Contains-push xs x, omega (arith, is, less))
@@ -123,14 +123,14 @@ within_push width first last least most xs x low high within =
     (All-weaker (λ x. (first ≤ x / width) × (x / width ≤ last)) (λ x. (least ≤ x / width) × (x / width ≤ most)) (λ x at. (omega (arith, at.0, low), omega (arith, at.1, high))) xs within)
     (omega (arith, low), omega (arith, high))
 
--- where one instant more has no room, it lies 64 spans from another
+-- If the row has no room for an instant, it is at least 64 spans from another.
 pub finer : (xs : List ℕ) (x : ℕ) (spread : Spread) → Rows xs spread → (HasRoom spread (x / spread.width) → ⊥) → IsFine (xs ++ x ∷ []) (spread.width * 2)
 finer xs x spread rows full =
     let least = first_push spread.width spread.first (min spread.first (x / spread.width)) xs x refl rows.first in
     let most = last_push spread.width spread.last (max spread.last (x / spread.width)) xs x refl rows.last in
     inr (spread.width, least.0, most.0, refl, least.1, most.1, omega (arith, full, least.2, most.2))
 
--- spans of twice the width
+-- Every instant is in a span of twice the width.
 pub half_within : (width first last : ℕ) (xs : List ℕ) → All (λ x. (first ≤ x / width) × (x / width ≤ last)) xs → All (λ x. (first / 2 ≤ x / (width * 2)) × (x / (width * 2) ≤ last / 2)) xs
 half_within width first last xs within =
     All-weaker (λ x. (first ≤ x / width) × (x / width ≤ last)) (λ x. (first / 2 ≤ x / (width * 2)) × (x / (width * 2) ≤ last / 2))
@@ -139,7 +139,7 @@ half_within width first last xs within =
 half_first : (width first : ℕ) (xs : List ℕ) → ((early : ℕ) × Contains xs early × (early / width ≡ first)) → (early : ℕ) × Contains xs early × (early / (width * 2) ≡ first / 2)
 half_first width first xs (early, among, at) = (early, among, sym (div-div-eq-div-mul early width 2) ∙ ap (λ (n : ℕ). n / 2) at)
 
--- at each place stands the count of a span of twice the width
+-- The count at each index is that of a span of twice the width.
 abbrev pub IsHalved : Spread → ℕ → List ℕ → ℕ → Type 0
 IsHalved spread first packets slot =
     (span : ℕ) × (first ≤ span) × (span < first + 64) × (span % 64 ≡ slot) × ((instants : List ℕ) → Rows instants spread → slice_index packets slot ≡ counted (count_by (lies_in (spread.width * 2) span) instants))
@@ -174,7 +174,7 @@ halved_more spread first old new slot count span within long is_new before from 
       (known.0, known.1, known.2, known.3, λ instants rows. there ∙ known.4 instants rows)
 ]
 
--- a row that has no room for an instant has spans that can be twice as wide
+-- If a row has no room for an instant, its spans can be twice as wide.
 pub narrow : (spread : Spread) (x : ℕ) → x < 2 ^ 64 → (HasRoom spread (x / spread.width) → ⊥) → spread.width < 2 ^ 63
 narrow spread x small full = elim (cases_lt spread.last 64) [
   | inl few ↦
@@ -183,7 +183,7 @@ narrow spread x small full = elim (cases_lt spread.last 64) [
   | inr many ↦ omega (arith, spread.bounded, mul-le-mul_right spread.width many)
 ]
 
--- and in these all are nearer to one another
+-- With wider spans all instants are fewer spans apart.
 pub nearer : (spread new : Spread) (x : ℕ) → (HasRoom spread (x / spread.width) → ⊥) → new.width ≡ spread.width * 2 → new.first ≡ spread.first / 2 → new.last ≡ spread.last / 2
     → max new.last (x / new.width) - min new.first (x / new.width) < max spread.last (x / spread.width) - min spread.first (x / spread.width)
 nearer spread new x full width first last =
@@ -208,7 +208,7 @@ new_rows x new slot within is width first last packets =
       fine = inl width;
     }
 
--- spans stay fine with one instant more
+-- Spans of this width are still needed with one more instant.
 pub fine_more : (xs : List ℕ) (x width : ℕ) → IsFine xs width → IsFine (xs ++ x ∷ []) width
 fine_more xs x width (inl one) = inl one
 fine_more xs x width (inr (half, early, late, twice, first, last, far)) = inr (half, early, late, twice, Contains-append_left xs (x ∷ []) early first, Contains-append_left xs (x ∷ []) late last, far)

@@ -1,4 +1,4 @@
--- One packet more.
+-- Lemmas on counting one more packet.
 use Rattle.std.proofs.Common.{◌≡◌, ◌<◌, ◌+◌, ◌++◌, ◌∷◌, [], ℕ, List, Bool, true, false, cond, Option, None, Some, length, inl, inr, refl, sym, ap, ◌∙◌, subst, arith, length-append, append-nil}
 use Rattle.std.specs.Prelude.{All, Contains, count_by, filter, sum_by, slice_index, slice_set}
 use Rattle.std.proofs.lemmas.Bool.{cases_eq, eq-eqb, ne_eqb}
@@ -12,11 +12,11 @@ use Rattle.pcapfile_info.specs.declared.spread.Spread.{Spread}
 use Rattle.pcapfile_info.specs.declared.tally.Tally.{Tally}
 use Rattle.pcapfile_info.specs.Tallies.{instant_of, instants_of, IsAfter, IsBefore, IsFirst, IsFirstOf, IsFirstWith, IsSpread, IsSpreadWith, Tallies, times_of, size_class, is_of_class}
 
--- counting goes on where it stopped
+-- A saturated count continues from where it was.
 pub counted_push : (a n k : ℕ) → a ≡ counted n → counted (a + k) ≡ counted (n + k)
 counted_push a n k e = omega (arith, e)
 
--- times are ordered
+-- Times are ordered.
 before_itself : (t : Timestamp) → IsBefore t t → ⊥
 before_itself t before = grind (arith, before)
 
@@ -29,7 +29,7 @@ before_later s t u one none = grind (arith, one, none)
 after_later : (s t u : Timestamp) → IsAfter s t → (IsAfter u t → ⊥) → IsAfter s u
 after_later s t u one none = grind (arith, one, none)
 
--- the first of times, and of the times of packets, behind one more
+-- The first time after one more time or one more packet.
 module _ (Comes : Timestamp → Timestamp → Type 0) (itself : (t : Timestamp) → Comes t t → ⊥) (both : (s t : Timestamp) → Comes s t → Comes t s → ⊥) (later : (s t u : Timestamp) → Comes s t → (Comes u t → ⊥) → Comes s u) where
   first_push : (times : List Timestamp) (known : Option Timestamp) (time first : Timestamp) → IsFirst Comes times known → IsFirstOf Comes known time first → IsFirst Comes (times ++ time ∷ []) (Some first)
   first_push times None time first none is =
@@ -54,7 +54,7 @@ module _ (Comes : Timestamp → Timestamp → Type 0) (itself : (t : Timestamp) 
   first_behind packets known seen (Some time) (Some first) is before with =
       rw (filter_map-append (λ (p : Seen). p.time) packets (seen ∷ []), is) (first_push (times_of packets) known time first before with)
 
--- the spread over time of packets behind one more
+-- The spread after one more packet.
 module _ (packets : List Seen) (known spread : Option Spread) where
   spread_behind : (seen : Seen) (time : Option Timestamp) → seen.time ≡ time → IsSpread (instants_of packets) known → IsSpreadWith known time spread → IsSpread (instants_of (packets ++ seen ∷ [])) spread
   spread_behind seen None is before with =
@@ -62,7 +62,7 @@ module _ (packets : List Seen) (known spread : Option Spread) where
   spread_behind seen (Some time) is before with =
       rw (filter_map-append (λ (p : Seen). p.time) packets (seen ∷ []), is, map-append instant_of (times_of packets) (time ∷ [])) (with (instants_of packets) before)
 
--- one of a class more
+-- One more element is one of a class or none.
 one_or_none : {X : Type 0} (x : X) (b : Bool) → length (cond b (x ∷ []) []) ≡ cond b 1 0
 one_or_none x true = refl
 one_or_none x false = refl

@@ -1,4 +1,4 @@
--- Items of which it is told what is seen, one after another.
+-- Lemmas on a run over items, one item after another.
 use Rattle.std.proofs.Common.{◌≡◌, ◌<◌, ◌≤◌, ◌+◌, ◌^◌, ℕ, List, [], ◌∷◌, ◌++◌, length, Bool, false, Option, Some, refl, sym, ap, ◌∙◌, subst, arith, length-append}
 use Rattle.std.specs.Prelude.{sum_by}
 use Rattle.std.proofs.KnownBytes.{Consumes-nil, Consumes-trans}
@@ -18,7 +18,7 @@ use Rattle.pcapfile_info.specs.declared.totals.Totals.{Totals}
 use Rattle.pcapfile_info.specs.Telling.{AddsItem, AddsNothing, AreSights, SameCounts, Telling, TellsItems}
 use Rattle.pcapfile_info.specs.Totals.{TotalsAre, interfaces_in}
 
--- one item more, of which this is seen
+-- One more sight belongs to one more item.
 pub sights_push : {V : Type 0} (IsSight : ℕ → V → Sight → Type 0) (n : ℕ) (vs : List V) (sights : List Sight) (v : V) (sight : Sight) → AreSights IsSight n vs sights
     → IsSight (n + sum_by interfaces_in sights) v sight → AreSights IsSight n (vs ++ v ∷ []) (sights ++ sight ∷ [])
 sights_push IsSight n [] [] v sight are is = (subst (λ (m : ℕ). IsSight m v sight) (omega arith) is, tt)
@@ -28,11 +28,11 @@ sights_push IsSight n (w ∷ vs) (seen ∷ sights) v sight (first, are) is =
     let behind : n + sum_by interfaces_in (seen ∷ sights) ≡ n + interfaces_in seen + sum_by interfaces_in sights = omega (arith, sum_by-cons interfaces_in seen sights) in
     (first, sights_push IsSight (n + interfaces_in seen) vs sights v sight are (subst (λ (m : ℕ). IsSight m v sight) behind is))
 
--- where the counts stayed, nothing is added
+-- If the counts are unchanged, nothing is added.
 pub nothing_same : (old new : Progress) → SameCounts old new → AddsNothing old new
 nothing_same old new same = (same.0, same.1, λ first sights before. subst (λ (t : Totals). TotalsAre first sights t) (sym same.2) before)
 
--- and what is added afterwards is all that is
+-- If the counts are unchanged and then nothing is added, nothing is added in all.
 pub nothing_behind : (old mid new : Progress) → SameCounts old mid → AddsNothing mid new → AddsNothing old new
 nothing_behind old mid new same adds = (adds.0 ∙ same.0, adds.1 ∙ same.1, λ first sights before. adds.2 first sights (subst (λ (t : Totals). TotalsAre first sights t) (sym same.2) before))
 
@@ -44,7 +44,7 @@ item_behind sight k old mid new same adds = (
 )
 
 module _ {S V : Type 0} (f : Format S V) (q : S) (IsSight : ℕ → V → Sight → Type 0) (first : ℕ) (Kept : S → List V → List Sight → Progress → Type 0) where
-  -- nothing is passed yet
+  -- A run has taken nothing yet.
   abbrev pub telling_none : (before : Option (List ℕ)) (old : Progress) → old.bytes < 2 ^ 64 → Kept q [] [] old → Telling f q IsSight first Kept q before before old old 0
   telling_none before old room nothing = record {
     items = [];
@@ -58,7 +58,7 @@ module _ {S V : Type 0} (f : Format S V) (q : S) (IsSight : ℕ → V → Sight 
     kept = nothing;
   }
 
-  -- one item more, of so many bytes, of which this is seen
+  -- A run takes one more item of this many bytes, with this sight.
   abbrev pub telling_more : IsLawful f → (here there : S) (before left now : Option (List ℕ)) (old mid new : Progress) (n k : ℕ) (item : V) (sight : Sight) → (so_far : Telling f q IsSight first Kept here before left old mid n)
       → (took : Takes (f.says here) left now item) → f.goes here item ≡ there → length took.0 ≡ k → IsSight (first + sum_by interfaces_in so_far.sights) item sight
       → new.items ≡ mid.items + 1 → new.bytes ≡ counted (mid.bytes + k) → ((items : List V) (sights : List Sight) → Kept q items sights mid → Kept q (items ++ item ∷ []) (sights ++ sight ∷ []) new)
@@ -81,7 +81,7 @@ module _ {S V : Type 0} (f : Format S V) (q : S) (IsSight : ℕ → V → Sight 
         kept = adds so_far.items so_far.sights so_far.kept;
       }
 
-  -- it stops, once nothing more was counted
+  -- A run stops, and nothing more was counted.
   pub telling_ends : (To : S → List V → List Sight → Progress → Type 0) (here : S) (before left now : Option (List ℕ)) (failed : Bool) (most : ℕ) (old mid new : Progress) (n : ℕ) (fault : Option PcapError)
       → Telling f q IsSight first Kept here before left old mid n → n ≤ most → Stops (f.says here) left now failed n most fault → new.items ≡ mid.items → new.bytes ≡ mid.bytes
       → ((items : List V) (sights : List Sight) → Kept q items sights mid → To q items sights new) → TellsItems f q IsSight first To before now failed most old new fault
@@ -100,13 +100,13 @@ module _ {S V : Type 0} (f : Format S V) (q : S) (IsSight : ℕ → V → Sight 
     kept = tells so_far.items so_far.sights so_far.kept;
   }
 
-  -- it stops where it came to
+  -- A run stops where it is.
   pub telling_stops : (here : S) (before left now : Option (List ℕ)) (failed : Bool) (most : ℕ) (old new : Progress) (n : ℕ) (fault : Option PcapError) → Telling f q IsSight first Kept here before left old new n
       → n ≤ most → Stops (f.says here) left now failed n most fault → TellsItems f q IsSight first Kept before now failed most old new fault
   telling_stops here before left now failed most old new n fault so_far within stops =
       telling_ends Kept here before left now failed most old new new n fault so_far within stops refl refl (λ items sights kept. kept)
 
-  -- it stops for want of memory, once an item was taken that is not counted
+  -- A run stops out of memory, after it took an item that it doesn't count.
   pub telling_lacks : IsLawful f → (To : S → List V → List Sight → Progress → Type 0) (here : S) (before left now : Option (List ℕ)) (failed : Bool) (most : ℕ) (old mid new : Progress) (n : ℕ) (item : V) (e : PcapError)
       → Telling f q IsSight first Kept here before left old mid n → n < most → Takes (f.says here) left now item → failed ≡ false → IsMemory e → AddsNothing mid new
       → ((items : List V) (sights : List Sight) → Kept q items sights mid → To q items sights new) → TellsItems f q IsSight first To before now failed most old new (Some e)
@@ -114,7 +114,7 @@ module _ {S V : Type 0} (f : Format S V) (q : S) (IsSight : ℕ → V → Sight 
       let asked : TakesAsked (f.says here) left now = record { taken = took.0; from_stream = took.2; asked = λ k less. asked_text f laws here item took.0 took.1 k less } in
       telling_ends To here before left now failed most old mid new n (Some e) so_far (omega (arith, fewer)) (fewer, no_memory memory unfailed, asked) nothing.0 nothing.1 tells
 
-  -- what is kept in the end is told otherwise
+  -- The kept progress at the end can be stated in another way.
   abbrev pub tells_as : (To : S → List V → List Sight → Progress → Type 0) (before now : Option (List ℕ)) (failed : Bool) (most : ℕ) (old new : Progress) (fault : Option PcapError) → (tells : TellsItems f q IsSight first Kept before now failed most old new fault)
       → (Kept q tells.items tells.sights new → To q tells.items tells.sights new) → TellsItems f q IsSight first To before now failed most old new fault
   tells_as To before now failed most old new fault tells moves = record {

@@ -1,4 +1,4 @@
--- One item more.
+-- Lemmas on totals with one more item.
 use Rattle.std.proofs.Common.{◌≡◌, ◌<◌, ◌+◌, ◌++◌, ◌∷◌, [], ℕ, List, Bool, true, false, cond, Option, None, Some, length, set, inl, inr, refl, sym, ap, ◌∙◌, arith, length-append, append-nil}
 use Rattle.std.specs.Prelude.{All, count_by, filter}
 use Rattle.std.proofs.lemmas.Bool.{cases_eq, cases_lt, eq-eqb, ne_eqb}
@@ -21,7 +21,7 @@ filter_yes p packets seen passes = filter-append p packets (seen ∷ []) ∙ ap 
 filter_no : (p : Seen → Bool) (packets : List Seen) (seen : Seen) → p seen ≡ false → filter p (packets ++ seen ∷ []) ≡ filter p packets
 filter_no p packets seen fails = filter-append p packets (seen ∷ []) ∙ ap (λ (b : Bool). filter p packets ++ cond b (seen ∷ []) []) fails ∙ append-nil (filter p packets)
 
--- no packet came by an interface that is yet to come
+-- No packet comes from an interface that isn't described yet.
 below_other : (n : ℕ) (number : Option ℕ) → IsBelow n number → is_number n number ≡ false
 below_other n None below = refl
 below_other n (Some index) below = ne_eqb index n (λ same. omega (arith, below, same))
@@ -40,7 +40,7 @@ module _ (first : ℕ) (sights : List Sight) (old new : Totals) (before : Totals
   packets_push : (sight : Sight) → packets_of (sights ++ sight ∷ []) ≡ packets_of sights ++ packets_of (sight ∷ [])
   packets_push sight = filter_map-append packet_in sights (sight ∷ [])
 
-  -- one that is neither a packet nor an interface
+  -- The next item is neither a packet nor an interface.
   pub totals_push : (sight : Sight) → packets_of (sight ∷ []) ≡ [] → interfaces_in sight ≡ 0 → new.all ≡ old.all → new.undescribed ≡ old.undescribed → new.interfaces.items ≡ old.interfaces.items
       → new.refused ≡ counted (old.refused + cond (is_refused sight) 1 0) → new.sections ≡ counted (old.sections + cond (is_section sight) 1 0) → TotalsAre first (sights ++ sight ∷ []) new
   totals_push sight none no_interface all undescribed interfaces refused sections =
@@ -55,7 +55,7 @@ module _ (first : ℕ) (sights : List Sight) (old new : Totals) (before : Totals
         sections = sections ∙ counted_push old.sections (count_by is_section sights) (cond (is_section sight) 1 0) before.sections ∙ ap counted (sym (count_push is_section sights sight));
       }
 
-  -- nothing is refused, and no section begins, where a packet or an interface is seen
+  -- A packet or an interface changes neither the number of malformed packets nor that of sections.
   refused_same : (sight : Sight) → is_refused sight ≡ false → new.refused ≡ old.refused → new.refused ≡ counted (count_by is_refused (sights ++ sight ∷ []))
   refused_same sight none same =
       let count : count_by is_refused (sights ++ sight ∷ []) ≡ count_by is_refused sights + 0 = count_push is_refused sights sight ∙ ap (λ (b : Bool). count_by is_refused sights + cond b 1 0) none in
@@ -66,7 +66,7 @@ module _ (first : ℕ) (sights : List Sight) (old new : Totals) (before : Totals
       let count : count_by is_section (sights ++ sight ∷ []) ≡ count_by is_section sights + 0 = count_push is_section sights sight ∙ ap (λ (b : Bool). count_by is_section sights + cond b 1 0) none in
       same ∙ before.sections ∙ ap counted (omega (arith, count))
 
-  -- nothing more
+  -- Nothing changes.
   pub totals_stay : new.all ≡ old.all → new.undescribed ≡ old.undescribed → new.interfaces.items ≡ old.interfaces.items → new.refused ≡ old.refused → new.sections ≡ old.sections → TotalsAre first sights new
   totals_stay all undescribed interfaces refused sections = record {
     all = rw all before.all;
@@ -78,7 +78,7 @@ module _ (first : ℕ) (sights : List Sight) (old new : Totals) (before : Totals
     sections = sections ∙ before.sections;
   }
 
-  -- an interface
+  -- The next item is an interface.
   pub totals_described : (tally : Tally) → Tallies [] tally → new.all ≡ old.all → new.undescribed ≡ old.undescribed → new.interfaces.items ≡ old.interfaces.items ++ tally ∷ []
       → new.refused ≡ old.refused → new.sections ≡ old.sections → TotalsAre first (sights ++ Interface ∷ []) new
   totals_described tally nothing all undescribed interfaces refused sections =
@@ -101,9 +101,9 @@ module _ (first : ℕ) (sights : List Sight) (old new : Totals) (before : Totals
         sections = sections_same Interface refl sections;
       }
 
-  -- a packet
+  -- The next item is a packet.
   module _ (seen : Seen) (within : IsBelow (length old.interfaces.items) seen.interface) (all : Tallies (packets_of sights ++ seen ∷ []) new.all) (refused : new.refused ≡ old.refused) (sections : new.sections ≡ old.sections) where
-    -- by no interface that is described
+    -- Its interface isn't described.
     pub totals_undescribed : seen.interface ≡ None → Tallies (filter is_undescribed (packets_of sights) ++ seen ∷ []) new.undescribed → new.interfaces.items ≡ old.interfaces.items
         → TotalsAre first (sights ++ Packet seen ∷ []) new
     totals_undescribed none more interfaces = record {
@@ -116,7 +116,7 @@ module _ (first : ℕ) (sights : List Sight) (old new : Totals) (before : Totals
       sections = sections_same (Packet seen) refl sections;
     }
 
-    -- by the interface of this number
+    -- Its interface has this index.
     pub totals_by : (i : ℕ) (tally : Tally) → seen.interface ≡ Some i → i < length old.interfaces.items → Tallies (filter (is_by i) (packets_of sights) ++ seen ∷ []) tally → new.undescribed ≡ old.undescribed
         → new.interfaces.items ≡ set old.interfaces.items i tally → TotalsAre first (sights ++ Packet seen ∷ []) new
     totals_by i tally is below more undescribed interfaces =

@@ -1,4 +1,4 @@
--- Turns of a run over items of which it is told what is seen, over any lawful format.
+-- Turns of a run over the items of any lawful format.
 use Rattle.std.proofs.Common.{◌≡◌, ◌∙◌, ◌≤◌, ◌+◌, ◌-◌, ℕ, List, [], ◌∷◌, ◌++◌, length, take, drop, Bool, Option, IfSome, refl, sym, ap, subst, arith, length-append, append_assoc, drop_at}
 use Rattle.std.specs.Io.{StartsWith}
 use Rattle.std.specs.Io.KnownBytes.{Keeps, Consumes, prepend_known}
@@ -18,7 +18,7 @@ use Rattle.pcapfile_info.specs.Totals.{interfaces_in}
 use Rattle.pcapfile_info.proofs.Telling.{telling_ends, telling_more}
 
 module _ {S V : Type 0} (f : Format S V) (IsSight : ℕ → V → Sight → Type 0) (first : ℕ) (Kept : S → List V → List Sight → Progress → Type 0) where
-  -- what is kept stays told
+  -- A run that keeps its progress goes on.
   pub goes_kept : (here : S) (left now : Option (List ℕ)) (mid : Progress) → Keeps left now → GoesOn f IsSight first Kept here here left now mid mid
   goes_kept here left now mid kept = λ q before old so_far. record {
     items = so_far.items;
@@ -32,7 +32,7 @@ module _ {S V : Type 0} (f : Format S V) (IsSight : ℕ → V → Sight → Type
     kept = so_far.kept;
   }
 
-  -- one item more was taken, of so many bytes, of which this is seen behind what is kept
+  -- A run takes one more item of this many bytes, with this sight.
   pub goes_more : IsLawful f → (here there : S) (left now : Option (List ℕ)) (mid new : Progress) (k : ℕ) (item : V) (sight : Sight) → (took : Takes (f.says here) left now item) → f.goes here item ≡ there → length took.0 ≡ k
       → ((q : S) (items : List V) (sights : List Sight) → Kept q items sights mid → IsSight (first + sum_by interfaces_in sights) item sight × Kept q (items ++ item ∷ []) (sights ++ sight ∷ []) new) → new.items ≡ mid.items + 1 → new.bytes ≡ counted (mid.bytes + k)
       → GoesOn f IsSight first Kept here there left now mid new
@@ -40,23 +40,23 @@ module _ {S V : Type 0} (f : Format S V) (IsSight : ℕ → V → Sight → Type
       subst (λ (n : ℕ). Telling f q IsSight first Kept there before now old new n) (sym number)
       (telling_more f q IsSight first Kept laws here there before left now old mid new mid.items k item sight so_far took goes long (adds q so_far.items so_far.sights so_far.kept).0 number bytes (λ items sights kept. (adds q items sights kept).1))
 
-  -- the run ends where it came to
+  -- The run ends where it is.
   pub ends_here : (To : Option PcapError → S → List V → List Sight → Progress → Type 0) (here : S) (left now : Option (List ℕ)) (failed : Bool) (most : ℕ) (mid : Progress) (fault : Option PcapError) → mid.items ≤ most
       → Stops (f.says here) left now failed mid.items most fault → ((q : S) (items : List V) (sights : List Sight) → Kept q items sights mid → To fault q items sights mid) → Ends f IsSight first Kept To here left now failed most mid mid fault
   ends_here To here left now failed most mid fault within stops tells = λ q before old so_far.
       telling_ends f q IsSight first Kept (To fault) here before left now failed most old mid mid mid.items fault so_far within stops refl refl (tells q)
 
-  -- a walk over shown bytes, that came to this rest of them
+  -- A walk over shown bytes has reached this rest of them.
   pub record Walked (from here : S) (shown rest : List ℕ) (mid new : Progress) : Type 0 where
     pub front : List ℕ
     pub split : shown ≡ front ++ rest
     pub on : (behind : Option (List ℕ)) → GoesOn f IsSight first Kept from here (prepend_known shown behind) (prepend_known rest behind) mid new
 
-  -- it begins
+  -- A walk begins.
   pub walked_none : (from : S) (shown : List ℕ) (mid : Progress) → Walked from from shown shown mid mid
   walked_none from shown mid = record { front = []; split = refl; on = λ behind q before old so_far. so_far }
 
-  -- it goes on with the item at the front of the rest
+  -- A walk continues with the item at the front of the rest.
   pub walked_more : IsLawful f → (from here there : S) (shown rest after : List ℕ) (mid new next : Progress) (k : ℕ) (item : V) (sight : Sight) → Walked from here shown rest mid new → f.says here rest (whole item after)
       → f.goes here item ≡ there → ((t : List ℕ) → f.says here t (whole item []) → length t ≡ k) → next.items ≡ new.items + 1 → next.bytes ≡ counted (new.bytes + k)
       → ((q : S) (items : List V) (sights : List Sight) → Kept q items sights new → IsSight (first + sum_by interfaces_in sights) item sight × Kept q (items ++ item ∷ []) (sights ++ sight ∷ []) next) → Walked from there shown after mid next
@@ -68,7 +68,7 @@ module _ {S V : Type 0} (f : Format S V) (IsSight : ℕ → V → Sight → Type
         on = λ behind q before old so_far. goes_more laws here there (prepend_known rest behind) (prepend_known after behind) new next k item sight (takes_shown f laws here rest after item stands behind) goes (long _ (takes_shown f laws here rest after item stands behind).1) adds number bytes q before old (walked.on behind q before old so_far);
       }
 
-  -- it ends before the rest
+  -- A walk ends before the rest.
   pub walked_used : (from here : S) (shown rest : List ℕ) (mid new : Progress) → Walked from here shown rest mid new
       → (behind : Option (List ℕ)) → GoesOn f IsSight first Kept from here (prepend_known shown behind) (prepend_known (drop (length shown - length rest) shown) behind) mid new
   walked_used from here shown rest mid new walked =
@@ -77,7 +77,7 @@ module _ {S V : Type 0} (f : Format S V) (IsSight : ℕ → V → Sight → Type
       let back : drop used shown ≡ rest = ap (drop used) walked.split ∙ drop_at walked.front rest used count in
       rw back walked.on
 
-  -- a walk over the bytes that a stream shows goes on behind those that were used
+  -- After a walk over the bytes that a stream shows, the run goes on after the used bytes.
   pub goes_shown : (here there : S) (left now : Option (List ℕ)) (mid new : Progress) (shown : List ℕ) (used : ℕ) → IfSome left (λ xs. StartsWith xs shown)
       → ((behind : Option (List ℕ)) → GoesOn f IsSight first Kept here there (prepend_known shown behind) (prepend_known (drop used shown) behind) mid new)
       → Consumes left now (take used shown) → GoesOn f IsSight first Kept here there left now mid new

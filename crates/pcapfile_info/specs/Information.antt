@@ -1,4 +1,4 @@
--- What is told of a capture.
+-- The information on a capture.
 use Rattle.std.specs.Prelude.{⊤, ◌≡◌, ◌<◌, ◌⊎◌, ℕ, List, [], length, Option, None, Some, String}
 use Rattle.std.specs.Global.{Global}
 use Rattle.pcap_core.specs.Answer.{whole}
@@ -23,7 +23,7 @@ use Rattle.pcapfile_info.specs.Sights.{IsPacketSight, IsBlockSight}
 use Rattle.pcapfile_info.specs.Telling.{AreSights}
 use Rattle.pcapfile_info.specs.Totals.{TotalsAre}
 
--- s is what a check counts of it, and what is seen of the items that are counted is told; so many interfaces are known before them
+-- A check of s gives this result, and the totals are those of the items it counts; `first` interfaces are described before them.
 pub record InformsItems {S V : Type 0} (f : Format S V) (q : S)
     (IsSight : ℕ → V → Sight → Type 0) (first : ℕ) (s after : List ℕ) (before : ℕ) (checked : Checked) (totals : Totals) : Type 0 where
   pub checks : ChecksItems f q s after before most_passed checked
@@ -31,7 +31,7 @@ pub record InformsItems {S V : Type 0} (f : Format S V) (q : S)
   pub are_sights : AreSights IsSight first checks.items sights
   pub totals_are : TotalsAre first sights totals
 
--- what is told of a classic capture: its header, and what is seen of its packets, which come by one interface
+-- The information on a classic capture is its header and the totals of its packets, which come from one interface.
 abbrev pub InformsPackets : List ℕ → Checked → Option PcapHeader → Totals → Type 0
 InformsPackets s checked told_header totals =
     (checked.format ≡ Pcap)
@@ -39,8 +39,7 @@ InformsPackets s checked told_header totals =
     ⊎ ((header : PcapHeader) × (after : List ℕ) × HeaderText header s after × (told_header ≡ Some header)
     × InformsItems (format_under packet_limit header) tt IsPacketSight 1 s after 0 checked totals))
 
--- and of a capture of blocks: what is seen of the blocks behind its first section header, what that says, how interfaces are
--- described and which comments stand on sections, and where memory ran out maybe some of the block behind these
+-- The information on a PcapNg capture: its opening, totals, descriptions and comments; after out of memory also some of the next block's.
 abbrev pub InformsBlocks : List ℕ → Checked → Option PcapHeader → Totals → Option Opened → List Described → List (String Global) → Type 0
 InformsBlocks s checked told_header totals told_opening described comments =
     (checked.format ≡ PcapNg) × (told_header ≡ None)
@@ -50,6 +49,6 @@ InformsBlocks s checked told_header totals told_opening described comments =
     × (((checked.end ≡ Memory) × DescribesFront first informs.checks.items described comments)
     ⊎ DescribesBlocks first informs.checks.items described comments)))
 
--- s has a first section header, on which there is a comment
+-- s begins with a section header that has a comment.
 abbrev pub OpensCommented : List ℕ → Type 0
 OpensCommented s = (first : State) × (after : List ℕ) × OpeningSays s (whole first after) × (0 < length (section_comments first))

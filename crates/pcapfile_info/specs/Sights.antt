@@ -1,4 +1,4 @@
--- What is seen of packets and blocks.
+-- The data of packets and blocks that the totals use.
 use Rattle.std.specs.Prelude.{◌≡◌, ◌+◌, ◌-◌, ◌⊎◌, ◌&&◌, ℕ, List, length, Option, None, Some, nat_lt, nat_le, if◌then◌else◌}
 use Rattle.std.specs.List.{slice_get}
 use Rattle.pcap_core.specs.Answer.{whole, faulty}
@@ -21,11 +21,11 @@ use Rattle.pcapfile_info.specs.declared.seen.Seen.{Seen}
 use Rattle.pcapfile_info.specs.declared.seen.Sight.{Sight}
 use Rattle.pcapfile_info.specs.declared.seen.Sight.TheVariants as sights
 
--- a packet of this header and this data
+-- The packet of this header and this data.
 abbrev pub captured_as : PacketHeader → List ℕ → Captured
 captured_as header bytes = record { header = header; bytes = bytes }
 
--- what is seen of a packet of a classic capture, which came by the one interface
+-- The data of a packet of a classic capture, which comes from its one interface.
 abbrev pub captured_seen : Captured → Seen
 captured_seen packet = record {
   interface = Some 0;
@@ -34,31 +34,32 @@ captured_seen packet = record {
   original = packet.header.orig_len;
 }
 
+-- The sight of a packet of a classic capture.
 abbrev pub IsPacketSight : ℕ → Captured → Sight → Type 0
 IsPacketSight described packet sight = sight ≡ sights.Packet (captured_seen packet)
 
--- the place of the interface of this number among all that are described, the last so many of which are of its section
+-- The index of an interface by its number among all described interfaces, of which the last `own` are those of its section.
 abbrev pub place_of : ℕ → ℕ → ℕ → Option ℕ
 place_of described own number = if nat_lt number own && nat_le own described then Some (described - own + number) else None
 
--- the time at which an interface's clock has counted so many units, where there is an interface
+-- The timestamp is this many units of the interface's clock; without an interface there is none.
 abbrev pub IsTimeSeen : Option Interface → ℕ → Option Timestamp → Type 0
 IsTimeSeen (Some interface) units (Some time) = IsTimeAt interface units time
 IsTimeSeen (Some interface) units None = ⊥
 IsTimeSeen None units time = time ≡ None
 
--- what is seen of a packet of this interface, of which so many bytes are stored, and which had so many
+-- The packet comes from this interface, and has this many stored bytes and this original length.
 pub record Sees (interface : Option ℕ) (stored original : ℕ) (seen : Seen) : Type 0 where
   pub interface_is : seen.interface ≡ interface
   pub stored_is : seen.stored ≡ stored
   pub original_is : seen.original ≡ original
 
--- the time of a packet that came by the interface of this number, where it has one
+-- The time of a packet is that of its units on the clock of the interface of this number, if it has units.
 abbrev pub IsUnitsSeen : List Interface → ℕ → Option ℕ → Option Timestamp → Type 0
 IsUnitsSeen interfaces number (Some units) time = IsTimeSeen (slice_get interfaces number) units time
 IsUnitsSeen interfaces number None time = time ≡ None
 
--- what is seen of a packet in a block, where so many interfaces are described, the last of them these of the section; or of no packet
+-- The sight of a packet in a block, or of a block without one; the last of the described interfaces are those of the section.
 abbrev pub IsInBlockSight : ℕ → List Interface → Option InBlock → Sight → Type 0
 IsInBlockSight described interfaces (Some packet) (sights.Packet seen) =
     Sees (place_of described (length interfaces) packet.interface) (length packet.bytes) packet.original_len seen
@@ -66,17 +67,17 @@ IsInBlockSight described interfaces (Some packet) (sights.Packet seen) =
 IsInBlockSight described interfaces (Some packet) sight = ⊥
 IsInBlockSight described interfaces None sight = sight ≡ sights.Other
 
--- what is seen of a body
+-- The sight of a body.
 abbrev pub IsBodySight : ℕ → List Interface → Body → Sight → Type 0
 IsBodySight described interfaces body sight = IsInBlockSight described interfaces (packet_in interfaces body) sight
 
--- what is seen of a block that holds a packet: the packet, or that its body is refused
+-- The sight of a block of a packet type: its packet, or that its body is malformed.
 abbrev pub IsStoredSight : ℕ → List Interface → Framed → Sight → Type 0
 IsStoredSight described interfaces block sight =
     ((body : Body) × (rest : List ℕ) × SaysOfBody block (whole body rest) × IsBodySight described interfaces body sight)
     ⊎ ((fault : Fault) × SaysOfBody block (faulty fault) × (sight ≡ sights.Refused))
 
--- what is seen of a block of this type, behind so many descriptions of interfaces
+-- The sight of a block of this type, after this many described interfaces.
 abbrev pub IsSightOf : BlockType → ℕ → List Interface → Framed → Sight → Type 0
 IsSightOf types.SectionHeader described interfaces block sight = sight ≡ sights.Section
 IsSightOf types.InterfaceDescription described interfaces block sight = sight ≡ sights.Interface
@@ -85,9 +86,10 @@ IsSightOf types.Packet described interfaces block sight = IsStoredSight describe
 IsSightOf types.SimplePacket described interfaces block sight = IsStoredSight described interfaces block sight
 IsSightOf type described interfaces block sight = sight ≡ sights.Other
 
+-- The sight of a block, by its type.
 abbrev pub IsFramedSight : ℕ → List Interface → Framed → Sight → Type 0
 IsFramedSight described interfaces block sight = IsSightOf block.type_ described interfaces block sight
 
--- what is seen of a block behind so many descriptions of interfaces, under what is in force after it
+-- The sight of a block after this many described interfaces, under the state after it.
 abbrev pub IsBlockSight : ℕ → Item → Sight → Type 0
 IsBlockSight described item sight = IsFramedSight described (interfaces_at item.after) item.block sight

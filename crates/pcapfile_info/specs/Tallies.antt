@@ -1,4 +1,4 @@
--- What is counted of packets.
+-- Counts of packets.
 use Rattle.std.specs.Prelude.{◌≡◌, ◌<◌, ◌⊎◌, ◌==◌, ◌^◌, ◌+◌, ◌*◌, ◌<ℤ◌, ◌++◌, ◌∷◌, ℕ, ℤ, pos, negsuc, List, [], Bool, Option, None, Some, nat_lt, if◌then◌else◌, length, sum_by, count_by, map, filter_map, All, Contains, slice_index}
 use Rattle.pcap_times.specs.declared.clock.Timestamp.{Timestamp}
 use Rattle.pcapfile_run.specs.Passing.{counted}
@@ -7,57 +7,58 @@ use Rattle.pcapfile_info.specs.declared.spread.Spread.{Spread}
 use Rattle.pcapfile_info.specs.declared.tally.Tally.{Tally}
 use Rattle.pcapfile_info.specs.Spreads.{Spreads}
 
--- times go by their seconds, and where these are the same by their nanoseconds
+-- One time is before another: by seconds, and if these are equal by nanoseconds.
 abbrev pub IsBefore : Timestamp → Timestamp → Type 0
 IsBefore left right = (left.seconds <ℤ right.seconds) ⊎ ((left.seconds ≡ right.seconds) × (left.nanoseconds < right.nanoseconds))
 
--- the same from the later one on
+-- One time is after another.
 abbrev pub IsAfter : Timestamp → Timestamp → Type 0
 IsAfter left right = IsBefore right left
 
--- one time is the one that comes first of a time and another, if there is one
+-- The time is the one of a known time, if any, and a new time that comes first.
 abbrev pub IsFirstOf : (Timestamp → Timestamp → Type 0) → Option Timestamp → Timestamp → Timestamp → Type 0
 IsFirstOf Comes None time first = first ≡ time
 IsFirstOf Comes (Some known) time first = (Comes known time × (first ≡ known)) ⊎ ((Comes known time → ⊥) × (first ≡ time))
 
--- the first time behind one packet more, which may have a time
+-- The first time after one more packet, which may have no time.
 abbrev pub IsFirstWith : (Timestamp → Timestamp → Type 0) → Option Timestamp → Option Timestamp → Option Timestamp → Type 0
 IsFirstWith Comes known None first = first ≡ known
 IsFirstWith Comes known (Some time) None = ⊥
 IsFirstWith Comes known (Some time) (Some first) = IsFirstOf Comes known time first
 
--- the first of times is one of them, and none comes before it; there is none of no times
+-- The first of these times is one of them, and none comes before it; without times there is none.
 abbrev pub IsFirst : (Timestamp → Timestamp → Type 0) → List Timestamp → Option Timestamp → Type 0
 IsFirst Comes times None = times ≡ []
 IsFirst Comes times (Some first) = Contains times first × All (λ time. Comes time first → ⊥) times
 
--- the times of those packets that have one
+-- The times of those packets that have one.
 abbrev pub times_of : List Seen → List Timestamp
 times_of = filter_map (λ packet. packet.time)
 
+-- The nanoseconds from 1970 to a time with these seconds and nanoseconds: 0 before 1970, and at most 2^64 - 1.
 abbrev pub nanoseconds_of : ℤ → ℕ → ℕ
 nanoseconds_of (pos seconds) nanoseconds = counted (seconds * 10 ^ 9 + nanoseconds)
 nanoseconds_of (negsuc before) nanoseconds = 0
 
--- the nanoseconds from 1970 to a time: none before that, and 2^64 - 1 for more than that
+-- The nanoseconds from 1970 to a time: 0 before 1970, and at most 2^64 - 1.
 abbrev pub instant_of : Timestamp → ℕ
 instant_of time = nanoseconds_of time.seconds time.nanoseconds
 
--- these of the packets that have a time
+-- The instants of the packets that have a time.
 abbrev pub instants_of : List Seen → List ℕ
 instants_of packets = map instant_of (times_of packets)
 
--- instants lie in spans as a spread tells; there is none of no instants
+-- The spread counts these instants; without instants there is none.
 abbrev pub IsSpread : List ℕ → Option Spread → Type 0
 IsSpread instants None = instants ≡ []
 IsSpread instants (Some spread) = Spreads instants spread
 
--- the spread behind one packet more, which may have a time
+-- The spread after one more packet, which may have no time.
 abbrev pub IsSpreadWith : Option Spread → Option Timestamp → Option Spread → Type 0
 IsSpreadWith known None spread = spread ≡ known
 IsSpreadWith known (Some time) spread = (instants : List ℕ) → IsSpread instants known → IsSpread (instants ++ instant_of time ∷ []) spread
 
--- the class of a length
+-- The class of a length.
 abbrev pub size_class : ℕ → ℕ
 size_class n =
     if nat_lt n 20 then 0
@@ -71,11 +72,11 @@ size_class n =
     else if nat_lt n 5120 then 8
     else 9
 
--- the packet's length is of this class
+-- The packet's original length is of this class.
 abbrev pub is_of_class : ℕ → Seen → Bool
 is_of_class class packet = size_class packet.original == class
 
--- what is counted of these packets
+-- The tally has the counts of these packets.
 pub record Tallies (packets : List Seen) (tally : Tally) : Type 0 where
   pub number : tally.packets ≡ counted (length packets)
   pub stored : tally.stored ≡ counted (sum_by (λ packet. packet.stored) packets)

@@ -1,4 +1,4 @@
--- What is counted of the items of a capture.
+-- The totals of the items of a capture.
 use Rattle.std.specs.Prelude.{⊤, ◌≡◌, ◌<◌, ◌+◌, ◌==◌, ◌++◌, ◌∷◌, [], ℕ, List, Bool, true, false, Option, None, Some, length, sum_by, count_by, filter, filter_map, All}
 use Rattle.std.specs.List.{slice_index_or}
 use Rattle.pcapfile_run.specs.Passing.{counted}
@@ -9,52 +9,54 @@ use Rattle.pcapfile_info.specs.declared.tally.Tally.{Tally}
 use Rattle.pcapfile_info.specs.declared.totals.Totals.{Totals}
 use Rattle.pcapfile_info.specs.Tallies.{Tallies}
 
--- the packet that is seen, if one is
+-- The packet of a sight, if it has one.
 abbrev pub packet_in : Sight → Option Seen
 packet_in (Packet packet) = Some packet
 packet_in _ = None
 
--- the packets among what is seen, in order
+-- The packets among the sights, in order.
 abbrev pub packets_of : List Sight → List Seen
 packets_of = filter_map packet_in
 
+-- The item is a packet with a malformed body.
 abbrev pub is_refused : Sight → Bool
 is_refused Refused = true
 is_refused _ = false
 
+-- The item is a section header.
 abbrev pub is_section : Sight → Bool
 is_section Section = true
 is_section _ = false
 
--- how many interfaces are described there
+-- The number of interfaces that the item describes: 1 or 0.
 abbrev pub interfaces_in : Sight → ℕ
 interfaces_in Interface = 1
 interfaces_in _ = 0
 
--- the number of an interface is this one
+-- The interface's index is this one.
 abbrev pub is_number : ℕ → Option ℕ → Bool
 is_number index None = false
 is_number index (Some other) = other == index
 
--- the packet came by the interface of this number
+-- The packet came from the interface of this index.
 abbrev pub is_by : ℕ → Seen → Bool
 is_by index packet = is_number index packet.interface
 
--- there is none
+-- There is no interface.
 abbrev pub is_none : Option ℕ → Bool
 is_none None = true
 is_none (Some index) = false
 
--- the interface that the packet came by isn't described
+-- The packet's interface isn't described.
 abbrev pub is_undescribed : Seen → Bool
 is_undescribed packet = is_none packet.interface
 
--- the number of an interface is one of so many
+-- The interface's index, if there is one, is below n.
 abbrev pub IsBelow : ℕ → Option ℕ → Type 0
 IsBelow n None = ⊤
 IsBelow n (Some index) = index < n
 
--- what is counted of items of which these are seen, where so many interfaces are known before them
+-- The totals are those of items with these sights, after `first` described interfaces.
 pub record TotalsAre (first : ℕ) (sights : List Sight) (totals : Totals) : Type 0 where
   pub all : Tallies (packets_of sights) totals.all
   pub undescribed : Tallies (filter is_undescribed (packets_of sights)) totals.undescribed
@@ -65,7 +67,7 @@ pub record TotalsAre (first : ℕ) (sights : List Sight) (totals : Totals) : Typ
   pub refused : totals.refused ≡ counted (count_by is_refused sights)
   pub sections : totals.sections ≡ counted (count_by is_section sights)
 
--- what is counted of packets that all came by one interface, before it is counted by that interface
+-- The counts of packets that all came from one interface, before they are copied to that interface.
 pub record AllAre (sights : List Sight) (totals : Totals) : Type 0 where
   pub all : Tallies (packets_of sights) totals.all
   pub undescribed : Tallies [] totals.undescribed
@@ -73,19 +75,19 @@ pub record AllAre (sights : List Sight) (totals : Totals) : Type 0 where
   pub refused : totals.refused ≡ 0
   pub sections : totals.sections ≡ 0
 
--- one packet more
+-- The counts before the copy have one more packet of the one interface.
 abbrev pub AddsAlone : Seen → Totals → Totals → Type 0
 AddsAlone seen old new = (sights : List Sight) → AllAre sights old → AllAre (sights ++ Packet seen ∷ []) new
 
--- one item more, of which this is seen
+-- The totals count one more item, with this sight.
 abbrev pub Adds : Sight → Totals → Totals → Type 0
 Adds sight old new = (first : ℕ) (sights : List Sight) → TotalsAre first sights old → TotalsAre first (sights ++ sight ∷ []) new
 
--- what they are of stays
+-- The totals are still those of the same items.
 abbrev pub Stay : Totals → Totals → Type 0
 Stay old new = (first : ℕ) (sights : List Sight) → TotalsAre first sights old → TotalsAre first sights new
 
--- the interface of a packet is one of so many, or none
+-- The interface of a packet is one of the first n, or none.
 abbrev pub IsWithin : ℕ → Sight → Type 0
 IsWithin n (Packet packet) = IsBelow n packet.interface
 IsWithin n _ = ⊤

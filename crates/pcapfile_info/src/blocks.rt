@@ -1,4 +1,4 @@
-//! What is seen of blocks.
+//! The data of blocks that the totals use.
 
 ghost use Rattle.std.specs.Prelude.{◌≡◌, map, option_map, slice_get, MatchResult};
 ghost use Rattle.pcap_core.specs.Errors.{IsMemory};
@@ -15,7 +15,8 @@ use pcap_file::pcapng::{Block, BlockType, InterfaceDescriptionBlock, ParsedBlock
 use pcap_file::{PcapError, ResultParsing};
 use std::alloc::{AllocError, Global};
 
-/// The place of the interface of this number among all that are described, of which the last so many are those of its section.
+/// Returns the index of an interface among all described interfaces. `number` is its number in the section, and the section's
+/// interfaces are the last `own` of the `described` ones. `None` if the section has no such interface.
 pub(crate) fn place_at(described: usize, own: usize, number: u32) -> Option<usize>
     ensures place { result ≡ place_of described own number }
     ensures below { IsBelow described result }
@@ -36,7 +37,7 @@ fn interface_at<'a>(
     interfaces.get(number as usize)
 }
 
-// The snaplen of an interface, in bytes, or 0 where it isn't described.
+// Returns the snapshot length of an interface, in bytes, or 0 if the interface isn't described.
 fn snaplen_at(interfaces: &[InterfaceDescriptionBlock<'static>], number: u32) -> u32
     ensures { result ≡ snaplen_of (slice_get (map interface_of interfaces.now) number) }
 {
@@ -46,7 +47,7 @@ fn snaplen_at(interfaces: &[InterfaceDescriptionBlock<'static>], number: u32) ->
     }
 }
 
-// The time at which an interface's clock has counted so many units.
+// Converts a time in units of the interface's clock to a timestamp. `None` if the interface isn't described.
 fn time_at(
     interfaces: &[InterfaceDescriptionBlock<'static>],
     number: u32,
@@ -60,7 +61,8 @@ fn time_at(
     }
 }
 
-// What is seen of a body, where so many interfaces are described, the last of them these of the section.
+// Returns what the totals use of a block's body. `described` interfaces are described so far; the last of them are
+// `interfaces`, those of the section.
 fn sight_of_body(
     described: usize,
     interfaces: &[InterfaceDescriptionBlock<'static>],
@@ -92,7 +94,7 @@ fn sight_of_body(
     }
 }
 
-// What is seen of a block that holds a packet.
+// Returns what the totals use of a block of a packet type.
 fn sight_of_stored(
     alloc: Global,
     described: usize,
@@ -110,8 +112,8 @@ fn sight_of_stored(
     }
 }
 
-/// What is seen of a block, where so many interfaces are described, the last of them these of the section. `OutOfMemory` where
-/// its options can't be held.
+/// Returns what the totals use of a block. `described` interfaces are described so far; the last of them are `interfaces`,
+/// those of the section. `OutOfMemory` if there is no memory for the block's options.
 pub(crate) fn sight_of_block(
     alloc: Global,
     described: usize,

@@ -1,4 +1,4 @@
-//! What whole captures hold.
+//! Information on whole captures.
 
 ghost use Rattle.std.specs.Prelude.{◌≡◌, [], None, IfSome, IfOk, IfErr};
 ghost use Rattle.pcapfile_info.specs.Information.{InformsPackets, InformsBlocks, OpensCommented};
@@ -13,25 +13,26 @@ use pcapfile_run::{Checked, Format, end_of};
 use std::alloc::{AllocError, Global};
 use std::io::BufRead;
 
-/// What is told of a capture.
+/// The information that one pass over a capture collects.
 #[derive(Debug, Drop)]
 pub struct Information {
-    /// How many items were passed, how many bytes they take, and why no other follows: what a check of the capture finds.
+    /// The result of a check of the capture: how many items were read, how many bytes they take, and why reading ended.
     pub checked: Checked,
-    /// The header of a classic capture, where it has one.
+    /// The header of a classic capture. `None` if it couldn't be read, and for PcapNg.
     pub header: Option<PcapHeader>,
-    /// What the first section header of a capture of blocks says, where it has one.
+    /// The byte order and version of the first section header of a PcapNg capture. `None` if it couldn't be read, and for a
+    /// classic capture.
     pub opened: Option<Opened>,
-    /// What is counted of these items.
+    /// The totals of the items that were read.
     pub totals: Totals,
-    /// How the interfaces of a capture of blocks are described, in order over all sections.
+    /// The descriptions of the interfaces of a PcapNg capture, in order over all sections.
     pub described: Vec<Described>,
-    /// The comments on its sections, in order.
+    /// The comments on the sections of a PcapNg capture, in order.
     pub comments: Vec<String>,
 }
 
-/// Tells what a classic capture that comes off a stream holds. No more than one packet is held in memory. `AllocError` where
-/// there is no room for what is counted.
+/// Reads a classic capture from a stream and returns its information. The function holds at most one packet in memory.
+/// `AllocError` if there is no memory for the totals.
 pub fn inform_packets<R: BufRead + Drop>(
     alloc: Global,
     mut input: R,
@@ -94,8 +95,8 @@ pub fn inform_packets<R: BufRead + Drop>(
     })
 }
 
-/// Tells what a capture of blocks that comes off a stream holds. No more than one block is held in memory, with the section and
-/// interfaces in force, and what is counted of each interface. `AllocError` where there is no room for comments on the section.
+/// Reads a PcapNg capture from a stream and returns its information. In memory are at most one block, the current section and
+/// its interfaces, and what is collected. `AllocError` if there is no memory for the comments on the first section.
 pub fn inform_blocks<R: BufRead + Drop>(alloc: Global, input: R) -> Result<Information, AllocError>
     ensures informs { IfOk result
         (λ told. IfSome (R.remaining input) (λ s. InformsBlocks s told.checked told.header told.totals told.opened told.described.items told.comments.items)) }

@@ -17,7 +17,7 @@ use pcap_file::pcapng::{
 };
 use std::alloc::{AllocError, Global};
 
-/// The order of a section's numbers, and how its interfaces count time.
+/// The byte order of the current section, and the clocks of its interfaces.
 #[derive(Drop)]
 pub(crate) struct Clocks {
     pub(crate) alloc: Global,
@@ -25,7 +25,7 @@ pub(crate) struct Clocks {
     pub(crate) clocks: Vec<Clock>,
 }
 
-// The order that a section header names.
+// Returns the byte order that a section header's magic number names, or big-endian if it names none.
 fn order_of(section: &SectionHeaderBlock<'static>) -> Endianness
     ensures { result ≡ or_big (magic_order (section_of section.now).magic) }
 {
@@ -36,7 +36,7 @@ fn order_of(section: &SectionHeaderBlock<'static>) -> Endianness
     }
 }
 
-// The time at which a clock has counted so many units, where there is one.
+// Converts a time in units of a clock to a timestamp. `None` if there is no clock.
 #[inline(always)]
 fn time_by(clock: Option<&Clock>, units: u64) -> Option<Timestamp>
     ensures { IsClocked (option_map (λ clock. clock.now) clock.entry) units result }
@@ -48,7 +48,7 @@ fn time_by(clock: Option<&Clock>, units: u64) -> Option<Timestamp>
 }
 
 impl Clocks {
-    /// Those of a section that has no interface yet.
+    /// Returns the byte order of a section that has no interface yet, without clocks.
     pub(crate) fn new(alloc: Global, section: &SectionHeaderBlock<'static>) -> Clocks
         ensures { AreInForce result (within (section_of section.now) []) }
     {
@@ -59,7 +59,7 @@ impl Clocks {
         }
     }
 
-    /// Goes on behind a block of this type, where this section and these interfaces are in force after it.
+    /// Updates the order and the clocks after a block of this type. The section and the interfaces are those after the block.
     pub(crate) fn follow(
         &mut self,
         type_: BlockType,
@@ -85,7 +85,8 @@ impl Clocks {
         Ok(())
     }
 
-    /// What is seen of an enhanced packet, where so many interfaces are described, the last of them those of the section.
+    /// Returns what the totals use of an enhanced packet. `described` interfaces are described so far; the last of them are
+    /// those of the section.
     #[inline(always)]
     pub(crate) fn seen(&self, described: usize, packet: EnhancedNumbers) -> Seen
         ensures sees { Sees (place_of described (length self.now.clocks.items) packet.interface) packet.stored packet.original result }

@@ -1,4 +1,4 @@
-//! How sections and interfaces are described.
+//! Descriptions of sections and interfaces.
 
 ghost use Rattle.std.specs.Prelude.{⊤, ◌≡◌, ◌++◌, map, IfOk, IsSomeAnd, MatchResult};
 ghost use Rattle.std.specs.Option.{option_map, option_to_list};
@@ -17,37 +17,37 @@ use pcap_file::pcapng::{
 use pcap_file::{DataLink, Endianness};
 use std::alloc::{AllocError, Global};
 
-/// What the first section header of a capture of blocks says.
+/// The byte order and version that the first section header of a PcapNg capture names.
 #[derive(Clone, Copy, Debug, PartialEq, Eq)]
 pub struct Opened {
-    /// The order of the section's numbers.
+    /// The byte order of the section.
     pub order: Endianness,
-    /// Major version number, 1 as a rule.
+    /// Major version number, usually 1.
     pub major_version: u16,
-    /// Minor version number, 0 as a rule.
+    /// Minor version number, usually 0.
     pub minor_version: u16,
 }
 
-/// How an interface of a capture of blocks is described.
+/// The description of one interface of a PcapNg capture.
 #[derive(Debug, Drop)]
 pub struct Described {
-    /// Its link type.
+    /// The link type.
     pub link: DataLink,
-    /// The most bytes that are stored of a packet; 0 is no limit.
+    /// The snapshot length: the most bytes stored for each packet; 0 means no limit.
     pub snaplen: u32,
-    /// The number of its section, from 1.
+    /// The number of its section; the first is 1.
     pub section: u64,
-    /// Its number in its section.
+    /// The interface's number in its section, from 0.
     pub number: usize,
-    /// Its name, where it has one.
+    /// The interface's name. `None` if it has none.
     pub name: Option<String>,
-    /// Its comments.
+    /// The comments on the interface.
     pub comments: Vec<String>,
 }
 
 // An option that may be a comment.
 trait Commenting {
-    // The option, wherever its bytes lie.
+    // The option, wherever its bytes are.
     ghost entry: { Self → Entry };
 
     fn comment(&self) -> Option<&str>
@@ -76,7 +76,7 @@ impl Commenting for InterfaceDescriptionOption<'static> {
     }
 }
 
-// Keeps an option that is a comment.
+// Appends the text of an option that is a comment.
 fn push_comment<O: Commenting>(
     alloc: Global,
     comments: &mut Vec<String>,
@@ -93,7 +93,7 @@ fn push_comment<O: Commenting>(
     Ok(())
 }
 
-// Keeps the comments among options.
+// Appends the comments among options.
 fn push_comments_among<O: Commenting>(
     alloc: Global,
     comments: &mut Vec<String>,
@@ -109,7 +109,8 @@ fn push_comments_among<O: Commenting>(
     Ok(())
 }
 
-/// What a section header says. None where its magic number names no order, as no section has it that was read.
+/// Returns the byte order and version of a section header. `None` if its magic number names no order; every section that was
+/// read names one.
 pub(crate) fn opened_by(section: &SectionHeaderBlock<'static>) -> Option<Opened>
     ensures { result ≡ opened_of (section_of section.now) }
 {
@@ -123,7 +124,7 @@ pub(crate) fn opened_by(section: &SectionHeaderBlock<'static>) -> Option<Opened>
     })
 }
 
-// The string again, with bytes of its own.
+// Copies a string.
 fn owned(alloc: Global, text: Option<&str>) -> Result<Option<String>, AllocError>
     ensures { IfOk result (λ told. option_map string_bytes told ≡ option_map (λ string. string.now) text.entry) }
 {
@@ -133,7 +134,7 @@ fn owned(alloc: Global, text: Option<&str>) -> Result<Option<String>, AllocError
     Ok(Some(String::from_str(alloc, text)?))
 }
 
-/// How the last of these interfaces is described, which are those of a section. None of none.
+/// Describes the last of a section's interfaces. `None` if there are none.
 pub(crate) fn describe_last(
     alloc: Global,
     section: u64,
@@ -156,7 +157,7 @@ pub(crate) fn describe_last(
     }))
 }
 
-/// Keeps the comments on a section. An `Err` leaves those that were there, and comes only where there is one.
+/// Appends the comments on a section. An `Err` keeps the old comments, and occurs only if the section has a comment.
 pub(crate) fn push_comments(
     alloc: Global,
     comments: &mut Vec<String>,

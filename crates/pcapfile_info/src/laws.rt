@@ -1,4 +1,4 @@
-//! Laws of what is counted of captures. What is proved of each call stands at it.
+//! Laws of the totals of captures. The contract of each function says what is proved of it.
 
 ghost use Rattle.std.specs.Prelude.{◌≡◌, ◌-◌, ℕ, [], ◌∷◌, map, drop};
 ghost use Rattle.pcapfile_info.specs.Tallies.{size_class};

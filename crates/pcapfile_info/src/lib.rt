@@ -1,4 +1,4 @@
-//! What captures in files hold, over any input: packets, bytes, times and sizes, of all and by interface.
+//! Information on captures, read from any input: packets, bytes, times and sizes, in total and for each interface.
 #![tactic(auto)]
 
 mod blocks;

@@ -1,4 +1,4 @@
-//! What is seen of packets of classic captures.
+//! The data of classic packet records that the totals use.
 
 ghost use Rattle.std.specs.Prelude.{◌≡◌, []};
 ghost use Rattle.pcap_file.specs.Placed.{carried, time_in};
@@ -11,7 +11,7 @@ use pcap_file::pcapng::Timestamp;
 /// The nanoseconds in a second.
 const BILLION: u32 = 1_000_000_000;
 
-// The time of a packet.
+// Returns the time of a packet.
 fn time_of(header: PacketHeader) -> Timestamp
     ensures { result ≡ time_in (carried (captured_as header [])) }
 {
@@ -22,7 +22,7 @@ fn time_of(header: PacketHeader) -> Timestamp
     }
 }
 
-/// What is seen of a packet.
+/// Returns what the totals use of a packet.
 pub(crate) fn seen_of(header: PacketHeader, bytes: &[u8]) -> Seen
     ensures { result ≡ captured_seen (captured_as header bytes.now) }
 {

@@ -1,4 +1,4 @@
-//! Packets of classic captures that are passed: where they lie whole in the input's buffer, and held where they end outside of it.
+//! Packets of classic captures, counted in the input's buffer if they are whole there, and copied otherwise.
 
 ghost use Rattle.std.specs.Prelude.{⊤, ◌≡◌, ◌+◌, ◌^◌, ◌<◌, ◌≤◌, ℕ, List, Option, [], true, false, drop, length, IsTrue, IfOk, OnOk};
 ghost use Rattle.std.specs.Io.KnownBytes.{prepend_known};
@@ -23,7 +23,7 @@ use pcap_items::stream::{Held, fill_item};
 use std::alloc::Global;
 use std::io::{BufRead, Read};
 
-// Passes the packets that lie whole at the front of these bytes, and gives how many bytes these are.
+// Counts the packets that are whole at the front of these bytes, and returns how many bytes they take.
 fn pass_whole<B: ByteOrder>(
     ts_resolution: TsResolution,
     shown: &[u8],
@@ -73,7 +73,7 @@ impl Passes for PcapHeader {
     }
 }
 
-// One packet more, which is held.
+// Counts one packet that is held.
 fn add_held(held: HeldPacket<'_>, progress: &mut Progress)
     requires held { IsHeld held }
     requires few { progress.old.items + 1 < 2 ^ 64 }
@@ -85,7 +85,7 @@ fn add_held(held: HeldPacket<'_>, progress: &mut Progress)
     progress.add_packet_alone(packet.header, packet.data_.as_slice());
 }
 
-// Passes the next packet, which is held meanwhile, and says whether there was one.
+// Holds and counts the next packet, and returns whether there was one.
 fn pass_held<R: Read>(
     header: &PcapHeader,
     input: &mut R,
@@ -116,7 +116,7 @@ fn pass_held<R: Read>(
     Ok(true)
 }
 
-// Passes the packets behind a header, which are counted among all alone.
+// Counts the packets after a header in the total of all packets only.
 fn pass_packets<R: BufRead>(
     alloc: Global,
     header: &PcapHeader,
@@ -148,7 +148,7 @@ fn pass_packets<R: BufRead>(
     Ok(())
 }
 
-/// Passes the packets behind a header, and gives what refuses the next one.
+/// Counts the packets after a header, and returns the error of the next packet, if any.
 pub(crate) fn tell_packets<R: BufRead>(
     alloc: Global,
     header: &PcapHeader,

@@ -1,4 +1,4 @@
-//! Items that are passed, and what is counted of them.
+//! The progress of a pass over the items of a capture.
 
 ghost use Rattle.std.specs.Prelude.{◌≡◌, ◌+◌, ◌^◌, ◌<◌, ◌++◌, [], true, false, length, map, ◌⊎◌, IfErr, IfOk, OnOk, MatchResult};
 ghost use Rattle.std.specs.Option.{option_to_list};
@@ -32,11 +32,11 @@ use pcap_file::{PcapError, PcapNgReader, ResultParsing};
 use std::alloc::{AllocError, Global};
 use std::io::{BufRead, Read};
 
-/// The most items that are passed.
+/// The most items that a pass counts.
 pub(crate) const MOST: u64 = 18_446_744_073_709_551_614;
 
-/// How many items were passed behind the capture's head, how many bytes they take with it, what is counted of them, the number of the
-/// section in force, from 1, and how sections and interfaces are described.
+/// The progress of a pass: the number of items after the capture's head, their bytes including the head, and their totals. It
+/// also has the number of the current section, from 1, and the descriptions and comments so far.
 #[derive(Drop)]
 pub(crate) struct Progress {
     pub(crate) items: u64,
@@ -48,7 +48,7 @@ pub(crate) struct Progress {
 }
 
 impl Progress {
-    /// One packet of a classic capture more, which is counted among all alone.
+    /// Counts one packet of a classic capture in the total of all packets only.
     #[inline(always)]
     pub(crate) fn add_packet_alone(&mut self, header: PacketHeader, bytes: &[u8])
         requires few { self.old.items + 1 < 2 ^ 64 }
@@ -60,7 +60,7 @@ impl Progress {
         self.bytes = self.bytes.saturating_add(16 + u64::from(header.incl_len));
     }
 
-    /// One enhanced packet more, whose block has so many bytes.
+    /// Counts one enhanced packet, whose block has this many bytes.
     #[inline(always)]
     pub(crate) fn add_packet(&mut self, seen: Seen, bytes: usize)
         requires few { self.old.items + 1 < 2 ^ 64 }
@@ -73,7 +73,7 @@ impl Progress {
         self.bytes = self.bytes.saturating_add(bytes as u64);
     }
 
-    // Keeps how the last of the section's interfaces is described.
+    // Appends the description of the last of the section's interfaces.
     fn describe(
         &mut self,
         alloc: Global,
@@ -93,7 +93,7 @@ impl Progress {
         Ok(())
     }
 
-    // Keeps what a block of this type adds to how sections and interfaces are described. An `Err` leaves what was kept.
+    // Appends the descriptions and comments that a block of this type adds. An `Err` loses none of the old ones.
     fn keep(
         &mut self,
         alloc: Global,
@@ -123,7 +123,7 @@ impl Progress {
         }
     }
 
-    // One item more, of so many bytes, of which this is seen.
+    // Counts one item of this many bytes.
     fn add(&mut self, sight: Sight, bytes: u64) -> Result<(), AllocError>
         requires few { self.old.items + 1 < 2 ^ 64 }
         requires within { IsWithin (length self.old.totals.interfaces.items) sight }
@@ -198,7 +198,7 @@ impl Passes for Clocks {
     }
 }
 
-// Passes the next block, which the reader holds meanwhile, and says whether there was one.
+// Reads and counts the next block, and returns whether there was one.
 fn pass_next<T: Read + Drop>(
     alloc: Global,
     reader: &mut PcapNgReader<T>,
@@ -228,7 +228,7 @@ fn pass_next<T: Read + Drop>(
     }
 }
 
-// Passes the blocks of a reader.
+// Counts the blocks of a reader.
 fn pass_blocks<T: BufRead + Drop>(
     alloc: Global,
     reader: &mut PcapNgReader<T>,
@@ -259,7 +259,7 @@ fn pass_blocks<T: BufRead + Drop>(
     Ok(())
 }
 
-/// Passes the blocks of a reader, and gives what refuses the next one.
+/// Counts the blocks of a reader, and returns the error of the next block, if any.
 pub(crate) fn tell_blocks<T: BufRead + Drop>(
     alloc: Global,
     reader: &mut PcapNgReader<T>,

@@ -1,31 +1,32 @@
-//! What is seen of items.
+//! The data of items that the totals use.
 
 use pcap_file::pcapng::Timestamp;
 
-/// What is seen of a packet.
+/// The data of a packet that the totals use.
 #[derive(Clone, Copy, Debug, PartialEq, Eq)]
 pub struct Seen {
-    /// The place of its interface among all that are described in the capture, in order. None where it isn't described.
+    /// The index of its interface among all interfaces described in the capture, in order. `None` if its interface isn't
+    /// described.
     pub interface: Option<usize>,
-    /// Its time. None where it has none, as a simple packet, and where its interface isn't described.
+    /// The packet's time. `None` for a simple packet, which has none, and if its interface isn't described.
     pub time: Option<Timestamp>,
-    /// How many bytes are stored of it.
+    /// The number of stored bytes of the packet.
     pub stored: u64,
-    /// How many bytes it had.
+    /// The packet's original length, in bytes.
     pub original: u32,
 }
 
-/// What is seen of an item.
+/// The data of an item that the totals use. An item is a packet record or a block.
 #[derive(Clone, Copy, Debug, PartialEq, Eq)]
 pub enum Sight {
     /// A packet.
     Packet(Seen),
-    /// A packet whose body is refused.
+    /// A packet with a malformed body.
     Refused,
     /// The description of an interface.
     Interface,
     /// The header of a section.
     Section,
-    /// Anything else.
+    /// Any other block.
     Other,
 }

@@ -1,4 +1,4 @@
-//! Items that are passed where they lie whole in the input's buffer, of any format.
+//! Items of any format, counted where they are whole in the input's buffer.
 
 ghost use Rattle.std.specs.Prelude.{◌≡◌, ◌<◌, ◌≤◌, ℕ, List, Option, false, drop, length};
 ghost use Rattle.std.specs.Io.KnownBytes.{prepend_known};
@@ -11,7 +11,7 @@ use crate::seen::Sight;
 use pcap_file::{PcapError, ResultParsing};
 use std::io::BufRead;
 
-/// What stands ahead of a walk over a buffer: items of a format, of which it is told what is seen.
+/// The state before a walk over a buffer, and how to count the items there.
 pub(crate) trait Passes {
     ghost use Rattle.pcapfile_info.specs.declared.progress.Progress.{Progress};
     ghost use Rattle.pcapfile_info.specs.declared.seen.Sight.{Sight};
@@ -32,7 +32,8 @@ pub(crate) trait Passes {
 
     ghost kept: { State → List Value → List Sight → Progress → Type 0 };
 
-    /// Passes items that lie whole at the front of these bytes and leave what is in force, and gives how many bytes these are.
+    /// Counts items that are whole at the front of these bytes and don't change the state, and returns how many bytes they
+    /// take.
     fn pass(&self, shown: &[u8], progress: &mut Progress) -> usize
         requires valid { is_valid self.now }
         requires fewer { progress.old.items ≤ 18446744073709551614 }
@@ -43,7 +44,7 @@ pub(crate) trait Passes {
             (prepend_known shown.now behind) (prepend_known (drop result shown.now) behind) progress.old progress.new };
 }
 
-/// Passes the items that lie whole in the input's buffer, and says whether anything lies there.
+/// Counts the items that are whole in the input's buffer, and returns whether the buffer had any bytes.
 pub(crate) fn pass_shown<R: BufRead, P: Passes>(
     ahead: &P,
     input: &mut R,

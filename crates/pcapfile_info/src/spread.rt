@@ -1,20 +1,20 @@
-//! How many packets lie in each of a row of spans of time.
+//! The number of packets in each of a row of time spans.
 
 ghost use Rattle.std.specs.Prelude.{◌+◌, ◌*◌, ◌^◌, ◌<◌, ◌≤◌};
 
-/// How many spans a row has.
+/// The number of spans in a row.
 pub const SPANS: usize = 64;
 
-/// How many packets lie in each of a row of spans of time, which follow one another and are of one width. Span 0 begins in 1970.
+/// The number of packets in each of a row of consecutive time spans of one width. Span 0 begins in 1970.
 #[derive(Clone, Copy, Debug, PartialEq, Eq)]
 pub struct Spread {
     /// The width of a span, in nanoseconds.
     pub width: u64,
-    /// The number of the first span in which a packet lies.
+    /// The number of the first span that has a packet.
     pub first: u64,
-    /// The number of the last one, less than 64 behind it.
+    /// The number of the last span that has a packet, less than 64 after the first.
     pub last: u64,
-    /// How many packets lie in the span of each number, at the remainder of that by 64.
+    /// The number of packets in each span, at the index span number modulo 64.
     pub packets: [u64; SPANS],
     ghost wide: { 0 < width },
     ghost ordered: { first ≤ last },

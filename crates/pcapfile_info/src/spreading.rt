@@ -1,4 +1,4 @@
-//! Packets that are put into spans of time.
+//! Counting packets in time spans.
 
 ghost use Rattle.std.specs.Prelude.{◌≡◌, ◌+◌, ◌*◌, ◌/◌, ◌%◌, ◌^◌, ◌<◌, ◌≤◌, ◌↔◌, ◌++◌, ◌∷◌, [], ℕ, List, count_by, IsTrue};
 ghost use Rattle.pcapfile_run.specs.Passing.{counted};
@@ -6,7 +6,7 @@ ghost use Rattle.pcapfile_info.specs.Spreads.{count_at, HasRoom, IsFine, lies_in
 
 use crate::spread::{SPANS, Spread};
 
-// The place of a span among the counts.
+// Returns the index of a span among the counts.
 fn slot_of(span: u64) -> usize
     ensures place { result ≡ span % 64 }
     ensures within { result < 64 }
@@ -14,7 +14,7 @@ fn slot_of(span: u64) -> usize
     (span % 64) as usize
 }
 
-// The first span from this one on with this place.
+// Returns the first span from this one on that has this index.
 fn span_at(first: u64, slot: usize) -> u64
     requires small { first < 2 ^ 63 }
     requires within { slot < 64 }
@@ -26,7 +26,7 @@ fn span_at(first: u64, slot: usize) -> u64
 }
 
 impl Spread {
-    /// That of one packet.
+    /// Returns the row of one packet.
     pub(crate) fn new(instant: u64) -> Spread
         ensures { Spreads (instant ∷ []) result }
     {
@@ -40,7 +40,7 @@ impl Spread {
         }
     }
 
-    /// How many packets lie in the span of this number. None lie beyond the row.
+    /// Returns how many packets are in the span of this number: 0 outside of the row.
     pub fn packets_in(&self, span: u64) -> u64
         ensures within { self.now.first ≤ span → span ≤ self.now.last → result ≡ count_at self.now span }
         ensures beyond { ((self.now.first ≤ span) × (span ≤ self.now.last) → ⊥) → result ≡ 0 }
@@ -53,7 +53,7 @@ impl Spread {
         }
     }
 
-    // How many packets lie in the span of this number, where spans are twice as wide.
+    // Returns how many packets are in the span of this number if spans are twice as wide.
     fn packets_in_both(&self, span: u64) -> u64
         ensures { (instants : List ℕ) → Rows instants self.now → result ≡ counted (count_by (lies_in (self.now.width * 2) span) instants) }
     {
@@ -64,7 +64,7 @@ impl Spread {
             .saturating_add(self.packets_in(span * 2 + 1))
     }
 
-    // The same packets in spans twice as wide.
+    // Returns the same packets in spans twice as wide.
     fn doubled(&self) -> Spread
         requires { self.now.width < 2 ^ 63 }
         ensures rows { (instants : List ℕ) → Rows instants self.now → Rows instants result }
@@ -85,7 +85,7 @@ impl Spread {
         }
     }
 
-    // Whether an instant lies in the last span, as that of most packets does. It wants no division.
+    // Returns true only for an instant in the last span, where most packets are. The test needs no division.
     #[inline(always)]
     fn is_in_last(&self, instant: u64) -> bool
         ensures { IsTrue result → instant / self.now.width ≡ self.now.last }
@@ -94,14 +94,14 @@ impl Spread {
         start <= instant && instant - start < self.width
     }
 
-    // Whether the span of this number can be one of the row.
+    // Returns whether the row has room for the span of this number.
     fn has_room(&self, span: u64) -> bool
         ensures { IsTrue result ↔ HasRoom self.now span }
     {
         self.last.max(span) - self.first.min(span) < SPANS as u64
     }
 
-    // Makes spans wide enough that this instant lies in one of the row.
+    // Widens the spans until the row has room for this instant.
     fn widen(&mut self, instant: u64)
         ensures room { HasRoom self.new (instant / self.new.width) }
         ensures fine { (instants : List ℕ) → Spreads instants self.old → Rows instants self.new × IsFine (instants ++ instant ∷ []) self.new.width }
@@ -113,7 +113,7 @@ impl Spread {
         *self = spread;
     }
 
-    // One packet more, which lies in this span.
+    // Counts one packet in this span.
     fn put(&mut self, span: u64)
         requires room { HasRoom self.old span }
         requires bounded { span * self.old.width < 2 ^ 64 }
@@ -126,7 +126,7 @@ impl Spread {
         self.last = self.last.max(span);
     }
 
-    // One packet more, in whichever span.
+    // Counts one packet in any span.
     #[inline(never)]
     fn add_anywhere(&mut self, instant: u64)
         ensures { (instants : List ℕ) → Spreads instants self.old → Spreads (instants ++ instant ∷ []) self.new }
@@ -140,7 +140,7 @@ impl Spread {
         }
     }
 
-    /// One packet more.
+    /// Counts one packet.
     #[inline(always)]
     pub(crate) fn add(&mut self, instant: u64)
         ensures { (instants : List ℕ) → Spreads instants self.old → Spreads (instants ++ instant ∷ []) self.new }

@@ -1,4 +1,4 @@
-//! What is counted of packets.
+//! Counts of packets.
 
 ghost use Rattle.std.specs.Prelude.{◌≡◌, ◌<◌, ◌++◌, ◌∷◌, [], ℕ, List, Some, IsTrue, ◌↔◌};
 ghost use Rattle.pcapfile_info.specs.declared.seen.Seen.{Seen};
@@ -8,7 +8,7 @@ use crate::seen::Seen;
 use crate::spread::Spread;
 use pcap_file::pcapng::Timestamp;
 
-/// How many classes of lengths there are.
+/// The number of classes of lengths.
 pub const CLASSES: usize = 10;
 
 /// The least length of each class, in bytes.
@@ -17,22 +17,22 @@ pub const LEAST: [u32; CLASSES] = [0, 20, 40, 80, 160, 320, 640, 1280, 2560, 512
 /// The nanoseconds in a second.
 const BILLION: u64 = 1_000_000_000;
 
-/// What is counted of packets. A number above 2^64 - 1 is told as that number.
+/// Counts of a set of packets. A number above 2^64 - 1 is reported as 2^64 - 1.
 #[derive(Clone, Copy, Debug, PartialEq, Eq)]
 pub struct Tally {
-    /// How many packets.
+    /// The number of packets.
     pub packets: u64,
-    /// How many bytes are stored of them.
+    /// The number of stored bytes.
     pub stored: u64,
-    /// How many bytes they had.
+    /// The sum of the original lengths, in bytes.
     pub original: u64,
-    /// The earliest of their times. None where none has a time.
+    /// The earliest time of a packet. `None` if no packet has a time.
     pub earliest: Option<Timestamp>,
-    /// The latest of their times. None where none has a time.
+    /// The latest time of a packet. `None` if no packet has a time.
     pub latest: Option<Timestamp>,
-    /// How many packets had a length of each class.
+    /// The number of packets whose original length is in each class.
     pub sizes: [u64; CLASSES],
-    /// How many packets lie in spans of time. None where none has a time.
+    /// The number of packets in each time span. `None` if no packet has a time.
     pub spread: Option<Spread>,
 }
 
@@ -42,7 +42,7 @@ fn is_before(left: Timestamp, right: Timestamp) -> bool
     left < right
 }
 
-// Keeps the earlier one of a time and another, if there is one.
+// Keeps the earlier of a time and the known one, if any.
 #[inline(always)]
 fn keep_earlier(known: &mut Option<Timestamp>, time: Timestamp)
     ensures { IsFirstWith IsBefore known.old (Some time) known.new }
@@ -55,7 +55,7 @@ fn keep_earlier(known: &mut Option<Timestamp>, time: Timestamp)
     *known = Some(time);
 }
 
-// Keeps the later one of a time and another, if there is one.
+// Keeps the later of a time and the known one, if any.
 #[inline(always)]
 fn keep_later(known: &mut Option<Timestamp>, time: Timestamp)
     ensures { IsFirstWith IsAfter known.old (Some time) known.new }
@@ -68,7 +68,7 @@ fn keep_later(known: &mut Option<Timestamp>, time: Timestamp)
     *known = Some(time);
 }
 
-// The nanoseconds from 1970 to a time: none before that, and 2^64 - 1 for more than that.
+// Returns the nanoseconds from 1970 to a time: 0 before 1970, and at most 2^64 - 1.
 fn instant_of(time: Timestamp) -> u64
     ensures { result ≡ instant_of time }
 {
@@ -83,7 +83,7 @@ fn instant_of(time: Timestamp) -> u64
     }
 }
 
-// Puts an instant into spans of time.
+// Counts an instant in its time span.
 #[inline(always)]
 fn add_instant(spread: &mut Option<Spread>, instant: u64)
     ensures { (instants : List ℕ) → IsSpread instants spread.old → IsSpread (instants ++ instant ∷ []) spread.new }
@@ -94,7 +94,7 @@ fn add_instant(spread: &mut Option<Spread>, instant: u64)
     }
 }
 
-// The class of a length.
+// Returns the class of a length.
 fn class_of(original: u32) -> usize
     ensures class { result ≡ size_class original }
     ensures within { result < 10 }
@@ -114,7 +114,7 @@ fn class_of(original: u32) -> usize
 }
 
 impl Tally {
-    /// That of no packet.
+    /// Returns the counts of no packets.
     pub(crate) fn new() -> Tally
         ensures { Tallies [] result }
     {
@@ -129,7 +129,7 @@ impl Tally {
         }
     }
 
-    // The time of one packet more, where it has one.
+    // Counts the time of one packet, if it has one.
     #[inline(always)]
     fn add_time(&mut self, time: Option<Timestamp>)
         ensures same { (self.new.packets ≡ self.old.packets) × (self.new.stored ≡ self.old.stored)
@@ -146,7 +146,7 @@ impl Tally {
         add_instant(&mut self.spread, instant_of(time));
     }
 
-    /// One packet more.
+    /// Counts one packet.
     #[inline(always)]
     pub(crate) fn add(&mut self, seen: Seen)
         ensures { (packets : List Seen) → Tallies packets self.old → Tallies (packets ++ seen ∷ []) self.new }

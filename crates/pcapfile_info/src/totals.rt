@@ -1,4 +1,4 @@
-//! What is counted of the items of a capture.
+//! Totals of the items of a capture.
 
 ghost use Rattle.std.specs.Prelude.{◌≡◌, List, [], IfErr, IfOk, MatchResult, length};
 ghost use Rattle.pcap_classic.specs.PacketText.{Captured};
@@ -11,23 +11,23 @@ use crate::seen::{Seen, Sight};
 use crate::tally::Tally;
 use std::alloc::{AllocError, Global};
 
-/// What is counted of the items of a capture. A number above 2^64 - 1 is told as that number.
+/// The totals of the items of a capture. A number above 2^64 - 1 is reported as 2^64 - 1.
 #[derive(Debug, Drop)]
 pub struct Totals {
-    /// How many sections begin behind the first.
+    /// The number of sections after the first.
     pub sections: u64,
-    /// How many packets have a body that is refused. They are counted nowhere else.
+    /// The number of packets with a malformed body. They are counted nowhere else.
     pub refused: u64,
-    /// All packets.
+    /// The counts of all packets.
     pub all: Tally,
-    /// Those whose interface isn't described.
+    /// The counts of the packets whose interface isn't described.
     pub undescribed: Tally,
-    /// Those of each interface that is described, in order over all sections. A classic capture has one.
+    /// The counts of the packets of each described interface, in order over all sections. A classic capture has one interface.
     pub interfaces: Vec<Tally>,
 }
 
 impl Totals {
-    /// Those of no item, without an interface.
+    /// Returns the totals of no items, without an interface.
     pub(crate) fn new(alloc: Global) -> Totals
         ensures { TotalsAre 0 [] result }
     {
@@ -40,7 +40,7 @@ impl Totals {
         }
     }
 
-    /// Those of no item, of one interface.
+    /// Returns the totals of no items, with one interface.
     pub(crate) fn with_interface(alloc: Global) -> Result<Totals, AllocError>
         ensures { IfOk result (TotalsAre 1 []) }
     {
@@ -49,7 +49,7 @@ impl Totals {
         Ok(totals)
     }
 
-    /// One packet more.
+    /// Counts one packet.
     pub(crate) fn add_packet(&mut self, seen: Seen)
         requires { IsBelow (length self.old.interfaces.items) seen.interface }
         ensures { Adds (Packet seen) self.old self.new }
@@ -61,7 +61,7 @@ impl Totals {
         }
     }
 
-    /// Gives what is counted of all packets to the one interface by which they came.
+    /// Copies the counts of all packets to the one interface that captured them.
     pub(crate) fn give_to_the_interface(&mut self)
         requires { length self.old.interfaces.items ≡ 1 }
         ensures { (packets : List Captured) (sights : List Sight)
@@ -70,7 +70,7 @@ impl Totals {
         self.interfaces[0] = self.all;
     }
 
-    /// One item more, of which this is seen. `AllocError` where there is no room for an interface; what they are of stays as it was then.
+    /// Counts one item. `AllocError` if there is no memory for another interface; the totals are then unchanged.
     pub(crate) fn add(&mut self, sight: Sight) -> Result<(), AllocError>
         requires { IsWithin (length self.old.interfaces.items) sight }
         ensures adds { MatchResult result (λ done. Adds sight self.old self.new) (λ e. Stay self.old self.new) }

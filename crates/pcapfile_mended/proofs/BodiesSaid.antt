@@ -1,4 +1,4 @@
--- What mending a block rests on: what the strict reading says of a body, and how long bodies are.
+-- Lemmas for mending a block: the verdicts of strict reading on its body, and the lengths of bodies.
 use Rattle.std.proofs.Common.{◌≡◌, ◌≢◌, ◌≤◌, ◌<◌, ℕ, List, [], ◌∷◌, ◌++◌, length, take, drop, Bool, true, false, Option, Some, Result, Ok, Err, IfOk, refl, sym, ap, subst, ◌∙◌, arith, inl, inr, length-append}
 use Rattle.std.specs.Prelude.{filter, replicate, not, Decides}
 use Rattle.std.specs.List.{flat_map}
@@ -36,13 +36,13 @@ section_long section s rest x =
       number_length order 8 v.length_bits v.after_minor x.after.after_version v.length_number,
     )
 
--- a section that the strict reading takes has room for its length
+-- A section that strict reading takes has room for its length.
 pub sound_section_long : (type : BlockType) (order : Order) (s : List ℕ) (body : Body) (rest : List ℕ) → BodySays order type s (whole body rest) → type ≡ types.SectionHeader → 16 ≤ length s
 sound_section_long type order s body rest x is =
     let says = subst (λ (t : BlockType). BodySays order t s (whole body rest)) is x in
     section_long says.0 s rest says.2
 
--- an interface whose options can't begin has no room for its head
+-- An interface without room for options is too short for its fixed fields.
 pub short_interface : (raw : Raw) → ((of : OptionsOf) (order : Endianness) → OptionsAt raw of order → ⊥) → raw.type_ ≡ types.InterfaceDescription → length raw.body < 8
 short_interface raw none is =
     elim (cases_lt (length raw.body) 8) [
@@ -59,7 +59,7 @@ pieces_no_longer : (pieces : List Piece) → length (flat_map text_in (filter is
 pieces_no_longer [] = omega arith
 pieces_no_longer (piece ∷ pieces) = one_no_longer piece pieces (is_sound piece) refl (pieces_no_longer pieces)
 
--- the sound options take no more bytes than all
+-- The sound options take no more bytes than all options.
 pub kept_no_longer : (order : Order) (kind : Kind) (s kept : List ℕ) → SoundOptions order kind s kept → length kept ≤ length s
 kept_no_longer order kind s kept x =
     omega (arith, ap length x.kept_are, pieces_no_longer x.pieces, ap length x.text, length-append (flat_map text_in x.pieces) x.stop)
@@ -74,7 +74,7 @@ parted s =
 length_there : (s : List ℕ) → 16 ≤ length s → length (take 8 (drop 8 s)) ≡ 8
 length_there s long = omega (arith, length-take 8 (drop 8 s), length-drop 8 s)
 
--- a section whose length isn't stated is the same without it
+-- A section that doesn't state its length is the same without it.
 unstated_same : (s : List ℕ) → take 8 (drop 8 s) ≡ replicate 8 255 → unstated types.SectionHeader s ≡ s
 unstated_same s e = ap (λ (t : List ℕ). take 8 s ++ (t ++ drop 16 s)) (sym e) ∙ parted s
 
@@ -87,37 +87,37 @@ stated_as : (type : BlockType) (s : List ℕ) (b same : Bool) → type ≡ types
 stated_as type s b true is long e decides = rw (e, is) (unstated_same s (decides.0 refl))
 stated_as type s b false is long e decides = rw (e, is) (λ same. let is_true = decides.1 (unstated_other s long same) in absurd cc)
 
--- whether the bytes of the length differ from those of none tells whether it is stated
+-- Comparing the bytes of the length with those of -1 shows whether the section states its length.
 pub stated_told : (type : BlockType) (s none : List ℕ) (b : Bool) → type ≡ types.SectionHeader → 16 ≤ length s → none ≡ replicate 8 255 → b ≡ not (pointwise eqb (take 8 (drop 8 s)) none) → IsStated b type s
 stated_told type s none b is long none_is e =
     let same = pointwise eqb (take 8 (drop 8 s)) none in
     let decides = slice_eq-Decides Decides-eqb (take 8 (drop 8 s)) none same refl in
     stated_as type s b same is long e (subst (λ (t : List ℕ). Decides same (take 8 (drop 8 s) ≡ t)) none_is decides)
 
--- it has as many bytes without it
+-- A body has as many bytes without a section's length.
 pub unstated_length : (type : BlockType) (s : List ℕ) → (type ≡ types.SectionHeader → 16 ≤ length s) → length (unstated type s) ≡ length s
 unstated_length types.SectionHeader s long =
     let there = long refl in
     omega (arith, length-append (take 8 s) (replicate 8 255 ++ drop 16 s), length-append (replicate 8 255) (drop 16 s), length-replicate {A = ℕ} 8 255, length-take 8 s, length-drop 16 s)
 unstated_length _ s long = refl
 
--- ---- what stands before options
+-- ---- the bytes before options
 
 of_section : (of : OptionsOf) → ◌≡◌ {A = Option OptionsOf} (Some kinds.Section) (Some of) → (order : Order) (s : List ℕ) → front_length of order s ≡ 16
 of_section of e order s = let is : kinds.Section ≡ of = cc in rw (← is) refl
 
--- before the options of a section there is room for its length
+-- The bytes before a section's options have room for its length.
 pub section_front : (raw : Raw) (of : OptionsOf) (order : Endianness) → OptionsAt raw of order → raw.type_ ≡ types.SectionHeader → 16 ≤ length (take (front_length of (number_in order) raw.body) raw.body)
 section_front raw of order at is =
     let of_type : ◌≡◌ {A = Option OptionsOf} (Some kinds.Section) (Some of) = rw is at at.of_type in
     let n = of_section of of_type (number_in order) raw.body in
     omega (arith, at.room, n, length-take (front_length of (number_in order) raw.body) raw.body)
 
--- the same where so many bytes were split off
+-- The same holds if these bytes were split off.
 pub before_options : (raw : Raw) (of : OptionsOf) (order : Endianness) (n : ℕ) (before : List ℕ) → OptionsAt raw of order → n ≡ front_length of (number_in order) raw.body → before ≡ take n raw.body → raw.type_ ≡ types.SectionHeader → 16 ≤ length before
 before_options raw of order n before at n_is is section = rw (is, n_is) (section_front raw of order at section)
 
--- with its sound options a body is no longer than it was
+-- A body with its sound options only is no longer than it was.
 pub with_options_length : (raw : Raw) (of : OptionsOf) (order : Endianness) (kept : List ℕ) → OptionsAt raw of order → SoundOptions (number_in order) (kind_of of) (options_in raw of order) kept
     → length (with_options raw of order kept) ≤ length raw.body
 with_options_length raw of order kept at x =
@@ -133,7 +133,7 @@ with_options_length raw of order kept at x =
       length-drop n raw.body,
     )
 
--- what is put of a body that was split before its options: it with the sound ones
+-- The body written after a split before its options has the sound options only.
 pub put_body : (raw : Raw) (of : OptionsOf) (order : Endianness) (n : ℕ) (before after put kept body : List ℕ) → n ≡ front_length of (number_in order) raw.body → before ≡ take n raw.body → after ≡ drop n raw.body
     → put ≡ unstated raw.type_ before → SoundOptions (number_in order) (kind_of of) after kept → body ≡ put ++ kept
     → (body ≡ with_options raw of order kept) × SoundOptions (number_in order) (kind_of of) (options_in raw of order) kept
@@ -142,20 +142,20 @@ put_body raw of order n before after put kept body n_is before_is after_is put_i
   subst (λ (t : List ℕ). SoundOptions (number_in order) (kind_of of) t kept) (after_is ∙ ap (λ (k : ℕ). drop k raw.body) n_is) are,
 )
 
--- ---- what is told
+-- ---- the reported result
 
 changed_as : {E : Type 0} (raw : Raw) (s text : List ℕ) (r : Result Mended E) → Mends raw (has_body s) → IfOk r (λ mended. (mended ≡ shown.Changed) × (text ≡ raw_text (with_body raw s))) → IfOk r (λ mended. IsMended raw mended text)
 changed_as raw s text (Ok mended) mends x = record { becomes = has_body s; mends = mends; told_so = x.0; text_is = x.1 }
 changed_as raw s text (Err e) mends x = x
 
--- a block that has another body by what becomes of it
+-- A block with another body is a result of mending.
 pub changed : {E : Type 0} (raw : Raw) (s body text : List ℕ) (r : Result Mended E) → body ≡ s → Mends raw (has_body s) → IfOk r (λ mended. (mended ≡ shown.Changed) × (text ≡ raw_text (with_body raw body))) → IfOk r (λ mended. IsMended raw mended text)
 changed raw s body text r is mends x = changed_as raw s text r mends (subst (λ (t : List ℕ). IfOk r (λ mended. (mended ≡ shown.Changed) × (text ≡ raw_text (with_body raw t)))) is x)
 
--- one that stays
+-- An unchanged block is a result of mending.
 pub stayed : (raw : Raw) (text : List ℕ) → IsTaken (number_in raw.endianness) raw.type_ raw.body true → unstated raw.type_ raw.body ≡ raw.body → text ≡ raw_text raw → IsMended raw shown.Stays text
 stayed raw text taken same is = record { becomes = stays; mends = sound taken.0 taken.1 taken.2 same; told_so = refl; text_is = is }
 
--- one that is left out
+-- A block that is left out is a result of mending.
 pub left_out : (raw : Raw) (text : List ℕ) → IsTaken (number_in raw.endianness) raw.type_ raw.body false → ((of : OptionsOf) (order : Endianness) → OptionsAt raw of order → ⊥) → raw.type_ ≢ types.InterfaceDescription → text ≡ [] → IsMended raw shown.LeftOut text
 left_out raw text refused none other is = record { becomes = is_left_out; mends = lost refused.0 refused.1 none other; told_so = refl; text_is = is }

@@ -1,4 +1,4 @@
--- What becomes of a block is taken by the strict reading, and is one thing.
+-- Strict reading takes each mended block, and mending a block has one result only.
 use Rattle.std.proofs.Common.{◌≡◌, ◌≢◌, ◌≤◌, ◌<◌, ◌+◌, ◌-◌, ℕ, List, [], ◌∷◌, ◌++◌, length, take, drop, Bool, true, false, Option, Some, None, Result, Ok, Err, IfErr, refl, sym, ap, subst, ◌∙◌, arith, append_assoc, length-append}
 use Rattle.std.specs.Prelude.{All, filter, replicate}
 use Rattle.std.specs.List.{flat_map}
@@ -44,20 +44,20 @@ use Rattle.pcap_tolerant_blocks.proofs.OneSound.{sound_one}
 use Rattle.pcap_written.specs.Raw.{Raw}
 use Rattle.pcapfile_mended.specs.Mended.{Becomes, stays, has_body, is_left_out, IsTaken, IsTakenAfter, MendGrows, Mends, sound, stated, flawed, short, lost, OptionsAt, SaysOfRaw, front_length, options_in, packet_front, unstated, with_options}
 
--- ---- bytes behind others
+-- ---- bytes after others
 
--- what stands behind so many bytes is what is left when they are dropped
+-- The bytes after the first n are those that remain when n are dropped.
 behind_drop : {n : ℕ} (s rest : List ℕ) → Behind n s rest → rest ≡ drop n s
 behind_drop {n} s rest b = sym (ap (drop n) b.text ∙ drop_at b.bytes rest n b.length_is)
 
--- a number is read of the first bytes
+-- A number is read from the first bytes.
 number_front : (order : Order) (w n : ℕ) (s rest : List ℕ) → Number order w n s rest → order w (take w s) ≡ n
 number_front order w n s rest x = ap (order w) (ap (take w) x.text ∙ take_at x.bytes rest w x.length_is) ∙ x.value
 
 -- ---- sound options are a list
 
 module _ (order : Order) (kind : Kind) where
-  -- a list that is read has no fault
+  -- A list of options that is read is not malformed.
   no_fault : (options : List Entry) (s rest : List ℕ) (fault : Fault) → OptionList may_end_with_body order kind options s rest → ListFault may_end_with_body order kind s fault → ⊥
   no_fault options s rest fault list wrong =
       let one = list_one may_end_with_body order kind s in
@@ -75,7 +75,7 @@ module _ (order : Order) (kind : Kind) where
       let no : are_none piece.option.flaws ≡ false = ap are_none flawed in
       absurd cc
 
-  -- an option whose value breaks no rule is a strict one, whatever follows it
+  -- An option whose value breaks no rule is a strict option, whatever follows it.
   sound_piece : (piece : Piece) (rest : List ℕ) → IsPiece order kind piece → is_sound piece ≡ true → (entry : Entry) × OptionText order kind entry (piece.text ++ rest) rest
   sound_piece piece rest is is_good = let text = is rest in piece_value piece rest text (value_of order (shape_at kind text.code) text.v) refl is_good
 
@@ -95,14 +95,14 @@ module _ (order : Order) (kind : Kind) where
   kept_chain [] are = ([], refl)
   kept_chain (piece ∷ pieces) are = one_kept piece pieces (is_sound piece) refl (All-head (IsPiece order kind) piece pieces are) (kept_chain pieces (All-tail (IsPiece order kind) piece pieces are))
 
-  -- the sound options of a body, one behind the other, are a strict list that ends with the body
+  -- The sound options of a body, concatenated, are a strict list that ends with the body.
   pub kept_list : (s kept : List ℕ) → SoundOptions order kind s kept → (options : List Entry) × OptionList may_end_with_body order kind options kept []
   unfolding ChainOf
   kept_list s kept x =
       let chain = kept_chain x.pieces x.are in
       (chain.0, subst (λ (t : List ℕ). OptionList may_end_with_body order kind chain.0 t []) (sym x.kept_are) (with_body chain.1 tt refl))
 
--- ---- bodies without a fault
+-- ---- bodies that break no rule
 
 no_lack : (order : Order) (type : BlockType) (s : List ℕ) (n : ℕ) → BodySays order type s (lacks n) → ⊥
 no_lack order types.SectionHeader s n x = x
@@ -113,7 +113,7 @@ taken_as order type s (whole body rest) says none = (body, rest, says)
 taken_as order type s (lacks n) says none = absurd (no_lack order type s n says)
 taken_as order type s (faulty fault) says none = absurd (none fault says)
 
--- a body that has no fault is taken
+-- Strict reading takes a body that breaks no rule.
 pub taken_unless : (order : Order) (type : BlockType) (s : List ℕ) → ((fault : Fault) → BodySays order type s (faulty fault) → ⊥) → IsTaken order type s true
 taken_unless order type s none = let one = body_one order type s in taken_as order type s one.value one.holds none
 
@@ -131,7 +131,7 @@ module _ (order : Order) where
   time_behind : (time : ℕ) (s rest : List ℕ) → TimeText order time s rest → Behind 8 s rest
   time_behind time s rest x = behind_both (behind_number x.high_is) (behind_number x.low_is)
 
-  -- the captured length of a packet stands behind 12 bytes, and its bytes behind 20
+  -- The captured length of a packet is after 12 bytes, and the packet's data after 20.
   head_says : (packet : Stored) (s from after : List ℕ) → Behind 4 s from → StoredHead order packet from after → (order 4 (take 4 (drop 12 s)) ≡ packet.captured_len) × Behind 20 s after
   head_says packet s from after first head =
       let twelve : Behind 12 s head.after_time = behind_both first (time_behind packet.timestamp from head.after_time head.time_is) in
@@ -178,9 +178,9 @@ section_sound e options s rest long named list fault (sections.after_magic _ mag
     let there = subst (λ (t : List ℕ). ListFault may_end_with_body (number_in own) section_header t fault) (behind_drop s wrong.after_version behind) wrong.in_options in
     no_fault (number_in e) section_header options (drop 16 s) rest fault list (subst (λ (o : Endianness). ListFault may_end_with_body (number_in o) section_header (drop 16 s) fault) same there)
 
--- ---- what becomes of a block
+-- ---- the result of mending
 
--- the first bytes, and others in place of what follows them
+-- The first bytes of a body, followed by others than before.
 module _ (n : ℕ) (s kept : List ℕ) (room : n ≤ length s) where
   front_length_is : length (take n s) ≡ n
   front_length_is = omega (arith, length-take n s)
@@ -191,7 +191,7 @@ module _ (n : ℕ) (s kept : List ℕ) (room : n ≤ length s) where
   behind_front : drop n (take n s ++ kept) ≡ kept
   behind_front = drop_at (take n s) kept n front_length_is
 
-  -- numbers in the first bytes stay
+  -- Numbers in the first bytes are unchanged.
   same_front : (k w : ℕ) → k + w ≤ n → take w (drop k (take n s ++ kept)) ≡ take w (drop k s)
   same_front k w le =
       let m = n - k in
@@ -202,7 +202,7 @@ module _ (n : ℕ) (s kept : List ℕ) (room : n ≤ length s) where
       ap (take w) cut ∙ take-append-le w (take m (drop k s)) kept long ∙ take-take w m (drop k s) (omega arith)
 
 module _ (order : Order) (s kept : List ℕ) where
-  -- the list of the kept options stands where it did
+  -- The list of the kept options is where the options were.
   list_there : (kind : Kind) (n : ℕ) → n ≤ length s → SoundOptions order kind (drop n s) kept → (options : List Entry) × OptionList may_end_with_body order kind options (drop n (take n s ++ kept)) []
   list_there kind n room x =
       let list = kept_list order kind (drop n s) kept x in
@@ -239,7 +239,7 @@ module _ (order : Order) (s kept : List ℕ) where
       let list = packet_list packet_kind room x in
       taken_unless order types.Packet t (packet_sound order list.1 t [] list.0 list.2)
 
--- a section of no stated length, and these options
+-- A section without a stated length is taken with these options.
 section_taken : (order : Order) (e : Endianness) (options : List Entry) (s after rest : List ℕ) → 8 ≤ length s → magic_order (big_number 4 (take 4 s)) ≡ Some e → OptionList may_end_with_body (number_in e) section_header options after rest
     → IsTaken order types.SectionHeader (take 8 s ++ (replicate 8 255 ++ after)) true
 section_taken order e options s after rest room named list =
@@ -250,7 +250,7 @@ section_taken order e options s after rest room named list =
     let magic : magic_order (big_number 4 (take 4 t)) ≡ Some e = subst (λ (b : List ℕ). magic_order (big_number 4 b) ≡ Some e) (sym (same_front 8 s behind room 0 4 (omega arith))) named in
     taken_unless order types.SectionHeader t (section_sound e options t rest long magic (subst (λ (b : List ℕ). OptionList may_end_with_body (number_in e) section_header options b rest) (sym there) list))
 
--- what stands before a section's options, but for its length, and other options
+-- The bytes before a section's options, without its length, and other options.
 section_parts : (s kept : List ℕ) → 16 ≤ length s → unstated types.SectionHeader (take 16 s) ++ kept ≡ take 8 s ++ (replicate 8 255 ++ kept)
 section_parts s kept room =
     let none : drop 16 (take 16 s) ≡ [] = drop_all 16 (take 16 s) (omega (arith, length-take 16 s)) in
@@ -279,7 +279,7 @@ stated_taken : (type : BlockType) (order : Order) (s : List ℕ) (body : Body) (
 stated_taken types.SectionHeader order s body rest says other = section_stated order says.0 s rest says.2
 stated_taken _ order s body rest says other = absurd (other refl)
 
--- a body with these options in this order is taken once its sound ones alone are kept
+-- Strict reading takes a body with these options in this order if only its sound ones are kept.
 TakenWith : BlockType → Endianness → List ℕ → List ℕ → OptionsOf → Endianness → Type 0
 TakenWith type e s kept of order =
     front_length of (number_in order) s ≤ length s → SoundOptions (number_in order) (kind_of of) (drop (front_length of (number_in order) s) s) kept
@@ -323,7 +323,7 @@ whole_or_not order type s body rest fault x y =
     let same : whole body rest ≡ faulty fault = one.only (whole body rest) x ∙ sym (one.only (faulty fault) y) in
     absurd cc
 
--- an interface with no room for its head isn't taken
+-- Strict reading refuses an interface too short for its fixed fields.
 short_refused : (type : BlockType) (order : Order) (s : List ℕ) (body : Body) (rest : List ℕ) → type ≡ types.InterfaceDescription → length s < 8 → BodySays order type s (whole body rest) → ⊥
 short_refused type order s body rest is lt x =
     let says = subst (λ (t : BlockType). BodySays order t s (whole body rest)) is x in
@@ -336,37 +336,37 @@ sound_stays raw (has_body _) taken same (flawed fault of order kept says at x) =
 sound_stays raw (has_body _) taken same (short is lt) = absurd (short_refused raw.type_ (number_in raw.endianness) raw.body taken.0 taken.1 is lt taken.2)
 sound_stays raw is_left_out taken same (lost fault says none other) = absurd (whole_or_not (number_in raw.endianness) raw.type_ raw.body taken.0 taken.1 fault taken.2 says)
 
--- ---- where something is left of a block
+-- ---- blocks that are not left out
 
--- a body that the strict reading takes isn't left out
+-- A block whose body strict reading takes isn't left out.
 pub sound_is_left : (raw : Raw) → IsTaken (number_in raw.endianness) raw.type_ raw.body true → Mends raw is_left_out → ⊥
 sound_is_left raw taken (lost fault says none other) = whole_or_not (number_in raw.endianness) raw.type_ raw.body taken.0 taken.1 fault taken.2 says
 
--- nor one whose options have a place
+-- A block with room for its options isn't left out.
 pub options_are_left : (raw : Raw) (of : OptionsOf) (order : Endianness) → OptionsAt raw of order → Mends raw is_left_out → ⊥
 options_are_left raw of order at (lost fault says none other) = none of order at
 
--- nor an interface
+-- An interface isn't left out.
 pub interface_is_left : (raw : Raw) → raw.type_ ≡ types.InterfaceDescription → Mends raw is_left_out → ⊥
 interface_is_left raw is (lost fault says none other) = other is
 
--- then memory may be wanted, as where a list of the body grows
+-- Such a block may need memory, like one whose body needs a list.
 pub mend_grows : {A E : Type 0} (raw : Raw) → MendGrows raw → (r : Result A E) → IfErr r (λ _. MendGrows raw)
 mend_grows raw grows (Ok x) = tt
 mend_grows raw grows (Err e) = grows
 
--- ---- one thing becomes of a block
+-- ---- one result of mending
 
 of_interface : (of : OptionsOf) → ◌≡◌ {A = Option OptionsOf} (Some kinds.Interface) (Some of) → (order : Order) (s : List ℕ) → front_length of order s ≡ 8
 of_interface of e order s = let is : kinds.Interface ≡ of = cc in rw (← is) refl
 
--- an interface whose options have a place has room for its head
+-- An interface with room for its options has room for its fixed fields.
 no_short_at : (raw : Raw) (of : OptionsOf) (order : Endianness) → OptionsAt raw of order → raw.type_ ≡ types.InterfaceDescription → length raw.body < 8 → ⊥
 no_short_at raw of order at is lt =
     let of_type : ◌≡◌ {A = Option OptionsOf} (Some kinds.Interface) (Some of) = rw is at at.of_type in
     omega (arith, at.room, of_interface of of_type (number_in order) raw.body, lt)
 
--- of these options in this order the same are kept
+-- The same options are kept for options of this kind and order.
 kept_same : (raw : Raw) (of others : OptionsOf) (order second : Endianness) (kept more : List ℕ) → OptionsAt raw of order → OptionsAt raw others second
     → SoundOptions (number_in order) (kind_of of) (options_in raw of order) kept
     → SoundOptions (number_in second) (kind_of others) (options_in raw others second) more

@@ -1,4 +1,4 @@
-//! What stands before the options of a body.
+//! The bytes before the options of a body.
 
 ghost use Rattle.std.specs.Prelude.{◌≡◌, ◌≤◌, ◌<◌, ⊤, length, take, MatchOption};
 ghost use Rattle.pcap_core.specs.Answer.{number_in};
@@ -15,7 +15,7 @@ use pcap_core::fields::split_u32;
 use pcap_tolerant_blocks::OptionsOf;
 use pcap_written::RawBlock;
 
-// Which options a body ends in, their order, and how many bytes stand before them.
+// The kind of options that end a body, their byte order, and how many bytes precede them.
 #[derive(Clone, Copy, Debug)]
 pub(crate) struct Front {
     pub(crate) of: OptionsOf,
@@ -23,7 +23,7 @@ pub(crate) struct Front {
     pub(crate) len: usize,
 }
 
-// The options that a body of this type ends in, where it may have some.
+// Returns the kind of options that end a body of this type, if it may have options.
 fn options_in(type_: BlockType) -> Option<OptionsOf>
     ensures { result ≡ options_of type_ }
 {
@@ -37,7 +37,7 @@ fn options_in(type_: BlockType) -> Option<OptionsOf>
     }
 }
 
-// The order of a block's options: a section's magic number names it.
+// Returns the byte order of a block's options, which a section's magic number names.
 #[tactic(auto, unfolding(pcap_blocks::specs::SectionHeader::magic_order))]
 fn order_in(block: RawBlock<'_>) -> Option<Endianness>
     requires { 4 ≤ length block.body.now }
@@ -56,7 +56,7 @@ fn order_in(block: RawBlock<'_>) -> Option<Endianness>
     }
 }
 
-// The number at the front of a slice, in this order.
+// Returns the number at the front of a slice, in this byte order.
 fn number_at(order: Endianness, slice: &[u8]) -> u32
     requires { 4 ≤ length slice.now }
     ensures { result ≡ number_in order 4 (take 4 slice.now) }
@@ -68,7 +68,7 @@ fn number_at(order: Endianness, slice: &[u8]) -> u32
     number
 }
 
-// How many bytes a packet takes up to its options, where it has its numbers.
+// Returns the length of a packet's body up to its options.
 fn packet_len(order: Endianness, body: &[u8]) -> usize
     requires { 16 ≤ length body.now }
     ensures { result ≡ packet_front (number_in order) body.now }
@@ -77,7 +77,7 @@ fn packet_len(order: Endianness, body: &[u8]) -> usize
     20 + (captured + 3) / 4 * 4
 }
 
-// How many bytes stand before such options, where there is room for them.
+// Returns the length of a body up to options of this kind, or `None` if the body is shorter.
 fn front_len(of: OptionsOf, order: Endianness, body: &[u8]) -> Option<usize>
     ensures { MatchOption result (length body.now < front_length of (number_in order) body.now)
         (λ n. (n ≡ front_length of (number_in order) body.now) × (n ≤ length body.now)) }
@@ -99,7 +99,7 @@ fn front_len(of: OptionsOf, order: Endianness, body: &[u8]) -> Option<usize>
     Some(len)
 }
 
-// Where the options of a block's body begin, if there is room for what stands before them.
+// Returns where the options of a block's body begin, if the body has room for what precedes them.
 pub(crate) fn front_of(block: RawBlock<'_>) -> Option<Front>
     ensures none { MatchOption result ((of : OptionsOf) (order : Endianness) → OptionsAt (raw_of block.entry) of order → ⊥)
         (λ front. OptionsAt (raw_of block.entry) front.of front.order) }

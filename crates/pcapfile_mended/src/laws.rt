@@ -8,23 +8,23 @@ ghost use Rattle.pcap_tolerant_blocks.specs.SoundOptions.{SoundOptions};
 ghost use Rattle.pcap_written.specs.Raw.{Raw};
 ghost use Rattle.pcapfile_mended.specs.Mended.{Becomes, IsTaken, IsTakenAfter, Mends, stays, unstated};
 
-/// The sound options of a body, one behind the other, are a strict list of options that ends with the body.
+/// The sound options of a body, concatenated, are a strict list of options that ends with the body.
 pub fn sound_options_are_a_list()
     ensures { (order : Order) (kind : Kind) (s kept : List ℕ) → SoundOptions order kind s kept → (options : List Entry)
         × OptionList may_end_with_body order kind options kept [] }
 {}
 
-/// The strict reading takes the body of each block that is mended, unless that is left out.
+/// Strict reading takes the body of each mended block, unless the block is left out.
 pub fn mended_blocks_are_taken()
     ensures { (raw : Raw) (becomes : Becomes) → Mends raw becomes → IsTakenAfter raw becomes }
 {}
 
-/// One thing alone becomes of a block.
+/// Mending a block has one result only.
 pub fn mended_blocks_are_one()
     ensures { (raw : Raw) (becomes other : Becomes) → Mends raw becomes → Mends raw other → other ≡ becomes }
 {}
 
-/// A block whose body the strict reading takes stays what it is, but for a section that states its length.
+/// A block whose body strict reading takes is unchanged, unless it is a section that states its length.
 pub fn sound_blocks_stay()
     ensures { (raw : Raw) (becomes : Becomes) → IsTaken (number_in raw.endianness) raw.type_ raw.body true → unstated raw.type_ raw.body ≡ raw.body
         → Mends raw becomes → becomes ≡ stays }

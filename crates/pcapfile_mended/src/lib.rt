@@ -1,4 +1,4 @@
-//! PcapNg blocks without flaws that are made of blocks as they stand.
+//! Mending malformed PcapNg blocks, so that strict reading takes them.
 #![tactic(auto)]
 
 mod front;

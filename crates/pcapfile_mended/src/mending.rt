@@ -1,4 +1,4 @@
-//! Blocks that are mended.
+//! Mending blocks.
 
 ghost use Rattle.std.specs.Prelude.{◌≡◌, ◌≤◌, ◌<◌, ◌+◌, ◌-◌, ◌^◌, ◌++◌, true, false, length, replicate, IfOk, IfErr, OnOk};
 ghost use Rattle.pcap_core.specs.Answer.{number_in};
@@ -18,21 +18,21 @@ use pcap_tolerant_blocks::put_sound_options;
 use pcap_written::{RawBlock, frame};
 use std::alloc::{AllocError, Global};
 
-/// What became of a block.
+/// The result of mending a block.
 #[derive(Clone, Copy, Debug, PartialEq, Eq)]
 pub enum Mended {
-    /// It is as it was.
+    /// The block is unchanged.
     Stays,
-    /// It has another body.
+    /// The block has another body.
     Changed,
-    /// Nothing is left of it.
+    /// The block is left out.
     LeftOut,
 }
 
-// What stands for the length of a section that isn't stated, -1.
+// The length of a section that doesn't state it, -1.
 const NO_LENGTH: [u8; 8] = [255; 8];
 
-// Whether the strict reading takes the body of a block of this type, in one order.
+// Returns whether strict reading takes the body of a block of this type, in one byte order.
 fn is_taken<B: ByteOrder>(alloc: Global, type_: BlockType, body: &[u8]) -> Result<bool, AllocError>
     ensures taken { IfOk result (IsTaken B.number_of type_ body.now) }
     ensures memory { IfErr result (λ _. BodyMayGrow B.number_of type_ body.now) }
@@ -44,7 +44,7 @@ fn is_taken<B: ByteOrder>(alloc: Global, type_: BlockType, body: &[u8]) -> Resul
     }
 }
 
-// Whether the strict reading takes a block's body.
+// Returns whether strict reading takes a block's body.
 fn is_sound(alloc: Global, block: RawBlock<'_>) -> Result<bool, AllocError>
     ensures taken { IfOk result (IsTaken (number_in block.entry.endianness) block.entry.type_ block.entry.body.now) }
     ensures memory { IfErr result (λ _. BodyMayGrow (number_in block.entry.endianness) block.entry.type_ block.entry.body.now) }
@@ -55,7 +55,7 @@ fn is_sound(alloc: Global, block: RawBlock<'_>) -> Result<bool, AllocError>
     }
 }
 
-// Puts a section behind other bytes, but for the length that it states.
+// Appends the body of a section, without the length that it states.
 fn put_section(bytes: &[u8], out: &mut Vec<u8>) -> Result<(), AllocError>
     requires { 16 ≤ length bytes.now }
     ensures { OnOk result (out.new.items ≡ out.old.items ++ unstated types.SectionHeader bytes.now) }
@@ -66,7 +66,7 @@ fn put_section(bytes: &[u8], out: &mut Vec<u8>) -> Result<(), AllocError>
     Ok(())
 }
 
-// Puts the body of a block of this type behind other bytes, but for the length that a section states.
+// Appends the body of a block of this type, without the length that a section states.
 fn put_unstated(type_: BlockType, bytes: &[u8], out: &mut Vec<u8>) -> Result<(), AllocError>
     requires { type_ ≡ types.SectionHeader → 16 ≤ length bytes.now }
     ensures { OnOk result (out.new.items ≡ out.old.items ++ unstated type_ bytes.now) }
@@ -77,7 +77,7 @@ fn put_unstated(type_: BlockType, bytes: &[u8], out: &mut Vec<u8>) -> Result<(),
     }
 }
 
-// Whether a block is a section that states its length.
+// Returns whether a block is a section that states its length.
 fn states_length(block: RawBlock<'_>) -> bool
     requires { block.type_ ≡ types.SectionHeader → 16 ≤ length block.body.now }
     ensures { IsStated result block.entry.type_ block.entry.body.now }
@@ -88,7 +88,7 @@ fn states_length(block: RawBlock<'_>) -> bool
     }
 }
 
-// Makes the text of a block with another body.
+// Writes the text of a block with another body.
 fn put_changed(block: RawBlock<'_>, body: &[u8], text: &mut Vec<u8>) -> Result<Mended, AllocError>
     requires { length body.now + 12 < 2 ^ 32 }
     ensures { IfOk result (λ mended. (mended ≡ shown.Changed) × (text.new.items ≡ raw_text (with_body (raw_of block.entry) body.now))) }
@@ -97,7 +97,7 @@ fn put_changed(block: RawBlock<'_>, body: &[u8], text: &mut Vec<u8>) -> Result<M
     Ok(Mended::Changed)
 }
 
-// Makes the text of a block whose body the strict reading takes.
+// Writes the text of a block whose body strict reading takes.
 fn put_sound(
     block: RawBlock<'_>,
     body: &mut Vec<u8>,
@@ -116,7 +116,7 @@ fn put_sound(
     put_changed(block, body.as_slice(), text)
 }
 
-// Makes the text of a block with those of its options whose values break no rule.
+// Writes the text of a block with those of its options whose values break no rule.
 fn put_with_options(
     block: RawBlock<'_>,
     front: Front,
@@ -136,7 +136,7 @@ fn put_with_options(
     put_changed(block, body.as_slice(), text)
 }
 
-// Puts bytes, and zeros up to 8.
+// Writes bytes, and zeros up to 8.
 fn put_filled(bytes: &[u8], out: &mut Vec<u8>) -> Result<(), AllocError>
     requires { length bytes.now ≤ 8 }
     ensures { OnOk result (out.new.items ≡ bytes.now ++ replicate (8 - length bytes.now) 0) }
@@ -146,7 +146,7 @@ fn put_filled(bytes: &[u8], out: &mut Vec<u8>) -> Result<(), AllocError>
     out.resize(8, 0)
 }
 
-// Makes the text of a block whose options have no place: an interface is filled up, and any other is left out.
+// Writes the text of a block without room for options: an interface is filled with zeros, and any other block is left out.
 fn put_rest(
     block: RawBlock<'_>,
     body: &mut Vec<u8>,
@@ -169,16 +169,16 @@ fn put_rest(
     }
 }
 
-/// Makes the text of what becomes of a block, so that the strict reading takes its body, in place of what `text` had, and tells
-/// what became of it. `body` is room that is used meanwhile.
+/// Mends a block, so that strict reading takes its body, and returns the result. The function replaces the bytes of `text` with
+/// the mended block's, and uses `body` as scratch space.
 ///
-/// A block whose body the strict reading takes stays, but that a section states no length. Of any other body the options are
-/// left out whose values break a rule, and all that stands behind the last one that can be found. An interface with no room
-/// for its head is filled up with zeros. Any other body that has no room for what stands before its options is left out, and
-/// so is each that has none.
+/// If strict reading takes the body, the block is unchanged, except that a section no longer states its length. Any other body
+/// loses the options whose values break a rule, and all bytes after the last option that can be found. An interface too short
+/// for its fixed fields is filled with zeros. Any other body is left out if it is too short for what precedes its options, or
+/// has no options.
 ///
-/// `AllocError` where the text, the room or a list can't grow, and only where something is left of the block, or its body has
-/// something that is kept in a list.
+/// `AllocError` if there is no memory for the text, the scratch space or a list of the body. Mending a block that is left out
+/// needs memory only if reading its body may need a list.
 pub fn mend(
     alloc: Global,
     block: RawBlock<'_>,

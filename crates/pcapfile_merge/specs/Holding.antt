@@ -1,4 +1,4 @@
--- What a reader of either format holds, and what it takes.
+-- The packet that a reader of either format holds, and the packets that it takes.
 use Rattle.std.specs.Prelude.{◌≡◌, ◌≤◌, ℕ, List, [], ◌∷◌, length, take, drop, Bool, false, Option, None, Some}
 use Rattle.pcap_core.specs.declared.errors.PcapError.{PcapError}
 use Rattle.pcapfile_merge.specs.declared.buffered.BufferedPackets.{BufferedPackets}

@@ -1,4 +1,4 @@
--- What a merge of sources takes and writes.
+-- The packets that a merge takes from its sources, and the bytes that it writes.
 use Rattle.std.specs.Prelude.{◌≡◌, ◌⊎◌, ◌<◌, ℕ, List, ◌++◌, map, length, Option, None, Some, Result, Ok, Err}
 use Rattle.std.specs.Result.{result_err}
 use Rattle.std.specs.List.{flat_map, slice_index_or, slice_set}

@@ -1,4 +1,4 @@
--- What each step of taking the next packet from blocks returns.
+-- The results of the steps that take the next packet from blocks.
 use Rattle.std.specs.Prelude.{⊤, ◌≡◌, ◌⊎◌, ◌+◌, ℕ, List, length, take, drop, true, false, Option, None, Some, Result, Ok, Err, codes}
 use Rattle.std.specs.List.{slice_get}
 use Rattle.pcap_core.specs.declared.errors.PcapError.{PcapError}

@@ -1,4 +1,4 @@
--- What is taken from a reader of blocks.
+-- The packets that are taken from a reader of blocks.
 use Rattle.std.specs.Prelude.{◌≡◌, ◌⊎◌, ◌<◌, ◌≤◌, ◌+◌, ◌-◌, ◌^◌, ℕ, List, length, map, true, false, Option, None, Some, codes}
 use Rattle.std.specs.List.{AllByRecursion, slice_get}
 use Rattle.pcap_core.specs.declared.common.Endianness.{Endianness}

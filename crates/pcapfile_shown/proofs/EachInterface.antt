@@ -1,4 +1,4 @@
--- Interfaces that become JSON one by one.
+-- Lemmas on interfaces that become JSON one by one.
 use Rattle.std.specs.Prelude.{◌≡◌, ◌+◌, ◌<◌, ◌≤◌, ◌++◌, ◌∷◌, [], ℕ, List, length, map, min, take, zip}
 use Rattle.std.specs.List.{AllZip}
 use Rattle.std.proofs.Common.{◌∙◌, ap, arith, get_or, sym}
@@ -10,11 +10,11 @@ use Rattle.pcapfile_info.specs.declared.described.Described.{Described}
 use Rattle.pcapfile_info.specs.declared.tally.Tally.{Tally}
 use Rattle.pcapfile_shown.specs.Json.{TellsInterface}
 
--- the first so many interfaces are told
+-- These values show the first n interfaces.
 abbrev pub AreTold : List Described → List Tally → ℕ → List Value → Type 0
 AreTold described tallies n values = AllZip TellsInterface (take n (zip described tallies)) (map view values)
 
--- the next one is told too
+-- The values show the next interface, too.
 pub told_more : (described : List Described) (tallies : List Tally) (n : ℕ) (values : List Value) (value : Value) (d : Described) (t : Tally)
     → n < length described → n < length tallies → d ≡ get_or described n d → t ≡ get_or tallies n t
     → AreTold described tallies n values → TellsInterface (d, t) (view value) → AreTold described tallies (n + 1) (values ++ value ∷ [])
@@ -26,7 +26,7 @@ told_more described tallies n values value d t first second is_described is_tall
     rw (take_more pairs n (d, t) within, here, map-append view values (value ∷ []))
     (all_zipped_more TellsInterface (take n pairs) (map view values) (d, t) (view value) before now)
 
--- all of them are told where no other follows
+-- The values show all interfaces once no other follows.
 pub told_all : (described : List Described) (tallies : List Tally) (n : ℕ) (values : List Value) → n ≡ min (length described) (length tallies)
     → AreTold described tallies n values → AllZip TellsInterface (zip described tallies) (map view values)
 told_all described tallies n values all told =

@@ -1,4 +1,4 @@
--- Numbers that become JSON one by one.
+-- Lemmas on numbers and texts that become JSON one by one.
 use Rattle.std.specs.Prelude.{◌≡◌, ◌+◌, ◌-◌, ◌<◌, ◌≤◌, ◌++◌, ◌∷◌, [], ℕ, List, String, count_by, length, map, take}
 use Rattle.std.specs.Global.{Global}
 use Rattle.std.specs.List.{range_with_len}
@@ -13,29 +13,29 @@ use Rattle.pcapfile_info.specs.declared.spread.Spread.{Spread}
 use Rattle.pcapfile_info.specs.Spreads.{Rows, lies_in}
 use Rattle.pcapfile_shown.specs.Json.{counts_in, number_data, numbers_data, text_data}
 
--- one number more has become a value
+-- One more number becomes a value.
 pub numbers_more : (values : List Value) (value : Value) (counts : List ℕ) (i : ℕ) → i < length counts
     → map view values ≡ map number_data (take i counts) → view value ≡ number_data (get_or counts i 0)
     → map view (values ++ value ∷ []) ≡ map number_data (take (i + 1) counts)
 numbers_more values value counts i below before now =
     rw (map-append view values (value ∷ []), map_more number_data counts i 0 below, before, now)
 
--- one text more has
+-- One more text becomes a value.
 pub texts_more : (values : List Value) (value : Value) (texts : List (String Global)) (i : ℕ) (text : String Global) → i < length texts
     → text ≡ get_or texts i text → map view values ≡ map text_data (take i texts) → view value ≡ text_data text
     → map view (values ++ value ∷ []) ≡ map text_data (take (i + 1) texts)
 texts_more values value texts i text below is before now =
     rw (map-append view values (value ∷ []), map_more text_data texts i text below, before, now ∙ ap text_data is)
 
--- so many packets of any instants lie in the span of this number
+-- This is the number of packets in the span of this number, for any instants that the row counts.
 abbrev pub IsCount : Spread → ℕ → ℕ → Type 0
 IsCount spread span packets = (instants : List ℕ) → Rows instants spread → packets ≡ counted (count_by (lies_in spread.width span) instants)
 
--- the counts of the first so many spans have become values
+-- These values are the counts of the first n spans.
 abbrev pub AreCounts : Spread → ℕ → List Value → Type 0
 AreCounts spread place values = (instants : List ℕ) → Rows instants spread → map view values ≡ map number_data (take place (counts_in instants spread))
 
--- that of the next span has become one too
+-- The count of the next span becomes a value.
 pub counts_more : (spread : Spread) (values : List Value) (value : Value) (place packets : ℕ) → place < spread.last - spread.first + 1
     → AreCounts spread place values → view value ≡ number_data packets → IsCount spread (spread.first + place) packets
     → AreCounts spread (place + 1) (values ++ value ∷ [])
@@ -47,7 +47,7 @@ counts_more spread values value place packets below before now counts instants r
     let here : get_or all place 0 ≡ f (spread.first + place) = get_or-map-range_with_len f spread.first n place (spread.first + place) 0 below refl in
     numbers_more values value all place within (before instants rows) (now ∙ ap number_data (counts instants rows ∙ sym here))
 
--- those of all spans have
+-- The counts of all spans are values.
 pub counts_all : (spread : Spread) (values : List Value) (place : ℕ) → spread.last - spread.first + 1 ≤ place → AreCounts spread place values
     → (instants : List ℕ) → Rows instants spread → array (items_of (map view values)) ≡ numbers_data (counts_in instants spread)
 counts_all spread values place enough counts instants rows =

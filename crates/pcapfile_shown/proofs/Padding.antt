@@ -1,11 +1,11 @@
--- Numbers that are written with zeros before them.
+-- Lemmas on numbers that are written with leading zeros.
 use Rattle.std.specs.Prelude.{◌≡◌, ◌^◌, ◌-◌, ◌++◌, ℕ, [], false, length, replicate}
 use Rattle.std.proofs.Common.{ap, arith, ◌∙◌}
 use Rattle.std.proofs.lemmas.List.{append-nil}
 use Rattle.std.specs.Fmt.{decimal, padded_integral, format_spec, char_count}
 use Rattle.pcapfile_shown.specs.Texts.{zero_padded}
 
--- nothing stands before or behind zeros and digits
+-- Leading zeros and digits with nothing around them are the padded number.
 padded_to : (width n : ℕ) → replicate (width - length (decimal n) - 0 - 0) 48 ++ (decimal n ++ []) ≡ zero_padded width n
 padded_to width n =
     let same : width - length (decimal n) - 0 - 0 ≡ width - length (decimal n) = omega arith in

@@ -1,4 +1,4 @@
--- What is told of captures, as JSON.
+-- The JSON report on a capture.
 use Rattle.std.specs.Prelude.{◌≡◌, ◌+◌, ◌-◌, ◌++◌, ℕ, List, String, map, codes, count_by, string_bytes, zip, if◌then◌else◌, Option, None, Some, IfSome, option_and_then}
 use Rattle.std.specs.List.{AllZip, range_with_len}
 use Rattle.std.specs.Fmt.{decimal}
@@ -25,40 +25,40 @@ use Rattle.pcapfile_info.specs.declared.tally.Tally.{Tally}
 use Rattle.pcapfile_info.specs.Spreads.{Rows, lies_in}
 use Rattle.pcapfile_shown.specs.Texts.{average_of, difference, hundredths_text, per_second, seconds_text, since_1970}
 
--- a number of JSON
+-- A JSON number.
 abbrev pub number_data : ℕ → Data
 number_data n = number (unsigned n)
 
--- these numbers, in order
+-- An array of these numbers, in order.
 abbrev pub numbers_data : List ℕ → Data
 numbers_data ns = array (items_of (map number_data ns))
 
--- what is there as JSON has it, and else null
+-- A value as JSON, or null if there is none.
 abbrev pub or_null : (ℕ → Data) → Option ℕ → Data
 or_null shown None = null
 or_null shown (Some n) = shown n
 
--- nanoseconds, as a text in seconds
+-- Nanoseconds as a text in seconds.
 abbrev pub seconds_data : ℕ → Data
 seconds_data n = string (seconds_text n)
 
--- hundredths, as a text
+-- Hundredths as a text.
 abbrev pub hundredths_data : ℕ → Data
 hundredths_data n = string (hundredths_text n)
 
--- the nanoseconds from 1970 to a time, if there is one
+-- The nanoseconds from 1970 to a time, if there is one.
 abbrev pub instant_in : Option Timestamp → Option ℕ
 instant_in = option_and_then since_1970
 
--- the time from the first to the last of these packets
+-- The nanoseconds from the earliest to the latest of these packets, if both are known.
 abbrev pub duration_in : Tally → Option ℕ
 duration_in tally = difference (instant_in tally.earliest) (instant_in tally.latest)
 
--- how many hundredths of a unit come in a second, if it is known how long they take
+-- Hundredths of a unit per second, if the duration is known.
 abbrev pub rate_in : ℕ → Option ℕ → Option ℕ
 rate_in count = option_and_then (per_second count)
 
--- how many packets there are, and their bytes
+-- The members on the number of packets and their bytes.
 abbrev pub with_amounts : Tally → Members → Members
 with_amounts tally members =
     put (codes "sizes") (numbers_data tally.sizes)
@@ -67,57 +67,58 @@ with_amounts tally members =
     (put (codes "original") (number_data tally.original)
     (put (codes "packets") (number_data tally.packets) members))))
 
--- from when to when there are packets
+-- The members on the times of packets.
 abbrev pub with_times : Tally → Members → Members
 with_times tally members =
     put (codes "duration") (or_null seconds_data (duration_in tally))
     (put (codes "latest") (or_null seconds_data (instant_in tally.latest))
     (put (codes "earliest") (or_null seconds_data (instant_in tally.earliest)) members))
 
--- how many packets and bytes come in a second
+-- The members on packets and bytes per second.
 abbrev pub with_rates : Tally → Members → Members
 with_rates tally members =
     put (codes "bytes_per_second") (or_null hundredths_data (rate_in tally.original (duration_in tally)))
     (put (codes "packets_per_second") (or_null hundredths_data (rate_in tally.packets (duration_in tally))) members)
 
--- what is counted of these packets
+-- The members on the counts of these packets.
 abbrev pub with_figures : Tally → Members → Members
 with_figures tally members = with_rates tally (with_times tally (with_amounts tally members))
 
--- how many of these instants lie in each span of a row, from the first to the last
+-- The number of these instants in each span of a row, from the first to the last.
 abbrev pub counts_in : List ℕ → Spread → List ℕ
 counts_in instants spread =
     map (λ span. counted (count_by (lies_in spread.width span) instants)) (range_with_len spread.first (spread.last - spread.first + 1))
 
--- how these instants are spread over time
+-- The spread of these instants over time.
 abbrev pub spread_data : List ℕ → Spread → Data
 spread_data instants spread = object
     (put (codes "packets") (numbers_data (counts_in instants spread))
     (put (codes "first") (number_data spread.first)
     (put (codes "width") (number_data spread.width) no_members)))
 
--- the spread of instants is told, or that there are none
+-- The value shows the spread of instants, or null if there is none.
 abbrev pub TellsSpread : Option Spread → Data → Type 0
 TellsSpread None shown = shown ≡ null
 TellsSpread (Some spread) shown = (instants : List ℕ) → Rows instants spread → shown ≡ spread_data instants spread
 
+-- A text as JSON.
 abbrev pub text_data : String Global → Data
 text_data text = string (string_bytes text)
 
--- these texts, in order
+-- An array of these texts, in order.
 abbrev pub texts_data : List (String Global) → Data
 texts_data texts = array (items_of (map text_data texts))
 
--- a text, if there is one
+-- A text, or null if there is none.
 abbrev pub text_or_null : Option (String Global) → Data
 text_or_null None = null
 text_or_null (Some text) = text_data text
 
--- a link type: its number, and this text as its name
+-- The members on a link type: its number, and this text as its name.
 abbrev pub with_link : DataLink → List ℕ → Members → Members
 with_link link name members = put (codes "link_name") (string name) (put (codes "link") (number_data (link_number link)) members)
 
--- how an interface is described, whose link type has this name
+-- The members on the description of an interface whose link type has this name.
 abbrev pub with_description : Described → List ℕ → Members → Members
 with_description described link_name members =
     with_link described.link link_name
@@ -127,53 +128,53 @@ with_description described link_name members =
     (put (codes "number") (number_data described.number)
     (put (codes "section") (number_data described.section) members)))))
 
--- what is told of an interface: how it is described, the figures of its packets, and how they are spread over time
+-- The value shows an interface: its description, the counts of its packets, and their spread over time.
 abbrev pub TellsInterface : Described × Tally → Data → Type 0
 TellsInterface interface shown =
     (link_name : List ℕ) × (spread : Data) × TellsSpread interface.1.spread spread
     × (shown ≡ object (put (codes "over_time") spread (with_figures interface.1 (with_description interface.0 link_name no_members))))
 
--- a version
+-- A version.
 abbrev pub version_data : ℕ → ℕ → Data
 version_data major minor = string (decimal major ++ (codes "." ++ decimal minor))
 
--- the order of numbers
+-- A byte order.
 abbrev pub order_data : Endianness → Data
 order_data Big = string (codes "big-endian")
 order_data Little = string (codes "little-endian")
 
--- the resolution of times
+-- A timestamp resolution.
 abbrev pub resolution_data : TsResolution → Data
 resolution_data MicroSecond = string (codes "microseconds")
 resolution_data NanoSecond = string (codes "nanoseconds")
 
--- the order of numbers and the resolution of times, where a magic number says them
+-- The members on byte order and timestamp resolution, if the magic number names them.
 abbrev pub with_kind : ℕ → Members → Members
 with_kind magic members =
     if is_magic magic
     then put (codes "resolution") (resolution_data (resolution_of magic)) (put (codes "order") (order_data (order_of magic)) members)
     else members
 
--- how a classic capture is made, whose link type has this name
+-- The members on the header of a classic capture whose link type has this name.
 abbrev pub with_header : PcapHeader → List ℕ → Members → Members
 with_header header link_name members =
     with_kind header.magic_number (with_link header.datalink link_name
     (put (codes "snaplen") (number_data header.snaplen)
     (put (codes "version") (version_data header.version_major header.version_minor) members)))
 
--- behind other members stands how a classic capture is made, if it is one
+-- The members on a classic capture's header follow the others; without a header there are none.
 abbrev pub TellsHeader : Option PcapHeader → Members → Members → Type 0
 TellsHeader None before after = after ≡ before
 TellsHeader (Some header) before after = (link_name : List ℕ) × (after ≡ with_header header link_name before)
 
--- how a capture of blocks is made, if it is one
+-- The members on a PcapNg capture's first section header, if there is one.
 abbrev pub with_opened : Option Opened → Members → Members
 with_opened None members = members
 with_opened (Some opened) members =
     put (codes "order") (order_data opened.order)
     (put (codes "version") (version_data opened.major_version opened.minor_version) members)
 
--- the name of a file, its format, and what a check finds, which is a line too
+-- The members on a file's name, its format, and the result of its check, which is also given as a line.
 abbrev pub with_check : List ℕ → Checked → List ℕ → Members → Members
 with_check name checked line members =
     put (codes "bytes") (number_data checked.bytes)
@@ -182,18 +183,18 @@ with_check name checked line members =
     (put (codes "format") (string (format_name checked.format))
     (put (codes "file") (string name) members))))
 
--- behind other members stand the name of a file, its format, and what a check finds, which is a line too
+-- The members on a file's name, format and check follow the others; the line is the check's own if that is known.
 abbrev pub TellsCheck : List ℕ → Checked → Members → Members → Type 0
 TellsCheck name checked before after =
     (line : List ℕ) × IfSome (line_of checked) (λ known. line ≡ known) × (after ≡ with_check name checked line before)
 
--- and behind these how the file is made
+-- The members on a file's name, format, check and opening follow the others.
 abbrev pub TellsFile : List ℕ → Information → Members → Members → Type 0
 TellsFile name told before after =
     (checked made : Members) × TellsCheck name told.checked before checked × TellsHeader told.header checked made
     × (after ≡ with_opened told.opened made)
 
--- what is told of a capture of this name: its file, comments and interfaces, how its packets are spread over time, and their figures
+-- The value shows the capture of this name: its file, comments, interfaces, the spread of its packets over time, and their counts.
 abbrev pub Tells : List ℕ → Information → Data → Type 0
 Tells name told shown =
     (file : Members) × (spread : Data) × (interfaces : List Data)

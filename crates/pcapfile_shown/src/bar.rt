@@ -5,14 +5,14 @@ ghost use Rattle.pcapfile_shown.specs.Texts.{bar_length};
 
 use std::fmt;
 
-/// How many signs the bar of the largest number has.
+/// The length of the largest number's bar.
 const LONGEST: u128 = 40;
 
-/// A bar of so many signs.
+/// A bar of this many `#` signs.
 #[derive(Clone, Copy, Debug)]
 pub struct Bar(pub u64);
 
-/// The bar of a count among others, the largest of which is this one: as large a part of 40 signs as it is of that, rounded up.
+/// Returns the bar of a count: its share of the largest count, whose bar has 40 signs, rounded up.
 pub fn bar_of(count: u64, largest: u64) -> Bar
     ensures { result.0 ≡ bar_length count largest }
 {

@@ -1,4 +1,4 @@
-//! What is counted of packets, a line for each figure.
+//! Counts of packets as text, one line for each figure.
 
 use crate::histogram::Sizes;
 use crate::over_time::OverTime;
@@ -8,15 +8,15 @@ use pcap_file::pcapng::Timestamp;
 use pcapfile_info::{Spread, Tally};
 use std::fmt;
 
-/// What is counted of packets.
+/// The lines on the counts of packets.
 #[derive(Clone, Copy)]
 pub(crate) struct Figures<'a>(pub(crate) &'a Tally);
 
-/// How many packets there are, and their bytes.
+/// The lines on the number of packets and their bytes.
 #[derive(Clone, Copy)]
 struct Amounts<'a>(&'a Tally);
 
-/// From when to when there are packets, and how many in a second.
+/// The lines on the times of packets, and on their rates.
 #[derive(Clone, Copy)]
 struct Times<'a> {
     tally: &'a Tally,
@@ -24,7 +24,7 @@ struct Times<'a> {
     latest: Timestamp,
 }
 
-/// How packets are spread over time.
+/// The lines on the spread of packets over time.
 #[derive(Clone, Copy)]
 struct Spans<'a>(&'a Spread);
 

@@ -1,4 +1,4 @@
-//! How many packets have a length of each class.
+//! A histogram of packet lengths.
 
 ghost use Rattle.std.specs.Prelude.{◌≡◌, ◌<◌, ◌≤◌, ◌+◌, ◌⊎◌, slice_get, slice_index, All, Contains};
 
@@ -6,11 +6,11 @@ use crate::bar::bar_of;
 use pcapfile_info::{CLASSES, LEAST};
 use std::fmt;
 
-/// How many packets have a length of each class, a line for each class that has one.
+/// The histogram of packet lengths, one line for each class that has a packet.
 #[derive(Clone, Copy)]
 pub(crate) struct Sizes(pub(crate) [u64; CLASSES]);
 
-/// The lengths of a class, the last of which has no upper bound.
+/// The lengths of a class; the last class has no upper bound.
 #[derive(Clone, Copy)]
 struct Range {
     least: u32,
@@ -30,7 +30,7 @@ impl fmt::Display for Range {
     }
 }
 
-// The lengths of the class of this number.
+// Returns the lengths of the class of this number.
 fn range_of(class: usize) -> Range
     requires { class < 10 }
     ensures least { result.least ≡ slice_index LEAST class }
@@ -47,7 +47,7 @@ fn range_of(class: usize) -> Range
     }
 }
 
-// The largest of the counts.
+// Returns the largest of the counts.
 fn largest(counts: &[u64; CLASSES]) -> u64
     ensures bound { All (λ count. count ≤ result) counts.now }
     ensures is { (result ≡ 0) ⊎ Contains counts.now result }

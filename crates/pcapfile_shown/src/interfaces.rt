@@ -1,14 +1,15 @@
-//! How interfaces are described, and what is counted of their packets.
+//! Descriptions of interfaces and the counts of their packets, as text.
 
 use crate::figures::Figures;
 use pcapfile_info::{Described, Information};
 use std::fmt;
 
-/// How an interface is described. Names and comments stand as literals, so that no byte of them reaches a terminal as it is.
+/// The lines that describe an interface. Names and comments are written as literals, so that no byte of them reaches a terminal
+/// as it is.
 #[derive(Clone, Copy)]
 struct Interface<'a>(&'a Described);
 
-/// All interfaces of a capture of blocks. Where there are several the figures of each stand behind it.
+/// The lines on all interfaces of a PcapNg capture. If there are several, the counts of each follow its description.
 #[derive(Clone, Copy)]
 pub(crate) struct Interfaces<'a>(pub(crate) &'a Information);
 

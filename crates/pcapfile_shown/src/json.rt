@@ -1,4 +1,4 @@
-//! What is counted of packets, as JSON.
+//! Counts of packets as JSON.
 
 ghost use Rattle.std.specs.Prelude.{◌≡◌, ℕ, List, option_map, OnOk, IfOk};
 ghost use Rattle.serde_json.specs.View.{members_view, view};
@@ -14,7 +14,7 @@ use pcapfile_info::{Spread, Tally};
 use serde_json::{Map, Value, push, put};
 use std::alloc::{AllocError, Global};
 
-// These numbers, in order.
+// Returns an array of these numbers, in order.
 #[tactic(auto, using(crate::proofs::Numbers::numbers_more))]
 fn numbers(alloc: Global, counts: &[u64]) -> Result<Value, AllocError>
     ensures { IfOk result (λ v. view v ≡ numbers_data counts.now) }
@@ -44,7 +44,7 @@ fn hundredths_or_null(alloc: Global, hundredths: Option<Hundredths>) -> Result<V
     }
 }
 
-// The time from 1970 to this one, if there is one.
+// Returns the time from 1970 to this time, if there is one.
 fn seconds_at(time: Option<Timestamp>) -> Option<Seconds>
     ensures { option_map (λ s. s.0) result ≡ instant_in time }
 {
@@ -54,7 +54,7 @@ fn seconds_at(time: Option<Timestamp>) -> Option<Seconds>
     }
 }
 
-// The time from the first to the last of these packets.
+// Returns the time from the earliest to the latest of these packets.
 fn duration_of_all(tally: &Tally) -> Option<Seconds>
     ensures { option_map (λ s. s.0) result ≡ duration_in tally.now }
 {
@@ -64,7 +64,7 @@ fn duration_of_all(tally: &Tally) -> Option<Seconds>
     }
 }
 
-// How many hundredths of a unit come in a second, if it is known how long so many take.
+// Returns the hundredths of a unit per second, if the duration is known.
 fn rate_of(count: u64, duration: Option<Seconds>) -> Option<Hundredths>
     ensures { option_map (λ h. h.0) result ≡ rate_in count (option_map (λ s. s.0) duration) }
 {
@@ -74,7 +74,7 @@ fn rate_of(count: u64, duration: Option<Seconds>) -> Option<Hundredths>
     }
 }
 
-// How many packets there are, and their bytes.
+// Puts the number of packets and their bytes.
 fn put_amounts(map: &mut Map<String, Value>, alloc: Global, tally: &Tally) -> Result<(), AllocError>
     ensures { OnOk result (members_view map.new.entries ≡ with_amounts tally.now (members_view map.old.entries)) }
 {
@@ -88,7 +88,7 @@ fn put_amounts(map: &mut Map<String, Value>, alloc: Global, tally: &Tally) -> Re
     put(map, alloc, "sizes", sizes)
 }
 
-// From when to when there are packets.
+// Puts the earliest and the latest time, and the time between them.
 fn put_times(map: &mut Map<String, Value>, alloc: Global, tally: &Tally) -> Result<(), AllocError>
     ensures { OnOk result (members_view map.new.entries ≡ with_times tally.now (members_view map.old.entries)) }
 {
@@ -100,7 +100,7 @@ fn put_times(map: &mut Map<String, Value>, alloc: Global, tally: &Tally) -> Resu
     put(map, alloc, "duration", duration)
 }
 
-// How many packets and bytes come in a second.
+// Puts the packets and bytes per second.
 fn put_rates(map: &mut Map<String, Value>, alloc: Global, tally: &Tally) -> Result<(), AllocError>
     ensures { OnOk result (members_view map.new.entries ≡ with_rates tally.now (members_view map.old.entries)) }
 {
@@ -111,7 +111,7 @@ fn put_rates(map: &mut Map<String, Value>, alloc: Global, tally: &Tally) -> Resu
     put(map, alloc, "bytes_per_second", bytes)
 }
 
-// How many packets lie in each span of a row, from the first to the last.
+// Returns the number of packets in each span of a row, from the first to the last.
 #[tactic(auto, using(crate::proofs::Numbers::counts_more, crate::proofs::Numbers::counts_all))]
 fn counts(alloc: Global, spread: &Spread) -> Result<Value, AllocError>
     ensures { IfOk result (λ v. (instants : List ℕ) → Rows instants spread.now → view v ≡ numbers_data (counts_in instants spread.now)) }
@@ -126,8 +126,8 @@ fn counts(alloc: Global, spread: &Spread) -> Result<Value, AllocError>
     Ok(Value::Array(values))
 }
 
-// How packets are spread over time: an object with the width of each span in nanoseconds, the number of the first span from 1970
-// on, and how many packets lie in each.
+// Returns the spread of packets over time as an object. It has the width of a span in nanoseconds, the number of the first span
+// counted from 1970, and the number of packets in each span.
 fn over_time(alloc: Global, spread: &Spread) -> Result<Value, AllocError>
     ensures { IfOk result (λ v. (instants : List ℕ) → Rows instants spread.now → view v ≡ spread_data instants spread.now) }
 {
@@ -139,7 +139,7 @@ fn over_time(alloc: Global, spread: &Spread) -> Result<Value, AllocError>
     Ok(Value::Object(map))
 }
 
-/// Puts what is counted of packets.
+/// Puts the counts of packets.
 pub(crate) fn put_figures(
     map: &mut Map<String, Value>,
     alloc: Global,
@@ -152,7 +152,7 @@ pub(crate) fn put_figures(
     put_rates(map, alloc, tally)
 }
 
-/// How packets are spread over time, or null where none has a time.
+/// Returns the spread of packets over time, or null if no packet has a time.
 pub(crate) fn spread_or_null(alloc: Global, spread: &Option<Spread>) -> Result<Value, AllocError>
     ensures { IfOk result (λ v. TellsSpread spread.now (view v)) }
 {

@@ -1,4 +1,4 @@
-//! What is told of captures, as text.
+//! Reports on captures, as text and as JSON.
 #![tactic(auto)]
 
 mod bar;

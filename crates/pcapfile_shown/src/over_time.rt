@@ -1,15 +1,16 @@
-//! How packets are spread over time.
+//! The spread of packets over time, as text.
 
 ghost use Rattle.std.specs.Prelude.{◌≡◌, ◌<◌, ◌∷◌, [], length};
 
 use pcapfile_info::Spread;
 use std::fmt;
 
-/// How packets are spread over time: a sign for each span, which is the higher the more packets lie there.
+/// The spread of packets over time: one sign for each span, higher for more packets.
 #[derive(Clone, Copy)]
 pub(crate) struct OverTime<'a>(pub(crate) &'a Spread);
 
-// The sign of so many packets, where the span with the most has so many: a blank for none, and for others one of eight heights.
+// Returns the sign of a span with this many packets, if the fullest span has `most`: a blank for 0, and otherwise one of eight
+// heights.
 fn sign_of(packets: u64, most: u64) -> &'static str
     ensures none { packets ≡ 0 → result.now ≡ 32 ∷ [] }
     ensures some { 0 < packets → 0 < most → length result.now ≡ 3 }

@@ -9,11 +9,11 @@ use std::fmt;
 /// The nanoseconds in a second.
 const BILLION: u128 = 1_000_000_000;
 
-/// A number of nanoseconds, which is written in seconds, with nine digits behind the point.
+/// A number of nanoseconds, written in seconds with nine decimal places.
 #[derive(Clone, Copy, Debug)]
 pub struct Seconds(pub u128);
 
-/// A number of hundredths, which is written with two digits behind the point.
+/// A number of hundredths, written with two decimal places.
 #[derive(Clone, Copy, Debug)]
 pub struct Hundredths(pub u128);
 
@@ -39,7 +39,7 @@ impl fmt::Display for Hundredths {
     }
 }
 
-/// The time from 1970 to this one. None where it is before that, or its seconds are no number of 64 bits.
+/// Returns the time from 1970 to this time. `None` for a time before 1970, and if its seconds don't fit in 64 bits.
 pub fn seconds_since_1970(time: Timestamp) -> Option<Seconds>
     ensures { option_map (λ s. s.0) result ≡ since_1970 time }
 {
@@ -49,7 +49,8 @@ pub fn seconds_since_1970(time: Timestamp) -> Option<Seconds>
     }
 }
 
-/// The time from one packet to a later one. None where one of them is before 1970, and where it isn't later.
+/// Returns the time between two packets. `None` if `seconds_since_1970` has no value for one of them, or the latest is before
+/// the earliest.
 pub fn duration_of(earliest: Timestamp, latest: Timestamp) -> Option<Seconds>
     ensures { option_map (λ s. s.0) result ≡ difference (since_1970 earliest) (since_1970 latest) }
 {
@@ -59,7 +60,7 @@ pub fn duration_of(earliest: Timestamp, latest: Timestamp) -> Option<Seconds>
     }
 }
 
-/// How many hundredths of a unit each of so many has on average, rounded down. None of none.
+/// Returns the average share of `number` parts of a total, in hundredths of a unit, rounded down. `None` if `number` is 0.
 pub fn hundredths_of(total: u64, number: u64) -> Option<Hundredths>
     ensures { option_map (λ h. h.0) result ≡ average_of total number }
 {
@@ -69,7 +70,7 @@ pub fn hundredths_of(total: u64, number: u64) -> Option<Hundredths>
     Some(Hundredths(u128::from(total) * 100 / u128::from(number)))
 }
 
-/// How many hundredths of a unit come in a second, rounded down, where so many units come in this time. None where that is 0.
+/// Returns the hundredths of a unit per second, rounded down, for `count` units in this time. `None` if the time is 0.
 pub fn hundredths_per_second(count: u64, time: Seconds) -> Option<Hundredths>
     ensures { option_map (λ h. h.0) result ≡ per_second count time.0 }
 {

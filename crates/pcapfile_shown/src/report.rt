@@ -1,4 +1,4 @@
-//! What is told of a capture.
+//! The text report on a capture.
 
 ghost use Rattle.std.specs.Prelude.{◌≡◌};
 ghost use Rattle.serde_json.specs.Data.{string};
@@ -11,21 +11,20 @@ use pcap_file::{Endianness, TsResolution};
 use pcapfile_info::{Information, Opened};
 use std::fmt;
 
-/// What is told of a capture of this name, in lines: what a check finds of it, how its file is made, its figures, and its
-/// interfaces.
+/// The text report on a capture, in lines: the result of its check, its opening, its counts, and its interfaces.
 #[derive(Clone, Copy)]
 pub struct Report<'a> {
     /// The capture's name.
     pub name: &'a str,
-    /// What is told of it.
+    /// The information on the capture.
     pub information: &'a Information,
 }
 
-/// How a classic capture is made.
+/// The lines on the header of a classic capture.
 #[derive(Clone, Copy)]
 struct Header<'a>(&'a PcapHeader);
 
-/// How a capture of blocks is made.
+/// The lines on the sections of a PcapNg capture.
 #[derive(Clone, Copy)]
 struct Sections<'a> {
     information: &'a Information,

@@ -5,8 +5,8 @@ use pcap_file::pcapng::Timestamp;
 use pcapfile_lines::instant_of;
 use std::fmt;
 
-/// A time, which is written as RFC 3339 has it, in UTC and with nine digits behind the point; and as a hyphen where its year is none
-/// of -9999 to 9999.
+/// A time, written in UTC as in RFC 3339, with nine decimal places. A time whose year is not from -9999 to 9999 is written as a
+/// hyphen.
 #[derive(Clone, Copy, Debug)]
 pub struct Utc(pub Timestamp);
 

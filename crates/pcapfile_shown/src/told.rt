@@ -1,4 +1,4 @@
-//! What is told of captures, as JSON.
+//! The JSON report on a capture.
 
 ghost use Rattle.std.specs.Prelude.{◌≡◌, ℕ, List, zip, string_bytes, IfOk, OnOk};
 ghost use Rattle.std.specs.List.{AllZip};
@@ -27,7 +27,7 @@ fn name_of(format: Format) -> &'static str
     }
 }
 
-// These texts, in order.
+// Returns an array of these texts, in order.
 #[tactic(auto, using(crate::proofs::Numbers::texts_more))]
 fn texts(alloc: Global, texts: &[String]) -> Result<Value, AllocError>
     ensures { IfOk result (λ v. view v ≡ texts_data texts.now) }
@@ -48,7 +48,7 @@ fn text_or_null(alloc: Global, text: &Option<String>) -> Result<Value, AllocErro
     }
 }
 
-// The number of a link type, and its name.
+// Puts the number of a link type, and its name.
 fn put_link(map: &mut Map<String, Value>, alloc: Global, link: DataLink) -> Result<(), AllocError>
     ensures { OnOk result ((name : List ℕ) × (members_view map.new.entries ≡ with_link link name (members_view map.old.entries))) }
 {
@@ -57,7 +57,7 @@ fn put_link(map: &mut Map<String, Value>, alloc: Global, link: DataLink) -> Resu
     put(map, alloc, "link_name", Value::String(name))
 }
 
-// The order of numbers and the resolution of times, where a magic number says them.
+// Puts the byte order and the timestamp resolution, if the magic number names them.
 fn put_kind(
     map: &mut Map<String, Value>,
     alloc: Global,
@@ -74,7 +74,7 @@ fn put_kind(
     put(map, alloc, "resolution", resolution)
 }
 
-// How a classic capture is made, if it is one.
+// Puts the header of a classic capture, if there is one.
 fn put_header(
     map: &mut Map<String, Value>,
     alloc: Global,
@@ -94,7 +94,7 @@ fn put_header(
     put_kind(map, alloc, header)
 }
 
-// How a capture of blocks is made, if it is one.
+// Puts the opening of a PcapNg capture, if there is one.
 fn put_opened(
     map: &mut Map<String, Value>,
     alloc: Global,
@@ -113,7 +113,7 @@ fn put_opened(
     put(map, alloc, "order", order)
 }
 
-// Puts how an interface is described.
+// Puts the description of an interface.
 fn put_description(
     map: &mut Map<String, Value>,
     alloc: Global,
@@ -131,7 +131,7 @@ fn put_description(
     put_link(map, alloc, described.link)
 }
 
-// How an interface is described, and what is counted of its packets.
+// Returns the description of an interface and the counts of its packets.
 fn interface(alloc: Global, described: &Described, tally: &Tally) -> Result<Value, AllocError>
     ensures { IfOk result (λ v. TellsInterface (described.now, tally.now) (view v)) }
 {
@@ -154,7 +154,7 @@ fn interfaces(alloc: Global, told: &Information) -> Result<Value, AllocError>
     Ok(Value::Array(values))
 }
 
-// The name of a file, its format, and what a check finds.
+// Puts the name of a file, its format, and the result of its check.
 fn put_check(
     map: &mut Map<String, Value>,
     alloc: Global,
@@ -173,7 +173,7 @@ fn put_check(
     put(map, alloc, "bytes", Value::from(checked.bytes))
 }
 
-// What a check finds, and how the file is made.
+// Puts the result of the check, and the capture's opening.
 fn put_file(
     map: &mut Map<String, Value>,
     alloc: Global,
@@ -187,7 +187,7 @@ fn put_file(
     put_opened(map, alloc, told.opened)
 }
 
-/// What is told of a capture of this name, as an object of JSON.
+/// Returns the JSON report on the capture of this name, as an object.
 pub fn told_of(alloc: Global, name: &str, told: &Information) -> Result<Value, AllocError>
     ensures { IfOk result (λ v. Tells name.now told.now (view v)) }
 {
@@ -206,7 +206,7 @@ pub fn told_of(alloc: Global, name: &str, told: &Information) -> Result<Value, A
     Ok(Value::Object(map))
 }
 
-/// The same as text, in one line: each member once, in the order of their names.
+/// Returns the JSON report on the capture of this name as text in one line: each member once, in the order of their names.
 pub fn json_of(alloc: Global, name: &str, told: &Information) -> Result<String, AllocError>
     ensures { IfOk result (λ text. (shown : Data) × Tells name.now told.now shown × IsInOrder (string_bytes text) shown) }
 {

@@ -6,7 +6,7 @@ use pcapfile_run::{Checked, End, Format, check_blocks, check_packets, format_of}
 use std::io;
 use std::io::ErrorKind;
 
-/// Writes a line for each capture, and gives the status: that of the worst of them.
+/// Writes a line on each capture, and returns the worst exit status.
 pub fn check_files(console: &Console, names: &[&str]) -> io::Result<u8> {
     let mut status = 0;
     for name in names {
@@ -15,13 +15,13 @@ pub fn check_files(console: &Console, names: &[&str]) -> io::Result<u8> {
     Ok(status)
 }
 
-// Writes the line of a capture. One that can't be read, or not be held, has it on standard error.
+// Writes the line on a capture. If the capture can't be read, or memory runs out, the line goes to standard error.
 fn check_file(console: &Console, name: &str) -> io::Result<u8> {
     let checked = match read_and_check(console, name) {
         Ok(checked) => checked,
         Err(error) => return tell_io(console, name, &error),
     };
-    // The line of how far it is goes before any other.
+    // The progress line is cleared before any other line is written.
     console.clear();
     let shown = Shown(name);
     if checked.status() == AT_FAULT {
@@ -34,7 +34,7 @@ fn check_file(console: &Console, name: &str) -> io::Result<u8> {
     Ok(checked.status())
 }
 
-/// Says on standard error how far a capture could be read.
+/// Reports on standard error how far a capture could be read.
 pub(crate) fn tell_unread(console: &Console, name: &str, checked: &Checked) -> io::Result<()> {
     let shown = Shown(name);
     match &checked.end {

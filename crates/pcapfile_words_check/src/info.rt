@@ -11,18 +11,18 @@ use pcapfile_shown::{Report, json_of};
 use std::io;
 use std::io::{BufWriter, ErrorKind, Write};
 
-/// What the word is asked for.
+/// The arguments of `info`.
 #[derive(Drop)]
 pub struct Informing<'a> {
     /// The names of the captures.
     pub names: &'a [&'a str],
-    /// Whether it is told as JSON.
+    /// Whether the program writes JSON.
     pub as_json: bool,
-    /// Whether the captures are read as they stand.
+    /// Whether the program reads what `repair` would write of the captures.
     pub as_is: bool,
 }
 
-/// Writes what is told of each capture, and gives the status: that of the worst of them.
+/// Writes a report on each capture, and returns the worst exit status.
 pub fn inform_files(console: &Console, asked: &Informing) -> io::Result<u8> {
     let stdout = Uninterrupted::new(console.rt().stdout());
     let mut output = BufWriter::with_capacity(console.alloc(), OUTPUT, stdout)?;
@@ -47,7 +47,8 @@ fn inform(console: &Console, name: &str, as_is: bool) -> Result<Information, Pca
     }
 }
 
-// Writes what is told of a capture. Of one that can't be read to its end it is only said on standard error why.
+// Writes the report on a capture. If the capture can't be read, or memory runs out, the program only writes a message to
+// standard error.
 fn write_told<W: Write>(
     console: &Console,
     name: &str,
@@ -58,7 +59,7 @@ fn write_told<W: Write>(
     let checked = &information.checked;
     let shown = Shown(name);
     if let End::Unread(PcapError::IoError(error)) = &checked.end {
-        // A capture that is repaired is unread as well where memory runs out.
+        // A repaired capture also counts as unread if memory runs out.
         if error.kind() == ErrorKind::OutOfMemory {
             return tell_io(console, name, error);
         }
@@ -67,7 +68,7 @@ fn write_told<W: Write>(
         tell_unread(console, name, checked)?;
         return Ok(checked.status());
     }
-    // The line of how far it is goes before any other.
+    // The progress line is cleared before any other line is written.
     console.clear();
     if checked.status() == AT_FAULT {
         console.note_fault();

@@ -10,8 +10,8 @@ use pcapfile_run::list;
 use std::io;
 use std::io::{BufWriter, Write};
 
-/// Writes the packets of each capture, and gives the status: that of the worst of them. The names of several stand before their
-/// lines, but for a form that a program reads.
+/// Lists the packets of each capture, and returns the worst exit status. If there are several captures, the name of each is
+/// before its packets, except in a form for programs.
 pub fn list_files(console: &Console, names: &[&str], form: Option<Form>) -> io::Result<u8> {
     let stdout = Uninterrupted::new(console.rt().stdout());
     let mut output = Told::new(BufWriter::with_capacity(console.alloc(), OUTPUT, stdout)?);
@@ -23,14 +23,14 @@ pub fn list_files(console: &Console, names: &[&str], form: Option<Form>) -> io::
     for name in names {
         let listed = open_and_list(console, name, is_headed, form, &mut output);
         let write_failed = output.failed();
-        // What was listed goes out before what is said of it.
+        // The listed packets are written before the messages on them.
         output.flush()?;
         status = tell_listed(console, name, listed, write_failed)?.max(status);
     }
     Ok(status)
 }
 
-// Says what ended the list of a capture before its end, and gives the status. A write that failed ends them all.
+// Reports the error that ended a list early, if any, and returns the exit status. A failed write ends all lists.
 fn tell_listed(
     console: &Console,
     name: &str,

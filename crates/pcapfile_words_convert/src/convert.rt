@@ -13,40 +13,40 @@ use std::alloc::Global;
 use std::io;
 use std::io::{BufRead, BufWriter, Read, Write};
 
-/// The magic number of a little-endian classic capture in nanoseconds.
+/// The magic number of a little-endian classic capture with nanoseconds.
 const LITTLE_NANOSECONDS: u32 = 0x4D3C_B2A1;
 
-/// The snaplen of a classic capture whose packets have any length that such a capture may have, in bytes.
+/// The snapshot length of a classic capture whose packets may have any length, in bytes.
 const WHOLE_PACKETS: u32 = 262_144;
 
-/// What the word is asked for.
+/// The arguments of `convert`.
 #[derive(Drop)]
 pub struct Conversion<'a> {
-    /// The name of the capture that is read.
+    /// The name of the capture to convert.
     pub from: &'a str,
-    /// The format of the other one, or none for that which the first one is not of.
+    /// The format of the output. `None` for the format that the capture doesn't have.
     pub to: Option<Format>,
-    /// The name of the other one.
+    /// The name of the output.
     pub out: &'a str,
-    /// Whether the capture is read as it stands.
+    /// Whether the program converts what `repair` would write.
     pub as_is: bool,
 }
 
-/// How a conversion ended.
+/// The outcome of a conversion.
 #[derive(Drop)]
 struct Ended {
-    /// How many packets have no place in the other format.
+    /// The number of packets that don't fit in the other format.
     left_out: u64,
-    /// How many blocks without a packet were left out.
+    /// The number of blocks without a packet that were left out.
     others: u64,
-    /// What ended it before the end of the capture.
+    /// The error that ended the conversion before the end of the capture.
     fault: Option<PcapError>,
-    /// Whether that was a write.
+    /// Whether that error is of a write.
     write_failed: bool,
 }
 
 impl Ended {
-    // A conversion in which everything has a place.
+    // Returns the outcome of a conversion that left nothing out.
     fn whole(fault: Option<PcapError>, write_failed: bool) -> Ended {
         Ended {
             left_out: 0,
@@ -57,7 +57,7 @@ impl Ended {
     }
 }
 
-/// Converts a capture, and gives the status.
+/// Converts a capture, and returns the exit status.
 pub fn convert_file(console: &Console, asked: &Conversion) -> io::Result<u8> {
     write_named(console, asked.out, &[asked.from], |output| {
         let ended = open_and_convert(console, asked, output);
@@ -84,7 +84,7 @@ fn tell_ended(console: &Console, asked: &Conversion, ended: &io::Result<Ended>) 
     }
     match &ended.fault {
         None => Ok(0),
-        // A packet or a header that has no place in the other format is no fault of the output.
+        // A packet or a header that doesn't fit in the other format is no error of the output.
         Some(error) if ended.write_failed && error.rule().is_none() => {
             tell_error(console, asked.out, error)
         }
@@ -153,7 +153,7 @@ fn convert_to_packets<R: BufRead + Drop, W: Write + Drop>(
     }
 }
 
-// Writes the packets of blocks under the link type and the snaplen of their first interface.
+// Writes the packets of blocks under the link type and the snapshot length of their first interface.
 fn place_blocks<R: Read + Drop, W: Write + Drop>(
     alloc: Global,
     input: R,
@@ -182,7 +182,7 @@ fn place_blocks<R: Read + Drop, W: Write + Drop>(
     Ok(flushed(writer.into_writer(), ended))
 }
 
-// Passes blocks until an interface is described. What is before it has no place.
+// Skips blocks until an interface is described. Packets before it don't fit in a classic capture.
 fn pass_to_interface<R: Read + Drop>(reader: &mut PcapNgReader<R>) -> ResultParsing<Ended> {
     let mut early = Ended::whole(None, false);
     for _turn in 0..u64::MAX {
@@ -202,7 +202,7 @@ fn pass_to_interface<R: Read + Drop>(reader: &mut PcapNgReader<R>) -> ResultPars
     Ok(early)
 }
 
-// The header of the classic capture that blocks become. Without an interface it is that of Ethernet.
+// Returns the header of the classic capture that blocks become. Without an interface its link type is Ethernet.
 fn header_under(interfaces: &[InterfaceDescriptionBlock<'static>]) -> PcapHeader {
     let mut header = PcapHeader::default();
     header.magic_number = LITTLE_NANOSECONDS;
@@ -224,7 +224,7 @@ fn other(format: Format) -> Format {
     }
 }
 
-// How a conversion ended once its output is flushed.
+// Flushes the output, and returns the outcome of the conversion.
 fn flushed<W: Write + Drop>(mut output: W, mut ended: Ended) -> Ended {
     if let Err(error) = output.flush() {
         if ended.fault.is_none() {

@@ -17,31 +17,31 @@ use std::alloc::Global;
 use std::io;
 use std::io::{BufWriter, Write};
 
-/// A capture that is merged.
+/// A capture to merge.
 type Input = Uninterrupted<Captured>;
 
-/// What the word is asked for.
+/// The arguments of `merge`.
 #[derive(Drop)]
 pub struct Merge<'a> {
-    /// The names of the captures that are merged.
+    /// The names of the captures to merge.
     pub names: &'a [&'a str],
-    /// The name of the other one.
+    /// The name of the merged capture.
     pub out: &'a str,
-    /// Whether the captures are read as they stand.
+    /// Whether the program merges what `repair` would write of the captures.
     pub as_is: bool,
 }
 
-/// How a merge ended.
+/// The outcome of a merge.
 #[derive(Clone, Copy)]
 struct Ended {
-    /// The worst status of its files.
+    /// The worst exit status of the files.
     status: u8,
-    /// Whether all that there was to write went out, and each capture was read to its end or to its fault.
+    /// Whether the whole output was written, and each capture was read to its end or to its first truncated or malformed item.
     is_whole: bool,
 }
 
 impl Ended {
-    // A merge that was given up.
+    // Returns the outcome of a merge that was given up.
     fn given_up(status: u8) -> Ended {
         Ended {
             status,
@@ -50,7 +50,7 @@ impl Ended {
     }
 }
 
-/// Merges captures, and gives the status. What goes out is whole also where one that is read is at fault.
+/// Merges captures, and returns the exit status. The output is complete even if one of the captures is truncated or malformed.
 pub fn merge_files(console: &Console, asked: &Merge) -> io::Result<u8> {
     let mut worst = 0;
     let told = write_named(console, asked.out, asked.names, |output| {
@@ -73,13 +73,6 @@ fn merge_to<W: Write + Drop>(console: &Console, asked: &Merge, output: W) -> io:
             Err(error) => return Ok(Ended::given_up(tell_io(console, name, &error)?)),
         };
         match open_reader(console, name, stream, asked.as_is) {
-            Ok(reader) if !has_place(&reader) => {
-                let shown = Shown(name);
-                eprintln!(console.for_line();
-                    "pcapfile: {shown}: is left out, since PcapNg has no link types above 65535"
-                )?;
-                status = AT_FAULT.max(status);
-            }
             Ok(reader) => {
                 let source = Source::new(console.alloc(), reader, interfaces);
                 interfaces = interfaces.saturating_add(interfaces_of(source.reader()));
@@ -107,7 +100,7 @@ fn merge_to<W: Write + Drop>(console: &Console, asked: &Merge, output: W) -> io:
     })
 }
 
-// Says how many blocks of each kind were left out of the captures of these names.
+// Reports how many blocks of each kind were left out of each capture.
 fn tell_left_out(console: &Console, names: &[&str], sources: &[Source<Input>]) -> io::Result<()> {
     for (name, source) in names.iter().zip(sources) {
         if let Reader::Blocks(blocks) = source.reader() {
@@ -121,7 +114,7 @@ fn tell_left_out(console: &Console, names: &[&str], sources: &[Source<Input>]) -
     Ok(())
 }
 
-// Says how many blocks of one kind were left out of a capture, if there were any.
+// Reports how many blocks of one kind were left out of a capture, if there were any.
 fn tell_kind(console: &Console, name: &str, count: u64, kind: &str) -> io::Result<()> {
     if count > 0 {
         let shown = Shown(name);
@@ -130,7 +123,7 @@ fn tell_kind(console: &Console, name: &str, count: u64, kind: &str) -> io::Resul
     Ok(())
 }
 
-// Says what ended each of the captures of these names before its end, and gives the worst status.
+// Reports the error that ended each capture early, if any, and returns the worst exit status.
 fn tell_faults(console: &Console, names: &[&str], sources: &[Source<Input>]) -> io::Result<u8> {
     let mut status = 0;
     for (name, source) in names.iter().zip(sources) {
@@ -141,7 +134,7 @@ fn tell_faults(console: &Console, names: &[&str], sources: &[Source<Input>]) -> 
     Ok(status)
 }
 
-// A reader of a capture of either format.
+// Opens a reader for a capture of either format.
 fn open_reader(
     console: &Console,
     name: &str,
@@ -161,14 +154,6 @@ fn open_reader(
             let reader = PcapNgReader::new(alloc, input)?;
             Ok(Reader::Blocks(BufferedBlocks::new(alloc, reader)))
         }
-    }
-}
-
-// Whether the packets of a capture have a place in PcapNg.
-fn has_place<R>(reader: &Reader<R>) -> bool {
-    match reader {
-        Reader::Packets(packets) => u32::from(packets.header().datalink) <= u32::from(u16::MAX),
-        Reader::Blocks(_) => true,
     }
 }
 

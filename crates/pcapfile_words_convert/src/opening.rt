@@ -1,13 +1,13 @@
-//! The blocks before the packets of a merge.
+//! The blocks before the packets of a merged capture.
 
-use pcap_file::ResultParsing;
 use pcap_file::pcap::PcapHeader;
 use pcap_file::pcapng::{InterfaceDescriptionBlock, InterfaceDescriptionOption, PcapNgWriter};
+use pcap_file::{LinkField, ResultParsing};
 use pcapfile_merge::{Reader, Source};
 use std::alloc::Global;
 use std::io::Write;
 
-/// How many interfaces a capture has.
+/// Returns how many interfaces a capture has.
 pub(crate) fn interfaces_of<R>(reader: &Reader<R>) -> u32 {
     match reader {
         Reader::Packets(_) => 1,
@@ -37,15 +37,21 @@ pub(crate) fn put_opening<R, W: Write + Drop>(
     Ok(writer.into_writer())
 }
 
-// The interface of a classic capture of this header. Its times are in nanoseconds.
+// Returns the interface of a classic capture with this header. Its times are in nanoseconds. An option keeps the length of the frame
+// check sequence, which the header has beside the link type, and counts it in bits.
 fn interface_under(
     alloc: Global,
     header: &PcapHeader,
 ) -> ResultParsing<InterfaceDescriptionBlock<'static>> {
+    let field = LinkField::from(u32::from(header.datalink));
+    let mut options = vec![in alloc; InterfaceDescriptionOption::IfTsResol(9)]?;
+    if let Some(len) = field.fcs_len {
+        options.push(InterfaceDescriptionOption::IfFcsLen(len.saturating_mul(8)))?;
+    }
     Ok(InterfaceDescriptionBlock {
-        linktype: header.datalink,
+        linktype: field.link,
         reserved: 0,
         snaplen: header.snaplen,
-        options: vec![in alloc; InterfaceDescriptionOption::IfTsResol(9)]?,
+        options,
     })
 }

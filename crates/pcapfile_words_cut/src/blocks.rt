@@ -1,6 +1,6 @@
-//! Captures of blocks that are read part by part.
+//! PcapNg captures that are read part by part.
 
-use crate::source::{Source, nothing};
+use crate::source::{Source, Untimed, nothing};
 use pcap_file::pcapng::{
     BlockHeader, BlockType, InterfaceDescriptionBlock, ParsedBlock, Timestamp,
 };
@@ -12,19 +12,19 @@ use std::alloc::Global;
 use std::io;
 use std::io::{Read, Write};
 
-/// The nanoseconds of a second.
+/// The nanoseconds in a second.
 const SECOND: u64 = 1_000_000_000;
 
-/// A capture of blocks behind its first section header.
+/// A PcapNg capture after its first section header.
 #[derive(Drop)]
 pub(crate) struct Blocks<R> {
     reader: PcapNgReader<R>,
-    /// The texts of the section header in force and of its interfaces.
+    /// The texts of the current section header and of its interfaces.
     in_force: Vec<u8>,
-    /// A block that is lent and stands in no part yet.
+    /// The header of a block that the reader lends and that is in no part yet.
     pending: Option<BlockHeader>,
-    /// How many packets were passed whose body is refused, so that their time isn't known.
-    untimed: u64,
+    /// How many packets were left out because they have no known time.
+    untimed: Untimed,
 }
 
 impl<R: Read + Drop> Blocks<R> {
@@ -36,16 +36,16 @@ impl<R: Read + Drop> Blocks<R> {
             reader,
             in_force,
             pending: None,
-            untimed: 0,
+            untimed: Untimed::default(),
         })
     }
 
-    /// The texts of the section header in force and of its interfaces.
+    /// Returns the texts of the current section header and of its interfaces.
     pub(crate) fn in_force(&self) -> &[u8] {
         self.in_force.as_slice()
     }
 
-    // The header of the next block, which is lent from then on.
+    // Returns the header of the next block, which the reader then lends.
     fn lend_next(&mut self) -> ResultParsing<Option<BlockHeader>> {
         if let Some(header) = self.pending.take() {
             return Ok(Some(header));
@@ -74,7 +74,7 @@ impl<R: Read + Drop> Blocks<R> {
         Ok(())
     }
 
-    // Passes blocks until the packet of this number is lent.
+    // Skips blocks until the reader lends the packet of this number.
     fn pass_to(&mut self, number: u64, outcome: &mut Outcome) -> ResultParsing<()> {
         for _ in 0..u64::MAX {
             let Some(header) = self.lend_next()? else {
@@ -92,7 +92,7 @@ impl<R: Read + Drop> Blocks<R> {
         Ok(())
     }
 
-    // Writes what is in force, and blocks until no packet more is wanted.
+    // Writes the current section header and its interfaces, and then blocks until no more packets are wanted.
     fn put_blocks<W: Write>(
         &mut self,
         output: &mut W,
@@ -124,7 +124,8 @@ impl<R: Read + Drop> Blocks<R> {
         Ok(())
     }
 
-    // Writes the section header, and all blocks but the packets that aren't of these times.
+    // Writes the current section header and its interfaces, and then all blocks, except packets that have no known time or are
+    // outside of these times.
     fn put_times<W: Write>(
         &mut self,
         alloc: Global,
@@ -146,7 +147,7 @@ impl<R: Read + Drop> Blocks<R> {
         Ok(())
     }
 
-    // Whether the packet of the block that is lent has a time from the first one on, before the other.
+    // Returns whether the packet of the lent block has a time from the first one on, and before the second.
     fn is_within(
         &mut self,
         alloc: Global,
@@ -158,14 +159,15 @@ impl<R: Read + Drop> Blocks<R> {
             Ok(parsed) => parsed,
             Err(PcapError::OutOfMemory(error)) => return Err(PcapError::OutOfMemory(error)),
             Err(_) => {
-                self.untimed = self.untimed.saturating_add(1);
+                self.untimed.malformed = self.untimed.malformed.saturating_add(1);
                 return Ok(false);
             }
         };
-        Ok(match time_of(self.reader.interfaces(), &parsed) {
-            Some(time) => times.0 <= time && time < times.1,
-            None => false,
-        })
+        let Some(time) = time_of(self.reader.interfaces(), &parsed) else {
+            self.untimed.without_time = self.untimed.without_time.saturating_add(1);
+            return Ok(false);
+        };
+        Ok(times.0 <= time && time < times.1)
     }
 }
 
@@ -194,7 +196,7 @@ impl<R: Read + Drop> Source for Blocks<R> {
         Ok(self.pending.is_none())
     }
 
-    fn untimed(&self) -> u64 {
+    fn untimed(&self) -> Untimed {
         self.untimed
     }
 
@@ -210,7 +212,7 @@ fn moment(nanoseconds: u64) -> Timestamp {
     }
 }
 
-// The time of the packet that a body is, where it has one.
+// Returns the time of the packet in a body, if it has one.
 fn time_of(
     interfaces: &[InterfaceDescriptionBlock<'static>],
     parsed: &ParsedBlock<'_>,
@@ -225,7 +227,7 @@ fn pass_text(text: &[u8], outcome: &mut Outcome) {
     outcome.bytes = outcome.bytes.saturating_add(text.len() as u64);
 }
 
-// Whether no packet more is wanted behind these.
+// Returns whether no more packets are wanted after these.
 fn is_enough(wanted: Wanted, outcome: &Outcome) -> bool {
     match wanted {
         Wanted::Numbers { last, .. } => outcome.packets >= last,
@@ -234,7 +236,8 @@ fn is_enough(wanted: Wanted, outcome: &Outcome) -> bool {
     }
 }
 
-/// Writes the blocks of a further part behind others that left this in force: without what opens it, where that is the same.
+/// Appends the blocks of a further part to those that have these texts in force. The part's opening is left out if it is the
+/// same.
 pub(crate) fn join_blocks<R: Read + Drop, W: Write>(
     alloc: Global,
     part: &mut Blocks<R>,
@@ -267,7 +270,7 @@ fn put_behind<R: Read + Drop, W: Write>(
     Ok(())
 }
 
-// The texts of the part's first blocks, as long as they may be what is in force.
+// Returns the texts of the part's first blocks, for as long as they match the texts in force.
 fn lead_of<R: Read + Drop>(
     alloc: Global,
     part: &mut Blocks<R>,

@@ -1,7 +1,7 @@
 //! The word `cut`.
 
 use crate::blocks::Blocks;
-use crate::source::{Packets, Source, flushed};
+use crate::source::{Packets, Source, Untimed, flushed};
 use crate::tell::tell_outcome;
 use pcap_parts::to_next_end;
 use pcapfile_cut::{Outcome, Wanted};
@@ -14,45 +14,45 @@ use std::alloc::Global;
 use std::io;
 use std::io::{BufWriter, Read, Write};
 
-/// What the word is asked for.
+/// The arguments of `cut`.
 #[derive(Drop)]
 pub struct Cutting<'a> {
-    /// The name of the capture.
+    /// The name of the capture to cut.
     pub from: &'a str,
-    /// The name of its part, or what the names of its parts are made of.
+    /// The name of the part, or the pattern for the names of several parts.
     pub out: &'a str,
-    /// How it is cut.
+    /// The way to cut it.
     pub way: Way,
-    /// Whether it is read as it stands.
+    /// Whether the program cuts what `repair` would write.
     pub as_is: bool,
 }
 
-/// How a capture is cut.
+/// The ways to cut a capture.
 #[derive(Clone, Copy)]
 pub enum Way {
-    /// One part.
+    /// One part, with these packets.
     One(Wanted),
-    /// Parts of so many packets.
+    /// Parts of this many packets each.
     Every(u64),
-    /// So many parts of nearly the same length.
+    /// This many parts of nearly the same length.
     Parts(u64),
-    /// Parts that end with the packet at which they have so many bytes.
+    /// Parts that each end with the packet at which they have this many bytes.
     Bytes(u64),
 }
 
-/// Where a capture is read.
+/// A position in the capture.
 #[derive(Clone, Copy)]
 struct Place {
-    /// How many bytes open it.
+    /// The length of the opening, in bytes.
     opening: u64,
-    /// How many bytes are read of what follows.
+    /// The number of bytes after the opening that were read.
     passed: u64,
-    /// How many bytes follow the opening, where that is known.
+    /// The number of bytes after the opening; 0 if that isn't known.
     length: u64,
 }
 
 impl Way {
-    // Which of the next packets make a part that so many bytes open. Each part gets one packet at least.
+    // Returns which of the next packets make a part whose opening has this many bytes. Each part gets at least one packet.
     fn wanted(self, opening: u64, place: Place) -> Wanted {
         match self {
             Way::One(wanted) => wanted,
@@ -70,7 +70,7 @@ impl Way {
     }
 }
 
-// The packets up to the end of the next of so many shares, or all behind the last but one.
+// Returns the packets up to the end of the next of `parts` nearly equal shares, or all packets for the last share.
 fn next_share(place: Place, parts: u64) -> Wanted {
     match to_next_end(place.passed as usize, place.length as usize, parts as usize) {
         Some(bytes) => Wanted::Bytes(bytes as u64),
@@ -78,7 +78,7 @@ fn next_share(place: Place, parts: u64) -> Wanted {
     }
 }
 
-/// Cuts a capture, and gives the status.
+/// Cuts a capture, and returns the exit status.
 pub fn cut_file(console: &Console, asked: &Cutting) -> io::Result<u8> {
     if let (STANDARD, Way::Parts(_)) = (asked.from, asked.way) {
         return tell_no_length(console);
@@ -99,18 +99,34 @@ pub fn cut_file(console: &Console, asked: &Cutting) -> io::Result<u8> {
     }
 }
 
-// Says how many packets are left out whose time isn't known.
-fn tell_untimed(console: &Console, from: &str, packets: u64) -> io::Result<()> {
-    if packets > 0 {
-        let from = Shown(from);
+// Reports how many packets are left out because they have no known time.
+fn tell_untimed(console: &Console, from: &str, packets: Untimed) -> io::Result<()> {
+    let from = Shown(from);
+    let Untimed {
+        malformed,
+        without_time,
+    } = packets;
+    if malformed > 0 {
+        let s = plural(malformed);
         eprintln!(console.for_line();
-            "pcapfile: {from}: {packets} packets whose body is refused are left out, since their time isn't known"
+            "pcapfile: {from}: left out {malformed} packet{s} with a malformed body, which has no known time"
+        )?;
+    }
+    if without_time > 0 {
+        let s = plural(without_time);
+        eprintln!(console.for_line();
+            "pcapfile: {from}: left out {without_time} packet{s} without a time"
         )?;
     }
     Ok(())
 }
 
-// Says that so many parts can't be made of what has no length, and gives the status.
+// Returns the ending of a noun that this many things have.
+fn plural(count: u64) -> &'static str {
+    if count == 1 { "" } else { "s" }
+}
+
+// Reports that `--parts` needs a file with a known length, and returns the exit status.
 fn tell_no_length(console: &Console) -> io::Result<u8> {
     eprintln!(console.for_line(); "error: --parts asks for a file, whose length is known")?;
     Ok(USAGE)
@@ -168,7 +184,7 @@ fn cut_source<S: Source>(
     Ok(0)
 }
 
-// The name of a part: its number stands before the extension of the name that is given, in five digits or more.
+// Returns the name of a part: its number, in five digits or more, is before the extension of the given name.
 fn part_name(alloc: Global, out: &str, number: u64) -> io::Result<String> {
     let (folder, file) = match out.rsplit_once('/') {
         Some((folder, file)) => (Some(folder), file),
@@ -186,7 +202,7 @@ fn part_name(alloc: Global, out: &str, number: u64) -> io::Result<String> {
     }
 }
 
-// Writes one part, and gives the status. The place moves behind what was read.
+// Writes one part, and returns the exit status. The position moves past the bytes that were read.
 fn write_part<S: Source>(
     console: &Console,
     asked: &Cutting,

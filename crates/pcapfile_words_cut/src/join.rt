@@ -13,18 +13,18 @@ use pcapfile_run::{Format, format_of};
 use std::io;
 use std::io::{BufReader, BufWriter, Write};
 
-/// What the word is asked for.
+/// The arguments of `join`.
 #[derive(Drop)]
 pub struct Joining<'a> {
-    /// The names of the parts, in their order.
+    /// The names of the parts, in order.
     pub parts: &'a [&'a str],
-    /// The name of the capture that they become.
+    /// The name of the joined capture.
     pub out: &'a str,
 }
 
 type Input = BufReader<Uninterrupted<Watched>>;
 
-/// Joins parts of a capture, and gives the status.
+/// Joins the parts of a capture, and returns the exit status.
 pub fn join_files(console: &Console, asked: &Joining) -> io::Result<u8> {
     write_named(console, asked.out, asked.parts, |output| {
         join_into(console, asked, output)
@@ -76,7 +76,7 @@ fn open(console: &Console, name: &str) -> io::Result<(Format, Input)> {
     Ok((format, input))
 }
 
-// Writes the first part as it is, and gives the status.
+// Writes the first part unchanged, and returns the exit status.
 fn write_first<S: Source, W: Write>(
     console: &Console,
     asked: &Joining,
@@ -89,7 +89,7 @@ fn write_first<S: Source, W: Write>(
     tell_outcome(console, name, place, asked.out, &outcome)
 }
 
-// Writes the packets of the others behind a first part that was written with this status.
+// Appends the packets of the other parts to the first, which was written with this status.
 fn join_packets<W: Write>(
     console: &Console,
     asked: &Joining,
@@ -135,7 +135,7 @@ fn join_next<W: Write>(
     }
 }
 
-// Writes the blocks of the others behind a first part that was written with this status.
+// Appends the blocks of the other parts to the first, which was written with this status.
 fn join_others<W: Write>(
     console: &Console,
     asked: &Joining,

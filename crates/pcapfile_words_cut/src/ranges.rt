@@ -1,16 +1,16 @@
-//! The ranges of packets and the times that words name.
+//! The packet ranges and times that users give as arguments.
 
 use jiff::Timestamp;
 use std::str;
 
-/// The nanoseconds of a second.
+/// The nanoseconds in a second.
 const SECOND: u64 = 1_000_000_000;
 
-/// The most bytes of a time of RFC 3339 that is read.
+/// The most bytes of an RFC 3339 time that `last_instant` accepts.
 const LONGEST: usize = 64;
 
-/// The first and the last packet of a range: `10-20`, `10-` up to the end, `-20` from the first one on, or `10` alone. None where
-/// it is no range, or has no packet.
+/// Returns the first and the last packet of a range: `10-20`, `10-` up to the end, `-20` from the first packet on, or `10`
+/// alone. `None` if the text is no range, or the range has no packet.
 pub fn packets(text: &str) -> Option<(u64, u64)> {
     let (first, last) = match text.split_once('-') {
         None => (number(text)?, number(text)?),
@@ -24,8 +24,8 @@ pub fn packets(text: &str) -> Option<(u64, u64)> {
     Some((first, last))
 }
 
-/// The nanoseconds since 1970 of a time: seconds since then with at most nine digits behind a point, or a time of RFC 3339. A time
-/// before 1970 is 0, and one after 2554 the largest number.
+/// Returns a time in nanoseconds since 1970. The text is a number of seconds with at most nine decimal places, or an RFC 3339
+/// time. A time before 1970 gives 0, and one after 2554 the largest number.
 pub fn time(text: &str) -> Option<u64> {
     match seconds(text) {
         Some(nanoseconds) => Some(nanoseconds),
@@ -52,7 +52,7 @@ fn seconds(text: &str) -> Option<u64> {
     Some(whole.saturating_mul(SECOND).saturating_add(fraction))
 }
 
-// The nanoseconds that the digits behind a point are.
+// Returns the nanoseconds that these decimal places make.
 fn nanoseconds(digits: &str) -> Option<u64> {
     if digits.len() > 9 {
         return None;
@@ -72,7 +72,8 @@ fn instant(text: &str) -> Option<u64> {
     Some(u64::try_from(nanoseconds).unwrap_or(u64::MAX))
 }
 
-// The largest number, where this is a time of the year 9999, whose last hours are no `Timestamp`. The year before has the same days.
+// Returns the largest number for a time in the year 9999, whose last hours don't fit in a `Timestamp`. The year before has the
+// same days.
 fn last_instant(text: &str) -> Option<u64> {
     if !text.starts_with("9999-") || text.len() > LONGEST {
         return None;

@@ -6,10 +6,19 @@ use std::alloc::Global;
 use std::io;
 use std::io::{BufRead, Write};
 
+/// How many packets a selection by times left out because they have no known time.
+#[derive(Clone, Copy, Default)]
+pub(crate) struct Untimed {
+    /// Packets with a malformed body.
+    pub(crate) malformed: u64,
+    /// Packets that are stored without a time.
+    pub(crate) without_time: u64,
+}
+
 /// A capture that is read part by part.
 pub(crate) trait Source {
-    /// Writes a part: what opens the capture where it is read, and those of the packets there that are wanted. Where others are
-    /// to follow, what stands before the next packet is part of it too.
+    /// Writes a part: the opening at this position, and the wanted packets after it. If other parts follow, the blocks before
+    /// the next packet belong to this part.
     fn write_part<W: Write>(
         &mut self,
         alloc: Global,
@@ -18,17 +27,17 @@ pub(crate) trait Source {
         others_follow: bool,
     ) -> Outcome;
 
-    /// Whether everything is in a part.
+    /// Returns whether all of the capture is in a part.
     fn is_at_end(&mut self) -> io::Result<bool>;
 
-    /// How many packets were left out since their body is refused, so that their time isn't known.
-    fn untimed(&self) -> u64;
+    /// Returns how many packets were left out because they have no known time.
+    fn untimed(&self) -> Untimed;
 
-    /// How many bytes open a part that is written next.
+    /// Returns the length of the next part's opening, in bytes.
     fn opening_len(&self) -> u64;
 }
 
-/// A classic capture behind its header.
+/// A classic capture after its header.
 #[derive(Drop)]
 pub(crate) struct Packets<R> {
     opening: Opening,
@@ -42,7 +51,7 @@ impl<R: BufRead + Drop> Packets<R> {
         Ok(Packets { opening, input })
     }
 
-    /// What stands in front of the packets.
+    /// Returns the capture's header.
     pub(crate) fn opening(&self) -> &Opening {
         &self.opening
     }
@@ -63,8 +72,8 @@ impl<R: BufRead + Drop> Source for Packets<R> {
         Ok(self.input.fill_buf()?.is_empty())
     }
 
-    fn untimed(&self) -> u64 {
-        0
+    fn untimed(&self) -> Untimed {
+        Untimed::default()
     }
 
     fn opening_len(&self) -> u64 {
@@ -72,7 +81,7 @@ impl<R: BufRead + Drop> Source for Packets<R> {
     }
 }
 
-/// A part of which nothing is written.
+/// Returns the outcome of a part of which nothing is written.
 pub(crate) fn nothing() -> Outcome {
     Outcome {
         packets: 0,
@@ -83,7 +92,7 @@ pub(crate) fn nothing() -> Outcome {
     }
 }
 
-/// How a part ended once its output is flushed.
+/// Flushes the output, and returns the outcome of the part.
 pub(crate) fn flushed<W: Write>(output: &mut W, mut outcome: Outcome) -> Outcome {
     if outcome.fault.is_none() {
         if let Err(error) = output.flush() {

@@ -1,12 +1,12 @@
-//! What is said of a part on standard error, and the status that it gives.
+//! The message on a part on standard error, and its exit status.
 
 use pcap_file::PcapError;
 use pcapfile_cut::Outcome;
 use pcapfile_files::{AT_FAULT, Console, Shown, tell_error};
 use std::io;
 
-/// Says what ended a cut of a capture before its end, and at which byte where packets were read from this one on, and gives the
-/// status.
+/// Reports the error that ended a cut early, if any, and at which byte, and returns the exit status. `place` is the byte at
+/// which the cut began to read packets.
 pub(crate) fn tell_outcome(
     console: &Console,
     from: &str,

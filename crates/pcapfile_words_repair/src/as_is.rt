@@ -1,4 +1,4 @@
-//! Captures that are told as they stand.
+//! Captures that are read leniently.
 
 use capcopy_run::Exit;
 use pcap_file::{PcapError, ResultParsing};
@@ -9,24 +9,24 @@ use pcapfile_run::Format;
 use std::alloc::Global;
 use std::io::Write;
 
-/// The most packets or blocks that are told.
+/// The most packets or blocks that are reported.
 pub(crate) const MOST: u64 = 18_446_744_073_709_551_614;
 
-/// A capture that is told as it stands, row by row.
+/// A capture that is read leniently, row by row: a row is what is between two gaps.
 #[derive(Drop)]
 pub(crate) struct Telling {
-    /// What is told next. None behind the end.
+    /// The next row. `None` after the end.
     standing: Option<Standing>,
     /// The capture's format.
     pub(crate) format: Format,
-    /// How far it is told.
+    /// The position up to which the capture has been reported.
     pub(crate) place: Place,
-    /// What ended it before its end: `IncompleteBuffer` where it is cut short there.
+    /// The error that ended the capture early: `IncompleteBuffer` if it is truncated there.
     pub(crate) fault: Option<PcapError>,
 }
 
 impl Telling {
-    /// The capture of a name, of which nothing is told yet. The errors are those of reads and of memory.
+    /// Opens the capture of this name. It returns errors of reads and of memory.
     pub(crate) fn open(console: &Console, name: &str) -> ResultParsing<Telling> {
         let standing = Standing::open(console.alloc(), open_watched(console, name)?)?;
         let (format, bytes) = opening_of(&standing);
@@ -38,7 +38,8 @@ impl Telling {
         })
     }
 
-    /// Tells the packets or blocks before the next gap, and gives that. None behind the end. The errors are those of the teller.
+    /// Reports the packets or blocks before the next gap, and returns the gap. `None` after the end. It returns the errors of
+    /// the teller.
     pub(crate) fn tell_row<P: Teller, B: BlockTeller, W: Write>(
         &mut self,
         alloc: Global,
@@ -66,7 +67,7 @@ impl Telling {
         Ok(None)
     }
 
-    // What more is left out. A packet or block that is cut short is none, but ends the capture.
+    // Counts a gap and returns it. `None` for a truncated packet or block, which is no gap and ends the capture.
     fn pass(&mut self, left_out: LeftOut) -> Option<Gap> {
         let before = self.place;
         let gap = self.place.pass(left_out)?;
@@ -78,7 +79,7 @@ impl Telling {
         Some(gap)
     }
 
-    // Tells a row, and gives what is told next. None where that can't be read.
+    // Reports a row, and returns the next one. `None` if that can't be read.
     fn tell_on<P: Teller, B: BlockTeller, W: Write>(
         &mut self,
         alloc: Global,
@@ -99,7 +100,7 @@ impl Telling {
     }
 }
 
-// The format of the capture, and how many bytes open it.
+// Returns the format of the capture, and the length of its opening in bytes.
 fn opening_of(standing: &Standing) -> (Format, u64) {
     match standing {
         Standing::Packets(..) => (Format::Pcap, HEADER as u64),
@@ -108,7 +109,7 @@ fn opening_of(standing: &Standing) -> (Format, u64) {
     }
 }
 
-// The rows of which it is.
+// Returns the rows of the capture, if it has packets or blocks.
 fn rows_of(standing: &Standing) -> Option<&Rows> {
     match standing {
         Standing::Packets(_, rows) => Some(rows.rows()),
@@ -117,7 +118,7 @@ fn rows_of(standing: &Standing) -> Option<&Rows> {
     }
 }
 
-// Tells what stands in the next row.
+// Reports the next row.
 fn tell<P: Teller, B: BlockTeller, W: Write>(
     alloc: Global,
     standing: Standing,

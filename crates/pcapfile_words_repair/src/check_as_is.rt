@@ -1,4 +1,4 @@
-//! The word `check` of captures as they stand.
+//! The lenient word `check`.
 
 use crate::as_is::{MOST, Telling};
 use capcopy_run::{Exit, Uninterrupted};
@@ -10,8 +10,7 @@ use std::alloc::Global;
 use std::io;
 use std::io::{BufWriter, ErrorKind, Write};
 
-/// Writes a line for each flaw of a packet or block, one for bytes that are left out and one for each capture, and gives the status:
-/// that of the worst of them.
+/// Writes a line for each flaw, one for each gap, and one for each capture, and returns the worst exit status.
 pub fn check_files_as_is(console: &Console, names: &[&str]) -> io::Result<u8> {
     let stdout = Uninterrupted::new(console.rt().stdout());
     let mut output = BufWriter::with_capacity(console.alloc(), OUTPUT, stdout)?;
@@ -38,7 +37,7 @@ fn check_file<W: Write>(console: &Console, name: &str, output: &mut W) -> io::Re
     }
 }
 
-// Writes the lines of the flaws of a capture and of what is left out.
+// Writes the lines on the flaws and gaps of a capture.
 fn tell_flaws<W: Write>(
     alloc: Global,
     prefix: &str,
@@ -57,7 +56,8 @@ fn tell_flaws<W: Write>(
     Ok(())
 }
 
-// Writes the line of a capture, and gives its status. One that can't be read, or not be held, has it on standard error.
+// Writes the line on a capture, and returns its exit status. If the capture can't be read, or memory runs out, the line goes to
+// standard error.
 fn tell_checked<W: Write>(
     console: &Console,
     name: &str,
@@ -97,7 +97,7 @@ fn checked_of(telling: Telling) -> CheckedAsIs {
     }
 }
 
-// What ends a capture of so many packets or blocks.
+// Returns why a capture ended after this many packets or blocks.
 fn end_behind(fault: Option<PcapError>, items: u64) -> End {
     match fault {
         Some(PcapError::IncompleteBuffer(_)) => End::Short,

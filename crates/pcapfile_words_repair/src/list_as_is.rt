@@ -1,4 +1,4 @@
-//! The word `list` of captures as they stand.
+//! The lenient word `list`.
 
 use crate::as_is::Telling;
 use capcopy_run::{Exit, Uninterrupted};
@@ -7,8 +7,8 @@ use pcapfile_files::{AT_FAULT, Console, OUTPUT, Shown, tell_error, tell_exit, te
 use std::io;
 use std::io::{BufWriter, Write};
 
-/// Writes the packets of each capture with their flaws, behind its name where there are several, says what is left out between them,
-/// and gives the status: that of the worst of them.
+/// Lists the packets of each capture with their flaws, reports the gaps between them, and returns the worst exit status. If
+/// there are several captures, the name of each is before its packets.
 pub fn list_files_as_is(console: &Console, names: &[&str]) -> io::Result<u8> {
     let stdout = Uninterrupted::new(console.rt().stdout());
     let mut output = BufWriter::with_capacity(console.alloc(), OUTPUT, stdout)?;
@@ -34,7 +34,7 @@ fn list_file<W: Write>(
         writeln!(output, "{shown}:")?;
     }
     let listed = list_packets(console, name, &mut telling, output);
-    // What was listed goes out before what is said of it.
+    // The listed packets are written before the messages on them.
     output.flush()?;
     if let Err(exit) = listed {
         return tell_unwritten(console, name, exit);
@@ -48,7 +48,7 @@ fn list_file<W: Write>(
     })
 }
 
-// Writes the lines of the packets of a capture, and says what is left out behind those before that.
+// Lists the packets of a capture, and reports each gap after the packets before it.
 fn list_packets<W: Write>(
     console: &Console,
     name: &str,

@@ -5,16 +5,16 @@ use pcapfile_lenient::Repaired;
 use std::io;
 use std::io::{BufWriter, Write};
 
-/// What the word is asked for.
+/// The arguments of `repair`.
 #[derive(Drop)]
 pub struct Repair<'a> {
-    /// The name of the capture that is read.
+    /// The name of the capture to repair.
     pub from: &'a str,
-    /// The name of the other one.
+    /// The name of the repaired capture.
     pub out: &'a str,
 }
 
-/// Writes a capture of what can be read of another one, in which nothing breaks a rule, and gives the status.
+/// Writes a capture that breaks no rule from what can be read of another one, and returns the exit status.
 pub fn repair_file(console: &Console, asked: &Repair) -> io::Result<u8> {
     write_named(console, asked.out, &[asked.from], |output| {
         repair_to(console, asked, output)

@@ -12,7 +12,7 @@ use Rattle.pcap_core.proofs.Texts.{number_same}
 use Rattle.test_formats.specs.declared.samples.Head.{Head}
 use Rattle.test_formats.specs.Samples.{Item, item_with, Announced, meaning, number_width, head_length, HeadReads, BytesRead, headed_samples, sample_format}
 
--- a head is read once
+-- A head is read in only one way.
 head_same : (size : ℕ) (s : List ℕ) (h k : HeadReading Announced) → HeadReads size s h → HeadReads size s k → k ≡ h
 head_same size s h k x y =
     let kinds = number_same big_number 2 x.kind y.kind s x.after y.after x.kind_is y.kind_is in

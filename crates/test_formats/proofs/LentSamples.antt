@@ -1,4 +1,4 @@
--- What stands at the front of a slice, by the bytes of its head.
+-- The item at the front of a slice, by the bytes of its head.
 use Rattle.std.proofs.Common.{◌≡◌, ℕ, ◌<◌, ◌-◌, List, ◌++◌, length, refl, arith, inl, inr}
 use Rattle.pcap_core.specs.Answer.{whole, lacks, faulty}
 use Rattle.pcap_core.specs.Faults.{Fault}

@@ -1,4 +1,4 @@
--- What the head of an item states.
+-- The length that the head of an item states.
 use Rattle.std.proofs.Common.{◌≡◌, ℕ, ◌<◌, List, [], ◌++◌, length, drop, refl, sym, ap, subst, ◌∙◌, append-nil, arith, inl, inr, Bool, false, Option, Some, Result, Ok, Err}
 use Rattle.std.proofs.lemmas.List.{drop_at, nil_from_length}
 use Rattle.pcap_core.specs.declared.errors.PcapError.{PcapError}
@@ -15,7 +15,7 @@ pub sample_head : (size : ℕ) → sample_format.head size ≡ head_length size
 unfolding sample_format
 sample_head size = refl
 
--- a head and as many bytes as it states are an item
+-- A head and as many bytes as it states are an item.
 pub item_stands : (size : ℕ) (head : Head) (front body s : List ℕ) → KnowsHead size head (length body) front → length front ≡ head_length size → s ≡ front ++ body
     → sample_format.says size s (whole (record { head = head; bytes = body }) [])
 unfolding sample_format
@@ -27,7 +27,7 @@ item_stands size head front body s knows long split =
       record { bytes = body; text = sym (append-nil body); length_is = refl; holds = (refl, refl) },
     ))
 
--- a head alone lacks the bytes that it states
+-- A head alone lacks the bytes that it states.
 pub item_lacks : (size n : ℕ) (head : Head) (s : List ℕ) → KnowsHead size head n s → length s ≡ head_length size → 0 < n → sample_format.says size s (lacks n)
 unfolding sample_format
 item_lacks size n head s knows long some =
@@ -37,7 +37,7 @@ pub head_refused : (size : ℕ) (s : List ℕ) (fault : Fault) → HeadReads siz
 unfolding sample_format
 head_refused size s fault reads long = inr (inl ([], record { bytes = s; text = sym (append-nil s); length_is = long; holds = reads }))
 
--- what a head that is known states
+-- What a known head states.
 pub head_states : (size n : ℕ) (head : Head) (s : List ℕ) → length s ≡ head_length size → KnowsHead size head n s → StatesRest (sample_format.says size) (KnowsTold size) s (Ok (Ok head, n))
 head_states size n head s long knows = (
   knows,
@@ -45,11 +45,11 @@ head_states size n head s long knows = (
   λ some. item_lacks size n head s knows long some,
 )
 
--- a bad head that is known states nothing
+-- A bad head that is known states nothing.
 pub bad_states : (size : ℕ) (fault : LogFault) (s : List ℕ) → length s ≡ head_length size → HeadReads size s (bad (fault_of fault)) → StatesRest (sample_format.says size) (KnowsTold size) s (Ok (Err fault, 0))
 bad_states size fault s long reads = ((refl, reads), λ none. inr (fault_of fault, head_refused size s (fault_of fault) reads long), λ some. absurd (omega (arith, some)))
 
--- the item that held bytes show
+-- The item in the held bytes.
 pub held_stands : (size : ℕ) (head : Head) (s : List ℕ) → Stated (KnowsTold size) (sample_format.head size) (Ok head) s → sample_format.says size s (whole (held_item size s head) [])
 held_stands size head s t =
     let n = head_length size in
@@ -57,7 +57,7 @@ held_stands size head s t =
     let back : drop n s ≡ t.body = ap (drop n) t.split ∙ drop_at t.front t.body n long in
     subst (λ (l : List ℕ). sample_format.says size s (whole (record { head = head; bytes = l }) [])) (sym back) (item_stands size head t.front t.body s t.knows long t.split)
 
--- a bad head that is held is refused
+-- A bad head that is held is refused.
 pub held_bad : (size : ℕ) (fault : LogFault) (s : List ℕ) → Stated (KnowsTold size) (sample_format.head size) (Err fault) s → (length s ≡ head_length size) × sample_format.says size s (faulty (fault_of fault))
 held_bad size fault s t =
     let none : t.body ≡ [] = nil_from_length t.body t.knows.0 in
@@ -74,7 +74,7 @@ module _ (size : ℕ) (before after : Option (List ℕ)) (held : List ℕ) (fail
       → FillsHeaded (sample_format.says size) (KnowsTold size) (sample_format.head size) before after held failed result → (failed ≡ false) × TakesBadHead size before after fault
   bad_held fault result is fills = let x = rw is at fills in let bad = held_bad size fault held x.1 in (x.0, (held, bad.0, bad.1, x.4))
 
--- a head that was taken, and the bytes that it states, are an item
+-- A head that was taken, and the bytes that it states, are an item.
 pub item_taken : (size : ℕ) (head : Head) (body : List ℕ) (before after : Option (List ℕ)) → TakesStated (sample_format.says size) (KnowsTold size) (sample_format.head size) before after (Ok head) body
     → Takes (sample_format.says size) before after (record { head = head; bytes = body })
 item_taken size head body before after x =

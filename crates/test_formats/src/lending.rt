@@ -1,4 +1,4 @@
-//! Rows of logs that lie in a slice, over the runs that serve every format.
+//! Rows of logs in a slice, parsed by the runs that serve every format.
 
 use crate::lent::parse_log;
 use crate::rows::{ITEMS, LOG};
@@ -8,7 +8,7 @@ use std::alloc::{AllocError, Global};
 use std::test::Fail;
 use test_support::captures::front;
 
-// How many of its bytes the last item of so many takes that lie whole in the first bytes, and how many more the next one asks for.
+// The first bytes of the log; how many of them the whole items take; and how many more bytes the next item requests.
 const ASKS: [(usize, usize, usize); 8] = [
     (0, 0, 0),
     (3, 0, 1),
@@ -20,7 +20,7 @@ const ASKS: [(usize, usize, usize); 8] = [
     (29, 29, 0),
 ];
 
-// Whether a run over the whole log gives its items.
+// Returns whether a run over the whole log gives its items.
 fn is_whole(alloc: Global) -> Result<bool, AllocError> {
     let mut samples = SamplesOf { size: 0 };
     let run = parse_log(alloc, &mut samples, &LOG)?;
@@ -37,7 +37,7 @@ fn whole_log(rt: HostRuntime) -> Result<(), Fail> {
     Ok(())
 }
 
-// How many bytes a run over the first bytes uses, and how many more it asks for; 99 where it is refused.
+// Returns how many bytes a run over the first `end` bytes uses, and how many more it requests; 99 if it is refused.
 fn asks(alloc: Global, end: usize) -> Result<(usize, usize), AllocError> {
     let run = parse_log(alloc, &mut SamplesOf { size: 0 }, front(&LOG, end))?;
     let asked = match run.ended {
@@ -56,7 +56,7 @@ fn cut_logs(rt: HostRuntime) -> Result<(), Fail> {
     Ok(())
 }
 
-// Whether a head of this kind and number behind two items ends the run, for this fault.
+// Returns whether a head of this kind and number after two items ends the run with this fault.
 fn is_refused(alloc: Global, kind: u8, number: u8, fault: LogFault) -> Result<bool, AllocError> {
     let log = [0, 1, 0, 1, 0, 2, 0, 9, 5, 0, kind, number, 0];
     let run = parse_log(alloc, &mut SamplesOf { size: 0 }, &log)?;
@@ -64,7 +64,7 @@ fn is_refused(alloc: Global, kind: u8, number: u8, fault: LogFault) -> Result<bo
     Ok(is_named && run.items.len() == 2 && run.used == 9)
 }
 
-// A bad head ends the run, whatever the items before it made the size of samples.
+// Checks that a bad head ends the run for each size of samples.
 #[test]
 fn refused_logs(rt: HostRuntime) -> Result<(), Fail> {
     assert!(rt; is_refused(rt.alloc(), 3, 0, LogFault::UnknownKind)?);

@@ -1,4 +1,4 @@
-//! The items of a log that lies in a slice, which lend their bytes from it.
+//! The items of a log in a slice, which lend their bytes from it.
 
 ghost use Rattle.std.specs.Prelude.{◌≡◌, ℕ, map, IfErr, IfOk};
 ghost use Rattle.pcap_items.specs.Items.{GrowsIn, RunsTo};
@@ -13,11 +13,11 @@ use std::alloc::{AllocError, Global};
 pub struct Lent<'a> {
     /// What its head says.
     pub head: Head,
-    /// The bytes after it.
+    /// The bytes after its head.
     pub bytes: &'a [u8],
 }
 
-// The size of the samples after such a head.
+// Returns the size of the samples after such a head.
 fn after_head(size: u16, head: Head) -> u16
     ensures { result ≡ size_after size head }
 {
@@ -73,9 +73,9 @@ impl<'a> Items<'a> for SamplesOf {
     }
 }
 
-/// All items at the front of a log, and what is said of the rest; samples have the size after them that they leave.
+/// Parses all items at the front of a log, and reports what follows them. Samples have the size that the items before them set.
 ///
-/// Want of memory is that of the list of items.
+/// It returns an `AllocError` only if the list of items can't be held.
 pub fn parse_log<'a>(
     alloc: Global,
     samples: &mut SamplesOf,

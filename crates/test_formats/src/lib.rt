@@ -1,4 +1,4 @@
-//! Formats that are neither packets nor blocks, over the filling and the laws of `pcap_items`.
+//! Formats that are neither packets nor blocks, built on the buffers and the laws of `pcap_items`.
 #![tactic(auto)]
 
 pub mod laws;

@@ -1,4 +1,4 @@
-//! How much room the filling offers and takes, and how many writes there are.
+//! Checks how much space a filled buffer offers and takes, and how many writes are made.
 
 use pcap_core::{PcapError, ResultParsing};
 use pcap_items::stream::{Told, put, take_bytes};
@@ -12,10 +12,10 @@ fn is_early_end(error: Option<PcapError>) -> bool {
     matches!(error, Some(PcapError::IoError(e)) if e.kind() == ErrorKind::UnexpectedEof)
 }
 
-// Lengths that are asked for where two bytes come. No memory holds the last two.
+// Lengths that are requested of a stream of two bytes. No memory can hold the last two.
 const LENGTHS: [usize; 4] = [3, 0x0010_0000, 0x4000_0000_0000_0000, 0xffff_ffff_ffff_ffff];
 
-// Whether so many bytes are asked for where two come, in room for no more than it may be.
+// Returns whether a request of `n` bytes from a stream of two ends early, and no read is given a buffer of more than 65536 bytes.
 fn asks_for(alloc: Global, n: usize) -> Result<bool, AllocError> {
     let mut stream = Halting::new(alloc, &[1, 2], 9)?;
     let mut has_failed = false;
@@ -33,14 +33,14 @@ fn room_grows_with_the_bytes_that_come(rt: HostRuntime) -> Result<(), Fail> {
     Ok(())
 }
 
-// 200000 bytes.
+// Returns 200000 bytes.
 fn many(alloc: Global) -> Result<Vec<u8>, AllocError> {
     let mut bytes = Vec::new(alloc);
     bytes.resize(200_000, 7)?;
     Ok(bytes)
 }
 
-// Whether these bytes come in four reads, each offered as much room as is missing, at most 65536.
+// Returns whether these bytes come in four reads, each with space for the missing bytes, at most 65536.
 fn takes_largest(alloc: Global, bytes: &[u8]) -> ResultParsing<bool> {
     let mut stream = Halting::new(alloc, bytes, 200_000)?;
     let taken = take_bytes(alloc, &mut stream, &mut false, 200_000)?;
@@ -55,14 +55,14 @@ fn reads_are_as_large_as_they_may_be(rt: HostRuntime) -> Result<(), Fail> {
     Ok(())
 }
 
-// Whether a read through a stream that tells fills this room by one call.
+// Returns whether a read through a `Told` stream fills this buffer in one call.
 fn fills(told: &mut Told<Halting>, room: &mut [u8]) -> bool {
     let len = room.len();
     let is_full = matches!(told.read(room), Ok(n) if n == len);
     is_full && told.get_ref().calls == 1 && told.get_ref().most_room == len
 }
 
-// A read through a stream that tells offers all the room that it was offered.
+// Checks that a read through a `Told` stream offers the whole buffer that it was given.
 #[test]
 fn told_reads_offer_all_room(rt: HostRuntime) -> Result<(), Fail> {
     let bytes = many(rt.alloc())?;
@@ -71,7 +71,7 @@ fn told_reads_offer_all_room(rt: HostRuntime) -> Result<(), Fail> {
     Ok(())
 }
 
-// Whether these bytes go out in one write where the writer takes all that it is given.
+// Returns whether these bytes are written in one call if the writer takes all that it is given.
 fn goes_out_at_once(alloc: Global, bytes: &[u8]) -> bool {
     let mut output = Narrow::new(alloc, 300_000, true);
     let is_out = put(&mut output, &mut false, bytes).is_ok();

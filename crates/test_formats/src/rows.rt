@@ -1,4 +1,4 @@
-//! Worked rows of a log that changes the size of its samples, off streams that give few bytes at once, end or fail.
+//! Rows of a log that changes the size of its samples, from streams that give few bytes at once, end or fail.
 
 use crate::samples::{Head, LogError, LogFault, SampleReader, SamplesOf, take_next};
 use pcap_core::PcapError;
@@ -9,12 +9,12 @@ use std::test::Fail;
 use test_support::captures::{back, front};
 use test_support::readers::Halting;
 
-// Two bytes a sample, a sample of channel 7, no bytes, one of channel 8, three bytes, and one of channel 256.
+// A size of two bytes, a sample of channel 7, a size of 0, a sample of channel 8, a size of three bytes, and a sample of channel 256.
 pub const LOG: [u8; 29] = [
     0, 1, 0, 2, 0, 2, 0, 7, 0xaa, 0xbb, 0, 1, 0, 0, 0, 2, 0, 8, 0, 1, 0, 3, 0, 2, 1, 0, 4, 5, 6,
 ];
 
-// Its items: the head, the bytes, and how many bytes of the log were taken behind it.
+// Its items: the head, the bytes, and how many bytes of the log were taken up to its end.
 pub const ITEMS: [(Head, &[u8], usize); 6] = [
     (Head::Size(2), &[], 4),
     (Head::Sample(7), &[0xaa, 0xbb], 10),
@@ -44,7 +44,7 @@ pub(crate) fn names(given: &Option<Result<Head, LogError>>, fault: LogFault) -> 
     matches!(given, Some(Err(LogError::Refused(told))) if *told == fault)
 }
 
-// A reader of these bytes, so many at most in a read.
+// Returns a reader of these bytes, at most `step` in a read.
 pub(crate) fn reader(
     alloc: Global,
     bytes: &[u8],
@@ -53,18 +53,18 @@ pub(crate) fn reader(
     Ok(SampleReader::new(alloc, Halting::new(alloc, bytes, step)?))
 }
 
-// Whether the reader gives this item next, and lends its bytes.
+// Returns whether the reader gives this item next, and lends its bytes.
 fn gives(reader: &mut SampleReader<Halting>, head: Head, bytes: &[u8]) -> bool {
     is_head(&reader.next_head(), head) && reader.bytes() == bytes
 }
 
-// Whether it gives nothing more, no read failed, and so many bytes are taken.
+// Returns whether the reader gives nothing more, no read failed, and `taken` bytes are taken.
 pub(crate) fn is_done(reader: &mut SampleReader<Halting>, taken: usize) -> bool {
     let is_none = reader.next_head().is_none();
     is_none && reader.bytes().is_empty() && !reader.failed() && reader.get_ref().taken == taken
 }
 
-// Whether the reader gives these items of a log, and is done behind so many bytes.
+// Returns whether the reader gives these items of a log, and is done after the expected bytes.
 pub(crate) fn gives_all(
     mut reader: SampleReader<Halting>,
     items: &[(Head, &[u8], usize)],
@@ -86,7 +86,7 @@ fn whole_log(rt: HostRuntime) -> Result<(), Fail> {
     Ok(())
 }
 
-// Whether the reader of so many bytes of a log gives the items that are whole, and tells how they end.
+// Returns whether the reader of a truncated log gives the whole items, and reports how they end.
 pub(crate) fn gives_cut(
     mut reader: SampleReader<Halting>,
     items: &[(Head, &[u8], usize)],
@@ -116,7 +116,7 @@ fn cut_logs(rt: HostRuntime) -> Result<(), Fail> {
     Ok(())
 }
 
-// A size of two bytes, this head, and a sample.
+// Returns a size of two bytes, this head, and a sample.
 fn log_with(alloc: Global, head: [u8; 4]) -> Result<Vec<u8>, AllocError> {
     let mut bytes = Vec::from_slice(alloc, &[0, 1, 0, 2])?;
     bytes.extend_from_slice(&head)?;
@@ -124,7 +124,7 @@ fn log_with(alloc: Global, head: [u8; 4]) -> Result<Vec<u8>, AllocError> {
     Ok(bytes)
 }
 
-// Whether the second head is refused so: no byte behind it was taken, and nothing comes after it.
+// Returns whether the second head is refused with this fault, no byte after it was taken, and nothing comes after it.
 fn refuses(alloc: Global, head: [u8; 4], fault: LogFault) -> Result<bool, AllocError> {
     let bytes = log_with(alloc, head)?;
     let mut reader = reader(alloc, bytes.as_slice(), 9)?;
@@ -135,7 +135,7 @@ fn refuses(alloc: Global, head: [u8; 4], fault: LogFault) -> Result<bool, AllocE
 
 #[test]
 fn refused_heads(rt: HostRuntime) -> Result<(), Fail> {
-    // a head behind a size of two bytes, and its fault
+    // a head after a size of two bytes, and its fault
     let rows = [
         ([0, 0, 0, 9], LogFault::UnknownKind),
         ([0, 3, 0, 9], LogFault::UnknownKind),
@@ -149,7 +149,7 @@ fn refused_heads(rt: HostRuntime) -> Result<(), Fail> {
     Ok(())
 }
 
-// Whether the reader gives a size, and then a sample of 1000 bytes.
+// Returns whether the reader gives a size, and then a sample of 1000 bytes.
 fn gives_largest(mut reader: SampleReader<Halting>) -> bool {
     let is_size = is_head(&reader.next_head(), Head::Size(1000));
     let is_sample = is_head(&reader.next_head(), Head::Sample(1));
@@ -166,7 +166,7 @@ fn largest_samples(rt: HostRuntime) -> Result<(), Fail> {
     Ok(())
 }
 
-// Whether so many items come before a read fails, at this call, and nothing behind it.
+// Returns whether `before` items come before a read fails, at this call, and nothing after it.
 fn fails(alloc: Global, fails_at: usize, before: usize) -> Result<bool, AllocError> {
     let mut stream = Halting::new(alloc, &LOG, 2)?;
     stream.fails_at = fails_at;
@@ -183,7 +183,7 @@ fn fails(alloc: Global, fails_at: usize, before: usize) -> Result<bool, AllocErr
 
 #[test]
 fn failed_reads(rt: HostRuntime) -> Result<(), Fail> {
-    // the read that fails, two bytes at a time, and how many items come before it
+    // the read that fails, with two bytes a read, and how many items come before it
     let rows = [
         (1, 0),
         (2, 0),
@@ -203,8 +203,8 @@ fn failed_reads(rt: HostRuntime) -> Result<(), Fail> {
     Ok(())
 }
 
-// Whether items of samples of three bytes are held. The second is a size, after which the third is read under the old one,
-// since nobody told.
+// Returns whether items of samples of three bytes are held. The second is a size, after which the third is read with the old one, because
+// the caller doesn't pass the new one.
 #[tactic(auto, using(crate::proofs::HeadedSamples::samples_lawful))]
 fn fills(alloc: Global, stream: Halting) -> bool {
     let samples = SamplesOf { size: 3 };
@@ -231,7 +231,7 @@ fn filled_under_a_size(rt: HostRuntime) -> Result<(), Fail> {
     Ok(())
 }
 
-// Whether this item is taken where samples have this size, and nothing is held then.
+// Returns whether this item is taken for samples of this size, and nothing is held then.
 fn takes(
     alloc: Global,
     start: usize,
@@ -271,7 +271,7 @@ fn taken_items(rt: HostRuntime) -> Result<(), Fail> {
     Ok(())
 }
 
-// Whether nothing is taken off this stream.
+// Returns whether nothing is taken from this stream.
 fn takes_none(alloc: Global, mut stream: Halting) -> bool {
     let mut has_failed = false;
     let mut held = Held::new(alloc);

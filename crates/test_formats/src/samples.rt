@@ -1,9 +1,9 @@
-//! A log of samples, whose items change how long the items after them are, and how long the heads of these are.
+//! A log of samples. Its items change the size of the samples after them, and the length of the heads after them.
 //!
-//! An item begins with its kind, two bytes, and a number, both high byte first. The number has two bytes, or four where
-//! samples have more than eight. Kind 1 says how many bytes each sample after it has, at most 1000; kind 2 is a sample of the
-//! channel of this number, and its bytes follow. Before the first size a sample has no bytes. Any other kind
-//! and a larger size are faults of the log, and no rules of captures.
+//! An item begins with its kind, two bytes, and a number, both high byte first. The number has two bytes, or four if samples have more
+//! than eight. Kind 1 sets the size of each sample after it, at most 1000 bytes. Kind 2 is a sample of the channel with this number, and
+//! its bytes follow. Before the first size, a sample has no bytes. Any other kind and a larger size are faults of the log, and no rules
+//! of captures.
 
 ghost use Rattle.std.specs.Prelude.{◌≡◌, ℕ, false, [], length, drop, OnOk};
 ghost use Rattle.byteorder.specs.Endian.{big_number};
@@ -22,19 +22,19 @@ use std::io::Read;
 /// The most bytes of a sample.
 pub const SIZE_LIMIT: u16 = 1000;
 
-/// The most bytes of a sample where the numbers of heads have two bytes.
+/// The most bytes of a sample for which the numbers of heads have two bytes.
 pub const SHORT_LIMIT: u16 = 8;
 
 /// What the head of an item says.
 #[derive(Clone, Copy, Debug, PartialEq, Eq)]
 pub enum Head {
-    /// How many bytes each sample after it has.
+    /// The size of each sample after it, in bytes.
     Size(u16),
     /// A sample of this channel.
     Sample(u32),
 }
 
-/// What is wrong with a head.
+/// The fault of a head.
 #[derive(Clone, Copy, Debug, PartialEq, Eq)]
 pub enum LogFault {
     /// A kind that no log has.
@@ -43,23 +43,23 @@ pub enum LogFault {
     SizeTooLarge,
 }
 
-/// Why a call on a stream gives no item.
+/// Why a call on a stream returns no item.
 #[derive(Debug, Drop)]
 pub enum LogError {
     /// The head is bad.
     Refused(LogFault),
-    /// `IoError` where a read failed, or the stream ended inside the item. `OutOfMemory` where its bytes can't be held.
+    /// `IoError` if a read failed or the stream ended inside the item. `OutOfMemory` if its bytes can't be held.
     Stopped(PcapError),
 }
 
-/// The items of a log where samples have this size.
+/// The items of a log with samples of this size.
 #[derive(Clone, Copy)]
 pub struct SamplesOf {
-    /// The bytes of a sample.
+    /// The size of a sample, in bytes.
     pub size: u16,
 }
 
-// What a kind and a number say, and how many bytes follow, where samples have this size.
+// Returns what a kind and a number say, and how many bytes follow, for samples of this size.
 #[tactic(auto, unfolding(crate::specs::Samples::meaning))]
 fn head_of(size: u16, kind: u16, number: u32) -> Result<(Head, usize), LogFault>
     ensures { HeadTells (meaning size kind number) result }
@@ -72,14 +72,14 @@ fn head_of(size: u16, kind: u16, number: u32) -> Result<(Head, usize), LogFault>
     }
 }
 
-// How long a head is where samples have this size.
+// Returns the length of a head for samples of this size.
 pub(crate) fn head_len(size: u16) -> usize
     ensures { result ≡ head_length size }
 {
     if size > SHORT_LIMIT { 6 } else { 4 }
 }
 
-// The number of a head where samples have this size: its bytes behind the kind.
+// Returns the number in a head for samples of this size: its bytes after the kind.
 fn number_of(size: u16, bytes: &[u8]) -> u32
     requires { length bytes.now ≡ number_width size }
     ensures { Number big_number (number_width size) result bytes.now [] }
@@ -91,7 +91,7 @@ fn number_of(size: u16, bytes: &[u8]) -> u32
     }
 }
 
-// What the bytes of a head say, and how many bytes follow, where samples have this size.
+// Returns what the bytes of a head say, and how many bytes follow, for samples of this size.
 pub(crate) fn head_in(size: u16, bytes: &[u8]) -> Result<(Head, usize), LogFault>
     requires { length bytes.now ≡ head_length size }
     ensures { BytesTell size bytes.now result }
@@ -103,7 +103,7 @@ pub(crate) fn head_in(size: u16, bytes: &[u8]) -> Result<(Head, usize), LogFault
 impl HasHead for SamplesOf {
     ghost use Rattle.test_formats.specs.Samples.{Item, KnowsTold};
 
-    // A bad head is known as one, and no error of captures tells it.
+    // A bad head is known as one, but isn't reported as an error of captures.
     type Head = Result<Head, LogFault>;
 
     ghost State = { ℕ };
@@ -129,14 +129,14 @@ impl HasHead for SamplesOf {
     }
 }
 
-/// Reads the items of a log off a stream, one for each call of `next_head`, and lends the bytes of a sample.
+/// Reads the items of a log from a stream, one for each call of `next_head`, and lends the bytes of a sample.
 ///
-/// `next_head` is None where the stream ends between items; after its first refusal it is None for good.
+/// `next_head` returns None if the stream ends between items. After its first error, it returns None for good.
 #[derive(Drop)]
 pub struct SampleReader<T> {
     fill: Fill<T>,
     size: u16,
-    // the length of the head of what is held
+    // the length of the held head
     start: usize,
     is_done: bool,
     ghost unfailed: { is_done ≡ false → source_failed fill ≡ false },
@@ -145,7 +145,7 @@ pub struct SampleReader<T> {
 impl<T: Read + Drop> SampleReader<T> {
     ghost use Rattle.test_formats.specs.SampleReader.{stream_of, has_failed, is_done, bytes_of, bytes_held, size_of};
 
-    /// A reader of the log that this stream gives.
+    /// Makes a reader of the log that this stream gives.
     pub fn new(alloc: Global, stream: T) -> SampleReader<T>
         ensures stream { stream_of result ≡ stream }
         ensures size { size_of result ≡ 0 }
@@ -160,9 +160,9 @@ impl<T: Read + Drop> SampleReader<T> {
         }
     }
 
-    /// The head of the next item, whose bytes the reader lends from then on.
+    /// Returns the head of the next item. From then on, the reader lends the bytes of that item.
     ///
-    /// Of a bad head no byte behind it is taken.
+    /// After a bad head, the reader takes no more bytes.
     pub fn next_head(&mut self) -> Option<Result<Head, LogError>>
         ensures next { NextSample (size_of self.old) (held_item (size_of self.old) (bytes_held self.new)) (T.remaining (stream_of self.old)) (T.remaining (stream_of self.new)) (is_done self.old) (is_done self.new) (has_failed self.old) (has_failed self.new) result }
         ensures size { size_of self.new ≡ size_behind (size_of self.old) result }
@@ -181,7 +181,7 @@ impl<T: Read + Drop> SampleReader<T> {
         head.transpose()
     }
 
-    /// The bytes of the item whose head `next_head` gave last.
+    /// Returns the bytes of the item whose head `next_head` returned last.
     pub fn bytes(&self) -> &[u8]
         ensures { result.now ≡ bytes_of self.now }
     {
@@ -193,14 +193,14 @@ impl<T: Read + Drop> SampleReader<T> {
         bytes
     }
 
-    /// The stream.
+    /// Returns the stream.
     pub fn get_ref(&self) -> &T
         ensures { result.now ≡ stream_of self.now }
     {
         self.fill.get_ref()
     }
 
-    /// Whether a read of it failed.
+    /// Returns whether a read of the stream failed.
     pub fn failed(&self) -> bool
         ensures { result ≡ has_failed self.now }
     {
@@ -208,7 +208,7 @@ impl<T: Read + Drop> SampleReader<T> {
     }
 }
 
-// Holds the next item, its head too.
+// Holds the next item with its head.
 fn fill_next<T: Read>(size: u16, fill: &mut Fill<T>) -> Result<Option<Head>, LogError>
     requires between { held_of fill.old ≡ [] }
     requires unfailed { source_failed fill.old ≡ false }
@@ -222,10 +222,10 @@ fn fill_next<T: Read>(size: u16, fill: &mut Fill<T>) -> Result<Option<Head>, Log
     }
 }
 
-/// Takes the next item off a stream where samples have this size: its head, and its bytes in a vector of their own. None
-/// exactly at the end of the stream. Nothing is held before it, nor after an `Ok`.
+/// Takes the next item from a stream, for samples of this size: its head, and its bytes in a vector. Returns None exactly at the end of
+/// the stream. Nothing is held before the call, nor after an `Ok`.
 ///
-/// The refusals are those of `next_head`.
+/// Its errors are those of `next_head`.
 pub fn take_next<T: Read>(
     alloc: Global,
     size: u16,

@@ -1,4 +1,4 @@
-//! Worked rows of a log whose heads grow behind a large size and shrink again behind a small one, in a slice and off streams.
+//! Rows of a log whose heads grow after a large size and shrink again after a small one, in a slice and from streams.
 
 use crate::lent::parse_log;
 use crate::rows::{gives_all, gives_cut, is_done, is_head, is_item, names, reader};
@@ -10,14 +10,14 @@ use std::test::Fail;
 use test_support::captures::{back, front};
 use test_support::readers::Halting;
 
-// Eight bytes a sample, which is the most with heads of four, a sample of channel 1, nine bytes, one of channel 70000 behind
-// a head of six, one byte, in such a head too, and one of channel 5 behind a head of four.
+// A size of eight bytes, which is the most with heads of four; a sample of channel 1; a size of nine; a sample of channel 70000 after a
+// head of six; a size of one, in a head of six too; and a sample of channel 5 after a head of four.
 const LOG: [u8; 46] = [
     0, 1, 0, 8, 0, 2, 0, 1, 1, 2, 3, 4, 5, 6, 7, 8, 0, 1, 0, 9, 0, 2, 0, 1, 0x11, 0x70, 9, 8, 7, 6,
     5, 4, 3, 2, 1, 0, 1, 0, 0, 0, 1, 0, 2, 0, 5, 0x77,
 ];
 
-// Its items: the head, the bytes, and how many bytes of the log were taken behind it.
+// Its items: the head, the bytes, and how many bytes of the log were taken up to its end.
 const ITEMS: [(Head, &[u8], usize); 6] = [
     (Head::Size(8), &[], 4),
     (Head::Sample(1), &[1, 2, 3, 4, 5, 6, 7, 8], 16),
@@ -27,7 +27,7 @@ const ITEMS: [(Head, &[u8], usize); 6] = [
     (Head::Sample(5), &[0x77], 46),
 ];
 
-// Whether a run over the whole log gives its items.
+// Returns whether a run over the whole log gives its items.
 fn is_whole(alloc: Global) -> Result<bool, AllocError> {
     let mut samples = SamplesOf { size: 0 };
     let run = parse_log(alloc, &mut samples, &LOG)?;
@@ -44,7 +44,7 @@ fn lent_log(rt: HostRuntime) -> Result<(), Fail> {
     Ok(())
 }
 
-// How many of its bytes the last item of so many takes that lie whole in the first bytes, and how many more the next one asks for.
+// The first bytes of the log; how many of them the whole items take; and how many more bytes the next item requests.
 const ASKS: [(usize, usize, usize); 13] = [
     (16, 16, 0),
     (18, 16, 2),
@@ -61,7 +61,7 @@ const ASKS: [(usize, usize, usize); 13] = [
     (46, 46, 0),
 ];
 
-// Whether a run over these bytes uses so many and asks for so many more.
+// Returns whether a run over these bytes uses `used` bytes and requests `more` bytes more.
 fn asks(alloc: Global, bytes: &[u8], used: usize, more: usize) -> Result<bool, AllocError> {
     let run = parse_log(alloc, &mut SamplesOf { size: 0 }, bytes)?;
     let is_asked = match run.ended {
@@ -77,19 +77,19 @@ fn lent_cut_logs(rt: HostRuntime) -> Result<(), Fail> {
     for (end, used, more) in ASKS {
         assert!(rt; asks(rt.alloc(), front(&LOG, end), used, more)?, "{end}");
     }
-    // a kind that no log has is not refused before its head is whole
+    // an unknown kind isn't refused before its head is whole
     assert!(rt; asks(rt.alloc(), &[0, 1, 0, 9, 0, 3, 0, 0], 4, 2)?);
     Ok(())
 }
 
-// Heads of six bytes that are refused, with their faults. The second number would be a good one without its upper half.
+// Heads of six bytes that are refused, with their faults. The second number would be valid without its upper half.
 const REFUSED: [([u8; 6], LogFault); 3] = [
     ([0, 3, 0, 0, 0, 0], LogFault::UnknownKind),
     ([0, 1, 0, 1, 0, 5], LogFault::SizeTooLarge),
     ([0, 1, 0, 0, 3, 0xe9], LogFault::SizeTooLarge),
 ];
 
-// A size of nine bytes, this head, and a zero.
+// Returns a size of nine bytes, this head, and a zero.
 fn log_with(alloc: Global, head: [u8; 6]) -> Result<Vec<u8>, AllocError> {
     let mut bytes = Vec::from_slice(alloc, &[0, 1, 0, 9])?;
     bytes.extend_from_slice(&head)?;
@@ -97,7 +97,7 @@ fn log_with(alloc: Global, head: [u8; 6]) -> Result<Vec<u8>, AllocError> {
     Ok(bytes)
 }
 
-// Whether this head ends a run over a slice, for this fault.
+// Returns whether this head ends a run over a slice with this fault.
 fn ends_run(alloc: Global, head: [u8; 6], fault: LogFault) -> Result<bool, AllocError> {
     let log = log_with(alloc, head)?;
     let run = parse_log(alloc, &mut SamplesOf { size: 0 }, log.as_slice())?;
@@ -105,7 +105,7 @@ fn ends_run(alloc: Global, head: [u8; 6], fault: LogFault) -> Result<bool, Alloc
     Ok(is_named && run.items.len() == 1 && run.used == 4)
 }
 
-// Whether a reader refuses this head for this fault, and takes no byte behind it.
+// Returns whether a reader refuses this head with this fault, and takes no byte after it.
 fn ends_reader(alloc: Global, head: [u8; 6], fault: LogFault) -> Result<bool, AllocError> {
     let log = log_with(alloc, head)?;
     let mut reader = reader(alloc, log.as_slice(), 4)?;
@@ -141,7 +141,8 @@ fn read_cut_logs(rt: HostRuntime) -> Result<(), Fail> {
     Ok(())
 }
 
-// Whether what is held of a stream under a size of nine bytes is the sample behind a head of six, and then the size in one.
+// Returns whether, for a size of nine bytes, the stream's held bytes are the sample after a head of six, and then the size in such a
+// head.
 #[tactic(auto, using(crate::proofs::HeadedSamples::samples_lawful))]
 fn fills(alloc: Global, stream: Halting) -> bool {
     let samples = SamplesOf { size: 9 };
@@ -161,7 +162,7 @@ fn filled_under_a_large_size(rt: HostRuntime) -> Result<(), Fail> {
     Ok(())
 }
 
-// Whether this item is taken by so many bytes where samples have this size.
+// Returns whether this item is taken with the expected number of bytes, for samples of this size.
 fn takes(
     alloc: Global,
     start: usize,
@@ -181,8 +182,8 @@ fn takes(
 
 #[test]
 fn taken_items(rt: HostRuntime) -> Result<(), Fail> {
-    // where an item begins, the size of samples there, the item, and how many bytes it takes; the last two under a size that
-    // is not the log's, by whose heads they read otherwise
+    // where an item begins, the size of samples there, the item, and how many bytes it takes; the last two rows have a size that isn't
+    // the log's, so its heads are read differently
     let rows: [(usize, u16, (Head, &[u8]), usize); 7] = [
         (4, 8, (Head::Sample(1), &[1, 2, 3, 4, 5, 6, 7, 8]), 12),
         (16, 8, (Head::Size(9), &[]), 4),

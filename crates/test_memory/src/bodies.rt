@@ -1,4 +1,4 @@
-//! Calls on bodies of blocks: each type by its own calls, with each of its options, and two by `ParsedBlock`.
+//! Calls on bodies of blocks: each type by its own calls, with each of its options, and two types by `ParsedBlock`.
 
 use crate::bytes::{INTERFACE, NAMES, PACKET, SECTION, STATISTICS};
 use crate::tell;

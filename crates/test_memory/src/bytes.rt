@@ -1,4 +1,4 @@
-//! The bytes that the calls are made on.
+//! The bytes for the calls.
 
 /// A big-endian capture of one packet of four bytes.
 pub(crate) const CAPTURE: [u8; 44] = [
@@ -39,7 +39,7 @@ pub(crate) const STATISTICS: [u8; 20] = [
 /// The comments "hi" and "ho".
 pub(crate) const COMMENTS: [u8; 16] = [0, 1, 0, 2, 0x68, 0x69, 0, 0, 0, 1, 0, 2, 0x68, 0x6f, 0, 0];
 
-/// An enterprise's number and "hi".
+/// An enterprise number and "hi".
 pub(crate) const CUSTOM: [u8; 6] = [0, 0, 0, 7, 0x68, 0x69];
 
 /// An address of four bytes and the names "a" and "b".
@@ -77,7 +77,7 @@ pub(crate) const BLOCKS: [u8; 112] = [
     0x68, 0x69, 0, 0, 0, 0, 0, 0x2c,
 ];
 
-/// `BLOCKS` as they are written from their values, with a mark behind each list of options.
+/// `BLOCKS` as written from their values, with an end mark after each list of options.
 pub(crate) const WRITTEN: [u8; 120] = [
     0x0a, 0x0d, 0x0d, 0x0a, 0, 0, 0, 0x28, 0x1a, 0x2b, 0x3c, 0x4d, 0, 1, 0, 0, 0xff, 0xff, 0xff,
     0xff, 0xff, 0xff, 0xff, 0xff, 0, 1, 0, 2, 0x68, 0x69, 0, 0, 0, 0, 0, 0, 0, 0, 0, 0x28, 0, 0, 0,
@@ -86,7 +86,7 @@ pub(crate) const WRITTEN: [u8; 120] = [
     4, 0, 1, 0, 2, 0x68, 0x69, 0, 0, 0, 0, 0, 0, 0, 0, 0, 0x30,
 ];
 
-/// `CAPTURE` in blocks: a little-endian section, an interface in nanoseconds, and the packet.
+/// `CAPTURE` as blocks: a little-endian section, an interface in nanoseconds, and the packet.
 pub(crate) const CONVERTED: [u8; 96] = [
     0x0a, 0x0d, 0x0d, 0x0a, 0x1c, 0, 0, 0, 0x4d, 0x3c, 0x2b, 0x1a, 1, 0, 0, 0, 0xff, 0xff, 0xff,
     0xff, 0xff, 0xff, 0xff, 0xff, 0x1c, 0, 0, 0, 1, 0, 0, 0, 0x20, 0, 0, 0, 1, 0, 0, 0, 0xff, 0xff,
@@ -94,7 +94,7 @@ pub(crate) const CONVERTED: [u8; 96] = [
     0, 0, 0, 0, 0xd0, 0xd1, 0x9a, 0x3b, 4, 0, 0, 0, 4, 0, 0, 0, 1, 2, 3, 4, 0x24, 0, 0, 0,
 ];
 
-/// `BLOCKS` behind the header of `CAPTURE`: the packet, a microsecond after 1970.
+/// `BLOCKS` after the header of `CAPTURE`: the packet, a microsecond after 1970.
 pub(crate) const PACKETS: [u8; 44] = [
     0xa1, 0xb2, 0xc3, 0xd4, 0, 2, 0, 4, 0, 0, 0, 0, 0, 0, 0, 0, 0, 0, 0xff, 0xff, 0, 0, 0, 1, 0, 0,
     0, 0, 0, 0, 0, 1, 0, 0, 0, 4, 0, 0, 0, 4, 1, 2, 3, 4,

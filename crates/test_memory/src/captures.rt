@@ -30,7 +30,7 @@ fn parse(alloc: Global) -> ResultParsing<()> {
     Ok(())
 }
 
-// No packet is taken that then finds no room in the list.
+// Checks that no packet is taken that then doesn't fit into the list.
 fn read(alloc: Global) -> ResultParsing<()> {
     let mut capture = Cursor::new(CAPTURE);
     let PcapRead { packets, fault, .. } = read_pcap(alloc, &mut capture, 9)?;

@@ -1,4 +1,4 @@
-//! Makes calls that take memory, all of them twice, and says of each whether it was refused.
+//! Makes calls that allocate memory, each of them twice, and prints for each whether it ran out of memory.
 #![tactic(auto)]
 
 mod bodies;
@@ -28,7 +28,7 @@ fn main(rt: HostRuntime) -> io::Result<()> {
     Ok(())
 }
 
-// Says how a call ended.
+// Prints how a call ended.
 fn tell(rt: &HostRuntime, name: &str, ended: ResultParsing<()>) -> io::Result<()> {
     match &ended {
         Ok(()) => println!(rt; "{name}: ok"),

@@ -1,4 +1,4 @@
-//! Calls on PcapNg captures. A refused one leaves section and interfaces as they were, and the same call again succeeds.
+//! Calls on PcapNg captures. A refused call leaves section and interfaces as they were, and the same call then succeeds.
 
 use crate::bytes::{BLOCKS, INTERFACE_BLOCK, SECTION_BLOCK};
 use crate::tell;
@@ -22,7 +22,7 @@ pub(crate) fn make_calls(rt: &HostRuntime) -> io::Result<()> {
     next_blocks(rt, "a section", &SECTION_BLOCK)
 }
 
-// Copies come last, so that the calls before them keep the numbers of their allocations.
+// Makes copies. They come last, so that the calls before them keep the numbers of their allocations.
 pub(crate) fn make_copies(rt: &HostRuntime) -> io::Result<()> {
     tell(rt, "copy_pcapng", copy(rt.alloc()))
 }
@@ -32,7 +32,7 @@ fn parse(alloc: Global) -> ResultParsing<()> {
     Ok(())
 }
 
-// No interface is taken that then finds no room in the list.
+// Checks that no interface is taken that then doesn't fit into the list.
 fn read(alloc: Global) -> ResultParsing<()> {
     let NgRead {
         blocks,
@@ -57,7 +57,7 @@ fn copy(alloc: Global) -> ResultParsing<()> {
     }
 }
 
-// Whether the big-endian section is in force, with so many interfaces.
+// Returns whether the big-endian section is current, with the expected number of interfaces.
 fn is_in_force(
     section: &SectionHeaderBlock,
     interfaces: &[InterfaceDescriptionBlock],
@@ -129,7 +129,7 @@ fn into_owned(alloc: Global) -> ResultParsing<()> {
     Ok(())
 }
 
-// A parser after the section and its interface.
+// Returns a parser after the section and its interface.
 fn parser(alloc: Global) -> ResultParsing<PcapNgParser> {
     let (rest, mut parser) = PcapNgParser::new(alloc, &BLOCKS)?;
     let (_rest, _block) = parser.next_block(rest)?;
@@ -141,7 +141,7 @@ fn next_block(parser: &mut PcapNgParser, slice: &[u8]) -> ResultParsing<()> {
     Ok(())
 }
 
-// Makes a parser, and where that is refused another one, and asks it twice for this block.
+// Makes a parser, or another one if that is refused, and calls it twice for this block.
 fn next_blocks(rt: &HostRuntime, name: &str, slice: &[u8]) -> io::Result<()> {
     let (made, parser) = match parser(rt.alloc()) {
         Ok(parser) => (Ok(()), Some(parser)),

@@ -1,4 +1,4 @@
-//! Calls on captures that are shown, or come, a few bytes at a time, and a packet that is lent.
+//! Calls on captures that come, or are supplied, a few bytes at a time, and on a packet that is lent.
 
 use crate::bytes::{BLOCKS, CAPTURE};
 use crate::tell;
@@ -8,10 +8,10 @@ use pcap_file::{PcapError, ResultParsing};
 use std::alloc::Global;
 use std::io::{self, Cursor};
 
-// The head of a packet of 1000 bytes.
+// The header of a packet of 1000 bytes.
 const HEAD: [u8; 16] = [0, 0, 0, 2, 0, 0, 0, 0, 0, 0, 3, 0xe8, 0, 0, 3, 0xe8];
 
-/// Feeds single bytes. Room for those that are missing is made once at the header and once at the packet.
+/// Feeds single bytes. Memory for the missing bytes is allocated once at the header and once at the packet.
 pub(crate) fn feed_bytes(rt: &HostRuntime) -> io::Result<()> {
     tell(rt, "pieces of one byte", pieces_of_one_byte(rt.alloc()))
 }

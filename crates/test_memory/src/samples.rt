@@ -1,4 +1,4 @@
-//! Calls on a log of samples, whose items are filled from a stream as packets and blocks are.
+//! Calls on a log of samples, whose items are read from a stream in the same way as packets and blocks.
 
 use crate::tell;
 use pcap_core::{PcapError, ResultParsing};

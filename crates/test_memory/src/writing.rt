@@ -1,4 +1,4 @@
-//! Calls that write captures: each time a beginning of the right bytes goes out, and all of them where no memory is refused.
+//! Calls that write captures. Each time, a beginning of the right bytes is written, and all of them if no memory is refused.
 
 use crate::bytes::{BLOCKS, CAPTURE, CONVERTED, PACKETS, WRITTEN};
 use crate::tell;
@@ -20,7 +20,7 @@ pub(crate) fn make_calls(rt: &HostRuntime) -> io::Result<()> {
     tell(rt, "convert_to_pcap", place(alloc))
 }
 
-// How a call ended with this fault, or none, behind which this went out.
+// Returns how a call ended, with or without this fault, after it wrote these bytes.
 fn ended(fault: Option<PcapError>, out: &[u8], wanted: &[u8]) -> ResultParsing<()> {
     if !wanted.starts_with(out) {
         return Err(PcapError::InvalidField("no beginning went out"));
@@ -38,7 +38,7 @@ fn write(alloc: Global) -> ResultParsing<()> {
     ended(fault, out.as_slice(), &WRITTEN)
 }
 
-// Writes a section, an interface and a packet by their values, with their options.
+// Writes a section, an interface and a packet from their values, with their options.
 fn write_blocks(alloc: Global, out: &mut Vec<u8>) -> ResultParsing<()> {
     let (mut left, mut parser) = PcapNgParser::new(alloc, &BLOCKS)?;
     let mut writer = PcapNgWriter::with_section_header(alloc, parser.section(), out)?;
@@ -50,7 +50,7 @@ fn write_blocks(alloc: Global, out: &mut Vec<u8>) -> ResultParsing<()> {
     Ok(())
 }
 
-// Writes a block. Where that is refused the writer is as before, and the same call goes on from there.
+// Writes a block. If that is refused, the writer is as before, and the same call continues from there.
 fn write_block(
     writer: &mut PcapNgWriter<&mut Vec<u8>>,
     block: &ParsedBlock<'_>,
@@ -87,7 +87,7 @@ fn place(alloc: Global) -> ResultParsing<()> {
     ended(fault, out.as_slice(), &PACKETS)
 }
 
-// Converts the blocks behind a header of a classic capture.
+// Converts the blocks after a header of a classic capture.
 fn place_blocks(alloc: Global, header: PcapHeader, out: &mut Vec<u8>) -> ResultParsing<()> {
     let mut writer = PcapWriter::with_header(header, out)?;
     let mut reader = PcapNgReader::new(alloc, BLOCKS.as_slice())?;

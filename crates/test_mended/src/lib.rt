@@ -1,5 +1,4 @@
-//! Blocks of PcapNg that are mended: bodies that were written by hand, with flaws of each kind, and the blocks that are to be made of
-//! them.
+//! Tests of mending PcapNg blocks: bodies that were written by hand, with flaws of each kind, and the blocks that mending makes of them.
 #![tactic(auto)]
 
 #[cfg(test)]

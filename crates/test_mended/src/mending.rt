@@ -1,4 +1,4 @@
-//! Blocks that are mended. The rows were written by hand, by the rules of the format.
+//! Mended blocks. The rows were written by hand, from the rules of the format.
 
 use pcap_blocks::BlockType;
 use pcap_core::Endianness;
@@ -8,7 +8,7 @@ use std::alloc::Global;
 use std::test::*;
 use test_support::rows::bytes;
 
-// Whether a block with this body becomes this block, and that is told of it.
+// Returns whether mending turns a block with this body into the expected block, with the expected report.
 fn becomes(
     alloc: Global,
     kind: (BlockType, Endianness),
@@ -35,25 +35,25 @@ fn becomes(
 #[test]
 fn sections(rt: HostRuntime) -> Result<(), Fail> {
     let rows = [
-        // no length, and a comment
+        // no stated length, and a comment
         (
             "1a2b3c4d 0001 0000 ffffffffffffffff 0001 0002 61620000",
             Mended::Stays,
             "0a0d0d0a 00000024 1a2b3c4d 0001 0000 ffffffffffffffff 0001 0002 61620000 00000024",
         ),
-        // a length, and what stands behind the mark stays
+        // a stated length; the bytes after the end mark stay
         (
             "1a2b3c4d 0001 0002 0000000000000040 0001 0002 6162ffff 0000 0000 01020304",
             Mended::Changed,
             "0a0d0d0a 0000002c 1a2b3c4d 0001 0002 ffffffffffffffff 0001 0002 6162ffff 0000 0000 01020304 0000002c",
         ),
-        // a length, a comment that isn't UTF-8, and a system
+        // a stated length, a comment that isn't UTF-8, and an operating system
         (
             "1a2b3c4d 0001 0000 0000000000000040 0001 0001 ff000000 0003 0001 61000000 0000 0000",
             Mended::Changed,
             "0a0d0d0a 00000024 1a2b3c4d 0001 0000 ffffffffffffffff 0003 0001 61000000 00000024",
         ),
-        // no order, and too short
+        // no byte order, and too short
         ("01020304 0001 0000 ffffffffffffffff", Mended::LeftOut, ""),
         ("1a2b3c4d 0001 0000 ffffffff", Mended::LeftOut, ""),
     ];
@@ -72,7 +72,7 @@ fn little_sections(rt: HostRuntime) -> Result<(), Fail> {
             Mended::Changed,
             "0a0d0d0a 1c000000 4d3c2b1a 0100 0000 ffffffffffffffff 1c000000",
         ),
-        // an option is cut short behind a sound one
+        // an option is truncated after a valid one
         (
             "4d3c2b1a 0100 0000 ffffffffffffffff 0400 0100 61000000 0100 c800 61000000",
             Mended::Changed,
@@ -100,7 +100,7 @@ fn interfaces(rt: HostRuntime) -> Result<(), Fail> {
             Mended::Changed,
             "00000001 0000001c 0001 0000 00040000 0009 0001 09000000 0000001c",
         ),
-        // no room for a head
+        // no space for the fields
         (
             "00710000",
             Mended::Changed,
@@ -133,13 +133,13 @@ fn enhanced_packets(rt: HostRuntime) -> Result<(), Fail> {
             Mended::Changed,
             "06000000 30000000 00000000 01000000 02000000 03000000 05000000 010203ff 0400 0800 0100000000000000 30000000",
         ),
-        // an option that is cut behind no data
+        // a truncated option after no data
         (
             "00000000 01000000 02000000 00000000 05000000 0200 0800 01000000",
             Mended::Changed,
             "06000000 20000000 00000000 01000000 02000000 00000000 05000000 20000000",
         ),
-        // five bytes are stated, and four are there
+        // five bytes are stated, but only four are there
         (
             "00000000 01000000 02000000 05000000 05000000 01020304",
             Mended::LeftOut,
@@ -177,7 +177,7 @@ fn other_blocks(rt: HostRuntime) -> Result<(), Fail> {
             Mended::LeftOut,
             "",
         ),
-        // a simple packet, and one with no room for its length
+        // a simple packet, and one with no space for its length
         (
             BlockType::SimplePacket,
             "00000002 01020000",
@@ -185,7 +185,7 @@ fn other_blocks(rt: HostRuntime) -> Result<(), Fail> {
             "00000003 00000014 00000002 01020000 00000014",
         ),
         (BlockType::SimplePacket, "", Mended::LeftOut, ""),
-        // a name of an address, and an address that is cut
+        // a name of an address, and a truncated address
         (
             BlockType::NameResolution,
             "0001 0006 01020304 61000000 0000 0000",
@@ -198,7 +198,7 @@ fn other_blocks(rt: HostRuntime) -> Result<(), Fail> {
             Mended::LeftOut,
             "",
         ),
-        // a block of no known type
+        // a block of an unknown type
         (
             BlockType::Unknown(0xbad),
             "00000001 0000ffff",

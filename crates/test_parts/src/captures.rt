@@ -1,18 +1,18 @@
-//! The captures that are cut.
+//! The captures that the tests cut into parts.
 
 use pcap_classic::pcap::Packet;
 use std::alloc::{AllocError, Global};
 use test_support::captures::{LITTLE_HEAD, SECTION, SECTIONS, back, front};
 
-/// The bytes from one place to another.
+/// Returns the bytes from one place to another.
 pub(crate) fn between(bytes: &[u8], from: usize, to: usize) -> &[u8] {
     back(front(bytes, to), from)
 }
 
-/// How many bytes each packet has. Its bytes are its place in this list, and its time so many seconds.
+/// The length of each packet. Its bytes are its index in this list, and its time is that number of seconds.
 pub(crate) const LENGTHS: [u8; 5] = [3, 0, 5, 1, 10];
 
-/// A little-endian capture of these packets: 24 bytes, and then 19, 16, 21, 17 and 26.
+/// Returns a little-endian capture of these packets: 24 bytes, and then 19, 16, 21, 17 and 26.
 pub(crate) fn five_packets(alloc: Global) -> Result<Vec<u8>, AllocError> {
     let mut bytes = Vec::from_slice(alloc, front(&LITTLE_HEAD, 24))?;
     let mut place = 0u8;
@@ -26,7 +26,7 @@ pub(crate) fn five_packets(alloc: Global) -> Result<Vec<u8>, AllocError> {
     Ok(bytes)
 }
 
-/// Whether this packet is the one of this place in the list.
+/// Returns whether this packet is the one at this index in the list.
 pub(crate) fn is_packet(packet: &Packet<'_>, place: u8) -> bool {
     let len = LENGTHS.get(usize::from(place)).copied().unwrap_or(0xff);
     packet.header.ts_sec == u32::from(place)
@@ -34,7 +34,7 @@ pub(crate) fn is_packet(packet: &Packet<'_>, place: u8) -> bool {
         && packet.data_.as_slice().iter().all(|byte| *byte == place)
 }
 
-/// The same, but the length of its fourth packet is above 262144.
+/// Returns the same capture, but with a length above 262144 in its fourth packet.
 pub(crate) fn refused_fourth(alloc: Global) -> Result<Vec<u8>, AllocError> {
     let mut bytes = five_packets(alloc)?;
     if let Some(byte) = bytes.get_mut(91) {
@@ -43,12 +43,12 @@ pub(crate) fn refused_fourth(alloc: Global) -> Result<Vec<u8>, AllocError> {
     Ok(bytes)
 }
 
-/// How long each block of `three_sections` is, the first section header among them.
+/// The length of each block of `three_sections`, with the first section header.
 pub(crate) const BLOCK_LENGTHS: [u32; 14] = [
     28, 20, 24, 16, 20, 32, 28, 20, 20, 40, 28, 12, 20, 16,
 ];
 
-// A number below 256 in either order.
+// Returns a number below 256 in either byte order.
 fn number(is_big: bool, low: u8) -> [u8; 4] {
     if is_big {
         [0, 0, 0, low]
@@ -57,7 +57,7 @@ fn number(is_big: bool, low: u8) -> [u8; 4] {
     }
 }
 
-// Puts a block of no known type, with a body of zeros.
+// Appends a block of an unknown type, with a body of zeros.
 fn put_block(bytes: &mut Vec<u8>, is_big: bool, len: u8) -> Result<(), AllocError> {
     bytes.extend_from_slice(&number(is_big, 0x77))?;
     bytes.extend_from_slice(&number(is_big, len))?;
@@ -67,9 +67,9 @@ fn put_block(bytes: &mut Vec<u8>, is_big: bool, len: u8) -> Result<(), AllocErro
     bytes.extend_from_slice(&number(is_big, len))
 }
 
-/// A big-endian section with two interfaces, a little-endian one with one, and a big-endian one with one: its blocks begin at
-/// 0, 28, 48, 72, 88, 108, 140, 168, 188, 208, 248, 276, 288 and 308, and it ends at 324. The section headers are at 0, 140
-/// and 248, and the interface descriptions at 28, 88, 168 and 288.
+/// Returns a big-endian section with two interfaces, a little-endian one with one, and a big-endian one with one. Its blocks begin at 0,
+/// 28, 48, 72, 88, 108, 140, 168, 188, 208, 248, 276, 288 and 308, and it ends at 324. The section headers are at 0, 140 and 248, and the
+/// interface descriptions at 28, 88, 168 and 288.
 pub(crate) fn three_sections(alloc: Global) -> Result<Vec<u8>, AllocError> {
     let big_interface = back(front(&SECTIONS, 48), 28);
     let mut bytes = Vec::from_slice(alloc, front(&SECTIONS, 48))?;
@@ -87,7 +87,7 @@ pub(crate) fn three_sections(alloc: Global) -> Result<Vec<u8>, AllocError> {
     Ok(bytes)
 }
 
-/// The same, but the second length of its block at 108 is another one.
+/// Returns the same capture, but with a wrong second length in its block at 108.
 pub(crate) fn another_length(alloc: Global) -> Result<Vec<u8>, AllocError> {
     let mut bytes = three_sections(alloc)?;
     if let Some(byte) = bytes.get_mut(139) {

@@ -8,14 +8,14 @@ use std::alloc::Global;
 use std::test::*;
 use test_support::captures::{LITTLE_HEAD, front};
 
-// Whether these are the cuts, as their places and how many packets stand before each.
+// Returns whether these are the cuts, given by their places and the number of packets before each.
 fn are_cuts(cuts: &[Cut], wanted: &[(usize, usize)]) -> bool {
     cuts.len() == wanted.len()
         && cuts.iter().zip(wanted).all(|(cut, (offset, before))| cut.offset == *offset
             && cut.before == *before)
 }
 
-// Whether these are the cuts behind the header that all captures here have; else a failure that shows them.
+// Checks that these are the cuts after the header that all captures here have. Otherwise it returns a failure that shows them.
 fn compare(cuts: &Cuts, wanted: &[(usize, usize)]) -> Result<(), Fail> {
     if cuts.header.snaplen == 0x1000 && are_cuts(cuts.cuts.as_slice(), wanted) {
         return Ok(());
@@ -23,7 +23,7 @@ fn compare(cuts: &Cuts, wanted: &[(usize, usize)]) -> Result<(), Fail> {
     Err(Fail::new(format_args!("{cuts:?}")))
 }
 
-// Whether a capture is cut so into so many parts.
+// Checks that a capture is cut into this many parts as expected.
 fn is_cut(
     alloc: Global,
     bytes: &[u8],
@@ -33,7 +33,7 @@ fn is_cut(
     compare(&cut_pcap(alloc, bytes, parts)?, wanted)
 }
 
-// The packets of 99 bytes end behind 19, 35, 56, 73 and 99 of them.
+// The packets of 99 bytes end after 19, 35, 56, 73 and 99 of them.
 const BY_PARTS: [&[(usize, usize)]; 10] = [
     &[(24, 0)],
     &[(24, 0)],
@@ -63,7 +63,7 @@ fn more_parts_than_bytes(rt: HostRuntime) -> Result<(), Fail> {
     is_cut(rt.alloc(), bytes.as_slice(), usize::MAX, &wanted)
 }
 
-// Whether a capture of so many packets without data is cut into as many parts.
+// Returns whether a capture of `packets` packets without data is cut into as many parts.
 fn is_cut_at_each(alloc: Global, packets: usize) -> Result<bool, Fail> {
     let mut bytes = Vec::from_slice(alloc, front(&LITTLE_HEAD, 24))?;
     for k in 0..packets {
@@ -79,7 +79,7 @@ fn thousands_of_parts(rt: HostRuntime) -> Result<(), Fail> {
     Ok(())
 }
 
-// Of at least so many bytes: a part begins where as many stand behind the beginning of the one before it, and a packet follows.
+// The cuts by least size. A part begins where that many bytes follow the beginning of the part before it, if a packet follows.
 const AT_LEAST: [(usize, &[(usize, usize)]); 8] = [
     (0, &[(24, 0), (43, 1), (59, 2), (80, 3), (97, 4)]),
     (1, &[(24, 0), (43, 1), (59, 2), (80, 3), (97, 4)]),
@@ -91,7 +91,7 @@ const AT_LEAST: [(usize, &[(usize, usize)]); 8] = [
     (usize::MAX, &[(24, 0)]),
 ];
 
-// Whether a capture is cut so into parts of at least so many bytes.
+// Checks that a capture is cut as expected into parts of at least this many bytes.
 fn is_cut_at_least(
     alloc: Global,
     bytes: &[u8],
@@ -126,7 +126,7 @@ fn refused_capture(rt: HostRuntime) -> Result<(), Fail> {
     is_cut(rt.alloc(), bytes.as_slice(), 3, &[(24, 0), (59, 2)])
 }
 
-// Whether bytes aren't cut, since one more is missing, or since they are no capture.
+// Returns whether bytes aren't cut, because one byte is missing.
 
 fn lacks_one(alloc: Global, bytes: &[u8]) -> bool {
     matches!(
@@ -150,7 +150,7 @@ fn no_packets(rt: HostRuntime) -> Result<(), Fail> {
     Ok(())
 }
 
-// The place behind the packets of a part, the first of which has this one. Each has to be that of its place.
+// Returns the index after the packets of a part, the first of which has the index `first`. Each packet must be the one at its index.
 fn behind(parser: &PcapParser, part: &[u8], first: u8) -> Result<u8, Fail> {
     let mut place = first;
     let mut left = part;
@@ -171,7 +171,7 @@ fn behind(parser: &PcapParser, part: &[u8], first: u8) -> Result<u8, Fail> {
     Ok(place)
 }
 
-// How many packets the parts of a capture have, one part behind the other. Each part has to know how many stand before it.
+// Returns how many packets the parts of a capture have in all. Each part must know how many packets come before it.
 fn count_of_parts(alloc: Global, bytes: &[u8], parts: usize) -> Result<u8, Fail> {
     let cuts = cut_pcap(alloc, bytes, parts)?;
     let parser = PcapParser::with_header(cuts.header)?;

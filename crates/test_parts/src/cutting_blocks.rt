@@ -7,10 +7,11 @@ use std::alloc::Global;
 use std::test::*;
 use test_support::captures::{SECTION, front};
 
-// A cut's place, the blocks before it behind the first header, its header's place, and its first interface and their number.
+// The place of a cut, the blocks before it after the first header, the place of its header, its first interface and the number of
+// interfaces.
 type Row = (usize, usize, usize, usize, usize);
 
-// Whether these are the cuts.
+// Returns whether these are the cuts.
 fn are_cuts(cuts: &[NgCut], wanted: &[Row]) -> bool {
     cuts.len() == wanted.len()
         && cuts.iter().zip(wanted).all(|(cut, row)| {
@@ -24,7 +25,7 @@ fn are_cuts(cuts: &[NgCut], wanted: &[Row]) -> bool {
         })
 }
 
-// Whether these are the cuts; else a failure that shows them.
+// Checks that these are the cuts. Otherwise it returns a failure that shows them.
 fn compare(cuts: &NgCuts, wanted: &[Row]) -> Result<(), Fail> {
     if are_cuts(cuts.cuts.as_slice(), wanted) {
         return Ok(());
@@ -32,12 +33,12 @@ fn compare(cuts: &NgCuts, wanted: &[Row]) -> Result<(), Fail> {
     Err(Fail::new(format_args!("{cuts:?}")))
 }
 
-// Whether a capture is cut so into so many parts.
+// Checks that a capture is cut into this many parts as expected.
 fn is_cut(alloc: Global, bytes: &[u8], parts: usize, wanted: &[Row]) -> Result<(), Fail> {
     compare(&cut_pcapng(alloc, bytes, parts)?, wanted)
 }
 
-// The blocks behind the first header end behind 20, 44, 60, 80, 112, 140, 160, 180, 220, 248, 260, 280 and 296 bytes.
+// The blocks after the first header end after 20, 44, 60, 80, 112, 140, 160, 180, 220, 248, 260, 280 and 296 bytes.
 const BY_PARTS: [&[Row]; 10] = [
     &[(28, 0, 0, 0, 0)],
     &[(28, 0, 0, 0, 0)],
@@ -105,7 +106,7 @@ fn whole_capture(rt: HostRuntime) -> Result<(), Fail> {
     Ok(())
 }
 
-// Whether a capture of so many parts has so many cuts, and these are the places of its interfaces.
+// Returns whether a capture cut into the most parts has `count` cuts, and interfaces at these places.
 fn has_interfaces(
     alloc: Global,
     bytes: &[u8],
@@ -124,7 +125,7 @@ fn more_parts_than_bytes(rt: HostRuntime) -> Result<(), Fail> {
     Ok(())
 }
 
-// Of at least so many bytes.
+// The cuts by least size.
 const AT_LEAST: [(usize, &[Row]); 3] = [
     (
         45,
@@ -149,7 +150,7 @@ const AT_LEAST: [(usize, &[Row]); 3] = [
     (usize::MAX, &[(28, 0, 0, 0, 0)]),
 ];
 
-// Whether a capture is cut so into parts of at least so many bytes.
+// Checks that a capture is cut as expected into parts of at least this many bytes.
 fn is_cut_at_least(
     alloc: Global,
     bytes: &[u8],
@@ -168,7 +169,7 @@ fn parts_of_at_least_so_many_bytes(rt: HostRuntime) -> Result<(), Fail> {
     Ok(())
 }
 
-// Whether a capture that is cut into as many parts as there are rows has the interfaces of each row at the cut of that row.
+// Returns whether a capture that is cut into as many parts as there are rows has the interfaces of each row at its cut.
 fn have_places(alloc: Global, bytes: &[u8], wanted: &[&[usize]]) -> Result<bool, Fail> {
     let cuts = cut_pcapng(alloc, bytes, wanted.len())?;
     let mut are_all = cuts.cuts.len() == wanted.len();
@@ -189,20 +190,20 @@ fn places_of_interfaces(rt: HostRuntime) -> Result<(), Fail> {
 #[test]
 fn torn_capture(rt: HostRuntime) -> Result<(), Fail> {
     let bytes = three_sections(rt.alloc())?;
-    // The block at 208 is torn, so that the shares of 202 bytes end at 28 + 68 and 28 + 136.
+    // The block at 208 is truncated, so that the shares of 202 bytes end at 28 + 68 and 28 + 136.
     let wanted = [(28, 0, 0, 0, 0), (108, 4, 0, 0, 2), (168, 6, 140, 2, 0)];
     is_cut(rt.alloc(), front(bytes.as_slice(), 230), 3, &wanted)
 }
 
 #[test]
 fn refused_capture(rt: HostRuntime) -> Result<(), Fail> {
-    // No cut stands behind the block of another second length.
+    // No cut comes after the block with a wrong second length.
     let bytes = another_length(rt.alloc())?;
     let wanted = [(28, 0, 0, 0, 0), (72, 2, 0, 0, 1), (108, 4, 0, 0, 2)];
     is_cut(rt.alloc(), bytes.as_slice(), 9, &wanted)
 }
 
-// Whether bytes aren't cut, since so many are missing, or since they are no capture.
+// Returns whether bytes aren't cut, because `missing` bytes are missing.
 
 fn lacks(alloc: Global, bytes: &[u8], missing: usize) -> bool {
     match &cut_pcapng(alloc, bytes, 2) {

@@ -1,4 +1,4 @@
-//! Captures in parts: where they are cut, what the parts hold, and parsers that are made again.
+//! Tests of captures in parts: where they are cut, what the parts hold, and parsers that are resumed.
 #![tactic(auto)]
 
 #[cfg(test)]

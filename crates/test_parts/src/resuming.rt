@@ -1,4 +1,4 @@
-//! Parsers that are made again from places in a capture.
+//! Parsers that are resumed from places in a capture.
 
 use pcap_core::{DataLink, PcapError};
 use pcap_file::pcapng::InterfaceDescriptionBlock;
@@ -7,7 +7,7 @@ use std::alloc::Global;
 use std::test::*;
 use test_support::captures::{SECTIONS, back};
 
-// Whether each of these is an interface of the capture with two sections.
+// Returns whether each of these is an interface of the capture with two sections.
 fn are_ethernet(interfaces: &[InterfaceDescriptionBlock]) -> bool {
     for interface in interfaces {
         if interface.linktype != DataLink::from(1) || interface.snaplen != 0x4_0000 {
@@ -17,7 +17,7 @@ fn are_ethernet(interfaces: &[InterfaceDescriptionBlock]) -> bool {
     true
 }
 
-// Whether the parser that is made again from these places has this order, and these interfaces.
+// Returns whether the parser that is resumed from these places has this byte order and these interfaces.
 fn is_resumed(
     alloc: Global,
     header: usize,
@@ -42,7 +42,8 @@ fn sections_of_both_orders(rt: HostRuntime) -> Result<(), Fail> {
     Ok(())
 }
 
-// Of a parser that goes on with the last block: how many bytes are left, the block's length, and how many interfaces there are.
+// Returns, for a parser that continues with the last block: how many bytes are left, the block's length, and how many interfaces there
+// are.
 fn behind_the_bound(alloc: Global) -> Result<(usize, u32, usize), Fail> {
     let mut parser = resume(alloc, &SECTIONS, 48, &[])?;
     let (rest, block) = parser.next_block(back(&SECTIONS, 76))?;
@@ -55,7 +56,7 @@ fn goes_on_behind_the_bound(rt: HostRuntime) -> Result<(), Fail> {
     Ok(())
 }
 
-// Whether no parser is made from these places, since twelve bytes are missing, or since no section header stands there.
+// Returns whether no parser is resumed from these places, because twelve bytes are missing.
 
 fn lacks_a_head(alloc: Global, header: usize, interfaces: &[usize]) -> bool {
     matches!(

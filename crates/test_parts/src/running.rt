@@ -11,7 +11,7 @@ use std::alloc::Global;
 use std::test::*;
 use test_support::captures::{back, front};
 
-// How many packets the runs over the parts of a capture have. Each part has to know how many stand before it.
+// Returns how many packets the runs over the parts of a capture have. Each part must know how many packets come before it.
 fn count_of_packets(alloc: Global, bytes: &[u8], parts: usize) -> Result<u8, Fail> {
     let cuts = cut_pcap(alloc, bytes, parts)?;
     let mut place = 0u8;
@@ -26,7 +26,7 @@ fn count_of_packets(alloc: Global, bytes: &[u8], parts: usize) -> Result<u8, Fai
     Ok(place)
 }
 
-// The place behind the packets of a part, which has to be used whole, the first of which has this one.
+// Returns the index after the packets of a part, the first of which has the index `first`. The run must use the whole part.
 fn behind_part(alloc: Global, header: PcapHeader, part: &[u8], first: u8) -> Result<u8, Fail> {
     let run = parse_part(alloc, header, part)?;
     if !matches!(run.rest, Rest::Clean) || run.used != part.len() {
@@ -35,7 +35,7 @@ fn behind_part(alloc: Global, header: PcapHeader, part: &[u8], first: u8) -> Res
     behind(run.packets.as_slice(), first)
 }
 
-// The same of these packets. Each has to be that of its place.
+// Does the same for these packets. Each must be the one at its index.
 fn behind(packets: &[Packet], first: u8) -> Result<u8, Fail> {
     let mut place = first;
     for packet in packets {
@@ -57,7 +57,7 @@ fn packets_of_parts(rt: HostRuntime) -> Result<(), Fail> {
     Ok(())
 }
 
-// How many blocks the runs over the parts of a capture have, the first section header among them.
+// Returns how many blocks the runs over the parts of a capture have, with the first section header.
 fn count_of_blocks(alloc: Global, bytes: &[u8], parts: usize) -> Result<usize, Fail> {
     let cuts = cut_pcapng(alloc, bytes, parts)?;
     let mut place = 1usize;
@@ -70,7 +70,7 @@ fn count_of_blocks(alloc: Global, bytes: &[u8], parts: usize) -> Result<usize, F
     Ok(place)
 }
 
-// The parser at a cut, whose order and number of interfaces are those of the part.
+// Returns the parser at a cut. Its byte order and number of interfaces must be those of the part.
 fn resumed(alloc: Global, bytes: &[u8], cuts: &NgCuts, cut: &NgCut) -> Result<PcapNgParser, Fail> {
     let parser = resume(alloc, bytes, cut.header, cuts.interfaces_at(cut))?;
     if parser.interfaces().len() != cut.interfaces
@@ -81,7 +81,7 @@ fn resumed(alloc: Global, bytes: &[u8], cuts: &NgCuts, cut: &NgCut) -> Result<Pc
     Ok(parser)
 }
 
-// The place behind the blocks of a part, which has to be used whole, the first of which has this one.
+// Returns the index after the blocks of a part, the first of which has the index `first`. The run must use the whole part.
 fn behind_ng_part(
     alloc: Global,
     parser: PcapNgParser,
@@ -95,7 +95,7 @@ fn behind_ng_part(
     behind_blocks(run.blocks.as_slice(), first)
 }
 
-// The same of these blocks. Each has to have the length of its place.
+// Does the same for these blocks. Each must have the length at its index.
 fn behind_blocks(blocks: &[Block], first: usize) -> Result<usize, Fail> {
     let mut place = first;
     for block in blocks {
@@ -117,8 +117,8 @@ fn blocks_of_parts(rt: HostRuntime) -> Result<(), Fail> {
     Ok(())
 }
 
-// Of the run over the last part of a torn capture, with a parser from these places: how many blocks there are, how many
-// bytes they use, and how many are missing, 0 where nothing follows, or none where what follows is refused.
+// Runs over the last part of a truncated capture, with a parser from these places. Returns how many blocks there are, how many bytes they
+// use, and how many are missing: 0 if nothing follows, None if the next block is refused.
 fn last_part(
     alloc: Global,
     header: usize,
@@ -139,13 +139,13 @@ fn last_part(
 #[test]
 fn last_parts(rt: HostRuntime) -> Result<(), Fail> {
     assert_eq!(rt; last_part(rt.alloc(), 140, &[168])?, (1, 20, Some(18)));
-    // In the order of the section before, the block at 188 has another length.
+    // In the byte order of the section before, the block at 188 has another length.
     let (blocks, _used, missing) = last_part(rt.alloc(), 0, &[28, 88])?;
     assert!(rt; blocks == 0 && missing != Some(0));
     Ok(())
 }
 
-// Whether no run is made with a header of this magic number.
+// Returns whether no run is made with a header with this magic number.
 fn is_refused(alloc: Global, magic_number: u32) -> bool {
     let header = PcapHeader {
         magic_number,

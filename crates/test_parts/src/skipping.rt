@@ -1,4 +1,4 @@
-//! Packets and blocks that are passed over.
+//! Packets and blocks that are skipped.
 
 use crate::captures::{another_length, five_packets, refused_fourth, three_sections};
 use pcap_classic::pcap::PcapParser;
@@ -10,8 +10,8 @@ use std::alloc::Global;
 use std::test::*;
 use test_support::captures::front;
 
-// What stands behind the items that are passed: as many bytes as are wanted were passed, or there is nothing, or so many
-// bytes are missing, or what follows is refused.
+// What follows the skipped items: all the requested bytes were skipped, or nothing follows, or bytes are missing, or the next item is
+// refused.
 #[derive(Clone, Copy, Debug, PartialEq)]
 enum Behind {
     Bound,
@@ -21,7 +21,7 @@ enum Behind {
     Another,
 }
 
-// How many items are passed, how many bytes follow them, and what they are.
+// Returns how many items are skipped, how many bytes follow them, and what follows.
 fn shown(passed: &Passed) -> (usize, usize, Behind) {
     let behind = match &passed.rest {
         None => Behind::Bound,
@@ -33,7 +33,7 @@ fn shown(passed: &Passed) -> (usize, usize, Behind) {
     (passed.items, passed.after.len(), behind)
 }
 
-// The same of a classic capture of which at least so many bytes of packets are passed.
+// Does the same for a classic capture in which at least this many bytes of packets are skipped.
 fn packets(bytes: &[u8], at_least: usize) -> Result<(usize, usize, Behind), Fail> {
     let (left, parser) = PcapParser::new(bytes)?;
     Ok(shown(&skip_packets(&parser, left, at_least)))
@@ -42,7 +42,7 @@ fn packets(bytes: &[u8], at_least: usize) -> Result<(usize, usize, Behind), Fail
 #[test]
 fn up_to_a_bound(rt: HostRuntime) -> Result<(), Fail> {
     let bytes = five_packets(rt.alloc())?;
-    // The packets end behind 19, 35, 56, 73 and 99 bytes.
+    // The packets end after 19, 35, 56, 73 and 99 bytes.
     for (at_least, items, after) in [
         (0, 0, 99),
         (1, 1, 80),
@@ -61,7 +61,7 @@ fn up_to_a_bound(rt: HostRuntime) -> Result<(), Fail> {
 #[test]
 fn to_the_end(rt: HostRuntime) -> Result<(), Fail> {
     let bytes = five_packets(rt.alloc())?;
-    // The capture's bytes that are there, with its header's 24.
+    // How many bytes of the capture are there, with its header of 24 bytes.
     for (there, at_least, wanted) in [
         (123, 100, (5, 0, Behind::Nothing)),
         (114, 75, (4, 17, Behind::Lack(9))),
@@ -81,7 +81,7 @@ fn to_a_refusal(rt: HostRuntime) -> Result<(), Fail> {
     Ok(())
 }
 
-// What is passed of a PcapNg capture, whether the section then is big-endian, and how many interfaces it has.
+// What is skipped in a PcapNg capture, whether the section is big-endian then, and how many interfaces it has.
 type Blocks = ((usize, usize, Behind), bool, usize);
 
 fn blocks(alloc: Global, bytes: &[u8], at_least: usize) -> Result<Blocks, Fail> {
@@ -95,7 +95,7 @@ fn blocks(alloc: Global, bytes: &[u8], at_least: usize) -> Result<Blocks, Fail> 
 #[test]
 fn blocks_of_three_sections(rt: HostRuntime) -> Result<(), Fail> {
     let bytes = three_sections(rt.alloc())?;
-    // How many bytes are wanted, how many blocks are passed, what follows them, the section's order and its interfaces.
+    // How many bytes are to be skipped, how many blocks are, what follows them, and the byte order and interfaces of the section.
     for (at_least, items, after, is_big, interfaces) in [
         (0, 0, 296, true, 0),
         (1, 1, 276, true, 1),

@@ -1,4 +1,4 @@
-//! Copies out of a reader's buffer: what goes out is a beginning of the input, whatever the buffer holds.
+//! Copies from a reader's buffer. The bytes written are a beginning of the input, for each size of the buffer.
 
 use crate::told::check;
 use pcap_file::PcapError;
@@ -13,7 +13,7 @@ use test_support::writers::Narrow;
 // Where the blocks of `capture` end.
 const ENDS: [usize; 8] = [28, 48, 76, 96, 112, 128, 156, 172];
 
-// Two sections with an interface each, two blocks of an unknown type behind the second, and a section with one such block.
+// Returns two sections with an interface each, two blocks of an unknown type after the second, and a section with one such block.
 fn capture(alloc: Global) -> Result<Vec<u8>, AllocError> {
     let little = [0x99, 0, 0, 0, 0x10, 0, 0, 0, 1, 2, 3, 4, 0x10, 0, 0, 0];
     let big = [0, 0, 0, 0x99, 0, 0, 0, 0x10, 1, 2, 3, 4, 0, 0, 0, 0x10];
@@ -25,7 +25,7 @@ fn capture(alloc: Global) -> Result<Vec<u8>, AllocError> {
     Ok(bytes)
 }
 
-// How many blocks end within so many bytes, and where the last of these ends.
+// Returns how many blocks end within the first `len` bytes, and where the last of these ends.
 fn whole(len: usize) -> (usize, usize) {
     let mut found = (0usize, 0);
     for end in ENDS {
@@ -36,7 +36,7 @@ fn whole(len: usize) -> (usize, usize) {
     found
 }
 
-// A copy through a buffer of so many bytes.
+// Copies through a buffer of `room` bytes.
 fn copied<W: Write>(
     alloc: Global,
     stream: Halting,
@@ -58,7 +58,7 @@ fn is_io(copied: &NgCopied) -> bool {
     matches!(&copied.fault, Some(PcapError::IoError(_)))
 }
 
-// Whether the blocks that end within so many bytes of a capture go out.
+// Returns whether the blocks that end within the first `end` bytes of a capture are copied.
 fn copies_to(alloc: Global, bytes: &[u8], room: usize, end: usize) -> Result<bool, Fail> {
     let stream = Halting::new(alloc, front(bytes, end), 100)?;
     let mut out = Vec::new(alloc);
@@ -69,7 +69,7 @@ fn copies_to(alloc: Global, bytes: &[u8], room: usize, end: usize) -> Result<boo
     Ok(is_told && out.as_slice() == front(bytes, used))
 }
 
-// Each beginning through each room.
+// Checks each beginning with each size of the buffer.
 fn check_beginnings(alloc: Global) -> Result<(), Fail> {
     let bytes = capture(alloc)?;
     for room in [1, 13, 40, 200] {
@@ -88,7 +88,7 @@ fn every_beginning_of_a_buffered_copy(rt: HostRuntime) -> Result<(), Fail> {
     check_beginnings(rt.alloc())
 }
 
-// Whether so many blocks go out, which end here.
+// Returns whether the expected number of blocks is copied, with the expected end.
 fn copies_most(
     alloc: Global,
     bytes: &[u8],
@@ -103,7 +103,7 @@ fn copies_most(
     Ok(is_told && out.as_slice() == front(bytes, end))
 }
 
-// So many blocks, and no more.
+// Checks that a copy stops at the most blocks.
 fn check_most(alloc: Global) -> Result<(), Fail> {
     let bytes = capture(alloc)?;
     for room in [13, 40, 200] {
@@ -122,7 +122,7 @@ fn most_blocks_of_a_buffered_copy(rt: HostRuntime) -> Result<(), Fail> {
     check_most(rt.alloc())
 }
 
-// Whether a beginning goes out where so many bytes have room, at most so many a call.
+// Returns whether a beginning is copied into an output with space for `room` bytes, at most `step` in a call.
 fn fills(alloc: Global, bytes: &[u8], room: usize, step: usize) -> Result<bool, Fail> {
     let mut output = Narrow::new(alloc, room, true);
     output.step = step;
@@ -133,7 +133,7 @@ fn fills(alloc: Global, bytes: &[u8], room: usize, step: usize) -> Result<bool, 
     Ok(is_told && output.out.as_slice() == front(bytes, room))
 }
 
-// Each write that can fail.
+// Checks each write that can fail.
 fn check_writes(alloc: Global) -> Result<(), Fail> {
     let bytes = capture(alloc)?;
     for room in 0..172 {
@@ -152,7 +152,7 @@ fn every_failed_write_of_a_buffered_copy(rt: HostRuntime) -> Result<(), Fail> {
     check_writes(rt.alloc())
 }
 
-// Whether the blocks before the call that fails go out, after so many bytes, one a call.
+// Returns whether the blocks before the failing call are copied, after `end` bytes, one a call.
 fn stops(alloc: Global, bytes: &[u8], end: usize) -> Result<bool, Fail> {
     let mut stream = Halting::new(alloc, bytes, 1)?;
     stream.fails_at = end.saturating_add(1);
@@ -163,7 +163,7 @@ fn stops(alloc: Global, bytes: &[u8], end: usize) -> Result<bool, Fail> {
     Ok(is_told && out.as_slice() == front(bytes, used))
 }
 
-// Each read that can.
+// Checks each read that can fail.
 fn check_reads(alloc: Global) -> Result<(), Fail> {
     let bytes = capture(alloc)?;
     for end in 0..172 {

@@ -1,4 +1,4 @@
-//! Copies from streams to writers: what goes out is a beginning of the input.
+//! Copies from streams to writers. The bytes written are a beginning of the input.
 
 use crate::runs::{REFUSED, beginning, count};
 use crate::told::{joined, refusal};
@@ -12,7 +12,7 @@ use test_support::readers::Halting;
 use test_support::rows::every_row;
 use test_support::writers::Narrow;
 
-// The kind of the error inside an `IoError`.
+// Returns the kind of the error inside an `IoError`.
 fn kind_of(copied: &NgCopied) -> Option<ErrorKind> {
     match &copied.fault {
         Some(PcapError::IoError(error)) => Some(error.kind()),
@@ -20,14 +20,14 @@ fn kind_of(copied: &NgCopied) -> Option<ErrorKind> {
     }
 }
 
-// Whether so many blocks went out, and the flags are these.
+// Returns whether this many blocks were copied, and the flags are these.
 fn tells(copied: &NgCopied, blocks: usize, read_failed: bool, write_failed: bool) -> bool {
     copied.blocks == blocks as u64
         && copied.read_failed == read_failed
         && copied.write_failed == write_failed
 }
 
-// Whether the blocks of so many bytes go out, by so many a read.
+// Returns whether the blocks in the first `end` bytes are copied, with `step` bytes a read.
 fn copies_to(alloc: Global, end: usize, step: usize) -> Result<bool, AllocError> {
     let mut stream = Halting::new(alloc, front(&SECTIONS, end), step)?;
     let mut out = Vec::new(alloc);
@@ -55,7 +55,7 @@ fn every_beginning(rt: HostRuntime) {
     }
 }
 
-// Whether the blocks before the call that fails go out, after so many bytes, one a call.
+// Returns whether the blocks before the failing call are copied, after `end` bytes, one a call.
 fn stops(alloc: Global, end: usize) -> Result<bool, AllocError> {
     let mut stream = Halting::new(alloc, &SECTIONS, 1)?;
     stream.fails_at = end.saturating_add(1);
@@ -75,7 +75,7 @@ fn every_failed_read(rt: HostRuntime) {
     }
 }
 
-// Whether a beginning of the capture goes out into this writer, and the error is of this kind.
+// Returns whether a beginning of the capture is copied into this writer, and the error is of this kind.
 fn fills(alloc: Global, mut output: Narrow, kind: ErrorKind) -> Result<bool, AllocError> {
     let room = output.room;
     let mut stream = Halting::new(alloc, &SECTIONS, 100)?;
@@ -86,7 +86,7 @@ fn fills(alloc: Global, mut output: Narrow, kind: ErrorKind) -> Result<bool, All
     Ok(is_told && is_out && tells(&copied, count(used), false, true))
 }
 
-// A writer of so much room that fails where there is none, or takes nothing; and one that takes 7 bytes at most a call.
+// Returns a writer for `room` bytes, which then fails or takes nothing. A variant takes at most 7 bytes a call.
 
 fn wide(alloc: Global, room: usize, fails: bool) -> Narrow {
     Narrow::new(alloc, room, fails)
@@ -114,7 +114,7 @@ fn every_failed_write(rt: HostRuntime) {
     }
 }
 
-// Whether so many blocks at most go out, and so many bytes are taken.
+// Returns whether a copy of at most `most` blocks after the first section header takes `used` bytes.
 fn copies_most(alloc: Global, most: u64, used: usize) -> Result<bool, AllocError> {
     let mut stream = Halting::new(alloc, &SECTIONS, 100)?;
     let mut out = Vec::new(alloc);
@@ -133,7 +133,7 @@ fn at_most_so_many(rt: HostRuntime) {
     }
 }
 
-// Why a copy of these bytes ends, of which so many blocks and bytes go out.
+// Returns why a copy of these bytes ends, after it checks the number of blocks and bytes copied.
 fn fault(alloc: Global, bytes: &[u8], blocks: usize, used: usize) -> Result<String, Fail> {
     let mut stream = Halting::new(alloc, bytes, 100)?;
     let mut out = Vec::new(alloc);
@@ -164,7 +164,7 @@ const REFUSED_LATER: &str = r#"
     0a0d0d0a 0000000c 00000000 => InvalidField("SectionHeaderBlock: invalid magic number")
 "#;
 
-// An unknown block whose body is no body of its type is copied, and what is refused isn't.
+// Copies a section header and an unknown block, and returns why the block after them isn't copied.
 fn refused_later(alloc: Global, bytes: &[u8]) -> Result<String, Fail> {
     let odd = [0, 0, 0, 0x99, 0, 0, 0, 0x10, 1, 2, 3, 4, 0, 0, 0, 0x10];
     let mut whole = joined(alloc, &SECTION, &odd)?;

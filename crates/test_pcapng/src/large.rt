@@ -1,4 +1,4 @@
-//! Captures with many interfaces, many options and one large block, which no limit cuts short.
+//! Captures with many interfaces, many options and one large block. No limit cuts them short.
 
 use crate::told::check;
 use pcap_file::pcapng::{Block, PcapNgParser, PcapNgReader};
@@ -9,16 +9,16 @@ use test_support::captures::SECTION;
 use test_support::readers::Halting;
 use test_support::rows::bytes;
 
-// How many interfaces there are.
+// The number of interfaces.
 const INTERFACES: usize = 2000;
 
-// How many bytes the block after them has: 20 MiB.
+// The size of the block after them, in bytes: 20 MiB.
 const LARGE: u32 = 0x0140_0000;
 
-// All bytes: the section is 28, and each interface 20.
+// The size of the capture, in bytes: the section has 28, and each interface 20.
 const BYTES: usize = 21_011_548;
 
-// A big-endian section, its interfaces, and a block of an unknown type and so many bytes, a multiple of 4096.
+// Returns a big-endian section, its interfaces, and a block of an unknown type with `len` bytes, a multiple of 4096.
 fn capture(alloc: Global, len: u32) -> Result<Vec<u8>, Fail> {
     let mut whole = Vec::from_slice(alloc, &SECTION)?;
     let interface = bytes(alloc, "00000001 00000014 0001 0000 00040000 00000014")?;
@@ -51,7 +51,7 @@ fn is_run(run: &NgRun) -> bool {
         && matches!(run.rest, Rest::Clean)
 }
 
-// Whether each run over this capture takes all of it.
+// Returns whether each run over this capture takes all of it.
 
 fn parses(alloc: Global, capture: &[u8]) -> bool {
     match &parse_pcapng(alloc, capture) {
@@ -86,7 +86,7 @@ fn reads(alloc: Global, stream: Halting) -> bool {
     }
 }
 
-// Each run over all of it.
+// Checks each run over all of it.
 fn check_runs(alloc: Global) -> Result<(), Fail> {
     let whole = capture(alloc, LARGE)?;
     let all = whole.as_slice();
@@ -102,7 +102,7 @@ fn runs(rt: HostRuntime) -> Result<(), Fail> {
     check_runs(rt.alloc())
 }
 
-// How many bytes the body of the last block has that the reader lends.
+// Returns the size of the body of the last block that the reader lends.
 fn lent(reader: &mut PcapNgReader<Halting>) -> usize {
     let mut last = 0;
     for _turn in 0..3000 {
@@ -114,7 +114,7 @@ fn lent(reader: &mut PcapNgReader<Halting>) -> usize {
     last
 }
 
-// Whether a reader lends a body of so many bytes last.
+// Returns whether a reader lends a body of `len` bytes last.
 fn lends(alloc: Global, capture: &[u8], len: usize) -> Result<bool, Fail> {
     let stream = Halting::new(alloc, capture, 1_000_000)?;
     let mut reader = PcapNgReader::new(alloc, stream)?;
@@ -122,7 +122,7 @@ fn lends(alloc: Global, capture: &[u8], len: usize) -> Result<bool, Fail> {
     Ok(is_lent && !reader.failed() && reader.interfaces().len() == INTERFACES)
 }
 
-// A large block that is lent.
+// Checks a large block that is lent.
 fn check_lent(alloc: Global) -> Result<(), Fail> {
     // a block of 2 MiB
     let whole = capture(alloc, 0x0020_0000)?;
@@ -135,7 +135,7 @@ fn lent_blocks(rt: HostRuntime) -> Result<(), Fail> {
     check_lent(rt.alloc())
 }
 
-// The digits of so many comments, each "a".
+// Returns the digits of `count` comments, each "a".
 fn comments(alloc: Global, count: usize) -> Result<String, Fail> {
     let mut digits = String::new(alloc);
     for _turn in 0..count {
@@ -144,7 +144,7 @@ fn comments(alloc: Global, count: usize) -> Result<String, Fail> {
     Ok(digits)
 }
 
-// A section header with 300 comments of eight bytes each, and an interface with as many.
+// Returns a section header with 300 comments of eight bytes each, and an interface with as many.
 fn commented(alloc: Global) -> Result<Vec<u8>, Fail> {
     let comments = comments(alloc, 300)?;
     let digits = format!(in alloc;
@@ -154,7 +154,7 @@ fn commented(alloc: Global) -> Result<Vec<u8>, Fail> {
     bytes(alloc, digits.as_str())
 }
 
-// How many options there are in the section and in its one interface, and how many bytes are left behind these.
+// Returns how many options the section and its one interface have, and how many bytes are left after them.
 fn counts(alloc: Global, capture: &[u8]) -> Result<(usize, usize, usize), Fail> {
     let (rest, mut parser) = PcapNgParser::new(alloc, capture)?;
     let (rest, _block) = parser.next_block(rest)?;
@@ -165,7 +165,7 @@ fn counts(alloc: Global, capture: &[u8]) -> Result<(usize, usize, usize), Fail> 
     Ok((parser.section().options.len(), options, rest.len()))
 }
 
-// How many options there are in the section off a stream that is read to its end.
+// Returns how many options the section has in a stream that is read to its end.
 fn counts_read(alloc: Global, stream: Halting) -> usize {
     match &read_pcapng(alloc, stream, 9) {
         Ok(read) if read.fault.is_none() => read.reader.section().options.len(),
@@ -173,7 +173,7 @@ fn counts_read(alloc: Global, stream: Halting) -> usize {
     }
 }
 
-// Lists of many options.
+// Checks lists of many options.
 fn check_options(alloc: Global) -> Result<(), Fail> {
     let whole = commented(alloc)?;
     let counts = counts(alloc, whole.as_slice())?;

@@ -9,7 +9,7 @@ use test_support::captures::{SECTIONS, back, front};
 use test_support::readers::{EndsOnce, Halting};
 use test_support::rows::{every_row, same};
 
-// The header that the reader gives next, if it gives one.
+// Returns the header that the reader gives next, if there is one.
 fn given(reader: &mut PcapNgReader<Halting>) -> Option<BlockHeader> {
     match reader.next_header() {
         Some(Ok(header)) => Some(header),
@@ -17,7 +17,7 @@ fn given(reader: &mut PcapNgReader<Halting>) -> Option<BlockHeader> {
     }
 }
 
-// Whether the block that is lent under this header is that header around a body of these bytes.
+// Returns whether the block that is lent with this header is that header around a body of these bytes.
 fn is_lent(reader: &PcapNgReader<Halting>, header: BlockHeader, body: &[u8]) -> bool {
     let block = reader.block(header);
     block.body.is_borrowed()
@@ -66,7 +66,7 @@ const BLOCKS: [LentBlock; 3] = [
     },
 ];
 
-// Whether a reader lends the block of the row next.
+// Returns whether a reader lends the block of the row next.
 fn lends(reader: &mut PcapNgReader<Halting>, row: &LentBlock) -> bool {
     let header = BlockHeader {
         type_: row.type_,
@@ -81,7 +81,7 @@ fn lends(reader: &mut PcapNgReader<Halting>, row: &LentBlock) -> bool {
         && is_lent(reader, header, body)
 }
 
-// Whether a reader lends the first section, then the blocks of the rows, and then nothing.
+// Returns whether a reader lends the first section, then the blocks of the rows, and then nothing.
 fn lends_each(alloc: Global, step: usize) -> Result<(), Fail> {
     let stream = Halting::new(alloc, &SECTIONS, step)?;
     let mut reader = PcapNgReader::new(alloc, stream)?;
@@ -103,7 +103,7 @@ fn lends_each(alloc: Global, step: usize) -> Result<(), Fail> {
     Ok(())
 }
 
-// Each block by each step.
+// Checks each block with each size of reads.
 fn check_each(alloc: Global) -> Result<(), Fail> {
     for step in [1, 7, 200] {
         lends_each(alloc, step)?;
@@ -116,12 +116,12 @@ fn lent_blocks(rt: HostRuntime) -> Result<(), Fail> {
     check_each(rt.alloc())
 }
 
-// How many bytes a reader lends, as a text and as its body.
+// Returns how many bytes a reader lends, as a text and as its body.
 fn lent_lengths(reader: &PcapNgReader<Halting>) -> usize {
     reader.text().len().saturating_add(reader.body().len())
 }
 
-// The body of the block that is lent under this header, as text.
+// Formats the body of the block that is lent with this header.
 fn body_text(
     alloc: Global,
     reader: &PcapNgReader<Halting>,
@@ -131,7 +131,7 @@ fn body_text(
     Ok(format!(in alloc; "{:?}", block.parsed(alloc)?)?)
 }
 
-// The body of the next block, which is lent, or the refusal, as text.
+// Formats the body of the next block, which is lent, or the error.
 fn lent(alloc: Global, reader: &mut PcapNgReader<Halting>) -> Result<String, Fail> {
     match reader.next_header() {
         Some(Ok(header)) => body_text(alloc, reader, header),
@@ -140,7 +140,7 @@ fn lent(alloc: Global, reader: &mut PcapNgReader<Halting>) -> Result<String, Fai
     }
 }
 
-// A reader of a capture of the big-endian section, an interface and these bytes, behind its interface.
+// Returns a reader of the big-endian section, an interface and these bytes, after it gave the interface.
 fn behind_interface(
     alloc: Global,
     bytes: &[u8],
@@ -153,7 +153,7 @@ fn behind_interface(
     Ok(reader)
 }
 
-// The body that such a reader lends next.
+// Formats the body that such a reader lends next.
 fn lent_behind(alloc: Global, bytes: &[u8], step: usize) -> Result<String, Fail> {
     let mut reader = behind_interface(alloc, bytes, step)?;
     lent(alloc, &mut reader)
@@ -173,7 +173,7 @@ fn lent_bodies(rt: HostRuntime) -> Result<(), Fail> {
     every_row(rt.alloc(), table, lent_body)
 }
 
-// The refusal of such a reader's next block, what comes behind it, how many bytes are lent then, and what is in force.
+// Formats the error of such a reader's next block, what comes after it, how many bytes are lent then, and the reader's state.
 fn refused_behind(alloc: Global, bytes: &[u8], step: usize) -> Result<String, Fail> {
     let mut reader = behind_interface(alloc, bytes, step)?;
     let refusal = lent(alloc, &mut reader)?;
@@ -184,7 +184,7 @@ fn refused_behind(alloc: Global, bytes: &[u8], step: usize) -> Result<String, Fa
     Ok(format!(in alloc; "{refusal} {first}, {after} {second}, {state}")?)
 }
 
-// The refusal, where nothing comes behind it or is lent.
+// Returns the error, if nothing comes after it and nothing is lent.
 fn refused(alloc: Global, bytes: &[u8]) -> Result<String, Fail> {
     let shown = by_steps(alloc, bytes, refused_behind)?;
     let after = " 0, None 0, Big 1.0 -1 [] with ETHERNET/262144/[]";
@@ -205,7 +205,7 @@ fn refused_lent_blocks(rt: HostRuntime) -> Result<(), Fail> {
     every_row(rt.alloc(), table, refused)
 }
 
-// How many bytes the next block's body has, owned, if one comes.
+// Returns the size of the next block's body, owned, if one comes.
 fn owned_length(reader: &mut PcapNgReader<Halting>) -> Option<usize> {
     match reader.next() {
         Some(Ok(block)) => Some(block.body.len()),
@@ -213,20 +213,20 @@ fn owned_length(reader: &mut PcapNgReader<Halting>) -> Option<usize> {
     }
 }
 
-// Whether a reader lends a body of this length, and then gives an owned one of that length, if any.
+// Returns whether a reader lends a body of length `lent`, and then gives an owned one of length `owned`, if any.
 fn lends_and_gives(reader: &mut PcapNgReader<Halting>, lent: usize, owned: Option<usize>) -> bool {
     let is_given = given(reader).is_some() && reader.body().len() == lent;
     is_given && owned_length(reader) == owned && lent_lengths(reader) == 0
 }
 
-// Whether a reader lends two bodies of eight bytes, and gives one of 16 bytes between them and none behind.
+// Returns whether a reader lends two bodies of eight bytes, and gives an owned one of 16 bytes after the first and none after the second.
 fn lends_between(alloc: Global, step: usize) -> Result<bool, Fail> {
     let stream = Halting::new(alloc, &SECTIONS, step)?;
     let mut reader = PcapNgReader::new(alloc, stream)?;
     Ok(lends_and_gives(&mut reader, 8, Some(16)) && lends_and_gives(&mut reader, 8, None))
 }
 
-// Lent and owned ones by turns.
+// Checks lent and owned blocks in turn.
 fn check_owned(alloc: Global) -> Result<(), Fail> {
     for step in [1, 100] {
         check(lends_between(alloc, step)?, format_args!("by {step}"))?;
@@ -239,7 +239,7 @@ fn lent_and_owned_blocks(rt: HostRuntime) -> Result<(), Fail> {
     check_owned(rt.alloc())
 }
 
-// Whether a reader lends bodies of these lengths before and behind the end of a stream that goes on.
+// Returns whether a reader lends bodies of these lengths before and after the end of a stream that goes on.
 fn goes_on(alloc: Global, step: usize) -> Result<bool, Fail> {
     let stream = EndsOnce {
         first: front(&SECTIONS, 48),
@@ -256,7 +256,7 @@ fn goes_on(alloc: Global, step: usize) -> Result<bool, Fail> {
     Ok(is_so)
 }
 
-// A stream that goes on behind its end.
+// Checks a stream that goes on after its end.
 fn check_ends(alloc: Global) -> Result<(), Fail> {
     for step in [1, 100] {
         check(goes_on(alloc, step)?, format_args!("by {step}"))?;

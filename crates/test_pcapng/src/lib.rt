@@ -1,4 +1,4 @@
-//! PcapNg captures over slices and streams: inputs with the answers that the format gives them.
+//! Tests of PcapNg captures on slices and streams: inputs with the answers that the format defines.
 #![tactic(auto)]
 
 #[cfg(test)]

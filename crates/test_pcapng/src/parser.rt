@@ -9,7 +9,7 @@ use std::test::Fail;
 use test_support::captures::{SECTION, SECTIONS};
 use test_support::rows::{bytes, every_row, same};
 
-// A parser after all blocks of the capture with two sections.
+// Returns a parser after all blocks of the capture with two sections.
 fn after_sections(alloc: Global) -> Result<PcapNgParser, Fail> {
     let (mut left, mut parser) = PcapNgParser::new(alloc, &SECTIONS)?;
     for _turn in 0..3 {
@@ -19,7 +19,7 @@ fn after_sections(alloc: Global) -> Result<PcapNgParser, Fail> {
     Ok(parser)
 }
 
-// The interface by which the packet of this block came, as text.
+// Formats the interface of the packet in this block.
 fn packet_interface(alloc: Global, parser: &PcapNgParser, block: &Block) -> Result<String, Fail> {
     match block.parsed(alloc)? {
         ParsedBlock::EnhancedPacket(packet) => {
@@ -29,7 +29,7 @@ fn packet_interface(alloc: Global, parser: &PcapNgParser, block: &Block) -> Resu
     }
 }
 
-// The same of the packet of these bytes.
+// Does the same for the packet in these bytes.
 fn interface_of(alloc: Global, parser: &mut PcapNgParser, slice: &[u8]) -> Result<String, Fail> {
     let (_rest, block) = parser.next_block(slice)?;
     packet_interface(alloc, parser, &block)
@@ -37,14 +37,14 @@ fn interface_of(alloc: Global, parser: &mut PcapNgParser, slice: &[u8]) -> Resul
 
 const LITTLE: &str = "Little 1.0 -1 [] with ETHERNET/262144/[]";
 
-// What a parser gives of these bytes, as text, and what is in force then.
+// Formats the result of a parser for these bytes, and its state then.
 fn refused(alloc: Global, parser: &mut PcapNgParser, slice: &[u8]) -> Result<String, Fail> {
     let error = parser.next_block(slice).err();
     let state = state(alloc, parser.section(), parser.interfaces())?;
     Ok(format!(in alloc; "{error:?} {state}")?)
 }
 
-// Whether the block of a row is refused, and nothing in force changes.
+// Checks that the block of a row is refused, and the state doesn't change.
 fn changes_nothing(alloc: Global, parser: &mut PcapNgParser, row: &str) -> Result<(), Fail> {
     let (digits, told) = row.split_once("=>").ok_or("a row with no arrow")?;
     let slice = bytes(alloc, digits)?;
@@ -53,7 +53,7 @@ fn changes_nothing(alloc: Global, parser: &mut PcapNgParser, row: &str) -> Resul
     same(shown.as_str(), told.as_str())
 }
 
-// Blocks that are refused, one behind the other.
+// Checks refused blocks, one after another.
 fn check_refused(alloc: Global) -> Result<(), Fail> {
     let mut parser = after_sections(alloc)?;
     let table = r#"
@@ -76,7 +76,7 @@ fn refused_blocks_change_nothing(rt: HostRuntime) -> Result<(), Fail> {
     check_refused(rt.alloc())
 }
 
-// Whether the packet of a row came by the interface that it shows.
+// Checks that the packet of a row has the interface that the row shows.
 fn comes_by(alloc: Global, parser: &mut PcapNgParser, row: &str) -> Result<(), Fail> {
     let (digits, told) = row.split_once("=>").ok_or("a row with no arrow")?;
     let slice = bytes(alloc, digits)?;
@@ -84,7 +84,7 @@ fn comes_by(alloc: Global, parser: &mut PcapNgParser, row: &str) -> Result<(), F
     same(shown.as_str(), told.trim())
 }
 
-// Whether a second interface of a name is in force behind its block.
+// Checks that a second interface with a name is known after its block.
 fn names_another(alloc: Global, parser: &mut PcapNgParser) -> Result<(), Fail> {
     let named = "01000000 20000000 0100 0000 00000400 0200 0100 61 000000 0000 0000 20000000";
     let slice = bytes(alloc, named)?;
@@ -95,7 +95,7 @@ fn names_another(alloc: Global, parser: &mut PcapNgParser) -> Result<(), Fail> {
     )
 }
 
-// Packets of interfaces, and of none.
+// Checks packets of interfaces, and of none.
 fn check_interfaces(alloc: Global) -> Result<(), Fail> {
     let mut parser = after_sections(alloc)?;
     let table = "
@@ -114,7 +114,7 @@ fn interfaces_of_packets(rt: HostRuntime) -> Result<(), Fail> {
     check_interfaces(rt.alloc())
 }
 
-// Why no parser is made of these bytes.
+// Returns why no parser is made from these bytes.
 fn no_parser(alloc: Global, slice: &[u8]) -> Result<String, Fail> {
     match &PcapNgParser::new(alloc, slice) {
         Ok(_) => Ok(String::from_str(alloc, "a parser")?),
@@ -128,21 +128,21 @@ fn first_blocks(rt: HostRuntime) -> Result<(), Fail> {
     every_row(rt.alloc(), TORN, no_parser)
 }
 
-// A block and its body, as text.
+// Formats a block and its body.
 fn lent(alloc: Global, block: &Block) -> Result<String, Fail> {
     let body = block.parsed(alloc)?;
     Ok(format!(in alloc; "{block:?} {body:?}")?)
 }
 
-// The same, where both outlive the slice.
+// Does the same after both outlived the slice.
 fn kept(alloc: Global, block: Block) -> Result<String, Fail> {
     let body = block.parsed(alloc)?.into_owned(alloc)?;
     let block = block.into_owned(alloc)?;
     Ok(format!(in alloc; "{block:?} {body:?}")?)
 }
 
-// The block of these bytes behind a big-endian section, as text: what is left, its order, and the block that is lent. Owned it
-// is the same.
+// Formats the block of these bytes after a big-endian section: what is left, its byte order, and the block that is lent. An owned block
+// must give the same.
 fn both(alloc: Global, slice: &[u8]) -> Result<String, Fail> {
     let (_none, mut parser) = PcapNgParser::new(alloc, &SECTION)?;
     let (rest, block) = parser.next_block(slice)?;

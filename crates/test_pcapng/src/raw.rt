@@ -1,4 +1,4 @@
-//! Blocks that are read and written again without a look at their bodies, or made again of what they hold.
+//! Blocks that are read and written again without parsing their bodies, or made again from their values.
 
 use crate::told::check;
 use pcap_file::pcapng::{
@@ -11,7 +11,7 @@ use std::test::Fail;
 use test_support::captures::SECTIONS;
 use test_support::readers::Halting;
 
-// A capture whose first section is written again, and each other block as it stands.
+// Writes the first section of a capture again, and each other block unchanged.
 fn copied(alloc: Global, capture: &[u8], step: usize) -> Result<Vec<u8>, Fail> {
     let stream = Halting::new(alloc, capture, step)?;
     let mut reader = PcapNgReader::new(alloc, stream)?;
@@ -25,13 +25,13 @@ fn copied(alloc: Global, capture: &[u8], step: usize) -> Result<Vec<u8>, Fail> {
     Ok(writer.into_writer())
 }
 
-// Whether the capture with two sections is the same again.
+// Returns whether the copy equals the capture with two sections.
 fn is_copied(alloc: Global, step: usize) -> Result<bool, Fail> {
     let out = copied(alloc, &SECTIONS, step)?;
     Ok(out.as_slice() == SECTIONS.as_slice())
 }
 
-// Copies by each step.
+// Checks copies with each size of reads.
 fn check_copies(alloc: Global) -> Result<(), Fail> {
     for step in [1, 7, 200] {
         check(is_copied(alloc, step)?, format_args!("by {step}"))?;
@@ -52,13 +52,13 @@ fn are_equal(made: &Block<'_>, read: &Block<'_>) -> bool {
         && made.body.as_slice() == read.body.as_slice()
 }
 
-// Whether a block is made again of what it holds while this order is said to be in force.
+// Returns whether a block equals the one that is made from its values, with this byte order.
 fn is_made_again(alloc: Global, block: &Block<'_>, order: Endianness) -> ResultParsing<bool> {
     let made = block.parsed(alloc)?.to_block(alloc, order)?;
     Ok(are_equal(&made, block))
 }
 
-// How many blocks of a capture, the first one among them, are; another one is made anew.
+// Returns how many blocks of a capture, with the first one, equal those that are made from their values in this byte order.
 fn made_again(alloc: Global, capture: &[u8], order: Endianness) -> ResultParsing<usize> {
     let (_rest, first) = Block::from_slice(order, capture)?;
     let mut same = usize::from(is_made_again(alloc, &first, order)?);
@@ -73,9 +73,9 @@ fn made_again(alloc: Global, capture: &[u8], order: Endianness) -> ResultParsing
     Ok(same)
 }
 
-// All blocks but the first, in each order.
+// Checks that three of the four blocks are the same when they are made again in each byte order.
 fn check_made(alloc: Global) -> Result<(), Fail> {
-    // a section and its interface in each order: a section is made in its own
+    // a section and its interface in each byte order: a section is made in its own
     let big = made_again(alloc, &SECTIONS, Endianness::Big)?;
     let little = made_again(alloc, &SECTIONS, Endianness::Little)?;
     check(big == 3 && little == 3, format_args!("{big} and {little}"))
@@ -86,7 +86,7 @@ fn blocks_made_again(rt: HostRuntime) -> Result<(), Fail> {
     check_made(rt.alloc())
 }
 
-// The message with which a block is not made.
+// Returns the message with which a block is not made.
 fn refusal<B: PcapNgBlock>(alloc: Global, block: &B) -> &'static str {
     match &block.to_block(alloc, Endianness::Little) {
         Err(PcapError::InvalidField(message)) => message,
@@ -94,7 +94,7 @@ fn refusal<B: PcapNgBlock>(alloc: Global, block: &B) -> &'static str {
     }
 }
 
-// The messages of a section with no magic number, and of a packet that has less data than it states.
+// Each of these returns a message: for a section without a magic number, and for a packet that has less data than it states.
 
 fn of_a_section(alloc: Global) -> &'static str {
     let section = SectionHeaderBlock {

@@ -12,7 +12,7 @@ use test_support::captures::{SECTION, SECTIONS, back, front};
 use test_support::readers::{EndsOnce, Halting};
 use test_support::rows::{bytes, every_row, same};
 
-// The kind of the error inside an `IoError`.
+// Returns the kind of the error inside an `IoError`.
 fn kind_of(error: &Option<PcapError>) -> Option<ErrorKind> {
     match error {
         Some(PcapError::IoError(error)) => Some(error.kind()),
@@ -20,7 +20,7 @@ fn kind_of(error: &Option<PcapError>) -> Option<ErrorKind> {
     }
 }
 
-// Whether this is what a reader gives of a capture of which so many bytes are used, and where it ends or fails.
+// Returns whether this is a reader's result for a capture of which `used` bytes are used, and its end or failure is right.
 fn is_read(
     read: &ResultParsing<NgRead<Halting>>,
     used: usize,
@@ -39,7 +39,7 @@ fn is_read(
     }
 }
 
-// Whether a run over so many bytes reads what it has to, by so many a read.
+// Returns whether a run over `end` bytes reads what it must, with `step` bytes a read.
 fn reads_to(alloc: Global, end: usize, step: usize) -> bool {
     let Ok(stream) = Halting::new(alloc, front(&SECTIONS, end), step) else {
         return false;
@@ -62,7 +62,7 @@ fn every_beginning(rt: HostRuntime) {
     }
 }
 
-// Whether a run reads what it has to where a call fails so after so many bytes, one a call.
+// Returns whether a run reads what it must if a call fails with this kind after `end` bytes, one a call.
 fn fails_at(alloc: Global, end: usize, kind: ErrorKind) -> bool {
     let Ok(mut stream) = Halting::new(alloc, &SECTIONS, 1) else {
         return false;
@@ -82,7 +82,7 @@ fn every_failed_read(rt: HostRuntime) {
     }
 }
 
-// A run that takes so many blocks at most, what comes, and how many bytes are taken.
+// A run with a limit on its blocks, what comes, and how many bytes are taken.
 struct Most {
     most: u64,
     told: &'static str,
@@ -112,7 +112,7 @@ const MOST: [Most; 4] = [
     },
 ];
 
-// A run that was refused nothing, as text: its blocks, what is in force after them, and how many bytes were taken.
+// Formats a run without errors: its blocks, the state after them, and how many bytes were taken.
 fn run(alloc: Global, step: usize, most: u64) -> Result<String, Fail> {
     let stream = Halting::new(alloc, &SECTIONS, step)?;
     let read = read_pcapng(alloc, stream, most)?;
@@ -122,14 +122,14 @@ fn run(alloc: Global, step: usize, most: u64) -> Result<String, Fail> {
     Ok(format!(in alloc; "{blocks}{state} {taken} {:?}", read.fault)?)
 }
 
-// Whether a run by so many bytes a read is that of a row.
+// Checks that a run with `step` bytes a read is that of a row.
 fn runs_as(alloc: Global, step: usize, row: &Most) -> Result<(), Fail> {
     let shown = run(alloc, step, row.most)?;
     let told = format!(in alloc; "{} {} None", row.told, row.taken)?;
     same(shown.as_str(), told.as_str())
 }
 
-// Each row by each step.
+// Checks each row with each size of reads.
 fn check_most(alloc: Global) -> Result<(), Fail> {
     for step in [1, 100] {
         for row in &MOST {
@@ -144,7 +144,7 @@ fn most_blocks(rt: HostRuntime) -> Result<(), Fail> {
     check_most(rt.alloc())
 }
 
-/// Blocks behind a section and an interface that are refused, and what a call tells of them.
+/// Blocks that are refused after a section and an interface, and the errors of a call.
 pub const REFUSED_BLOCKS: &str = r#"
     000000ff 0000000d => UnexpectedEof
     000000ff fffffffc 00000000 => UnexpectedEof
@@ -157,12 +157,12 @@ pub const REFUSED_BLOCKS: &str = r#"
     => None
 "#;
 
-// Whether no reader is made of a stream.
+// Returns whether no reader is made from a stream.
 fn makes_none<T: Read + Drop>(alloc: Global, stream: T) -> bool {
     PcapNgReader::new(alloc, stream).is_err()
 }
 
-// Why no reader is made of these bytes, by so many a read.
+// Returns why no reader is made from these bytes, with `step` bytes a read.
 fn no_reader(alloc: Global, bytes: &[u8], step: usize) -> Result<String, Fail> {
     let stream = Halting::new(alloc, bytes, step)?;
     match &PcapNgReader::new(alloc, stream) {
@@ -171,7 +171,7 @@ fn no_reader(alloc: Global, bytes: &[u8], step: usize) -> Result<String, Fail> {
     }
 }
 
-// The same, where no more than these bytes are taken although more stand behind them.
+// Does the same, and checks that no more than these bytes are taken although more follow them.
 fn takes_no_more(alloc: Global, bytes: &[u8], step: usize) -> Result<String, Fail> {
     let more = joined(alloc, bytes, &SECTION)?;
     let mut stream = Halting::new(alloc, more.as_slice(), step)?;
@@ -185,7 +185,7 @@ fn refused_first(alloc: Global, bytes: &[u8]) -> Result<String, Fail> {
     by_steps(alloc, bytes, takes_no_more)
 }
 
-// Whether the first block of a row ends early.
+// Checks that the first block of a row ends early.
 fn is_torn(alloc: Global, row: &str) -> Result<(), Fail> {
     let (digits, _shown) = row.split_once("=>").ok_or("a row with no arrow")?;
     let bytes = bytes(alloc, digits)?;
@@ -193,7 +193,7 @@ fn is_torn(alloc: Global, row: &str) -> Result<(), Fail> {
     same(told.as_str(), "UnexpectedEof")
 }
 
-// First blocks that are torn, and that are refused.
+// Checks truncated first blocks, and refused ones.
 fn check_first(alloc: Global) -> Result<(), Fail> {
     for row in TORN.trim().lines() {
         is_torn(alloc, row)?;
@@ -206,7 +206,7 @@ fn first_blocks(rt: HostRuntime) -> Result<(), Fail> {
     check_first(rt.alloc())
 }
 
-// What a reader gives next, as text.
+// Formats what a reader gives next.
 fn next(alloc: Global, reader: &mut PcapNgReader<Halting>) -> Result<String, Fail> {
     match &reader.next() {
         None => Ok(String::from_str(alloc, "None")?),
@@ -215,7 +215,7 @@ fn next(alloc: Global, reader: &mut PcapNgReader<Halting>) -> Result<String, Fai
     }
 }
 
-// What a reader gives behind a section, as text: three times, then what is in force, and whether a read failed.
+// Formats what a reader gives three times after a section, then its state, and whether a read failed.
 fn three(alloc: Global, capture: &[u8], step: usize) -> Result<String, Fail> {
     let stream = Halting::new(alloc, capture, step)?;
     let mut reader = PcapNgReader::new(alloc, stream)?;
@@ -228,7 +228,7 @@ fn three(alloc: Global, capture: &[u8], step: usize) -> Result<String, Fail> {
     Ok(shown)
 }
 
-// What it gives for these bytes behind a section and an interface, where nothing else comes.
+// Formats what it gives for these bytes after a section and an interface, if nothing else comes.
 fn refused(alloc: Global, bytes: &[u8]) -> Result<String, Fail> {
     let whole = joined(alloc, front(&SECTIONS, 48), bytes)?;
     let shown = by_steps(alloc, whole.as_slice(), three)?;
@@ -241,7 +241,7 @@ fn refused_blocks(rt: HostRuntime) -> Result<(), Fail> {
     every_row(rt.alloc(), REFUSED_BLOCKS, refused)
 }
 
-// Whether a reader gives blocks before and behind the end of a stream that goes on.
+// Returns whether a reader gives blocks before and after the end of a stream that goes on.
 fn goes_on(alloc: Global, step: usize) -> Result<bool, Fail> {
     let stream = EndsOnce {
         first: front(&SECTIONS, 48),
@@ -259,7 +259,7 @@ fn goes_on(alloc: Global, step: usize) -> Result<bool, Fail> {
     Ok(is_so && state.as_str() == "Little 1.0 -1 [] with ETHERNET/262144/[]")
 }
 
-// A stream that goes on, by each step.
+// Checks a stream that goes on, with each size of reads.
 fn check_ends(alloc: Global) -> Result<(), Fail> {
     for step in [1, 100] {
         check(goes_on(alloc, step)?, format_args!("by {step}"))?;
@@ -272,7 +272,7 @@ fn a_stream_that_goes_on(rt: HostRuntime) -> Result<(), Fail> {
     check_ends(rt.alloc())
 }
 
-// Whether a reader of these bytes finds an early end, and never asks for more room than it may.
+// Returns whether a reader of these bytes finds an early end, and never requests a larger buffer than it may.
 fn is_asked_in_parts(alloc: Global, bytes: &[u8], step: usize) -> Result<bool, Fail> {
     let stream = Halting::new(alloc, bytes, step)?;
     let mut reader = PcapNgReader::new(alloc, stream)?;
@@ -282,14 +282,14 @@ fn is_asked_in_parts(alloc: Global, bytes: &[u8], step: usize) -> Result<bool, F
     Ok(is_torn && reader.get_ref().most_room == 65_536)
 }
 
-// A section, and a block that states 4294967292 bytes and has 100008.
+// Returns a section, and a block that states 4294967292 bytes and has 100008.
 fn lying(alloc: Global) -> Result<Vec<u8>, AllocError> {
     let mut bytes = joined(alloc, &SECTION, &[0, 0, 0, 0xff, 0xff, 0xff, 0xff, 0xfc])?;
     bytes.resize(28 + 8 + 100_000, 0)?;
     Ok(bytes)
 }
 
-// A block that states more than there is.
+// Checks a block that states more bytes than there are.
 fn check_lying(alloc: Global) -> Result<(), Fail> {
     let bytes = lying(alloc)?;
     for step in [1000, 1_000_000] {

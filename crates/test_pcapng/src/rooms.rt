@@ -1,4 +1,4 @@
-//! The room that blocks are held in, and what is asked after the most blocks.
+//! The buffer that holds blocks, and the calls of the stream after the most blocks.
 
 use crate::told::check;
 use pcap_file::pcapng::PcapNgReader;
@@ -9,8 +9,8 @@ use test_support::captures::SECTIONS;
 use test_support::readers::Halting;
 use test_support::rows::bytes;
 
-// A little-endian section and five blocks of an unknown type, of 20, 20, 16, 20 and 28 bytes. No block has a zero where it
-// begins, nor behind its first twelve bytes.
+// Returns a little-endian section and five blocks of an unknown type, of 20, 20, 16, 20 and 28 bytes. No block has a zero where it
+// begins, nor after its first twelve bytes.
 fn blocks(alloc: Global) -> Result<Vec<u8>, Fail> {
     bytes(
         alloc,
@@ -23,12 +23,12 @@ fn blocks(alloc: Global) -> Result<Vec<u8>, Fail> {
     )
 }
 
-// How many calls were offered room that began with a zero, and how many blocks came by then.
+// Returns how many calls were given a buffer that began with a zero, after the blocks so far.
 fn clear(reader: &PcapNgReader<Halting>) -> usize {
     reader.get_ref().clear
 }
 
-// Whether a reader lends blocks of all lengths, and no room is new behind the first block.
+// Returns whether a reader lends blocks of all lengths, and uses no new buffer after the first block.
 fn lends_all(reader: &mut PcapNgReader<Halting>) -> bool {
     let mut is_so = clear(reader) == 2;
     for length in [8, 8, 4, 8, 16] {
@@ -38,8 +38,7 @@ fn lends_all(reader: &mut PcapNgReader<Halting>) -> bool {
     is_so
 }
 
-// Room that is new is offered for the head of the first block, and for the rest of it.
-// Blocks that are lent.
+// Checks blocks that are lent. A new buffer is used for the head of the first block, and for the rest of it.
 fn check_lent(alloc: Global) -> Result<(), Fail> {
     let bytes = blocks(alloc)?;
     let stream = Halting::new(alloc, bytes.as_slice(), 200)?;
@@ -53,7 +52,7 @@ fn lent_blocks_share_one_room(rt: HostRuntime) -> Result<(), Fail> {
     check_lent(rt.alloc())
 }
 
-// Whether a run gives five blocks, and no room is new behind the first one.
+// Returns whether a run gives five blocks, and uses no new buffer after the first one.
 fn owns_all(alloc: Global, stream: Halting) -> bool {
     match &read_pcapng(alloc, stream, 9) {
         Ok(read) => { read.blocks.len() == 5 && read.fault.is_none() && clear(&read.reader) == 2 }
@@ -61,7 +60,7 @@ fn owns_all(alloc: Global, stream: Halting) -> bool {
     }
 }
 
-// Blocks that are owned.
+// Checks blocks that are owned.
 fn check_owned(alloc: Global) -> Result<(), Fail> {
     let bytes = blocks(alloc)?;
     let stream = Halting::new(alloc, bytes.as_slice(), 200)?;
@@ -74,7 +73,7 @@ fn owned_blocks_share_one_room(rt: HostRuntime) -> Result<(), Fail> {
     check_owned(rt.alloc())
 }
 
-// Whether a run of so many blocks takes so many bytes, and asks for none behind them.
+// Returns whether a run of at most `most` blocks takes `taken` bytes, and doesn't read on.
 fn takes(alloc: Global, step: usize, most: u64, taken: usize) -> bool {
     let Ok(stream) = Halting::new(alloc, &SECTIONS, step) else {
         return false;

@@ -9,8 +9,7 @@ use std::test::Fail;
 use test_support::captures::{SECTION, SECTIONS, front};
 use test_support::rows::every_row;
 
-// What the run over these bytes comes to: its blocks, what is in force after them, how many bytes it takes, and what
-// stands after them.
+// Formats the run over these bytes: its blocks, the state after them, how many bytes it takes, and what follows them.
 fn run(alloc: Global, bytes: &[u8]) -> Result<String, Fail> {
     let run = match parse_pcapng(alloc, bytes) {
         Ok(run) => run,
@@ -21,7 +20,7 @@ fn run(alloc: Global, bytes: &[u8]) -> Result<String, Fail> {
     Ok(format!(in alloc; "{blocks}{state} used {} {:?}", run.used, run.rest)?)
 }
 
-// The same behind a big-endian section.
+// Does the same after a big-endian section.
 fn run_behind(alloc: Global, bytes: &[u8]) -> Result<String, Fail> {
     let whole = joined(alloc, &SECTION, bytes)?;
     run(alloc, whole.as_slice())
@@ -49,7 +48,7 @@ fn runs(rt: HostRuntime) -> Result<(), Fail> {
     every_row(rt.alloc(), table, run_behind)
 }
 
-/// First blocks with which no capture begins, and what a parser says of them.
+/// First blocks with which no capture begins, and the errors of a parser.
 pub const REFUSED: &str = r#"
     0a0d0d0a 0000000c 1a2b3c4d => InvalidField("Block initial_length != trailer_length")
     0a0d0d0a 00000010 1a2b3c4d 00000010 => InvalidField("SectionHeaderBlock: block length < 16")
@@ -62,7 +61,7 @@ pub const REFUSED: &str = r#"
     00000099 00000008 00000008 => InvalidField("Block: initial_len < 12")
 "#;
 
-/// First blocks of which bytes are missing.
+/// First blocks that are truncated.
 pub const TORN: &str = "
     => IncompleteBuffer(12)
     0a0d0d0a 0000001c 1a2b3c => IncompleteBuffer(1)
@@ -75,8 +74,8 @@ fn refused_runs(rt: HostRuntime) -> Result<(), Fail> {
     every_row(rt.alloc(), TORN, run)
 }
 
-/// Of the beginnings of the capture with two sections: from how many bytes on, how many are used, and how many there have
-/// to be before there is more to say.
+/// For the beginnings of the capture with two sections: from how many bytes on, how many are used, and how many bytes in all the
+/// parser needs to go on.
 pub const BEGINNINGS: [(usize, usize, usize); 12] = [
     (0, 0, 12),
     (12, 0, 28),
@@ -92,7 +91,7 @@ pub const BEGINNINGS: [(usize, usize, usize); 12] = [
     (96, 96, 96),
 ];
 
-/// The row of the beginning of this length.
+/// Returns the row of the beginning of this length.
 pub fn beginning(end: usize) -> (usize, usize) {
     let mut row = (0, 0);
     for (from, used, wanted) in BEGINNINGS {
@@ -103,7 +102,7 @@ pub fn beginning(end: usize) -> (usize, usize) {
     row
 }
 
-/// How many blocks after the first lie in so many bytes of it.
+/// Returns how many blocks after the first are in its first `used` bytes.
 pub fn count(used: usize) -> usize {
     match used {
         96 => 3,
@@ -113,7 +112,7 @@ pub fn count(used: usize) -> usize {
     }
 }
 
-// Whether this is the run over the first bytes, of which so many are used, and so many more are missing.
+// Returns whether this is the run over the first bytes, of which `used` are used, and `missing` more are missing.
 fn is_run(run: &ResultParsing<NgRun>, used: usize, missing: usize) -> bool {
     match run {
         Err(PcapError::IncompleteBuffer(n)) => used == 0 && *n == missing,
@@ -129,7 +128,7 @@ fn is_run(run: &ResultParsing<NgRun>, used: usize, missing: usize) -> bool {
     }
 }
 
-// Whether the run over so many bytes is the one that it has to be.
+// Returns whether the run over the first `end` bytes is the right one.
 fn runs_to(alloc: Global, end: usize) -> bool {
     let (used, wanted) = beginning(end);
     let missing = wanted.saturating_sub(end);

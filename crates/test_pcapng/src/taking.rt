@@ -1,4 +1,4 @@
-//! Blocks that a parser takes off a stream.
+//! Blocks that a parser takes from a stream.
 
 use crate::reader::REFUSED_BLOCKS;
 use crate::runs::{REFUSED, TORN, beginning, count};
@@ -11,7 +11,7 @@ use test_support::captures::{SECTION, SECTIONS, back, front};
 use test_support::readers::{EndsOnce, Halting};
 use test_support::rows::{bytes, every_row, same};
 
-// What a parser takes off a stream next.
+// Formats what a parser takes from a stream next.
 fn next(alloc: Global, parser: &mut PcapNgParser, stream: &mut Halting) -> Result<String, Fail> {
     match parser.read_block(stream) {
         Ok(None) => Ok(String::from_str(alloc, "None")?),
@@ -20,7 +20,7 @@ fn next(alloc: Global, parser: &mut PcapNgParser, stream: &mut Halting) -> Resul
     }
 }
 
-// Why no parser is made of a stream, if none is.
+// Returns why no parser is made from a stream, if none is.
 fn first(alloc: Global, stream: &mut Halting) -> Result<String, Fail> {
     match PcapNgParser::from_reader(alloc, stream) {
         Ok(_) => Ok(String::from_str(alloc, "a parser")?),
@@ -28,7 +28,7 @@ fn first(alloc: Global, stream: &mut Halting) -> Result<String, Fail> {
     }
 }
 
-// How many blocks come behind the first one, up to the end of the stream or a refusal, and what that is.
+// Returns how many blocks come after the first one, up to the end of the stream or an error, and which of these it is.
 fn blocks_of(alloc: Global, stream: &mut Halting) -> Result<(usize, String), Fail> {
     let mut blocks = 0usize;
     let mut parser = match PcapNgParser::from_reader(alloc, stream) {
@@ -45,7 +45,7 @@ fn blocks_of(alloc: Global, stream: &mut Halting) -> Result<(usize, String), Fai
     Ok((blocks, String::from_str(alloc, "None")?))
 }
 
-// Whether a parser takes the blocks of so many bytes, by so many a read.
+// Returns whether a parser takes the blocks of the first `end` bytes, with `step` bytes a read.
 fn takes_to(alloc: Global, end: usize, step: usize) -> Result<bool, Fail> {
     let mut stream = Halting::new(alloc, front(&SECTIONS, end), step)?;
     let (blocks, told) = blocks_of(alloc, &mut stream)?;
@@ -58,7 +58,7 @@ fn takes_to(alloc: Global, end: usize, step: usize) -> Result<bool, Fail> {
     Ok(blocks == count(used) && told.as_str() == end_is)
 }
 
-// Each beginning by each step.
+// Checks each beginning with each size of reads.
 fn check_beginnings(alloc: Global) -> Result<(), Fail> {
     for step in [1, 5, 100] {
         for end in 0..97 {
@@ -73,7 +73,7 @@ fn every_beginning(rt: HostRuntime) -> Result<(), Fail> {
     check_beginnings(rt.alloc())
 }
 
-// Whether a parser takes the blocks before the call that fails so, after so many bytes, one a call.
+// Returns whether a parser takes the blocks before the call that fails with this kind, after `end` bytes, one a call.
 fn fails_at(alloc: Global, end: usize, kind: ErrorKind, kind_is: &str) -> Result<bool, Fail> {
     let mut stream = Halting::new(alloc, &SECTIONS, 1)?;
     stream.fails_at = end.saturating_add(1);
@@ -83,7 +83,7 @@ fn fails_at(alloc: Global, end: usize, kind: ErrorKind, kind_is: &str) -> Result
     Ok(blocks == count(used) && told.as_str() == kind_is)
 }
 
-// Each read that can fail, in both ways.
+// Checks each read that can fail, in both ways.
 fn check_reads(alloc: Global) -> Result<(), Fail> {
     for (kind, kind_is) in [
         (ErrorKind::Other, "Other"),
@@ -104,13 +104,13 @@ fn every_failed_read(rt: HostRuntime) -> Result<(), Fail> {
     check_reads(rt.alloc())
 }
 
-// Why no parser is made of a stream of these bytes.
+// Returns why no parser is made from a stream of these bytes.
 fn no_parser(alloc: Global, bytes: &[u8], step: usize) -> Result<String, Fail> {
     let mut stream = Halting::new(alloc, bytes, step)?;
     first(alloc, &mut stream)
 }
 
-// The same where more stand behind them, of which none are taken.
+// Does the same if more bytes follow them, of which none are taken.
 fn takes_no_more(alloc: Global, bytes: &[u8], step: usize) -> Result<String, Fail> {
     let whole = joined(alloc, bytes, &SECTION)?;
     let mut stream = Halting::new(alloc, whole.as_slice(), step)?;
@@ -125,7 +125,7 @@ fn refused_first(alloc: Global, bytes: &[u8]) -> Result<String, Fail> {
     by_steps(alloc, bytes, takes_no_more)
 }
 
-// Whether the first block of a row ends early.
+// Checks that the first block of a row ends early.
 fn is_torn(alloc: Global, row: &str) -> Result<(), Fail> {
     let (digits, _shown) = row.split_once("=>").ok_or("a row with no arrow")?;
     let bytes = bytes(alloc, digits)?;
@@ -133,7 +133,7 @@ fn is_torn(alloc: Global, row: &str) -> Result<(), Fail> {
     same(told.as_str(), "UnexpectedEof")
 }
 
-// First blocks that are torn, and that are refused.
+// Checks truncated first blocks, and refused ones.
 fn check_first(alloc: Global) -> Result<(), Fail> {
     for row in TORN.trim().lines() {
         is_torn(alloc, row)?;
@@ -146,7 +146,7 @@ fn first_blocks(rt: HostRuntime) -> Result<(), Fail> {
     check_first(rt.alloc())
 }
 
-// What a parser takes off a stream of this capture behind its section, as text: two blocks, and what is in force then.
+// Formats what a parser takes from a stream of this capture after its section: two blocks, and its state then.
 fn two(alloc: Global, capture: &[u8], step: usize) -> Result<String, Fail> {
     let mut stream = Halting::new(alloc, capture, step)?;
     let mut parser = PcapNgParser::from_reader(alloc, &mut stream)?;
@@ -156,7 +156,7 @@ fn two(alloc: Global, capture: &[u8], step: usize) -> Result<String, Fail> {
     Ok(format!(in alloc; "{one} {two} {state}")?)
 }
 
-// What it takes of these bytes behind a section and an interface, which stay in force.
+// Formats what it takes from these bytes after a section and an interface, which must not change.
 fn refused(alloc: Global, bytes: &[u8]) -> Result<String, Fail> {
     let whole = joined(alloc, front(&SECTIONS, 48), bytes)?;
     let shown = by_steps(alloc, whole.as_slice(), two)?;
@@ -169,13 +169,13 @@ fn refused_blocks(rt: HostRuntime) -> Result<(), Fail> {
     every_row(rt.alloc(), REFUSED_BLOCKS, refused)
 }
 
-// Whether this is in force.
+// Returns whether the parser's section is little-endian.
 fn is_little(alloc: Global, parser: &PcapNgParser) -> Result<bool, Fail> {
     let state = state(alloc, parser.section(), parser.interfaces())?;
     Ok(state.as_str() == "Little 1.0 -1 [] with ETHERNET/262144/[]")
 }
 
-// A stream that goes on, by each step.
+// Checks a stream that goes on, with each size of reads.
 fn check_ends(alloc: Global) -> Result<(), Fail> {
     for step in [1, 100] {
         let mut stream = EndsOnce {
@@ -203,7 +203,7 @@ fn a_stream_that_goes_on(rt: HostRuntime) -> Result<(), Fail> {
     check_ends(rt.alloc())
 }
 
-// How many bytes of a slice are left behind a parser's next block, if one comes.
+// Returns how many bytes of a slice are left after a parser's next block, if one comes.
 fn left_behind(parser: &mut PcapNgParser, slice: &[u8]) -> Option<usize> {
     match &parser.next_block(slice) {
         Ok((rest, _)) => Some(rest.len()),
@@ -211,7 +211,7 @@ fn left_behind(parser: &mut PcapNgParser, slice: &[u8]) -> Option<usize> {
     }
 }
 
-// Whether a parser takes a block of a slice, then one off a stream, and then one of a slice again.
+// Returns whether a parser takes a block from a slice, then one from a stream, and then one from a slice again.
 fn goes_between(alloc: Global, step: usize) -> Result<bool, Fail> {
     let mut stream = Halting::new(alloc, front(&SECTIONS, 28), step)?;
     let mut parser = PcapNgParser::from_reader(alloc, &mut stream)?;
@@ -223,7 +223,7 @@ fn goes_between(alloc: Global, step: usize) -> Result<bool, Fail> {
     Ok(is_first && is_second && is_third && is_little(alloc, &parser)?)
 }
 
-// A slice between two streams, by each step.
+// Checks slices and a stream in turn, with each size of reads.
 fn check_between(alloc: Global) -> Result<(), Fail> {
     for step in [1, 100] {
         check(goes_between(alloc, step)?, format_args!("by {step}"))?;

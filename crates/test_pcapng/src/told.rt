@@ -1,4 +1,4 @@
-//! Blocks, what is in force after them, and refusals, as text.
+//! Formats blocks, the state after them, and errors as text.
 
 use pcap_file::PcapError;
 use pcap_file::pcapng::{Block, InterfaceDescriptionBlock, SectionHeaderBlock};
@@ -7,7 +7,7 @@ use std::fmt::Display;
 use std::test::Fail;
 use test_support::rows::same;
 
-/// The blocks: type, both lengths, order.
+/// Formats the blocks: type, both lengths, byte order.
 pub fn blocks(alloc: Global, blocks: &[Block]) -> Result<String, Fail> {
     let mut told = String::new(alloc);
     for block in blocks {
@@ -21,7 +21,7 @@ pub fn blocks(alloc: Global, blocks: &[Block]) -> Result<String, Fail> {
     Ok(told)
 }
 
-/// The section: order, version, stated length, options; and its interfaces: link type, snaplen, options.
+/// Formats the section: byte order, version, stated length, options; and its interfaces: link type, snapshot length, options.
 pub fn state(
     alloc: Global,
     section: &SectionHeaderBlock,
@@ -50,7 +50,7 @@ pub fn state(
     Ok(told)
 }
 
-/// What a refusal tells: the kind of an `IoError`, else the error.
+/// Formats an error: the kind of an `IoError`, or else the error.
 pub fn refusal(alloc: Global, error: &PcapError) -> Result<String, Fail> {
     match error {
         PcapError::IoError(error) => Ok(format!(in alloc; "{:?}", error.kind())?),
@@ -58,14 +58,14 @@ pub fn refusal(alloc: Global, error: &PcapError) -> Result<String, Fail> {
     }
 }
 
-/// Some bytes, and then others.
+/// Returns some bytes, and then others.
 pub fn joined(alloc: Global, bytes: &[u8], others: &[u8]) -> Result<Vec<u8>, AllocError> {
     let mut whole = Vec::from_slice(alloc, bytes)?;
     whole.extend_from_slice(others)?;
     Ok(whole)
 }
 
-/// What a text has between these two; all of it where it doesn't begin and end so.
+/// Returns what a text has between these two, or all of it if it doesn't begin and end so.
 pub fn between(alloc: Global, text: &str, before: &str, after: &str) -> Result<String, Fail> {
     let inner = match text.strip_prefix(before) {
         Some(rest) => rest.strip_suffix(after),
@@ -74,8 +74,8 @@ pub fn between(alloc: Global, text: &str, before: &str, after: &str) -> Result<S
     Ok(String::from_str(alloc, inner.unwrap_or(text))?)
 }
 
-/// What a call gives for these bytes off a stream that gives one byte a read, and for one that gives a hundred, which has to be
-/// the same.
+/// Returns the result of a call for these bytes from a stream that gives one byte a read. A stream that gives a hundred must have the
+/// same result.
 pub fn by_steps<F: Fn(Global, &[u8], usize) -> Result<String, Fail>>(
     alloc: Global,
     bytes: &[u8],
@@ -89,7 +89,7 @@ pub fn by_steps<F: Fn(Global, &[u8], usize) -> Result<String, Fail>>(
     Ok(one)
 }
 
-/// A failure that tells why, unless it is so.
+/// Returns a failure that states why, unless `is_so` holds.
 pub fn check<D: Display + Drop>(is_so: bool, why: D) -> Result<(), Fail> {
     if is_so {
         return Ok(());

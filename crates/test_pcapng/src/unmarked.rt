@@ -1,4 +1,4 @@
-//! Captures whose first section has a list of options with no end mark.
+//! Captures whose first section has a list of options without an end mark.
 
 use crate::told::state;
 use pcap_file::PcapNgParser;
@@ -6,13 +6,13 @@ use std::alloc::Global;
 use std::test::Fail;
 use test_support::rows::every_row;
 
-/// One section header of 36 bytes, whose only option is a comment, in both orders.
+/// A section header of 36 bytes, whose only option is a comment, in both byte orders.
 const UNMARKED: &str = r#"
     0a0d0d0a 00000024 1a2b3c4d 0001 0000 ffffffffffffffff 0001 0002 6869 0000 00000024 => Big 1.0 -1 [Comment("hi")] with
     0a0d0d0a 24000000 4d3c2b1a 0100 0000 ffffffffffffffff 0100 0200 6869 0000 24000000 => Little 1.0 -1 [Comment("hi")] with
 "#;
 
-// What is in force after such a capture, which a parser takes whole.
+// Formats the state after such a capture, which a parser takes whole.
 
 fn from_a_slice(alloc: Global, capture: &[u8]) -> Result<String, Fail> {
     let (rest, parser) = PcapNgParser::new(alloc, capture)?;

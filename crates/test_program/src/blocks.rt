@@ -1,4 +1,4 @@
-//! The word `blocks` over inputs and outputs in memory.
+//! The word `blocks` on inputs and outputs in memory.
 
 use crate::runs::{ALL, ROOMS, Run, says, stops_behind_each, writes};
 use std::alloc::Global;
@@ -8,7 +8,7 @@ use test_support::rows::{bytes, every_row};
 
 const SECTION_LINE: &str = "section big 1.0\n";
 
-/// Bytes after a big-endian section header, the lines of their blocks, each with a semicolon, and the line of what ends them.
+/// Bytes after a big-endian section header, the lines of their blocks, each with a semicolon, and the line that reports the end.
 const ROWS: &str = "
     =>  =>
     00000006 0000000c 0000000c 000000ff 0000000c 0000000c => 1 enhanced 12 refused;2 unknown:255 12 ok; =>
@@ -25,7 +25,7 @@ const ROWS: &str = "
     000000ff 0000000c 0000000c 00 => 1 unknown:255 12 ok; => capcopy: input or output failed or ended early
 ";
 
-// Whether these blocks behind a section header have these lines behind each buffer, and this line of what ends them.
+// Checks that these blocks after a section header have these lines, and this last line, with each buffer.
 fn tells(alloc: Global, digits: &str, lines: &str, end: &str) -> Result<(), Fail> {
     let blocks = bytes(alloc, digits)?;
     let mut capture = Vec::from_slice(alloc, front(&SECTIONS, 28))?;
@@ -49,7 +49,7 @@ fn blocks(rt: HostRuntime) -> Result<(), Fail> {
     Ok(())
 }
 
-/// Bytes that a capture begins with, and the status of the run, which writes nothing.
+/// Bytes at the start of a capture, and the status of the run, which writes nothing.
 const FIRST_BLOCKS: &str = "
     => 3
     0a0d0d0a 0000001c 1a2b3c4d 0001 => 3
@@ -59,7 +59,7 @@ const FIRST_BLOCKS: &str = "
     a1b2c3d4 0002 0005 00000000 00000000 0000ffff 00000001 => 1
 ";
 
-// The status of a run over these bytes, seven a read, which writes nothing.
+// Returns the status of a run over these bytes, seven a read, which writes nothing.
 fn status(alloc: Global, bytes: &[u8]) -> Result<String, Fail> {
     let mut run = Run::new(&["blocks"], bytes, 16, ALL);
     run.step = 7;
@@ -72,7 +72,7 @@ fn first_blocks(rt: HostRuntime) -> Result<(), Fail> {
     every_row(rt.alloc(), FIRST_BLOCKS, status)
 }
 
-// Whether a run of so many lines at most has these, each with a semicolon, and takes so many bytes.
+// Checks that a run of at most `most` lines has these, each with a semicolon, and takes `taken` bytes.
 fn stops(alloc: Global, most: u64, lines: &str, taken: usize) -> Result<(), Fail> {
     let lines = lines.replace(alloc, ";", "\n")?;
     let wanted = format!(in alloc; "{SECTION_LINE}{lines}")?;

@@ -1,4 +1,4 @@
-//! The program over an input and an output that fail.
+//! The program on an input and an output that fail.
 
 use crate::runs::{ROOMS, Ran, Run, ended, is_out, writes};
 use std::alloc::Global;
@@ -14,8 +14,7 @@ pub(crate) const LINE: &str = "1 1335958313.152630000 98/98\n";
 pub(crate) const LINES: &str =
     "section big 1.0\n1 interface 20 ok\n2 section 28 ok\n3 interface 20 ok\n";
 
-// Whether a run of this word ends with status 3 behind each buffer where this call fails, one byte a call, and these bytes
-// go out.
+// Checks that a run of this word ends with status 3 with each buffer if this call fails, one byte a call, and that it writes these bytes.
 fn fails(
     alloc: Global,
     word: &str,
@@ -34,7 +33,7 @@ fn fails(
     Ok(())
 }
 
-// Whether a run ended with status 3; else a failure with a number to find it by.
+// Checks that a run ended with status 3. Otherwise it returns a failure with a number that identifies the run.
 fn is_status_3(ran: Ran, number: usize) -> Result<(), Fail> {
     if ran.status == 3 {
         return Ok(());
@@ -42,7 +41,7 @@ fn is_status_3(ran: Ran, number: usize) -> Result<(), Fail> {
     Err(Fail::new(format_args!("it ends with status {} at {number}", ran.status)))
 }
 
-// The call that fails comes after all of the input.
+// Checks a call that fails after all of the input.
 #[test]
 fn interrupted_reads(rt: HostRuntime) -> Result<(), Fail> {
     let bytes = big(rt.alloc())?;
@@ -52,7 +51,7 @@ fn interrupted_reads(rt: HostRuntime) -> Result<(), Fail> {
     fails(rt.alloc(), "blocks", &SECTIONS, 97, LINES.as_bytes())
 }
 
-// Whether a run of this word ends with status 3 into each output of less room than these bytes, and has their beginning written.
+// Checks that a run of this word ends with status 3 for each output with space for fewer bytes than these, and writes their beginning.
 fn fills(alloc: Global, word: &str, bytes: &[u8], written: &[u8]) -> Result<(), Fail> {
     for room in 0..written.len() {
         let words = [word];
@@ -73,8 +72,8 @@ fn narrow_outputs(rt: HostRuntime) -> Result<(), Fail> {
     fills(rt.alloc(), "blocks", &SECTIONS, LINES.as_bytes())
 }
 
-// Whether a run of this word fails at its second read, with status 3, and these lines, each with a semicolon, are out by
-// then: those of the items that are whole in the first read, which gives so many bytes.
+// Checks that a run of this word fails at its second read, with status 3. It must have written these lines, each with a semicolon: those
+// of the items that are whole in the first read, of `step` bytes.
 fn lets_out(alloc: Global, word: &str, bytes: &[u8], step: usize, lines: &str) -> Result<(), Fail> {
     let lines = lines.replace(alloc, ";", "\n")?;
     let words = [word];
@@ -88,7 +87,7 @@ fn lets_out(alloc: Global, word: &str, bytes: &[u8], step: usize, lines: &str) -
     is_status_3(ran, step)
 }
 
-// The input fails at its second read, and what was listed of the first one is out by then, though the output has a buffer.
+// Checks that the lines from the first read are written before the second read fails, although the output has a buffer.
 #[test]
 fn lines_are_out_before_the_input_fails(rt: HostRuntime) -> Result<(), Fail> {
     let mut bytes = big(rt.alloc())?;

@@ -1,4 +1,4 @@
-//! Reads and writes that are interrupted, once and several times in a row.
+//! Reads and writes that are interrupted, once or several times in a row.
 
 use crate::failing::{LINE, LINES};
 use crate::runs::{End, Run, end_of, ended, is_out};
@@ -11,7 +11,7 @@ use test_support::captures::{SECTIONS, big, front};
 use test_support::readers::Halting;
 use test_support::writers::Narrow;
 
-// A stream of these bytes, twenty a read, of which so many calls fail so, from this one on.
+// Returns a stream of these bytes, twenty a read, in which calls fail with this kind from `fails_at` on.
 fn failing_at(
     alloc: Global,
     bytes: &[u8],
@@ -26,7 +26,7 @@ fn failing_at(
     Ok(stream)
 }
 
-// Whether a run of this word over the stream, with reads that are repeated, is done, and these bytes go out.
+// Checks that a run of this word over the stream, with repeated reads, succeeds and writes these bytes.
 fn repeats(alloc: Global, word: &str, stream: Halting, written: &[u8]) -> Result<(), Fail> {
     let at = stream.fails_at;
     let mut input = BufReader::with_capacity(alloc, 40, Uninterrupted::new(stream))?;
@@ -39,7 +39,7 @@ fn repeats(alloc: Global, word: &str, stream: Halting, written: &[u8]) -> Result
     Err(Fail::new(format_args!("{word} is not done at {at}")))
 }
 
-// The same where one, two and five calls fail from each of the first eight on.
+// Does the same with one, two and five failing calls from each of the first eight on.
 fn repeats_each(alloc: Global, word: &str, bytes: &[u8], written: &[u8]) -> Result<(), Fail> {
     for fails_for in [1, 2, 5] {
         for at in 1..9 {
@@ -59,7 +59,7 @@ fn repeated_reads(rt: HostRuntime) -> Result<(), Fail> {
     repeats_each(rt.alloc(), "blocks", &SECTIONS, LINES.as_bytes())
 }
 
-// Whether the word `list` over the bare stream is done, and these bytes go out.
+// Returns whether the word `list` over the bare stream succeeds and writes these bytes.
 fn repeats_words(alloc: Global, stream: Halting, written: &[u8]) -> Result<bool, Fail> {
     let words = [b"list".as_slice()];
     let mut output = Vec::new(alloc);
@@ -82,7 +82,7 @@ fn repeated_reads_of_words(rt: HostRuntime) -> Result<(), Fail> {
     Ok(())
 }
 
-// Fails with each of these kinds in turn, and then gives one byte, 7, at each call.
+// A stream that fails with each of these kinds in turn, and then gives one byte, 7, at each call.
 #[derive(Drop)]
 struct Failing<'a> {
     kinds: &'a [ErrorKind],
@@ -104,8 +104,8 @@ impl Read for Failing<'_> {
     }
 }
 
-// Whether a read of one byte tells this kind, or gives the byte where there is none, at so many calls, where the stream
-// below fails with each of these kinds in turn.
+// Returns whether a read of one byte reports the kind `wanted`, or gives the byte if that is None, after `wanted_calls` calls of a stream
+// that fails with each of these kinds in turn.
 fn tells(kinds: &[ErrorKind], wanted: Option<ErrorKind>, wanted_calls: usize) -> bool {
     let mut calls = 0;
     let mut stream = Uninterrupted::new(Failing {
@@ -141,7 +141,7 @@ fn told_kinds(rt: HostRuntime) {
     assert!(rt; tells(&[INTERRUPTED, INTERRUPTED, zero], Some(zero), 3));
 }
 
-// Whether a run of this word over a stream whose fourth call fails so ends with this kind.
+// Returns whether a run of this word over a stream whose fourth call fails ends with this kind of error.
 fn fails(alloc: Global, word: &str, bytes: &[u8], kind: ErrorKind) -> Result<bool, Fail> {
     let stream = failing_at(alloc, bytes, 4, 1, kind)?;
     let mut input = BufReader::with_capacity(alloc, 40, Uninterrupted::new(stream))?;
@@ -164,8 +164,8 @@ fn failed_reads(rt: HostRuntime) -> Result<(), Fail> {
     Ok(())
 }
 
-// Whether a run of this word into an output of which this call is interrupted, or takes nothing, ends with this kind, at
-// that call, and these bytes were written before it.
+// Returns whether a run of this word ends with this kind of error if this call of its output is interrupted or takes nothing. It must end
+// at that call, after it wrote these bytes.
 fn halts(
     alloc: Global,
     word: &str,
@@ -184,7 +184,7 @@ fn halts(
     Err(Fail::new(format_args!("{word} ends otherwise where call {call} halts")))
 }
 
-// The same of both kinds, where so many of these bytes were written.
+// Does the same for both kinds, after the expected number of these bytes.
 fn halts_both(
     alloc: Global,
     word: &str,
@@ -198,7 +198,7 @@ fn halts_both(
     halts(alloc, word, bytes, call, ErrorKind::WriteZero, written)
 }
 
-// The output takes ten bytes in a call, and flushes before the first packet, and after the section.
+// Checks an output that takes ten bytes in a call. The program flushes it before the first packet, and after the section.
 #[test]
 fn halted_writes(rt: HostRuntime) -> Result<(), Fail> {
     let bytes = big(rt.alloc())?;

@@ -1,4 +1,4 @@
-//! The program over inputs and outputs in memory.
+//! Tests of the program on inputs and outputs in memory.
 #![tactic(auto)]
 
 #[cfg(test)]

@@ -1,6 +1,6 @@
-//! Runs of the program over inputs and outputs in memory, and how they end.
+//! Runs of the program on inputs and outputs in memory, and how they end.
 //!
-//! What a run makes is let go in here: a test gets a copy of what there is to compare, or a failure.
+//! These functions free what a run makes: a test gets a copy of the values to compare, or a failure.
 
 use capcopy_run::{Exit, run};
 use pcap_classic::PcapError;
@@ -10,14 +10,14 @@ use std::test::Fail;
 use test_support::readers::Halting;
 use test_support::rows::same;
 
-/// The sizes of an input's buffer. The smaller ones cut headers and packets everywhere.
+/// The sizes of an input's buffer, in bytes. The smaller ones split headers and packets everywhere.
 pub(crate) const ROOMS: [usize; 5] = [1, 16, 17, 40, 65536];
 
-/// The most lines or packets of a run that asks for all.
+/// The limit of lines or packets for a run over all.
 pub(crate) const ALL: u64 = 4_294_967_295;
 
-/// A run: its words, the bytes of its input, the size of the input's buffer, the most bytes of one read, the read that fails,
-/// counted from 1, or 0, and the most lines or packets.
+/// A run: its words, the bytes of its input, the size of the input's buffer, the most bytes of one read, the number of the read that
+/// fails, or 0, and the most lines or packets.
 #[derive(Clone, Copy)]
 pub(crate) struct Run<'a> {
     pub words: &'a [&'a str],
@@ -30,7 +30,7 @@ pub(crate) struct Run<'a> {
 }
 
 impl<'a> Run<'a> {
-    /// A run whose reads don't fail and give a thousand bytes at most.
+    /// Makes a run whose reads don't fail and give at most a thousand bytes.
     pub fn new(words: &'a [&'a str], bytes: &'a [u8], room: usize, most: u64) -> Run<'a> {
         Run {
             words,
@@ -54,7 +54,7 @@ pub(crate) enum End {
     Another,
 }
 
-/// How a run ended, how many bytes of its input were taken, how often this was read, and how often nothing was left then.
+/// How a run ended, how many bytes of its input were taken, how often the input was read, and how often nothing was left.
 #[derive(Clone, Copy)]
 pub(crate) struct Ran {
     pub end: End,
@@ -65,7 +65,7 @@ pub(crate) struct Ran {
 }
 
 impl Ran {
-    /// Whether the run ended so, with the status that this has.
+    /// Returns whether the run ended so, with the matching status.
     pub fn is(self, end: End) -> bool {
         match (self.end, end) {
             (End::Done, End::Done) => self.status == 0,
@@ -77,7 +77,7 @@ impl Ran {
     }
 }
 
-/// Why a run with this exit ended.
+/// Returns why a run with this exit ended.
 pub(crate) fn end_of(exit: &Exit) -> End {
     match exit {
         Exit::Done => End::Done,
@@ -88,7 +88,7 @@ pub(crate) fn end_of(exit: &Exit) -> End {
     }
 }
 
-// The exit of a run, and how it ended.
+// Returns the exit of a run, and how it ended.
 fn exit_of<W: Write>(alloc: Global, given: &Run<'_>, output: &mut W) -> Result<(Exit, Ran), Fail> {
     let mut stream = Halting::new(alloc, given.bytes, given.step)?;
     stream.fails_at = given.fails_at;
@@ -107,13 +107,13 @@ fn exit_of<W: Write>(alloc: Global, given: &Run<'_>, output: &mut W) -> Result<(
     Ok((exit, ran))
 }
 
-/// How a run ended that writes to this output.
+/// Returns how a run ended that writes to this output.
 pub(crate) fn ended<W: Write>(alloc: Global, given: &Run<'_>, output: &mut W) -> Result<Ran, Fail> {
     let (_exit, ran) = exit_of(alloc, given, output)?;
     Ok(ran)
 }
 
-/// Whether what went out of a run is what had to; else a failure that tells how long both are.
+/// Checks that a run wrote what it had to. Otherwise it returns a failure with both lengths.
 pub(crate) fn is_out(out: &[u8], wanted: &[u8], room: usize) -> Result<(), Fail> {
     if out == wanted {
         return Ok(());
@@ -124,7 +124,7 @@ pub(crate) fn is_out(out: &[u8], wanted: &[u8], room: usize) -> Result<(), Fail>
     )))
 }
 
-/// How a run ended of which these bytes go out, and no others.
+/// Returns how a run ended, after it checks that the run wrote exactly these bytes.
 pub(crate) fn writes(alloc: Global, given: &Run<'_>, wanted: &[u8]) -> Result<Ran, Fail> {
     let mut output = Vec::new(alloc);
     let ran = ended(alloc, given, &mut output)?;
@@ -132,7 +132,7 @@ pub(crate) fn writes(alloc: Global, given: &Run<'_>, wanted: &[u8]) -> Result<Ra
     Ok(ran)
 }
 
-/// The same, where this is its line on standard error.
+/// Does the same, and checks its line on standard error.
 pub(crate) fn says(alloc: Global, given: &Run<'_>, wanted: &[u8], line: &str) -> Result<Ran, Fail> {
     let mut output = Vec::new(alloc);
     let (exit, ran) = exit_of(alloc, given, &mut output)?;
@@ -142,7 +142,7 @@ pub(crate) fn says(alloc: Global, given: &Run<'_>, wanted: &[u8], line: &str) ->
     Ok(ran)
 }
 
-/// Whether a run of these words over this input ends so behind each buffer, and these bytes go out.
+/// Checks that a run of these words over this input ends so with each buffer, and writes these bytes.
 pub(crate) fn behind_each<'a>(
     alloc: Global,
     words: &'a [&'a str],
@@ -163,8 +163,8 @@ pub(crate) fn behind_each<'a>(
     Ok(())
 }
 
-/// Whether it ends at the most lines or packets behind each buffer, these bytes go out, so many are taken, and the input isn't
-/// asked for more.
+/// Checks that it ends at the most lines or packets with each buffer, writes these bytes, takes the expected number of bytes, and reads
+/// no further.
 pub(crate) fn stops_behind_each<'a>(
     alloc: Global,
     words: &'a [&'a str],

@@ -1,4 +1,4 @@
-//! The words `list` and `copy` over inputs and outputs in memory, and words that the program doesn't know.
+//! The words `list` and `copy` on inputs and outputs in memory, and unknown words.
 
 use crate::runs::{ALL, End, ROOMS, Run, behind_each, says, stops_behind_each, writes};
 use std::alloc::Global;
@@ -12,7 +12,7 @@ const BIG_NANO: [u8; 40] = [
     0, 1, 0, 0, 3, 0xe7, 0, 0, 0, 0, 0, 0, 0, 0,
 ];
 
-/// The same in microseconds, to which its time is cut.
+/// The same in microseconds, to which its time is truncated.
 const BIG_MICRO: [u8; 40] = [
     0xa1, 0xb2, 0xc3, 0xd4, 0, 2, 0, 4, 0, 0, 0, 0, 0, 0, 0, 0, 0, 0, 0xff, 0xff, 0, 0, 0, 1, 0, 0,
     0, 1, 0, 0, 0, 0, 0, 0, 0, 0, 0, 0, 0, 0,
@@ -21,7 +21,7 @@ const BIG_MICRO: [u8; 40] = [
 /// The line of the big-endian capture's packet.
 const LINE: &[u8] = b"1 1335958313.152630000 98/98\n";
 
-/// How a run ends because its input does.
+/// The end of a run whose input ends early.
 const EARLY: End = End::Io(ErrorKind::UnexpectedEof);
 
 #[test]
@@ -55,7 +55,7 @@ const TWO_PACKETS: [u8; 38] = [
 
 #[test]
 fn lists_at_each_cut(rt: HostRuntime) -> Result<(), Fail> {
-    // three packets of no, five and one byte behind BIG_NANO's header, at 1, 2 and 3 seconds
+    // three packets of no, five and one byte after BIG_NANO's header, at 1, 2 and 3 seconds
     let mut whole = Vec::from_slice(rt.alloc(), &BIG_NANO)?;
     whole.extend_from_slice(&TWO_PACKETS)?;
     let lines = b"1 1.000000999 0/0\n2 2.000000000 5/5\n3 3.000000007 1/9\n";
@@ -112,7 +112,7 @@ fn refused_captures(rt: HostRuntime) -> Result<(), Fail> {
     Ok(())
 }
 
-// Whether a run of these words over no capture says so behind each buffer, and writes nothing.
+// Checks that a run of these words on an input that is no capture reports that with each buffer, and writes nothing.
 fn finds_no_magic<'a>(alloc: Global, words: &'a [&'a str]) -> Result<(), Fail> {
     let line = "capcopy: Invalid field value: PcapHeader wrong magic number";
     for room in ROOMS {
@@ -131,13 +131,13 @@ fn wrong_magic(rt: HostRuntime) -> Result<(), Fail> {
     finds_no_magic(rt.alloc(), &["copy", "big", "nano"])
 }
 
-// The big-endian capture in the other order and in nanoseconds.
+// The big-endian capture in the other byte order and in nanoseconds.
 const LITTLE_NANO_HEAD: [u8; 40] = [
     0x4d, 0x3c, 0xb2, 0xa1, 2, 0, 4, 0, 0, 0, 0, 0, 0, 0, 0, 0, 0xff, 0xff, 0, 0, 1, 0, 0, 0, 0x29,
     0x1b, 0xa1, 0x4f, 0xf0, 0xf2, 0x18, 0x09, 0x62, 0, 0, 0, 0x62, 0, 0, 0,
 ];
 
-// Whether a copy goes out behind each buffer, whole and where it takes one packet, which is all that there is.
+// Checks that a copy is written with each buffer: a whole copy, and one of at most one packet, which is all that there is.
 fn is_copied<'a>(
     alloc: Global,
     words: &'a [&'a str],
@@ -184,7 +184,7 @@ fn copies_of_torn_captures(rt: HostRuntime) -> Result<(), Fail> {
     Ok(())
 }
 
-// Whether these words name nothing, behind each buffer, and the input isn't read.
+// Checks that these words name nothing, with each buffer, and the input isn't read.
 fn names_nothing<'a>(alloc: Global, words: &'a [&'a str], bytes: &'a [u8]) -> Result<(), Fail> {
     for room in ROOMS {
         let ran = writes(alloc, &Run::new(words, bytes, room, ALL), b"")?;

@@ -1,4 +1,4 @@
-//! What is asked of streams, and how much room and how many writes that takes.
+//! Counts the calls on streams and writers, and the buffers that they are given.
 
 use crate::sample::reader;
 use pcap_classic::ResultParsing;
@@ -10,12 +10,12 @@ use test_support::captures::{BIG_HEAD, back, big, front};
 use test_support::readers::Halting;
 use test_support::writers::Narrow;
 
-// Whether so many packets were copied, and nothing failed.
+// Returns whether this many packets were copied, and nothing failed.
 fn is_whole(copied: &Copied, packets: u64) -> bool {
     copied.packets == packets && copied.fault.is_none()
 }
 
-// A capture of five packets of these sizes. None of their bytes are zeros where a head or the data begins.
+// Returns a capture of five packets of these sizes. No header or data begins with a zero.
 fn packets(alloc: Global) -> Result<Vec<u8>, AllocError> {
     let mut bytes = Vec::from_slice(alloc, front(&BIG_HEAD, 24))?;
     for size in [9, 9, 1, 5, 9] {
@@ -25,7 +25,7 @@ fn packets(alloc: Global) -> Result<Vec<u8>, AllocError> {
     Ok(bytes)
 }
 
-// A reader of a stream of these bytes, so many at most in a read.
+// Returns a reader of a stream of these bytes, at most `step` in a read.
 fn reader_of(
     alloc: Global,
     bytes: Result<Vec<u8>, AllocError>,
@@ -34,19 +34,19 @@ fn reader_of(
     reader(alloc, bytes?.as_slice(), step)
 }
 
-// Whether the next packet has this size, and no room is new since the first one.
+// Returns whether the next packet has this size, and no new buffer was used since the first packet.
 fn holds_the_next(reader: &mut PcapReader<Halting>, size: usize) -> bool {
     let is_given = matches!(reader.next_header(), Some(Ok(_)));
     is_given && reader.data().len() == size && reader.get_ref().clear == 3
 }
 
-// Whether the five packets are held in one room.
+// Returns whether the five packets are held in one buffer.
 fn holds_all(alloc: Global) -> bool {
     let Ok(mut reader) = reader_of(alloc, packets(alloc), 200) else {
         return false;
     };
     let mut is_so = true;
-    // room that is new is offered for the capture's header, the first packet's, and its data
+    // a new buffer is used for the capture's header, the first packet's header, and its data
     for size in [9, 9, 1, 5, 9] {
         is_so &= holds_the_next(&mut reader, size);
     }
@@ -58,7 +58,7 @@ fn held_packets_share_one_room(rt: HostRuntime) {
     assert!(rt; holds_all(rt.alloc()));
 }
 
-// Whether a copy of the five packets holds them in one room.
+// Returns whether a copy of the five packets holds them in one buffer.
 fn copies_all(alloc: Global) -> Result<bool, AllocError> {
     let bytes = packets(alloc)?;
     let mut stream = Halting::new(alloc, bytes.as_slice(), 200)?;
@@ -72,7 +72,7 @@ fn copied_packets_share_one_room(rt: HostRuntime) {
     assert!(rt; matches!(copies_all(rt.alloc()), Ok(true)));
 }
 
-// The header that the reader gives next, if it gives one.
+// Returns the header that the reader gives next, if there is one.
 fn given(reader: &mut PcapReader<Halting>) -> Option<PacketHeader> {
     match reader.next_header() {
         Some(Ok(header)) => Some(header),
@@ -80,7 +80,7 @@ fn given(reader: &mut PcapReader<Halting>) -> Option<PacketHeader> {
     }
 }
 
-// How many bytes the next packet has, owned, if one comes.
+// Returns the size of the next packet, owned, if one comes.
 fn owned_length(reader: &mut PcapReader<Halting>) -> Option<usize> {
     match reader.next() {
         Some(Ok(packet)) => Some(packet.data_.len()),
@@ -88,7 +88,7 @@ fn owned_length(reader: &mut PcapReader<Halting>) -> Option<usize> {
     }
 }
 
-// Whether packets of these lengths come, or none, while the data that is lent stays.
+// Returns whether packets of these lengths come, or none, while the lent data stays.
 fn keeps_lent_data(reader: &mut PcapReader<Halting>, lengths: [Option<usize>; 6]) -> bool {
     let mut is_kept = true;
     for length in lengths {
@@ -97,7 +97,7 @@ fn keeps_lent_data(reader: &mut PcapReader<Halting>, lengths: [Option<usize>; 6]
     is_kept
 }
 
-// The capture, and the packets behind its own.
+// Returns the capture with five more packets after its own.
 fn six_packets(alloc: Global) -> Result<Vec<u8>, AllocError> {
     let mut bytes = big(alloc)?;
     let more = packets(alloc)?;
@@ -105,7 +105,7 @@ fn six_packets(alloc: Global) -> Result<Vec<u8>, AllocError> {
     Ok(bytes)
 }
 
-// Whether the first packet that is lent stays so while the other packets are owned.
+// Returns whether the data of a lent packet stays while the reader gives the other packets as owned values.
 fn stays_lent(alloc: Global, step: usize) -> bool {
     let Ok(mut reader) = reader_of(alloc, six_packets(alloc), step) else {
         return false;
@@ -122,7 +122,7 @@ fn lent_data_stays_while_packets_are_owned(rt: HostRuntime) {
     assert!(rt; stays_lent(rt.alloc(), 200));
 }
 
-// A stream of 2000 packets of no bytes.
+// Returns a stream of 2000 packets of no bytes.
 fn empty_packets(alloc: Global) -> Result<Halting, AllocError> {
     let mut stream = Halting::new(alloc, &BIG_HEAD[..24], 65_536)?;
     for _turn in 0..2000 {
@@ -133,7 +133,7 @@ fn empty_packets(alloc: Global) -> Result<Halting, AllocError> {
     Ok(stream)
 }
 
-// Whether all of them, which lie whole in the buffer, go out in one write behind the header's.
+// Returns whether all of them, which are whole in the buffer, are written in one call after the header.
 fn go_out_together(alloc: Global) -> bool {
     let Ok(stream) = empty_packets(alloc) else {
         return false;

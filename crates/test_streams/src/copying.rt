@@ -10,7 +10,7 @@ use test_support::captures::{BIG_HEAD, capture, front};
 use test_support::readers::Halting;
 use test_support::writers::Narrow;
 
-// The buffers that copies read through, in bytes; with none they read the stream itself.
+// The sizes of the buffers that copies read through, in bytes. At 0 they read the stream itself.
 const BUFFERS: [usize; 7] = [0, 1, 7, 24, 40, 100, 65536];
 
 // The most bytes of one read.
@@ -21,15 +21,15 @@ const EMPTY: [u8; 32] = [
     0, 0, 0, 1, 0, 0, 0, 0, 0, 0, 0, 0, 0, 0, 0, 0, 0, 0, 0, 1, 0, 0, 0, 0, 0, 0, 0, 0, 0, 0, 0, 0,
 ];
 
-// The same in the other order.
+// The same in the other byte order.
 const TURNED_EMPTY: [u8; 32] = [
     1, 0, 0, 0, 0, 0, 0, 0, 0, 0, 0, 0, 0, 0, 0, 0, 1, 0, 0, 0, 0, 0, 0, 0, 0, 0, 0, 0, 0, 0, 0, 0,
 ];
 
-// A packet that says it was shorter before it was captured.
+// A packet whose original length is less than its stored length.
 const TOO_LONG: [u8; 16] = [0, 0, 0, 1, 0, 0, 0, 0, 0, 0, 0, 2, 0, 0, 0, 1];
 
-// What the capture begins with in the other order.
+// The beginning of the capture in the other byte order.
 const TURNED_HEAD: [u8; 40] = [
     0xd4, 0xc3, 0xb2, 0xa1, 2, 0, 4, 0, 0, 0, 0, 0, 0, 0, 0, 0, 0xff, 0xff, 0, 0, 1, 0, 0, 0, 0x29,
     0x1b, 0xa1, 0x4f, 0x36, 0x54, 0x02, 0, 0x62, 0, 0, 0, 0x62, 0, 0, 0,
@@ -47,20 +47,20 @@ const NANOSECONDS: [u8; 40] = [
     0, 1, 0, 0, 3, 0xe7, 0, 0, 0, 0, 0, 0, 0, 0,
 ];
 
-// What a stream gives, or what goes out.
+// The bytes that a stream gives, or that are written.
 #[derive(Clone, Copy)]
 enum Bytes {
     // The capture, and two packets of no bytes.
     Three,
-    // The same in the other order.
+    // The same in the other byte order.
     Turned,
-    // The capture in the other order, in nanoseconds.
+    // The capture in the other byte order, in nanoseconds.
     Fine,
-    // The capture, and a packet that says it was shorter.
+    // The capture, and a packet whose original length is too small.
     Long,
     // A packet of no bytes at 999 nanoseconds.
     Nanoseconds,
-    // The same at no microseconds.
+    // The same at 0 microseconds.
     Cut,
     // Bytes that are no header.
     Wrong,
@@ -81,12 +81,12 @@ fn bytes_of(alloc: Global, of: Bytes) -> Result<Vec<u8>, AllocError> {
     Ok(bytes)
 }
 
-// The header under which a copy is written.
+// The header with which a copy is written.
 #[derive(Clone, Copy)]
 enum Header {
     Same,
     Order(Endianness, TsResolution),
-    // One with a wrong magic number.
+    // A header with a wrong magic number.
     Wrong,
 }
 
@@ -105,12 +105,12 @@ fn under(header: Header) -> Under {
 #[derive(Clone, Copy)]
 enum End {
     Clean,
-    // An error of input or output, of any kind.
+    // An I/O error of any kind.
     Io,
     Kind(ErrorKind),
     // A header with a wrong magic number.
     Magic,
-    // A packet that says it was shorter before it was captured.
+    // A packet whose original length is less than its stored length.
     Length,
 }
 
@@ -124,24 +124,24 @@ fn ends(fault: &Option<PcapError>, end: End) -> bool {
     }
 }
 
-// A copy, and what comes of it.
+// A copy and its result.
 #[derive(Clone, Copy)]
 struct Row {
-    // What the stream gives, up to so many bytes.
+    // The bytes that the stream gives, and how many of them.
     given: Bytes,
     length: usize,
-    // The most bytes of one read, and the call of the stream that fails, if not call 0.
+    // The most bytes of one read, and the number of the stream's call that fails, or 0.
     step: usize,
     fails_at: usize,
     buffer: usize,
     under: Header,
     // The most packets.
     most: u64,
-    // How many bytes the writer has room for, in a call too, and whether it fails where it has none, or takes nothing.
+    // The writer's space in all and per call, in bytes, and whether it then fails or takes nothing.
     room: usize,
     width: usize,
     fails: bool,
-    // The calls of the writer that are interrupted, and that take nothing, if not call 0.
+    // The number of the writer's call that is interrupted, and of the one that takes nothing, or 0.
     interrupted: u64,
     idle: u64,
     // How many packets are copied, and why no more.
@@ -149,17 +149,17 @@ struct Row {
     end: End,
     read_failed: bool,
     write_failed: bool,
-    // The least and the most bytes that are taken, calls of the stream, calls at its end, and calls of the writer.
+    // The least and the most of: bytes taken, calls of the stream, calls at its end, and calls of the writer.
     taken: (usize, usize),
     reads: (usize, usize),
     ends: (usize, usize),
     writes: (u64, u64),
-    // What goes out, up to so many bytes.
+    // The bytes that are written, and how many of them.
     gone: Bytes,
     out: usize,
 }
 
-// A copy of the capture that comes to its end.
+// A copy of the capture that reaches its end.
 const WHOLE: Row = Row {
     given: Bytes::Three,
     length: 138,
@@ -201,7 +201,7 @@ fn writer_of(alloc: Global, row: Row) -> Narrow {
     output
 }
 
-// Whether a copy ended as its row says.
+// Returns whether a copy ended as its row says.
 fn is_so(copied: &Copied, row: Row) -> bool {
     ends(&copied.fault, row.end)
         && copied.packets == row.packets
@@ -209,7 +209,7 @@ fn is_so(copied: &Copied, row: Row) -> bool {
         && copied.write_failed == row.write_failed
 }
 
-// Whether so much was taken of a stream, of which the last bytes are held ahead, and it was called so often.
+// Returns whether the expected bytes were taken from a stream, of which the last `ahead` are read ahead, in the expected calls.
 fn is_seen(stream: &Halting, row: Row, ahead: usize) -> bool {
     let taken = stream.taken.saturating_sub(ahead);
     row.taken.0 <= taken
@@ -225,7 +225,7 @@ fn copies(alloc: Global, row: Row, mut stream: Halting, output: &mut Narrow) -> 
     is_so(&copied, row) && is_seen(&stream, row, 0)
 }
 
-// The same through a buffer.
+// Does the same through a buffer.
 fn copies_buffered(alloc: Global, row: Row, stream: Halting, output: &mut Narrow) -> bool {
     let Ok(mut reader) = BufReader::with_capacity(alloc, row.buffer, stream) else {
         return false;
@@ -235,7 +235,7 @@ fn copies_buffered(alloc: Global, row: Row, stream: Halting, output: &mut Narrow
     is_so(&copied, row) && is_seen(reader.get_ref(), row, ahead)
 }
 
-// Whether this went out, in so many calls.
+// Returns whether the expected bytes were written, in the expected number of calls.
 fn is_out(alloc: Global, row: Row, output: &Narrow) -> bool {
     let Ok(wanted) = bytes_of(alloc, row.gone) else {
         return false;
@@ -258,7 +258,7 @@ fn holds(alloc: Global, row: Row) -> bool {
     is_copied && is_out(alloc, row, &output)
 }
 
-// The same through each buffer.
+// Does the same through each buffer.
 fn holds_through_each(alloc: Global, row: Row) -> bool {
     for buffer in BUFFERS {
         if !holds(alloc, Row { buffer, ..row }) {
@@ -268,9 +268,9 @@ fn holds_through_each(alloc: Global, row: Row) -> bool {
     true
 }
 
-// Copies that come to the same through each buffer, and whatever one read gives.
+// Copies with the same result through each buffer, and for each size of reads.
 const ROWS: [Row; 10] = [
-    // the capture in the other order
+    // the capture in the other byte order
     Row {
         under: Header::Order(Endianness::Little, TsResolution::NanoSecond),
         gone: Bytes::Fine,
@@ -283,7 +283,7 @@ const ROWS: [Row; 10] = [
         gone: Bytes::Cut,
         ..WHOLE
     },
-    // no more packets than are asked for, before one that is refused
+    // at most the requested packets, before one that is refused
     Row {
         given: Bytes::Long,
         length: 154,
@@ -307,7 +307,7 @@ const ROWS: [Row; 10] = [
         end: End::Length,
         ..WHOLE
     },
-    // no call behind what is asked for
+    // no call after the requested packets
     Row {
         most: 1,
         ends: (0, 0),
@@ -320,7 +320,7 @@ const ROWS: [Row; 10] = [
         ends: (0, 0),
         ..WHOLE
     },
-    // a header with a wrong magic number, under which nothing is asked or written
+    // a header with a wrong magic number, with which nothing is read or written
     Row {
         length: 40,
         under: Header::Wrong,
@@ -330,7 +330,7 @@ const ROWS: [Row; 10] = [
         out: 0,
         ..WHOLE
     },
-    // the same of the stream
+    // the same for the stream's header
     Row {
         given: Bytes::Wrong,
         packets: 0,
@@ -338,7 +338,7 @@ const ROWS: [Row; 10] = [
         out: 0,
         ..WHOLE
     },
-    // a capture that ends inside of its packet
+    // a capture that ends inside its packet
     Row {
         length: 40,
         packets: 0,
@@ -361,7 +361,7 @@ fn rows(rt: HostRuntime) {
     }
 }
 
-// Whether these bytes are read as one packet, whose nanoseconds were cut.
+// Returns whether these bytes are read as one packet, whose nanoseconds were truncated.
 fn is_cut(alloc: Global, bytes: &[u8], step: usize) -> bool {
     let Ok(stream) = Halting::new(alloc, bytes, step) else {
         return false;
@@ -387,7 +387,7 @@ fn fractions_are_cut(rt: HostRuntime) {
     assert!(rt; are_cut(rt.alloc()));
 }
 
-// A copy that is refused for what was written, which is a beginning of the capture of this length.
+// Returns the row of a copy whose write fails after `room` bytes, the beginning of the capture.
 fn into_room(room: usize) -> Row {
     Row {
         room,
@@ -399,7 +399,7 @@ fn into_room(room: usize) -> Row {
     }
 }
 
-// Whether it is so by each step, and where the writer fails and where it takes nothing.
+// Returns whether it fails so for each size of reads, if the writer fails and if it takes nothing.
 fn is_refused(alloc: Global, room: usize) -> bool {
     let row = into_room(room);
     let idle = Row {
@@ -419,7 +419,7 @@ fn every_room(rt: HostRuntime) {
     }
 }
 
-// How many of three packets went out where so many bytes did, and where the packet ends in which the write failed.
+// Returns how many of three packets were written if a write fails after `room` bytes, and where the packet ends in which it failed.
 fn torn_at(room: usize) -> (u64, usize) {
     if room < 138 {
         (0, 138)
@@ -430,7 +430,7 @@ fn torn_at(room: usize) -> (u64, usize) {
     }
 }
 
-// A copy of three packets that tells those that went out whole into this room.
+// Returns the row of a copy of three packets that counts those that were written whole in `room` bytes.
 fn torn(room: usize, under: Header, gone: Bytes) -> Row {
     let (packets, taken) = torn_at(room);
     Row {
@@ -443,7 +443,7 @@ fn torn(room: usize, under: Header, gone: Bytes) -> Row {
     }
 }
 
-// Whether it does in the same order and in both.
+// Returns whether it does so in the same byte order and in both.
 fn tears(alloc: Global, room: usize) -> bool {
     let big = Header::Order(Endianness::Big, TsResolution::MicroSecond);
     let little = Header::Order(Endianness::Little, TsResolution::MicroSecond);
@@ -459,7 +459,7 @@ fn torn_packets(rt: HostRuntime) {
     }
 }
 
-// A copy that ends at this call of the writer, which takes ten bytes at most in a call, behind so many bytes.
+// Returns the row of a copy that ends at this call of the writer, which takes at most ten bytes in a call, after `out` bytes.
 fn halting(call: u64, out: usize, under: Header, gone: Bytes) -> Row {
     Row {
         width: 10,
@@ -471,7 +471,7 @@ fn halting(call: u64, out: usize, under: Header, gone: Bytes) -> Row {
     }
 }
 
-// Whether it does where that call is interrupted, and where it takes nothing.
+// Returns whether it ends so if that call is interrupted, and if it takes nothing.
 fn halts(alloc: Global, row: Row) -> bool {
     let call = row.writes.0;
     let is_told = holds_through_each(
@@ -494,8 +494,8 @@ fn halts(alloc: Global, row: Row) -> bool {
         )
 }
 
-// Each call of a writer that takes ten bytes at most of the capture, and how many bytes went out before it: its header, that of
-// the packet, and the packet's bytes.
+// Each call of a writer that takes at most ten bytes of the capture in a call, and how many bytes were written before it: the capture's
+// header, that of the packet, and the packet's bytes.
 const CALLS: [(u64, usize); 15] = [
     (1, 0),
     (2, 10),
@@ -514,7 +514,8 @@ const CALLS: [(u64, usize); 15] = [
     (15, 130),
 ];
 
-// The same of some calls where nothing is turned: the header's 24 bytes go out in three, and then ten bytes of the packet in each.
+// The same for some calls if the byte order stays: the header's 24 bytes are written in three calls, and then ten bytes of the packet in
+// each.
 const STRETCHES: [(u64, usize); 6] = [(3, 20), (4, 24), (5, 34), (6, 44), (14, 124), (15, 134)];
 
 #[test]
@@ -534,7 +535,7 @@ fn interrupted_stretches(rt: HostRuntime) {
     }
 }
 
-// A copy whose stream fails at this call, one byte a call.
+// Returns the row of a copy whose stream fails at this call, with one byte a call.
 fn unread(fails_at: usize) -> Row {
     Row {
         step: 1,
@@ -560,7 +561,7 @@ fn every_failed_read(rt: HostRuntime) {
     }
 }
 
-// A copy of so many bytes of the capture's header.
+// Returns the row of a copy of `length` bytes of the capture's header.
 fn torn_header(length: usize) -> Row {
     Row {
         length,
@@ -581,7 +582,7 @@ fn torn_headers(rt: HostRuntime) {
     }
 }
 
-// A copy of the capture through a buffer, with so many reads at most.
+// Returns the row of a copy of the capture through a buffer, with at most `reads` reads.
 fn ending(buffer: usize, reads: usize) -> Row {
     Row {
         buffer,
@@ -592,7 +593,7 @@ fn ending(buffer: usize, reads: usize) -> Row {
 
 #[test]
 fn one_end(rt: HostRuntime) {
-    // a buffer, and how many reads there are: those of all 138 bytes, and one of the end
+    // a buffer, and how many reads there are: those of all 138 bytes, and one at the end
     for (buffer, reads) in [(24, 7), (40, 5), (100, 3), (65536, 2)] {
         assert!(rt;
             holds(rt.alloc(), ending(buffer, reads)),

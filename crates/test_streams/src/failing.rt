@@ -9,7 +9,7 @@ use std::io::Write;
 use test_support::captures::{back, big, front};
 use test_support::writers::Narrow;
 
-// Each call of a writer that takes ten bytes at most of the capture, and how many bytes went out before it.
+// Each call of a writer that takes at most ten bytes of the capture in a call, and how many bytes were written before it.
 const CALLS: [(u64, usize); 15] = [
     (1, 0),
     (2, 10),
@@ -28,8 +28,8 @@ const CALLS: [(u64, usize); 15] = [
     (15, 130),
 ];
 
-// Writes the capture's header and its packet twice, and tells whether each call answered as it must: the first that has no
-// room is an `IoError`, and each later one a `WriterFailed`.
+// Writes the capture's header and its packet twice. Returns whether each call had the right result: the first that finds no space is an
+// `IoError`, and each later one a `WriterFailed`.
 fn fails_once(output: &mut Narrow, packet: &Packet<'_>, room: usize) -> bool {
     match PcapWriter::with_header(PcapHeader::default(), output) {
         Err(PcapError::IoError(_)) => room < 24,
@@ -43,7 +43,7 @@ fn fails_once(output: &mut Narrow, packet: &Packet<'_>, room: usize) -> bool {
     }
 }
 
-// Whether a writer fails once, and the capture's first bytes are what went out, so many.
+// Returns whether a writer fails once, after the first `gone` bytes of the capture were written.
 fn leaves(alloc: Global, mut output: Narrow, gone: usize) -> bool {
     let Ok(whole) = big(alloc) else {
         return false;
@@ -72,7 +72,7 @@ fn interrupted_calls(rt: HostRuntime) {
     }
 }
 
-// Whether no writer is made over a header with a wrong magic number, and nothing is asked of its stream.
+// Returns whether no writer is made with a header with a wrong magic number, and its stream isn't called.
 fn refuses_the_header(output: &mut Narrow) -> bool {
     let header = PcapHeader {
         magic_number: 0,
@@ -94,14 +94,14 @@ fn invalid_header(rt: HostRuntime) {
     assert!(rt; asks_for_nothing(rt.alloc()));
 }
 
-// Whether no packet of no bytes is written, for the writer that failed, and none is asked for.
+// Returns whether no empty packet is written after the writer failed, and the stream isn't called.
 fn stays_failed(writer: &mut PcapWriter<Narrow>) -> bool {
     writer.get_mut().room = 1000;
     let is_refused = matches!(writer.write(1, 0, &[], 0), Err(PcapError::WriterFailed));
     is_refused && writer.get_ref().calls == 3
 }
 
-// Writes packets of no bytes to a writer that has room for one, and tells whether each call answered as it must.
+// Writes empty packets to a writer with space for one, and returns whether each call had the right result.
 fn fits_one(writer: &mut PcapWriter<Narrow>) -> bool {
     let is_written = writer.write(1, 0, &[], 0).is_ok();
     let began = !writer.failed() && writer.get_ref().calls == 2;
@@ -121,7 +121,7 @@ fn empty_packet(rt: HostRuntime) {
     assert!(rt; fits_one_for_good(rt.alloc()));
 }
 
-// How many bytes a write took, if it didn't fail.
+// Returns how many bytes a write took, if it didn't fail.
 fn taken(told: &mut Told<Narrow>, bytes: &[u8]) -> Option<usize> {
     match told.write(bytes) {
         Ok(n) => Some(n),
@@ -129,7 +129,7 @@ fn taken(told: &mut Told<Narrow>, bytes: &[u8]) -> Option<usize> {
     }
 }
 
-// Whether a writer with room for three bytes tells that a write failed, and none before.
+// Returns whether a writer with space for three bytes reports that a write failed, and none before.
 fn tells(told: &mut Told<Narrow>, fails: bool) -> bool {
     let first = taken(told, &[1, 2]);
     let empty = taken(told, &[]);
@@ -141,7 +141,7 @@ fn tells(told: &mut Told<Narrow>, fails: bool) -> bool {
     is_taken && is_flushed && began && third.is_none() == fails && told.failed()
 }
 
-// Whether it still says so where its writer has room again.
+// Returns whether it still reports that when its writer has space again.
 fn still_tells(mut told: Told<Narrow>) -> bool {
     let is_out = told.get_ref().out.as_slice() == [1, 2, 3].as_slice();
     told.get_mut().room = 1;
@@ -151,13 +151,13 @@ fn still_tells(mut told: Told<Narrow>) -> bool {
     is_out && last == Some(1) && is_told && output.out.as_slice() == [1, 2, 3, 4].as_slice()
 }
 
-// Whether a writer with no room tells that a flush failed.
+// Returns whether a writer without space reports that a flush failed.
 fn tells_a_flush(alloc: Global, fails: bool) -> bool {
     let mut full = Told::new(Narrow::new(alloc, 0, fails));
     full.flush().is_err() == fails && full.failed() == fails
 }
 
-// Whether one call of a writer is made that is interrupted, or takes nothing, and it is told.
+// Returns whether one call of a writer that is interrupted, or takes nothing, is made and reported.
 fn tells_one_write(alloc: Global, is_idle: bool) -> bool {
     let mut told = Told::new(Narrow::halting(alloc, 1, is_idle));
     taken(&mut told, &[1]).is_some() == is_idle && told.failed() && told.get_ref().calls == 1
@@ -168,7 +168,7 @@ fn tells_one_flush(alloc: Global) -> bool {
     told.flush().is_err() && told.failed() && told.get_ref().calls == 1
 }
 
-// Whether a writer with room for three bytes tells that a write failed, also where it has room again.
+// Returns whether a writer with space for three bytes reports that a write failed, even when it has space again.
 fn tells_for_good(alloc: Global, fails: bool) -> bool {
     let mut told = Told::new(Narrow::new(alloc, 3, fails));
     let began = tells(&mut told, fails);

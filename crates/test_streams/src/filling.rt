@@ -1,4 +1,4 @@
-//! Streams that tell whether a read failed, and buffers that are filled from them.
+//! Streams that report whether a read failed, and buffers that are filled from them.
 
 ghost use Rattle.std.specs.Prelude.{◌<◌};
 
@@ -9,12 +9,12 @@ use std::io::{ErrorKind, Read};
 use test_support::captures::front;
 use test_support::readers::Halting;
 
-// Whether a read takes so many bytes, and leaves these.
+// Returns whether a read takes `n` bytes, and the buffer then has the bytes `wanted`.
 fn takes(told: &mut Told<Halting>, bytes: &mut [u8; 3], n: usize, wanted: [u8; 3]) -> bool {
     matches!(told.read(bytes), Ok(taken) if taken == n) && *bytes == wanted
 }
 
-// Whether a read is interrupted, and it is told.
+// Returns whether a read is interrupted, and that is reported.
 fn is_interrupted(told: &mut Told<Halting>) -> bool {
     let is_kind = match told.read(&mut [0; 3]) {
         Ok(_) => false,
@@ -23,7 +23,7 @@ fn is_interrupted(told: &mut Told<Halting>) -> bool {
     is_kind && told.failed() && told.get_ref().calls == 4
 }
 
-// A stream that is told of and gives these bytes, two at most in a read; its call 4 is interrupted.
+// Returns a stream that reports failed reads and gives these bytes, at most two in a read; its call 4 is interrupted.
 fn halting(alloc: Global) -> Result<Told<Halting>, AllocError> {
     let mut stream = Halting::new(alloc, &[1, 2, 3], 2)?;
     stream.fails_at = 4;
@@ -31,7 +31,7 @@ fn halting(alloc: Global) -> Result<Told<Halting>, AllocError> {
     Ok(Told::new(stream))
 }
 
-// Whether each read takes what is left, and what the three bytes are after it.
+// Returns whether each read takes what is left, and the three bytes are right after it.
 fn takes_each(told: &mut Told<Halting>) -> bool {
     let mut bytes = [0; 3];
     let mut is_so = true;
@@ -41,7 +41,7 @@ fn takes_each(told: &mut Told<Halting>) -> bool {
     is_so
 }
 
-// Whether the stream is still told to have failed where a read of it succeeds.
+// Returns whether the stream still reports the failure when a read succeeds.
 fn still_tells(mut told: Told<Halting>) -> bool {
     told.get_mut().taken = 1;
     let is_read = matches!(told.read(&mut [0; 3]), Ok(2)) && told.failed();
@@ -61,12 +61,12 @@ fn told_readers(rt: HostRuntime) {
     assert!(rt; tells(rt.alloc()));
 }
 
-// A stream of these bytes, so many at most in a read, with a buffer.
+// Returns a buffer over a stream of these bytes, at most `step` in a read.
 fn buffered(alloc: Global, bytes: &[u8], step: usize) -> Result<Fill<Halting>, AllocError> {
     Ok(Fill::new(alloc, Told::new(Halting::new(alloc, bytes, step)?)))
 }
 
-// Whether a step for so many bytes takes these, of its stream's calls the one of this number, which had so much room.
+// Returns whether a step for `asked` bytes takes `n`, after `calls` calls of the stream, with at most `room` bytes offered.
 fn steps_by(fill: &mut Fill<Halting>, asked: usize, n: usize, calls: usize, room: usize) -> bool
     requires { 0 < asked }
 {
@@ -74,7 +74,7 @@ fn steps_by(fill: &mut Fill<Halting>, asked: usize, n: usize, calls: usize, room
     is_taken && fill.get_ref().calls == calls && fill.get_ref().most_room == room
 }
 
-// Whether steps take 5 bytes, and as many as one read may, and the rest of these 100000.
+// Returns whether steps take 5 bytes, then as many as one read may take, and then the rest of these 100000.
 fn takes_steps(fill: &mut Fill<Halting>, bytes: &[u8]) -> bool {
     let is_first = steps_by(fill, 5, 5, 1, 5);
     let is_most = steps_by(fill, 100_000, 65_536, 2, 65_536) && fill.held() == front(bytes, 65_541);
@@ -94,26 +94,26 @@ fn steps(rt: HostRuntime) {
     assert!(rt; matches!(takes_all_steps(rt.alloc()), Ok(true)));
 }
 
-// Whether there are so many bytes more, and then it holds these.
+// Returns whether `n` more bytes come, and the buffer then holds `held`.
 fn fills_up(fill: &mut Fill<Halting>, n: usize, held: &[u8]) -> bool
     requires { 0 < n }
 {
     matches!(fill.more(n), Ok(true)) && fill.held() == held
 }
 
-// Whether there are none.
+// Returns whether no more bytes come.
 fn is_empty(fill: &mut Fill<Halting>) -> bool {
     matches!(fill.more(1), Ok(false)) && fill.held().is_empty() && !fill.failed()
 }
 
-// Whether the bytes up to 5 are held, three and then two, and no more are taken.
+// Returns whether the first 5 bytes are held, three and then two, and no more are taken.
 fn fills_twice(fill: &mut Fill<Halting>) -> bool {
     let is_clear = fill.held().is_empty();
     let is_first = fills_up(fill, 3, &[0, 1, 2]);
     is_clear && is_first && fills_up(fill, 2, &[0, 1, 2, 3, 4]) && fill.get_ref().taken == 5
 }
 
-// Whether the last two are held in a clear buffer, and then there are none.
+// Returns whether the last two bytes are held in a cleared buffer, and then no more come.
 fn fills_anew(fill: &mut Fill<Halting>) -> bool {
     fill.clear();
     let is_rest = fill.held().is_empty() && fills_up(fill, 2, &[5, 6]);
@@ -121,7 +121,7 @@ fn fills_anew(fill: &mut Fill<Halting>) -> bool {
     is_rest && is_empty(fill)
 }
 
-// Whether a stream of seven bytes, so many at most in a read, fills a buffer, and no read is offered more room than is missing.
+// Returns whether a stream of seven bytes, at most `step` in a read, fills a buffer, and each read is offered at most the missing bytes.
 fn fills_whole(alloc: Global, step: usize) -> bool {
     let Ok(mut fill) = buffered(alloc, &[0, 1, 2, 3, 4, 5, 6], step) else {
         return false;
@@ -138,7 +138,7 @@ fn fills(rt: HostRuntime) {
     }
 }
 
-// Two bytes, and at the second call this fault, where it is not the end.
+// Returns a stream of two bytes that ends, or fails with this kind at the second call.
 fn ending(alloc: Global, fails_at: usize, kind: ErrorKind) -> Result<Fill<Halting>, AllocError> {
     let mut stream = Halting::new(alloc, &[0, 1], 9)?;
     stream.fails_at = fails_at;
@@ -146,7 +146,8 @@ fn ending(alloc: Global, fails_at: usize, kind: ErrorKind) -> Result<Fill<Haltin
     Ok(Fill::new(alloc, Told::new(stream)))
 }
 
-// Whether three bytes fail for this fault at the second call, which alone is told where it is not the end.
+// Returns whether a request of three bytes fails with this kind at the second call. Only a failed read, and not the end, is reported as
+// one.
 fn ends_by(alloc: Global, fails_at: usize, kind: ErrorKind) -> bool {
     let Ok(mut fill) = ending(alloc, fails_at, kind) else {
         return false;
@@ -162,7 +163,7 @@ fn fills_that_end(rt: HostRuntime) {
     }
 }
 
-// Whether a step fails behind one that didn't, what came is held, and the end is no other failure.
+// Returns whether a step fails after one that succeeded, the first bytes are held, and the end is another kind of error.
 fn fails_at_the_second(fill: &mut Fill<Halting>) -> bool {
     let is_taken = matches!(fill.step(9), Ok(2)) && !fill.failed();
     let is_failed = fails_by(&fill.step(9), ErrorKind::Other) && fill.failed();
@@ -170,7 +171,7 @@ fn fails_at_the_second(fill: &mut Fill<Halting>) -> bool {
     is_taken && is_failed && is_held && fails_by(&fill.more(1), ErrorKind::UnexpectedEof)
 }
 
-// Whether it goes on where its stream does, and still tells that it failed.
+// Returns whether it continues when its stream does, and still reports the failure.
 fn fills_and_tells(fill: &mut Fill<Halting>) -> bool {
     fill.clear();
     fill.get_mut().taken = 1;

@@ -11,7 +11,7 @@ use test_support::captures::{back, big, contents, front};
 use test_support::readers::Halting;
 use test_support::writers::Narrow;
 
-/// Whether this is an `IoError` with an error of this kind inside.
+/// Returns whether this is an `IoError` with an error of this kind inside.
 pub fn is_kind(fault: &Option<PcapError>, kind: ErrorKind) -> bool {
     match fault {
         Some(PcapError::IoError(error)) => error.kind() == kind,
@@ -19,7 +19,7 @@ pub fn is_kind(fault: &Option<PcapError>, kind: ErrorKind) -> bool {
     }
 }
 
-/// Whether this is an `InvalidField` with this message.
+/// Returns whether this is an `InvalidField` with this message.
 pub fn names(fault: &Option<PcapError>, message: &str) -> bool {
     match fault {
         Some(PcapError::InvalidField(told)) => *told == message,
@@ -27,7 +27,7 @@ pub fn names(fault: &Option<PcapError>, message: &str) -> bool {
     }
 }
 
-/// Whether a call gave an `IoError` with an error of this kind inside.
+/// Returns whether a call returned an `IoError` with an error of this kind inside.
 pub fn fails_by<T>(outcome: &ResultParsing<T>, kind: ErrorKind) -> bool {
     match outcome {
         Err(PcapError::IoError(error)) => error.kind() == kind,
@@ -35,7 +35,7 @@ pub fn fails_by<T>(outcome: &ResultParsing<T>, kind: ErrorKind) -> bool {
     }
 }
 
-// What is read of a stream.
+// What is read from a stream.
 #[derive(Clone, Copy, Debug)]
 enum Reading {
     Header,
@@ -61,17 +61,16 @@ const READS: [(Reading, usize, usize, usize); 7] = [
     (Reading::Copy, 0, 50, 50),
 ];
 
-// What follows the bytes of a stream, which are given in three reads: its end, or a read that fails. With it the kind
-// of the fault.
+// What follows the bytes of a stream, which are given in three reads: its end, or a read that fails, with the kind of the error.
 const ENDS: [(usize, ErrorKind); 2] = [(0, ErrorKind::UnexpectedEof), (4, ErrorKind::TimedOut)];
 
-// So many bytes of the capture from this one on.
+// Returns a stream of `length` bytes of the capture from `start` on.
 fn big_stream(alloc: Global, start: usize, length: usize) -> Result<Halting, AllocError> {
     let whole = big(alloc)?;
     Halting::new(alloc, front(back(whole.as_slice(), start), length), 200)
 }
 
-// Whether the first packet of a reader fails.
+// Returns whether the first packet of a reader fails.
 fn item_fails(alloc: Global, stream: &mut Halting, kind: ErrorKind) -> bool {
     match PcapReader::new(alloc, &mut *stream) {
         Ok(mut reader) => match &reader.next() {
@@ -94,7 +93,7 @@ fn copy_fails(alloc: Global, stream: &mut Halting, mut output: Narrow, kind: Err
     is_kind(&copied.fault, kind)
 }
 
-// Whether reading this fails by this kind.
+// Returns whether reading this fails with this kind of error.
 fn read_fails(alloc: Global, what: Reading, mut stream: Halting, kind: ErrorKind) -> bool {
     let micro = TsResolution::MicroSecond;
     match what {
@@ -114,7 +113,7 @@ fn read_fails(alloc: Global, what: Reading, mut stream: Halting, kind: ErrorKind
     }
 }
 
-// Whether it does where these bytes of the capture are given, and then this end.
+// Returns whether it fails so if the stream has these bytes of the capture, and then this end.
 fn ends_by(
     alloc: Global,
     (what, start, length, step): (Reading, usize, usize, usize),
@@ -150,15 +149,16 @@ fn empty_streams(rt: HostRuntime) {
 enum Writing {
     Header,
     PacketHeader,
-    // Writers that are made.
+    // A writer that is made.
     Writer,
     WriterOfHeader,
-    // The capture's packet, behind its header.
+    // The capture's packet, after its header.
     Packet,
     Copy,
 }
 
-// What is written, how many bytes there is room for, whether the writer fails where it has none, or takes nothing, its call that
+// What is written, the space for it in bytes, whether the writer then fails or takes nothing, the number of the call that is interrupted,
+// or 0, and the kind of the error.
 // is interrupted, if not call 0, and the kind of the fault.
 const WRITES: [(Writing, usize, bool, u64, ErrorKind); 13] = [
     (Writing::Writer, 10, false, 0, ErrorKind::WriteZero),
@@ -176,7 +176,7 @@ const WRITES: [(Writing, usize, bool, u64, ErrorKind); 13] = [
     (Writing::Copy, 50, true, 0, ErrorKind::Other),
 ];
 
-// Whether writing the capture's packet fails.
+// Returns whether writing the capture's packet fails.
 fn packet_fails(alloc: Global, output: Narrow, kind: ErrorKind) -> bool {
     let Ok(bytes) = contents(alloc) else {
         return false;
@@ -187,7 +187,7 @@ fn packet_fails(alloc: Global, output: Narrow, kind: ErrorKind) -> bool {
     }
 }
 
-// Whether writing this of the capture fails by this kind.
+// Returns whether writing this part of the capture fails with this kind of error.
 fn write_fails(alloc: Global, what: Writing, mut output: Narrow, kind: ErrorKind) -> bool {
     let micro = TsResolution::MicroSecond;
     let header = PcapHeader::default();
@@ -207,7 +207,7 @@ fn write_fails(alloc: Global, what: Writing, mut output: Narrow, kind: ErrorKind
     }
 }
 
-// Whether the row holds.
+// Returns whether the row holds.
 fn refuses(
     alloc: Global,
     (what, room, fails, interrupted, kind): (Writing, usize, bool, u64, ErrorKind),

@@ -1,4 +1,4 @@
-//! A capture of many packets, the last of them the largest that there may be, which no limit cuts short.
+//! A capture of many packets, the last of them the largest that a capture may have. No limit cuts it short.
 
 use pcap_classic::pcap::Packet;
 use pcap_classic::run::{
@@ -10,7 +10,7 @@ use std::io::BufReader;
 use test_support::captures::{BIG_HEAD, front};
 use test_support::readers::Halting;
 
-// How many packets of 16 bytes stand before the largest one, and how many bytes that has.
+// How many packets of 16 bytes come before the largest one, and the size of that one.
 const PACKETS: usize = 2000;
 
 const LARGEST: usize = 262_144;
@@ -42,7 +42,7 @@ fn is_run(run: &PcapRun) -> bool {
     is_all(run.packets.as_slice()) && run.used == BYTES && matches!(run.rest, Rest::Clean)
 }
 
-// Whether the runs over these bytes, in one piece and on requests, are all of the capture.
+// Returns whether the runs over these bytes, in one piece and on requests, parse the whole capture.
 fn parses(alloc: Global, all: &[u8]) -> bool {
     matches!(&parse_pcap(alloc, all), Ok(run) if is_run(run))
 }
@@ -55,7 +55,7 @@ fn parses_pieces(alloc: Global, all: &[u8]) -> bool {
     matches!(&pieces_pcap(alloc, &[all]), Ok((run, _)) if is_run(run))
 }
 
-// Whether a stream of them is read as all of it.
+// Returns whether a stream of these bytes is read to its end.
 fn reads(alloc: Global, all: &[u8]) -> bool {
     let Ok(stream) = Halting::new(alloc, all, 1_000_000) else {
         return false;
@@ -66,7 +66,7 @@ fn reads(alloc: Global, all: &[u8]) -> bool {
     }
 }
 
-// Whether all of them come to the whole capture.
+// Returns whether all these calls give the whole capture.
 fn comes_by_each(alloc: Global) -> bool {
     let Ok(whole) = large(alloc) else {
         return false;
@@ -83,7 +83,7 @@ fn runs(rt: HostRuntime) {
     assert!(rt; comes_by_each(rt.alloc()));
 }
 
-// Whether a stream of them is copied whole.
+// Returns whether a stream of these bytes is copied whole.
 fn copies_all(alloc: Global, all: &[u8]) -> bool {
     let Ok(mut stream) = Halting::new(alloc, all, 1_000_000) else {
         return false;

@@ -7,7 +7,7 @@ use std::alloc::{AllocError, Global};
 use test_support::captures::{back, big, front};
 use test_support::readers::Halting;
 
-// The header that the reader gives next, if it gives one.
+// Returns the header that the reader gives next, if there is one.
 fn given(reader: &mut PcapReader<Halting>) -> Option<PacketHeader> {
     match reader.next_header() {
         Some(Ok(header)) => Some(header),
@@ -15,12 +15,12 @@ fn given(reader: &mut PcapReader<Halting>) -> Option<PacketHeader> {
     }
 }
 
-// Whether the packet lends these bytes.
+// Returns whether the packet lends these bytes.
 fn is_lent(packet: &Packet<'_>, bytes: &[u8]) -> bool {
     packet.data_.is_borrowed() && packet.data_.as_slice() == bytes
 }
 
-// Whether a reader lends the capture's packet, of these bytes, and then nothing.
+// Returns whether a reader lends the capture's packet, with these bytes, and then nothing.
 fn lends(reader: &mut PcapReader<Halting>, contents: &[u8]) -> bool {
     let expected = PacketHeader::new(0x4fa11b29, 152_630_000, 98, 98);
     let is_first = reader.data().is_empty();
@@ -31,7 +31,7 @@ fn lends(reader: &mut PcapReader<Halting>, contents: &[u8]) -> bool {
     is_first && is_given && is_lent && is_taken && is_last
 }
 
-// Whether one does of a stream of the capture, so many bytes at most in a read.
+// Returns whether a reader does so for a stream of the capture, at most `step` bytes in a read.
 fn lends_by(alloc: Global, step: usize) -> bool {
     let Ok(whole) = big(alloc) else {
         return false;
@@ -49,13 +49,13 @@ fn lent_packets(rt: HostRuntime) {
     }
 }
 
-// A reader of the capture's first bytes, so many.
+// Returns a reader of the capture's first `end` bytes.
 fn torn(alloc: Global, end: usize) -> ResultParsing<PcapReader<Halting>> {
     let whole = big(alloc)?;
     reader(alloc, front(whole.as_slice(), end), 9)
 }
 
-// Whether a reader is refused a packet that is torn, lends nothing, and gives nothing after it.
+// Returns whether a reader refuses a truncated packet, lends nothing, and gives nothing after it.
 fn is_torn(alloc: Global, end: usize) -> bool {
     let Ok(mut reader) = torn(alloc, end) else {
         return false;
@@ -71,7 +71,7 @@ fn torn_lent_packets(rt: HostRuntime) {
     }
 }
 
-// Whether a reader with a header that is known lends the packet of a stream without one.
+// Returns whether a reader with a known header lends the packet of a stream without one.
 fn lends_behind(alloc: Global) -> Result<bool, AllocError> {
     let whole = big(alloc)?;
     let stream = Halting::new(alloc, back(whole.as_slice(), 24), 9)?;

@@ -1,4 +1,4 @@
-//! Worked rows of streams: what comes off them and goes out, and what happens where they fail.
+//! Tests of streams: what is read and written, and what happens when a call fails.
 #![tactic(auto)]
 
 #[cfg(test)]

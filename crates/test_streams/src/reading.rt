@@ -1,4 +1,4 @@
-//! What comes off streams.
+//! Reading from streams.
 
 use byteorder::BigEndian;
 use pcap_classic::pcap::{Packet, PacketHeader, PcapHeader, PcapReader};
@@ -9,7 +9,7 @@ use std::io::{ErrorKind, Read};
 use test_support::captures::{BIG_HEAD, back, big, front};
 use test_support::readers::{EndsOnce, Halting};
 
-// A packet that says it was shorter before it was captured.
+// A packet whose original length is less than its stored length.
 const TOO_LONG: [u8; 16] = [0, 0, 0, 1, 0, 0, 0, 0, 0, 0, 0, 2, 0, 0, 0, 1];
 
 // The most bytes of one read.
@@ -18,11 +18,11 @@ const STEPS: [usize; 6] = [1, 7, 9, 200, 300, 500];
 // What a stream gives: the header of the capture and packets, or bytes that are no header.
 #[derive(Clone, Copy)]
 enum Given {
-    // So often the capture's packet.
+    // The capture's packet, this many times.
     Packets(usize),
-    // A packet that says it was shorter, and the capture's.
+    // A packet whose original length is too small, and then the capture's packet.
     LongFirst,
-    // Both the other way round.
+    // The same packets in the opposite order.
     LongLast,
     Wrong,
 }
@@ -46,50 +46,50 @@ fn bytes_of(alloc: Global, given: Given) -> Result<Vec<u8>, AllocError> {
     Ok(bytes)
 }
 
-// What a reader gives next, or what is done to it.
+// What a reader gives next, or what the test does to it.
 #[derive(Clone, Copy)]
 enum Act {
-    // The capture's packet, and that with the number of its microseconds for nanoseconds.
+    // The capture's packet, or that packet with its number of microseconds read as nanoseconds.
     Packet,
     Fine,
     // Nothing.
     End,
-    // That its stream ended inside of a header or a packet, failed, or was interrupted.
+    // An error: the stream ended inside a header or a packet, failed, or was interrupted.
     Torn,
     Failed,
     Interrupted,
-    // That a packet says it was shorter.
+    // An error: the packet's original length is too small.
     Length,
-    // That the header's magic number is wrong.
+    // An error: the header's magic number is wrong.
     Magic,
-    // A wrong magic number is put into its header, or that of nanoseconds.
+    // The test puts a wrong magic number into the header, or that of nanoseconds.
     PutWrong,
     PutFine,
 }
 
-// What comes one by one, and then nothing.
+// What comes one by one. Then nothing comes.
 type Acts = (Act, Act, Act, Act);
 
-// A stream, and what a reader or a run makes of it.
+// A stream, and the result of a reader or a run.
 #[derive(Clone, Copy)]
 struct Row {
-    // What the stream gives, up to so many bytes, and the most bytes of one read.
+    // What the stream gives, how many bytes of it, and the most bytes of one read.
     given: Given,
     length: usize,
     step: usize,
-    // The call of the stream that fails, if not call 0, and how.
+    // The number of the stream's call that fails, or 0, and the kind of the failure.
     fails_at: usize,
     kind: ErrorKind,
     // The most packets of a run.
     most: u64,
     // Why there is no reader, or `End`.
     opens: Act,
-    // What comes, one by one, of which a run gives what stands before the first end or error, and that.
+    // What comes, one by one. A run gives what comes before the first end or error, and that.
     acts: Acts,
     failed: bool,
-    // The magic number that is left.
+    // The magic number at the end.
     magic: u32,
-    // The least and the most bytes that are taken, calls, and calls at the stream's end; and the most room of a call.
+    // The least and the most of: bytes taken, calls, and calls at the stream's end. Then the largest buffer of a call.
     taken: (usize, usize),
     calls: (usize, usize),
     ends: (usize, usize),
@@ -121,7 +121,7 @@ fn stream_of(alloc: Global, row: Row) -> Result<Halting, AllocError> {
     Ok(stream)
 }
 
-// Whether so much was taken of a stream, and it was asked so often, as the row says.
+// Returns whether the expected bytes were taken from a stream, in the expected calls, as the row says.
 fn is_seen(stream: &Halting, row: Row) -> bool {
     row.taken.0 <= stream.taken
         && stream.taken <= row.taken.1
@@ -132,7 +132,7 @@ fn is_seen(stream: &Halting, row: Row) -> bool {
         && stream.most_room <= row.room
 }
 
-// Whether these are the bytes of the capture's packet.
+// Returns whether these are the bytes of the capture's packet.
 fn are_contents(bytes: &[u8]) -> bool {
     for (k, byte) in bytes.iter().enumerate() {
         if usize::from(*byte) != k {
@@ -142,7 +142,7 @@ fn are_contents(bytes: &[u8]) -> bool {
     bytes.len() == 98
 }
 
-// Whether this is the capture's packet, with so many nanoseconds, and owns its bytes.
+// Returns whether this is the capture's packet, with these nanoseconds, and owns its bytes.
 fn is_packet(packet: &Packet<'_>, nanoseconds: u32) -> bool {
     packet.header == PacketHeader::new(0x4fa11b29, nanoseconds, 98, 98)
         && !packet.data_.is_borrowed()
@@ -190,7 +190,7 @@ fn is_item(item: &Option<ResultParsing<Packet<'static>>>, act: Act) -> bool {
     }
 }
 
-// Whether this comes of a reader, or is done to it.
+// Returns whether the reader gives this, or does it to the reader.
 fn acts_as<T: Read + Drop>(reader: &mut PcapReader<T>, act: Act) -> bool {
     match act {
         Act::PutWrong => reader.header.magic_number = 0,
@@ -200,7 +200,7 @@ fn acts_as<T: Read + Drop>(reader: &mut PcapReader<T>, act: Act) -> bool {
     true
 }
 
-// The same one by one.
+// Does the same one by one.
 fn plays<T: Read + Drop>(reader: &mut PcapReader<T>, acts: Acts) -> bool {
     acts_as(reader, acts.0)
         && acts_as(reader, acts.1)
@@ -209,7 +209,7 @@ fn plays<T: Read + Drop>(reader: &mut PcapReader<T>, acts: Acts) -> bool {
         && acts_as(reader, Act::End)
 }
 
-// Whether a reader of a stream gives what the row says.
+// Returns whether a reader of a stream gives what the row says.
 fn reads<T: Read + Drop>(alloc: Global, stream: T, row: Row) -> bool {
     match PcapReader::new(alloc, stream) {
         Err(error) => is_fault(&error, row.opens),
@@ -232,7 +232,7 @@ fn act_at(acts: Acts, index: usize) -> Act {
     }
 }
 
-// Whether these packets come first.
+// Returns whether these packets come first.
 fn are_first(packets: &[Packet<'static>], acts: Acts) -> bool {
     for (index, packet) in packets.iter().enumerate() {
         if !is_given(packet, act_at(acts, index)) {
@@ -242,7 +242,7 @@ fn are_first(packets: &[Packet<'static>], acts: Acts) -> bool {
     true
 }
 
-// Whether this is why no other follows.
+// Returns whether this is why no other packet follows.
 fn is_stop(fault: &Option<PcapError>, act: Act) -> bool {
     match fault {
         None => matches!(act, Act::End),
@@ -250,7 +250,7 @@ fn is_stop(fault: &Option<PcapError>, act: Act) -> bool {
     }
 }
 
-// Whether this is the run over the stream of the row.
+// Returns whether this is the run over the stream of the row.
 fn is_run(read: &ResultParsing<PcapRead>, row: Row) -> bool {
     match read {
         Err(error) => is_fault(error, row.opens),
@@ -277,7 +277,7 @@ fn run_holds(alloc: Global, row: Row) -> bool {
     is_run(&read_pcap(alloc, &mut stream, row.most), row) && is_seen(&stream, row)
 }
 
-// A wrong magic number is refused behind one byte of the first packet.
+// A wrong magic number is refused after one byte of the first packet.
 const WRONG_AT_ONCE: Row = Row {
     length: 29,
     acts: (Act::PutWrong, Act::Magic, Act::End, Act::End),
@@ -286,7 +286,7 @@ const WRONG_AT_ONCE: Row = Row {
     ..WHOLE
 };
 
-// The same behind the first packet, whatever is left of the second.
+// The same after the first packet, for any part of the second.
 const WRONG_MAGIC: Row = Row {
     given: Given::Packets(2),
     acts: (Act::Packet, Act::PutWrong, Act::Magic, Act::End),
@@ -295,7 +295,7 @@ const WRONG_MAGIC: Row = Row {
     ..WHOLE
 };
 
-// No reader or run is made of these 24 bytes, and no more are taken.
+// No reader or run is made from these 24 bytes, and no more are taken.
 const NO_HEADER: Row = Row {
     given: Given::Wrong,
     opens: Act::Magic,
@@ -312,13 +312,13 @@ const READERS: [Row; 9] = [
         taken: (10, 10),
         ..NO_HEADER
     },
-    // nothing comes behind a packet that is refused
+    // nothing comes after a packet that is refused
     Row {
         given: Given::LongFirst,
         acts: (Act::Length, Act::End, Act::End, Act::End),
         ..WHOLE
     },
-    // a packet is read under the magic number that was put in, and none under a wrong one
+    // a packet is read with the magic number that was put in, and none with a wrong one
     Row {
         given: Given::Packets(2),
         acts: (Act::Packet, Act::PutFine, Act::Fine, Act::PutWrong),
@@ -354,7 +354,7 @@ const RUNS: [Row; 7] = [
         ..WHOLE
     },
     NO_HEADER,
-    // no more packets than are wanted, and no more bytes
+    // at most the requested packets, and no more bytes
     Row {
         most: 0,
         acts: (Act::End, Act::End, Act::End, Act::End),
@@ -380,7 +380,7 @@ const RUNS: [Row; 7] = [
         ends: (0, 0),
         ..WHOLE
     },
-    // a packet that is refused behind the first one
+    // a packet that is refused after the first one
     Row {
         given: Given::LongLast,
         acts: (Act::Packet, Act::Length, Act::End, Act::End),
@@ -399,7 +399,7 @@ fn runs(rt: HostRuntime) {
     }
 }
 
-// A run over so many bytes of the capture, which are the header and one packet, one byte a call.
+// Returns the row of a run over `length` bytes of the capture, which are the header and one packet, one byte a call.
 fn beginning(length: usize) -> Row {
     let acts = match length {
         24 => (Act::End, Act::End, Act::End, Act::End),
@@ -422,7 +422,7 @@ fn every_beginning(rt: HostRuntime) {
     }
 }
 
-// A run over two packets whose stream fails at this call, one byte a call.
+// Returns the row of a run over two packets whose stream fails at this call, one byte a call.
 fn failing(fails_at: usize) -> Row {
     let fault = Act::Failed;
     Row {
@@ -441,7 +441,7 @@ fn failing(fails_at: usize) -> Row {
     }
 }
 
-// The same of a reader of 50 bytes that is interrupted.
+// Returns the row of a reader of 50 bytes that is interrupted.
 fn interrupted(step: usize, fails_at: usize) -> Row {
     Row {
         given: Given::Packets(1),
@@ -472,13 +472,13 @@ fn interrupted_reads(rt: HostRuntime) {
     }
 }
 
-// Whether a reader takes of a slice what it takes of a stream.
+// Returns whether a reader of a slice refuses a wrong magic number after the same bytes as a reader of a stream.
 fn refuses_at_once(alloc: Global, bytes: &[u8]) -> bool {
     let mut left = bytes;
     reads(alloc, &mut left, WRONG_AT_ONCE) && left.len() == 29 - 24 - 1
 }
 
-// Whether the capture's packet comes, the end, and both again.
+// Returns whether the capture's packet comes, then the end, and then both again.
 fn goes_on(alloc: Global, whole: &[u8], step: usize) -> bool {
     let stream = EndsOnce {
         first: whole,
@@ -490,7 +490,7 @@ fn goes_on(alloc: Global, whole: &[u8], step: usize) -> bool {
     reads(alloc, stream, Row { acts, ..WHOLE })
 }
 
-// Whether it does by one byte and by all of them.
+// Returns whether that happens with one byte a read and with all bytes at once.
 fn goes_on_by_each(alloc: Global) -> bool {
     let Ok(whole) = big(alloc) else {
         return false;
@@ -506,7 +506,7 @@ fn other_streams(rt: HostRuntime) {
     assert!(rt; goes_on_by_each(rt.alloc()));
 }
 
-// Whether the capture's header and its packet's come off a stream, and nothing more is taken.
+// Returns whether the capture's header and its packet's header come from a stream, and nothing more is taken.
 fn gives_headers(stream: &mut Halting) -> bool {
     let header = PcapHeader::from_reader(stream);
     let is_header = matches!(header, Ok(it) if it == PcapHeader::default()) && stream.taken == 24;
@@ -515,7 +515,7 @@ fn gives_headers(stream: &mut Halting) -> bool {
     is_header && matches!(packet, Ok(it) if it == expected) && stream.taken == 40
 }
 
-// Whether its packet does, and no more room is offered than its data takes.
+// Returns whether its packet comes, and no read is offered more space than its data needs.
 fn gives_the_packet(alloc: Global, stream: &mut Halting) -> bool {
     stream.taken = 24;
     let resolution = TsResolution::MicroSecond;
@@ -526,7 +526,7 @@ fn gives_the_packet(alloc: Global, stream: &mut Halting) -> bool {
     is_given && stream.taken == 138 && stream.most_room <= 98
 }
 
-// Whether all of these come of the capture, so many bytes at most in a read.
+// Returns whether all these values come from the capture, at most `step` bytes in a read.
 fn gives_values(alloc: Global, step: usize) -> bool {
     match stream_of(alloc, Row { step, ..WHOLE }) {
         Ok(mut stream) => gives_headers(&mut stream) && gives_the_packet(alloc, &mut stream),
@@ -534,7 +534,7 @@ fn gives_values(alloc: Global, step: usize) -> bool {
     }
 }
 
-// Whether a stream with a wrong header gives none.
+// Returns whether a stream with a wrong header gives no value.
 fn gives_none(alloc: Global, step: usize) -> bool {
     let Ok(mut stream) = stream_of(alloc, Row { step, ..NO_HEADER }) else {
         return false;
@@ -553,7 +553,7 @@ fn values(rt: HostRuntime) {
     }
 }
 
-// Whether this is a run of one packet of this length.
+// Returns whether this is a run of one packet of this length.
 fn is_large(read: &ResultParsing<PcapRead>, length: usize) -> bool {
     match read {
         Ok(read) => match read.packets.as_slice() {
@@ -564,7 +564,8 @@ fn is_large(read: &ResultParsing<PcapRead>, length: usize) -> bool {
     }
 }
 
-// Whether a large packet is read, by the header's read, one of the packet's header, four of its data, and the end.
+// Returns whether a large packet is read in the expected calls: one for the capture's header, one for the packet's header, four for its
+// data, and one at the end.
 fn reads_large(alloc: Global) -> Result<bool, AllocError> {
     let mut stream = Halting::new(alloc, &BIG_HEAD[..24], 100_000)?;
     stream

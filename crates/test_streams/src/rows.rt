@@ -1,4 +1,4 @@
-//! What goes out.
+//! The bytes that writers write.
 
 ghost use Rattle.std.specs.Prelude.{◌<◌, ◌^◌, length};
 
@@ -11,7 +11,7 @@ use std::alloc::{AllocError, Global};
 use test_support::captures::{BIG_HEAD, back, big, contents, front};
 use test_support::rows::are_digits;
 
-// Whether each setter gives the magic number of what was set so far, and leaves the rest.
+// Returns whether each setter gives the magic number of the values set so far, and leaves the other fields.
 fn sets() -> bool {
     let mut header = PcapHeader::default();
     let first = header.magic_number;
@@ -27,7 +27,7 @@ fn sets() -> bool {
         && header.snaplen == 65535
 }
 
-// Whether a header of another link type is else the default one.
+// Returns whether a header with another link type otherwise is the default one.
 fn links() -> bool {
     let other = PcapHeader::with_datalink(DataLink::RAW);
     other.datalink == DataLink::RAW && other.version_major == 2 && other.version_minor == 4
@@ -38,7 +38,7 @@ fn setters(rt: HostRuntime) {
     assert!(rt; sets() && links());
 }
 
-// A writer of a capture with this magic number, to which this packet was written.
+// Returns a writer of a capture with this magic number, after it wrote this packet.
 fn written(
     alloc: Global,
     magic_number: u32,
@@ -57,7 +57,7 @@ fn written(
     Ok(writer)
 }
 
-// Whether this packet goes out as this header and its bytes.
+// Returns whether this packet is written as this header and its bytes.
 fn writes(
     alloc: Global,
     magic_number: u32,
@@ -74,7 +74,7 @@ fn writes(
     }
 }
 
-// Whether the same goes out where the parts of the packet are given.
+// Returns whether the same is written from the parts of the packet.
 fn writes_both_ways(alloc: Global, magic_number: u32, header: PacketHeader, bytes: &[u8]) -> bool
     requires { length bytes.now < 2 ^ 32 }
 {
@@ -89,7 +89,7 @@ fn writes_both_ways(alloc: Global, magic_number: u32, header: PacketHeader, byte
     is_written && back(out, end) == back(front(out, end), 24)
 }
 
-// So many bytes of a packet.
+// Returns `count` bytes of a packet.
 fn bytes_of(alloc: Global, count: usize) -> Result<Vec<u8>, AllocError> {
     if count == 98 {
         return contents(alloc);
@@ -97,7 +97,7 @@ fn bytes_of(alloc: Global, count: usize) -> Result<Vec<u8>, AllocError> {
     Vec::from_slice(alloc, front(&[0xaa, 0xbb], count))
 }
 
-// Whether a packet of so many bytes goes out as this header and its bytes, and in both ways where its header says so many.
+// Returns whether a packet of `count` bytes is written as this header and its bytes, and in both ways if its header states that length.
 fn goes_out(
     alloc: Global,
     magic_number: u32,
@@ -118,7 +118,7 @@ fn goes_out(
 
 #[test]
 fn packets_under_headers(rt: HostRuntime) {
-    // a magic number, a packet's header, how many bytes it has, and the header that goes out
+    // a magic number, a packet's header, how many bytes it has, and the header that is written
     let rows = [
         (
             0xa1b2c3d4,
@@ -153,10 +153,10 @@ fn packets_under_headers(rt: HostRuntime) {
     }
 }
 
-// The default header, in little-endian order.
+// The default header, in little-endian byte order.
 const LITTLE: &str = "d4c3b2a1 0200 0400 00000000 00000000 ffff0000 01000000";
 
-// Whether a plain writer begins with it, and says so.
+// Returns whether a plain writer begins with it, and reports it.
 fn begins_plain(alloc: Global) -> bool {
     match PcapWriter::new(Vec::new(alloc)) {
         Ok(plain) => {
@@ -167,7 +167,7 @@ fn begins_plain(alloc: Global) -> bool {
     }
 }
 
-// Whether a writer of nanoseconds begins with these digits.
+// Returns whether a writer of nanoseconds begins with these digits.
 fn begins_fine(alloc: Global, digits: &str) -> bool {
     let header = PcapHeader {
         magic_number: 0x4d3cb2a1,
@@ -187,7 +187,7 @@ fn headers(rt: HostRuntime) {
     assert!(rt; begins_plain(rt.alloc()) && begins_fine(rt.alloc(), FINE));
 }
 
-// What the headers of a capture and of a packet write.
+// Returns the written headers of a capture and of a packet.
 fn heads(alloc: Global, packet: &PacketHeader) -> ResultParsing<Vec<u8>> {
     let mut out = Vec::new(alloc);
     PcapHeader::default().write_to::<_, BigEndian>(&mut out)?;
@@ -195,21 +195,21 @@ fn heads(alloc: Global, packet: &PacketHeader) -> ResultParsing<Vec<u8>> {
     Ok(out)
 }
 
-// Whether this is the capture's packet, and owns its bytes.
+// Returns whether this is the capture's packet, and owns its bytes.
 fn is_own(own: &Packet<'_>, contents: &[u8]) -> bool {
     !own.data_.is_borrowed()
         && own.data_.as_slice() == contents
         && own.header == PacketHeader::new(0x4fa11b29, 152_630_000, 98, 98)
 }
 
-// Whether the packet of these bytes owns them as a copy, and where it gives them itself.
+// Returns whether the packet of these bytes owns them: as a copy, and if it is given the bytes themselves.
 fn owns(alloc: Global, contents: &[u8]) -> ResultParsing<bool> {
     let packet = packet(contents);
     let is_copied = is_own(&packet.to_owned(alloc)?, contents);
     Ok(is_copied && is_own(&packet.into_owned(alloc)?, contents))
 }
 
-// Whether the capture's headers are what its bytes begin with, and its packet owns them.
+// Returns whether the capture's headers are the beginning of its bytes, and its packet owns its data.
 fn are_parts(alloc: Global) -> ResultParsing<bool> {
     let header = PacketHeader::new(0x4fa11b29, 152_630_000, 98, 98);
     let is_head = heads(alloc, &header)?.as_slice() == BIG_HEAD.as_slice();
@@ -222,7 +222,7 @@ fn parts_by_themselves(rt: HostRuntime) {
     assert!(rt; matches!(are_parts(rt.alloc()), Ok(true)));
 }
 
-// Whether a packet of no bytes owns them.
+// Returns whether an empty packet owns its data.
 fn owns_nothing(alloc: Global) -> ResultParsing<bool> {
     Ok(
         !Packet::new(1, 2, &[], 0)
@@ -232,7 +232,7 @@ fn owns_nothing(alloc: Global) -> ResultParsing<bool> {
     )
 }
 
-// Whether one that is given a byte states it.
+// Returns whether a packet that is given one byte states that length.
 fn states_its_byte(alloc: Global) -> Result<bool, AllocError> {
     let owned = Packet::new_owned(1, 2, Vec::from_slice(alloc, &[7])?, 3);
     Ok(owned.header == PacketHeader::new(1, 2, 1, 3))
@@ -244,13 +244,13 @@ fn owned_packets(rt: HostRuntime) {
     assert!(rt; matches!(states_its_byte(rt.alloc()), Ok(true)));
 }
 
-// Whether a header is written as these digits.
+// Returns whether a header is written as these digits.
 fn is_written<B: ByteOrder>(alloc: Global, header: &PcapHeader, digits: &str) -> bool {
     let mut out = Vec::new(alloc);
     header.write_to::<_, B>(&mut out).is_ok() && are_digits(out.as_slice(), digits)
 }
 
-// Whether it is made an array of them.
+// Returns whether the array of a header has these digits.
 fn is_array<B: ByteOrder>(alloc: Global, header: &PcapHeader, digits: &str) -> bool {
     match header.to_array::<B>(alloc) {
         Ok(array) => are_digits(array.as_slice(), digits),
@@ -258,7 +258,7 @@ fn is_array<B: ByteOrder>(alloc: Global, header: &PcapHeader, digits: &str) -> b
     }
 }
 
-// Whether it is both.
+// Returns whether both hold.
 fn is_both<B: ByteOrder>(alloc: Global, header: &PcapHeader, digits: &str) -> bool {
     is_written::<B>(alloc, header, digits) && is_array::<B>(alloc, header, digits)
 }
@@ -283,7 +283,7 @@ fn headers_that_no_capture_has(rt: HostRuntime) {
     assert!(rt; is_both::<LittleEndian>(rt.alloc(), &header, little));
 }
 
-// Whether a packet's header by itself is written as these digits.
+// Returns whether a packet's header by itself is written as these digits.
 fn is_written_as(alloc: Global, header: PacketHeader, digits: &str) -> bool {
     let mut out = Vec::new(alloc);
     let resolution = TsResolution::MicroSecond;
@@ -293,7 +293,7 @@ fn is_written_as(alloc: Global, header: PacketHeader, digits: &str) -> bool {
     is_written && are_digits(out.as_slice(), digits)
 }
 
-// Whether it is where a packet of a byte has it, too.
+// Returns whether that also holds for the header of a packet of one byte.
 fn is_written_in_both(alloc: Global, header: PacketHeader, digits: &str) -> bool {
     is_written_as(alloc, header, digits) && writes(alloc, 0xa1b2c3d4, header, &[0xaa], digits)
 }
@@ -323,7 +323,7 @@ fn lengths_that_no_capture_has(rt: HostRuntime) {
     }
 }
 
-// Whether no packet is written under a wrong magic number, and nothing went out but these bytes.
+// Returns whether no packet is written with a wrong magic number, and only the bytes `out` were written.
 fn refuses(writer: &mut PcapWriter<Vec<u8>>, packet: &Packet<'_>, out: &[u8]) -> bool {
     writer.header.magic_number = 0;
     let is_refused = matches!(
@@ -333,7 +333,7 @@ fn refuses(writer: &mut PcapWriter<Vec<u8>>, packet: &Packet<'_>, out: &[u8]) ->
     is_refused && !writer.failed() && writer.get_ref().as_slice() == out
 }
 
-// Whether the packet goes out again in the other order, behind what went out.
+// Returns whether the packet is written again in the other byte order, after the first bytes.
 fn turns(writer: &mut PcapWriter<Vec<u8>>, packet: &Packet<'_>, contents: &[u8]) -> bool {
     let mut header = PcapHeader::default();
     header.set_endianness(Endianness::Little);
@@ -345,7 +345,7 @@ fn turns(writer: &mut PcapWriter<Vec<u8>>, packet: &Packet<'_>, contents: &[u8])
     is_written && is_head && back(out, 16) == contents
 }
 
-// Whether the packet of this capture goes out, is refused under a wrong magic number, and goes out in the other order.
+// Returns whether the packet of this capture is written, is refused with a wrong magic number, and is written in the other byte order.
 fn goes_out_in_both(alloc: Global) -> ResultParsing<bool> {
     let whole = big(alloc)?;
     let whole = whole.as_slice();
@@ -361,7 +361,7 @@ fn orders_between_packets(rt: HostRuntime) {
     assert!(rt; matches!(goes_out_in_both(rt.alloc()), Ok(true)));
 }
 
-// The capture of this packet, which is the largest that there may be.
+// Returns the capture of this packet, which is the largest that a capture may have.
 fn largest(alloc: Global, bytes: &[u8]) -> ResultParsing<Vec<u8>>
     requires { length bytes.now < 2 ^ 32 }
 {
@@ -370,7 +370,7 @@ fn largest(alloc: Global, bytes: &[u8]) -> ResultParsing<Vec<u8>>
     Ok(writer.into_writer())
 }
 
-// Whether this is a run of that packet alone.
+// Returns whether this is a run of that packet alone.
 fn is_largest(run: &PcapRun, bytes: &[u8]) -> bool {
     match run.packets.as_slice() {
         [packet] => {
@@ -382,7 +382,7 @@ fn is_largest(run: &PcapRun, bytes: &[u8]) -> bool {
     }
 }
 
-// Whether these bytes, 262184 of them, are read as it.
+// Returns whether these 262184 bytes are read as that packet.
 fn is_read(alloc: Global, out: &[u8], bytes: &[u8]) -> bool {
     out.len() == 262_184 && matches!(&parse_pcap(alloc, out), Ok(run) if is_largest(run, bytes))
 }

@@ -5,12 +5,12 @@ use pcap_classic::pcap::{Packet, PcapReader};
 use std::alloc::Global;
 use test_support::readers::Halting;
 
-/// The capture's packet, of these bytes.
+/// Returns the capture's packet with these bytes.
 pub fn packet(bytes: &[u8]) -> Packet<'_> {
     Packet::new(0x4fa11b29, 152_630_000, &bytes[..bytes.len().min(98)], 98)
 }
 
-/// A reader of a stream of these bytes, so many at most in a read.
+/// Returns a reader of a stream of these bytes, at most `step` in a read.
 pub fn reader(alloc: Global, bytes: &[u8], step: usize) -> ResultParsing<PcapReader<Halting>> {
     PcapReader::new(alloc, Halting::new(alloc, bytes, step)?)
 }

@@ -23,8 +23,8 @@ fn left<B: ByteOrder>(alloc: Global, digits: &str) -> Result<usize, Fail> {
 #[test]
 fn names_that_end(rt: HostRuntime) -> Result<(), Fail> {
     let rows = [
-        // an address without a name, one with a name, one whose name has no zero byte, an unknown type, a name that isn't UTF-8, an end
-        // with a value, a name of the server, and its address of 3 bytes
+        // an address without a name, one with a name, one whose name has no zero byte, an unknown type, a name that isn't UTF-8;
+        // an end with a value, a name of the server, and its address of 3 bytes
         (
             "0001 0004 7f000001  0001 0006 7f000001 61000000  0001 0006 7f000001 61620000  0007 0003 01020300  0001 0006 7f000001 ff000000  0000 0004 01020304  0002 0001 6e000000  0003 0003 01020300  0000 0000",
             "NamesAsIs { names: NameResolutionBlock { records: [Unknown(UnknownRecord { type_: 1, length: 4, value: Borrowed([127, 0, 0, 1]) }), Ipv4(Ipv4Record { ip_addr: Borrowed([127, 0, 0, 1]), names: [\"a\"] }), Unknown(UnknownRecord { type_: 1, length: 6, value: Borrowed([127, 0, 0, 1, 97, 98]) }), Unknown(UnknownRecord { type_: 7, length: 3, value: Borrowed([1, 2, 3]) }), Unknown(UnknownRecord { type_: 1, length: 6, value: Borrowed([127, 0, 0, 1, 255, 0]) })], options: [NsDnsName(\"n\"), Unknown(UnknownOption { code: 3, length: 3, value: Borrowed([1, 2, 3]) })] }, flaws: [Flaw { code: None, broken: Rule(Ipv4RecordTooShort) }, Flaw { code: None, broken: Rule(NameUnended) }, Flaw { code: None, broken: NotUtf8 }, Flaw { code: None, broken: Rule(EndNotEmpty) }, Flaw { code: Some(3), broken: Rule(NameIpv4Length) }] }",

@@ -1,4 +1,4 @@
-//! Values that are built here, in both orders: one of each kind of block, and bytes of each length up to five.
+//! Values that the tests build, in both byte orders: one of each kind of block, and byte strings of each length up to five.
 
 use crate::writing::{holds, interface, is_written};
 use byteorder::BigEndian;
@@ -16,7 +16,7 @@ use std::borrow::CowStr;
 use std::test::*;
 use test_support::captures::front;
 
-// A section's magic number, and what goes out for it behind a section of either order.
+// A section's magic number, and what is written for it after a section in either byte order.
 const SECTIONS: [(u32, &str); 2] = [
     (
         0x1A2B3C4D,
@@ -154,7 +154,7 @@ fn names(alloc: Global) -> ResultParsing<bool> {
     Ok(is_written(alloc, &names, digits))
 }
 
-// Whether each of them is written so.
+// Returns whether each of them is written so.
 fn each_kind(alloc: Global) -> ResultParsing<bool> {
     let is_interface = plain_interface(alloc) && described_interface(alloc)?;
     let is_packet = obsolete_packet(alloc)? && enhanced_packet(alloc)?;
@@ -168,8 +168,8 @@ fn each_kind_of_block(rt: HostRuntime) {
 
 type End = (u32, &'static str, &'static str, &'static str);
 
-// So many bytes, themselves with their padding, and the last byte of the length of a block with nothing else, and of one with
-// four bytes before them.
+// A number of bytes, the bytes with their padding, and the last byte of the length of a block with nothing else, and of one with four
+// bytes before them.
 const ENDS: [End; 6] = [
     (0, "", "0c", "10"),
     (1, "11000000", "10", "14"),
@@ -181,8 +181,7 @@ const ENDS: [End; 6] = [
 
 const BYTES: [u8; 5] = [0x11, 0x22, 0x33, 0x44, 0x55];
 
-// Whether a block of this type and this length goes out around the first of these digits, or the second with the low byte first,
-// and then these.
+// Returns whether a block of this type and length is written in both byte orders: with `big` or `little`, and then `end`.
 fn frames<B: PcapNgBlock>(
     alloc: Global,
     block: &B,
@@ -216,7 +215,7 @@ fn unknown_block(alloc: Global, (count, end, len, _): End) -> ResultParsing<bool
     frames(alloc, &unknown, ("0a", len), ["", ""], end)
 }
 
-// Whether each of these blocks is written so.
+// Returns whether each of these blocks is written so.
 fn each_ends(alloc: Global, row: End) -> ResultParsing<bool> {
     Ok(simple_packet(alloc, row)? && entry(alloc, row)? && unknown_block(alloc, row)?)
 }

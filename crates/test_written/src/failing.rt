@@ -30,7 +30,7 @@ fn packet(alloc: Global) -> ResultParsing<EnhancedPacketBlock<'static>> {
     })
 }
 
-// Whether a block is refused for the stream that failed before.
+// Returns whether a block is refused because the stream failed before.
 pub(crate) fn refuses<W: Write + Drop, B: PcapNgBlock>(
     writer: &mut PcapNgWriter<W>,
     block: &B,
@@ -41,12 +41,12 @@ pub(crate) fn refuses<W: Write + Drop, B: PcapNgBlock>(
     )
 }
 
-// Whether writing this block fails.
+// Returns whether writing this block fails.
 fn fails<B: PcapNgBlock>(writer: &mut PcapNgWriter<&mut Narrow>, block: &B) -> bool {
     matches!(writer.write_pcapng_block(block), Err(PcapError::IoError(_)))
 }
 
-// Whether writing this block fails once, and from then on each block is refused, and nothing more is asked of the stream.
+// Returns whether writing this block fails once, and from then on each block is refused and the stream isn't called.
 fn fails_at<B: PcapNgBlock>(
     alloc: Global,
     writer: &mut PcapNgWriter<&mut Narrow>,
@@ -69,7 +69,7 @@ fn fails_at<B: PcapNgBlock>(
         && writer.interfaces() == interfaces
 }
 
-// Whether behind the section the interface and the packet go out up to the one that fails behind so many bytes.
+// Returns whether, after the section, the interface and the packet are written up to the one that fails after `gone` bytes.
 fn fails_behind(
     alloc: Global,
     writer: &mut PcapNgWriter<&mut Narrow>,
@@ -82,7 +82,7 @@ fn fails_behind(
     Ok(fails_at(alloc, writer, &packet(alloc)?))
 }
 
-// Whether the section, the interface and the packet go out up to the one that fails behind so many bytes.
+// Returns whether the section, the interface and the packet are written up to the one that fails after `gone` bytes.
 fn fails_once(alloc: Global, output: &mut Narrow, gone: usize) -> ResultParsing<bool> {
     match PcapNgWriter::with_endianness(alloc, Endianness::Big, output) {
         Err(PcapError::IoError(_)) => Ok(gone < 28),
@@ -91,7 +91,7 @@ fn fails_once(alloc: Global, output: &mut Narrow, gone: usize) -> ResultParsing<
     }
 }
 
-// Whether a writer fails once, and so many bytes of them are what went out.
+// Returns whether a writer fails once, after it wrote their first `gone` bytes.
 fn leaves(alloc: Global, mut output: Narrow, gone: usize) -> bool {
     let fails = holds(fails_once(alloc, &mut output, gone));
     fails && are_digits_up_to(output.out.as_slice(), WHOLE, gone)
@@ -107,7 +107,7 @@ fn every_room(rt: HostRuntime) {
     }
 }
 
-// Each call of a writer that takes ten bytes at most, and how many bytes went out before it.
+// Each call of a writer that takes at most ten bytes in a call, and how many bytes were written before it.
 const CALLS: [(u64, usize); 10] = [
     (1, 0),
     (2, 10),
@@ -138,7 +138,7 @@ fn write_plain(alloc: Global, output: &mut Narrow) -> ResultParsing<()> {
     writer.write_packet(0, 1, &[0x61, 0x62], 2)
 }
 
-// Whether the interruption of this call of the stream is told as one.
+// Returns whether the interruption of this call of the stream is reported as one.
 fn tells_interrupted(alloc: Global, call: u64) -> bool {
     match write_plain(alloc, &mut Narrow::halting(alloc, call, false)) {
         Err(PcapError::IoError(error)) => error.kind() == ErrorKind::Interrupted,
@@ -148,13 +148,13 @@ fn tells_interrupted(alloc: Global, call: u64) -> bool {
 
 #[test]
 fn interrupted_calls(rt: HostRuntime) {
-    // three for the section, two for the interface, three for what stands before the packet's bytes, and one for each of the rest
+    // three for the section, two for the interface, three for the part before the packet's bytes, and one for each of the rest
     for call in 1..11u64 {
         assert!(rt; tells_interrupted(rt.alloc(), call), "at {call}");
     }
 }
 
-// Whether the section, the interface and the packet go out.
+// Returns whether the section, the interface and the packet are written.
 fn goes_out(alloc: Global, output: &mut Narrow) -> ResultParsing<bool> {
     let mut writer = PcapNgWriter::with_endianness(alloc, Endianness::Big, output)?;
     writer.write_pcapng_block(&interface(alloc))?;
@@ -162,7 +162,7 @@ fn goes_out(alloc: Global, output: &mut Narrow) -> ResultParsing<bool> {
     Ok(!writer.failed())
 }
 
-// Whether they go out where a write takes so many of them at most.
+// Returns whether they are written if a write takes at most `step` bytes.
 fn goes_out_by(alloc: Global, step: usize) -> bool {
     let mut output = Narrow::new(alloc, 96, true);
     output.step = step;

@@ -1,4 +1,4 @@
-//! What `pcap_written` writes of values, and what it refuses to write.
+//! Tests of what `pcap_written` writes for values, and what it refuses to write.
 #![tactic(auto)]
 
 #[cfg(test)]

@@ -13,7 +13,7 @@ use std::test::*;
 use test_support::captures::{back, pattern};
 use test_support::rows::bytes;
 
-// The bytes of these digits around others.
+// Returns the bytes of these digits around others.
 fn around(alloc: Global, head: &str, middle: &[u8], end: &str) -> Result<Vec<u8>, Fail> {
     let mut joined = bytes(alloc, head)?;
     joined.extend_from_slice(middle)?;
@@ -21,7 +21,7 @@ fn around(alloc: Global, head: &str, middle: &[u8], end: &str) -> Result<Vec<u8>
     Ok(joined)
 }
 
-// Whether a section with this option goes out as these bytes.
+// Returns whether a section with this option is written as these bytes.
 fn section(alloc: Global, option: SectionHeaderOption<'_>, wanted: &[u8]) -> ResultParsing<bool> {
     let section = SectionHeaderBlock {
         magic: 0x1A2B3C4D,
@@ -41,7 +41,7 @@ fn hardware(alloc: Global, text: &str, wanted: &[u8]) -> ResultParsing<bool> {
     )
 }
 
-// Whether the longest text goes out.
+// Returns whether the longest text is written.
 fn text_goes_out(alloc: Global) -> Result<bool, Fail> {
     let text = "a".repeat(alloc, 65_535)?;
     let wanted = around(
@@ -64,7 +64,7 @@ fn custom(alloc: Global, value: &[u8], wanted: &[u8]) -> ResultParsing<bool> {
     section(alloc, SectionHeaderOption::CustomBinary(custom), wanted)
 }
 
-// Whether the longest custom value does.
+// Returns whether the longest custom value is written.
 fn value_goes_out(alloc: Global) -> Result<bool, Fail> {
     let value = pattern(alloc, 65_535)?;
     let wanted = around(
@@ -82,7 +82,7 @@ fn custom_values(rt: HostRuntime) -> Result<(), Fail> {
     Ok(())
 }
 
-// Whether names with this record go out as these bytes.
+// Returns whether name resolution with this record is written as these bytes.
 fn names(alloc: Global, record: Record<'_>, wanted: &[u8]) -> Result<bool, AllocError> {
     let names = NameResolutionBlock {
         records: vec![in alloc; record]?,
@@ -99,7 +99,7 @@ fn ipv4(alloc: Global, name: &str, wanted: &[u8]) -> Result<bool, AllocError> {
     names(alloc, Record::Ipv4(ipv4), wanted)
 }
 
-// Whether the longest record does.
+// Returns whether the longest record is written.
 fn record_goes_out(alloc: Global) -> Result<bool, Fail> {
     let name = "a".repeat(alloc, 65_530)?;
     let wanted = around(
@@ -126,7 +126,7 @@ fn unknown(alloc: Global, value: &[u8], wanted: &[u8]) -> Result<bool, AllocErro
     names(alloc, Record::Unknown(unknown), wanted)
 }
 
-// Whether the longest unknown one does.
+// Returns whether the longest unknown record is written.
 fn unknown_goes_out(alloc: Global) -> Result<bool, Fail> {
     let value = pattern(alloc, 65_535)?;
     let wanted = around(

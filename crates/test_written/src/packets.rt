@@ -10,7 +10,7 @@ use test_support::captures::{back, front};
 use test_support::rows::are_digits;
 use test_support::writers::Narrow;
 
-// So many bytes of a packet, the last byte of the length of its block, and themselves with their padding.
+// The number of a packet's bytes, the last byte of the length of its block, and the bytes with their padding.
 const ENDS: [(usize, &str, &str); 6] = [
     (0, "20", ""),
     (1, "24", "11000000"),
@@ -22,7 +22,7 @@ const ENDS: [(usize, &str, &str); 6] = [
 
 const BYTES: [u8; 5] = [0x11, 0x22, 0x33, 0x44, 0x55];
 
-// Whether these digits are what goes out for a packet of the second interface with so many bytes.
+// Returns whether these digits are written for a packet of the second interface with `count` bytes.
 fn goes_out(alloc: Global, order: Endianness, count: usize, digits: &str) -> ResultParsing<bool> {
     let mut writer = begun(alloc, order)?;
     let before = writer.get_ref().len();
@@ -30,7 +30,7 @@ fn goes_out(alloc: Global, order: Endianness, count: usize, digits: &str) -> Res
     Ok(are_digits(back(writer.get_ref().as_slice(), before), digits))
 }
 
-// The same in both orders, for a row of `ENDS`.
+// Returns the same for both byte orders, for a row of `ENDS`.
 fn is_written(alloc: Global, (count, len, end): (usize, &str, &str)) -> ResultParsing<bool> {
     let big = format!(in alloc;
         "00000006 000000{len} 00000001 04050607 08090a0b 0000000{count} 0c0d0e0f {end} 000000{len}"
@@ -49,7 +49,7 @@ fn packets_of_each_padding(rt: HostRuntime) {
     }
 }
 
-// Whether a packet of this interface is refused, and nothing goes out for it.
+// Returns whether a packet of this interface is refused, and nothing is written for it.
 fn misses(writer: &mut PcapNgWriter<Vec<u8>>, id: u32) -> bool {
     let before = writer.get_ref().len();
     let answer = writer.write_packet(id, 0, &BYTES, 5);
@@ -57,7 +57,7 @@ fn misses(writer: &mut PcapNgWriter<Vec<u8>>, id: u32) -> bool {
     is_refused && writer.get_ref().len() == before && !writer.failed()
 }
 
-// Whether they are of a writer of this order, one behind the other.
+// Returns whether the packets of several missing interfaces are refused in turn by a writer in this byte order.
 fn misses_each(alloc: Global, order: Endianness) -> bool {
     match begun(alloc, order) {
         Ok(mut writer) => {
@@ -83,7 +83,7 @@ const WHOLE: &str = "
 // The time of that packet.
 const TIME: u64 = 0x0000_0001_0000_0002;
 
-// Whether a packet is refused for the stream that failed before.
+// Returns whether a packet is refused because the stream failed before.
 fn refuses_packet(writer: &mut PcapNgWriter<&mut Narrow>, id: u32) -> bool {
     matches!(
         writer.write_packet(id, TIME, &[0x11], 5),
@@ -91,7 +91,7 @@ fn refuses_packet(writer: &mut PcapNgWriter<&mut Narrow>, id: u32) -> bool {
     )
 }
 
-// Whether the packet fails, and what is written then is refused.
+// Returns whether the packet fails, and later writes are refused.
 fn fails_once(alloc: Global, writer: &mut PcapNgWriter<&mut Narrow>) -> bool {
     let first = matches!(
         writer.write_packet(0, TIME, &[0x11], 5),
@@ -104,14 +104,14 @@ fn fails_once(alloc: Global, writer: &mut PcapNgWriter<&mut Narrow>) -> bool {
     first && is_refused && writer.get_ref().calls == calls && writer.failed()
 }
 
-// Whether the packet fails behind the section and the interface, once.
+// Returns whether the packet fails once, after the section and the interface.
 fn fails_behind(alloc: Global, output: &mut Narrow) -> ResultParsing<bool> {
     let mut writer = PcapNgWriter::with_endianness(alloc, Endianness::Big, output)?;
     writer.write_pcapng_block(&interface(alloc))?;
     Ok(fails_once(alloc, &mut writer))
 }
 
-// Whether the packet fails in a stream of which so many bytes are left.
+// Returns whether the packet fails in a stream with this much space left.
 fn leaves(alloc: Global, mut output: Narrow) -> bool {
     let room = output.room;
     let fails = holds(fails_behind(alloc, &mut output));

@@ -1,4 +1,4 @@
-//! Blocks whose bodies are written as they stand.
+//! Blocks whose bodies are written unchanged.
 
 use crate::writing::{begun, holds, is_refused};
 use pcap_blocks::BlockType;
@@ -10,7 +10,7 @@ use test_support::captures::{SECTIONS, back, front};
 use test_support::rows::are_digits;
 use test_support::writers::Narrow;
 
-// The blocks of `SECTIONS` behind its first section.
+// Returns the blocks of `SECTIONS` after its first section.
 fn blocks() -> [RawBlock<'static>; 3] {
     [
         RawBlock {
@@ -31,7 +31,7 @@ fn blocks() -> [RawBlock<'static>; 3] {
     ]
 }
 
-// Whether a block leads to its order and to so many interfaces.
+// Returns whether, after a block, the writer has the block's byte order and this number of interfaces.
 fn leads(
     writer: &mut PcapNgWriter<Vec<u8>>,
     block: &RawBlock<'_>,
@@ -41,7 +41,7 @@ fn leads(
     Ok(writer.endianness() == block.endianness && writer.interfaces() == interfaces)
 }
 
-// Whether all of them go out behind the first section.
+// Returns whether all of them are written after the first section.
 fn goes_out(alloc: Global) -> ResultParsing<bool> {
     let [first, second, third] = blocks();
     let mut writer = PcapNgWriter::with_endianness(alloc, Endianness::Big, Vec::new(alloc))?;
@@ -56,7 +56,7 @@ fn raw_sections(rt: HostRuntime) {
     assert!(rt; holds(goes_out(rt.alloc())));
 }
 
-// Whether a block of so many bytes goes out whole behind the first section.
+// Returns whether a block of `len` bytes is written whole after the first section.
 fn long_goes_out(alloc: Global, len: usize) -> Result<bool, Fail> {
     let body = vec![in alloc; 7u8; len]?;
     let block = RawBlock {
@@ -77,14 +77,14 @@ fn long_raw_blocks(rt: HostRuntime) -> Result<(), Fail> {
     Ok(())
 }
 
-// Whether a block is refused by this message, and nothing goes out for it.
+// Returns whether a block is refused with this message, and nothing is written for it.
 fn refuses(writer: &mut PcapNgWriter<Vec<u8>>, block: &RawBlock<'_>, message: &str) -> bool {
     let before = writer.get_ref().len();
     let is_told = is_refused(&writer.write_raw_block(block), message);
     is_told && writer.get_ref().len() == before && writer.interfaces() == 2
 }
 
-// Whether a good block goes out next.
+// Returns whether a valid block is written next.
 fn goes_on(alloc: Global, writer: &mut PcapNgWriter<Vec<u8>>) -> bool {
     let block = RawBlock {
         type_: BlockType::Unknown(0),
@@ -97,7 +97,7 @@ fn goes_on(alloc: Global, writer: &mut PcapNgWriter<Vec<u8>>) -> bool {
     is_written && are_digits(out, "00000000 00000010 01020304 00000010")
 }
 
-// Whether a block behind a big-endian section and two interfaces is refused by this message, and a good one then goes out.
+// Returns whether a block after a big-endian section and two interfaces is refused with this message, and a valid one is then written.
 fn leaves_the_writer(alloc: Global, block: &RawBlock<'_>, message: &str) -> bool {
     match begun(alloc, Endianness::Big) {
         Ok(mut writer) => refuses(&mut writer, block, message) && goes_on(alloc, &mut writer),
@@ -150,7 +150,7 @@ fn refused_raw_blocks(rt: HostRuntime) {
     }
 }
 
-// Whether the first raw block fails where so many bytes fit, and the next is refused.
+// Returns whether the first raw block fails when the output is full, and the next is refused.
 fn fails_once(alloc: Global, output: &mut Narrow) -> ResultParsing<bool> {
     let [interface, section, _] = blocks();
     let mut writer = PcapNgWriter::with_endianness(alloc, Endianness::Big, output)?;
@@ -165,7 +165,7 @@ fn fails_once(alloc: Global, output: &mut Narrow) -> ResultParsing<bool> {
     Ok(first && second && writer.failed() && writer.interfaces() == 0)
 }
 
-// Whether it fails behind so many bytes, which are what went out.
+// Returns whether it fails after `room` bytes, which were written.
 fn fails_behind(alloc: Global, room: usize) -> bool {
     let mut output = Narrow::new(alloc, room, true);
     let fails = holds(fails_once(alloc, &mut output));

@@ -1,4 +1,4 @@
-//! Blocks that are refused for what is no option and no record, and writers that are not made.
+//! Blocks that are refused for other reasons than options and records, and writers that aren't made.
 
 use crate::writing::{has_message, holds, interface, leaves_no_trace};
 use pcap_blocks::{
@@ -12,7 +12,7 @@ use std::borrow::CowStr;
 use std::test::*;
 use test_support::writers::Narrow;
 
-// A section with this magic number.
+// Returns a section with this magic number.
 fn section(alloc: Global, magic: u32) -> SectionHeaderBlock<'static> {
     SectionHeaderBlock {
         magic,
@@ -23,7 +23,7 @@ fn section(alloc: Global, magic: u32) -> SectionHeaderBlock<'static> {
     }
 }
 
-// An enhanced packet of two bytes that states this length for them.
+// Returns an enhanced packet of two bytes that states this length for them.
 fn enhanced(alloc: Global, interface_id: u32, captured_len: u32) -> EnhancedPacketBlock<'static> {
     EnhancedPacketBlock {
         interface_id,
@@ -35,7 +35,7 @@ fn enhanced(alloc: Global, interface_id: u32, captured_len: u32) -> EnhancedPack
     }
 }
 
-// An obsolete packet of two bytes that states this length for them.
+// Returns an obsolete packet of two bytes that states this length for them.
 fn packet(alloc: Global, interface_id: u16, captured_len: u32) -> PacketBlock<'static> {
     PacketBlock {
         interface_id,
@@ -109,7 +109,7 @@ fn missing_interfaces(rt: HostRuntime) {
     }
 }
 
-// Whether an interface with the link type of this number is refused.
+// Returns whether an interface with the link type of this number is refused.
 fn refuses_link(alloc: Global, number: u32, message: &str) -> bool {
     let block = InterfaceDescriptionBlock {
         linktype: DataLink::Unknown(number),
@@ -133,7 +133,7 @@ fn link_types(rt: HostRuntime) {
     }
 }
 
-// Whether a block of this type and two bytes is refused as an unknown one.
+// Returns whether a block of this type with two bytes is refused as an unknown one.
 fn refuses_type(alloc: Global, type_: BlockType) -> bool {
     let block = UnknownBlock::new(type_, 2, &[1, 2]);
     leaves_no_trace(alloc, &block, "UnknownBlock: type has a name")
@@ -159,12 +159,12 @@ fn types_with_names(rt: HostRuntime) {
     }
 }
 
-// Why no writer is made over this section, if none is.
+// Returns why no writer is made for this section, or None if one is made.
 fn refusal(alloc: Global, section: &SectionHeaderBlock, output: &mut Narrow) -> Option<PcapError> {
     PcapNgWriter::with_section_header(alloc, section, output).err()
 }
 
-// Whether no writer is made over this section, for this message, and nothing is written.
+// Returns whether no writer is made for this section, with this message, and nothing is written.
 fn is_not_made(alloc: Global, section: &SectionHeaderBlock, message: &str) -> bool {
     let mut output = Narrow::new(alloc, 1000, true);
     match refusal(alloc, section, &mut output) {
@@ -185,7 +185,7 @@ fn first_section_of_no_order(rt: HostRuntime) {
     );
 }
 
-// Whether no writer is made over a section with a text of so many bytes.
+// Returns whether no writer is made for a section with a text of `length` bytes.
 fn refuses_text(alloc: Global, length: usize) -> Result<bool, AllocError> {
     let text = "a".repeat(alloc, length)?;
     let long = SectionHeaderBlock {

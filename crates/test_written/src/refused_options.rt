@@ -1,4 +1,4 @@
-//! Options that are refused, of each kind of block. Each stands behind one that could be written.
+//! Refused options, for each kind of block. Each comes after one that can be written.
 
 use crate::writing::{holds, leaves_no_trace};
 use byteorder::BigEndian;
@@ -133,7 +133,7 @@ enum Kind {
     Statistics,
 }
 
-// The kinds, and the codes below which all have names there.
+// The kinds of blocks. For each kind, all codes below the number are known.
 const KINDS: [(&str, Kind, u16); 6] = [
     ("section", Kind::Section, 5),
     ("interface", Kind::Interface, 16),
@@ -143,7 +143,7 @@ const KINDS: [(&str, Kind, u16); 6] = [
     ("statistics", Kind::Statistics, 9),
 ];
 
-// Whether a kind of block is refused for an unknown option.
+// Returns whether a kind of block is refused because of an unknown option.
 fn refuses_unknown(
     alloc: Global,
     kind: Kind,
@@ -173,7 +173,7 @@ fn refuses_unknown(
     }
 }
 
-// Whether it is for a custom string of this code.
+// Returns whether it is refused because of a custom string with this code.
 fn refuses_string(alloc: Global, kind: Kind, code: u16) -> ResultParsing<bool> {
     let option = CustomUtf8Option::from_slice::<BigEndian>(code, &[0; 4])?;
     match kind {
@@ -202,7 +202,7 @@ fn refuses_string(alloc: Global, kind: Kind, code: u16) -> ResultParsing<bool> {
     }
 }
 
-// Whether it is for custom bytes of this code.
+// Returns whether it is refused because of custom bytes with this code.
 fn refuses_bytes(alloc: Global, kind: Kind, code: u16) -> ResultParsing<bool> {
     let option = CustomBinaryOption::from_slice::<BigEndian>(code, &[0; 4])?;
     match kind {
@@ -235,7 +235,7 @@ fn refuses_bytes(alloc: Global, kind: Kind, code: u16) -> ResultParsing<bool> {
     }
 }
 
-// Whether it is for an unknown option of this code.
+// Returns whether it is refused because of an unknown option with this code.
 fn refuses_code(alloc: Global, kind: Kind, code: u16) -> bool {
     let row = (code, 0, [].as_slice());
     holds(refuses_unknown(alloc, kind, row, MISPLACED))
@@ -271,7 +271,7 @@ fn custom_options_of_other_codes(rt: HostRuntime) {
     }
 }
 
-// Unknown options that state another length than these values have.
+// Unknown options that state another length than their values have.
 const OTHER_LENGTHS: [(u16, &[u8]); 4] = [(0, &[1]), (1, &[]), (3, &[1, 2, 3, 4]), (65535, &[1])];
 
 #[test]
@@ -287,7 +287,8 @@ fn unknown_options_of_other_lengths(rt: HostRuntime) {
     }
 }
 
-// Whether a block is refused for an address, a filter, a hash or a custom value of these bytes, or for this text.
+// Each of these returns whether a block is refused because of an address, a filter, a hash or a custom value with these bytes, or because
+// of this text.
 
 fn refuses_ipv4(alloc: Global, value: &[u8]) -> ResultParsing<bool> {
     let option = InterfaceDescriptionOption::IfIpv4Addr(CowBytes::Borrowed(value));
@@ -350,7 +351,7 @@ fn refuses_hardware(alloc: Global, text: &str) -> ResultParsing<bool> {
     refuses_in_section(alloc, option, TOO_LONG)
 }
 
-// Whether each address of another length is refused.
+// Returns whether each address of another length is refused.
 fn refuses_addresses(alloc: Global) -> ResultParsing<bool> {
     let long = pattern(alloc, 65_536)?;
     Ok(
@@ -368,7 +369,7 @@ fn addresses_of_other_lengths(rt: HostRuntime) {
     assert!(rt; holds(refuses_addresses(rt.alloc())));
 }
 
-// Whether an empty filter is, and a long one.
+// Returns whether an empty filter and a long one are refused.
 fn refuses_filters(alloc: Global) -> ResultParsing<bool> {
     let message = "InterfaceDescriptionOption: IfFilter is empty";
     let long = pattern(alloc, 65_536)?;
@@ -380,7 +381,7 @@ fn filters(rt: HostRuntime) {
     assert!(rt; holds(refuses_filters(rt.alloc())));
 }
 
-// Whether long hashes and a long custom value are.
+// Returns whether long hashes and a long custom value are refused.
 fn refuses_hashes(alloc: Global) -> ResultParsing<bool> {
     let long = pattern(alloc, 65_536)?;
     Ok(
@@ -395,7 +396,7 @@ fn long_hashes_and_custom_values(rt: HostRuntime) {
     assert!(rt; holds(refuses_hashes(rt.alloc())));
 }
 
-// Whether long texts are.
+// Returns whether long texts are refused.
 fn refuses_texts(alloc: Global) -> ResultParsing<bool> {
     let text = "a".repeat(alloc, 65_536)?;
     Ok(refuses_comment(alloc, text.as_str())? && refuses_hardware(alloc, text.as_str())?)

@@ -1,4 +1,4 @@
-//! Records of names that are refused. Each stands behind one that could be written.
+//! Refused name records. Each comes after one that can be written.
 
 use crate::writing::{holds, leaves_no_trace};
 use pcap_blocks::{Ipv4Record, Ipv6Record, NameResolutionBlock, Record, UnknownRecord};
@@ -8,7 +8,7 @@ use std::borrow::CowStr;
 use std::test::*;
 use test_support::captures::pattern;
 
-// Names with these records.
+// Returns name resolution with these records.
 fn names_with<'a>(alloc: Global, records: Vec<Record<'a>>) -> NameResolutionBlock<'a> {
     NameResolutionBlock {
         records,
@@ -16,7 +16,7 @@ fn names_with<'a>(alloc: Global, records: Vec<Record<'a>>) -> NameResolutionBloc
     }
 }
 
-// A record that can be written.
+// Returns a record that can be written.
 fn good(alloc: Global) -> Result<Record<'static>, AllocError> {
     ipv4(alloc, &[10, 0, 0, 1], &["a"])
 }
@@ -51,7 +51,7 @@ fn unknown<'a>(type_: u16, length: u16, value: &'a [u8]) -> Record<'a> {
     })
 }
 
-// Whether names with a good record and then this one are refused with this message.
+// Returns whether name resolution with a valid record and then this one is refused with this message.
 fn refuses(alloc: Global, record: Record<'_>, message: &str) -> Result<bool, AllocError> {
     let block = names_with(alloc, vec![in alloc; good(alloc)?, record]?);
     Ok(leaves_no_trace(alloc, &block, message))
@@ -65,7 +65,7 @@ const OTHER: &str = "NameResolutionBlock: address of another length";
 
 const ZERO: &str = "NameResolutionBlock: name with a zero byte";
 
-// The addresses and names of a record of four bytes, and the message.
+// The addresses and names of a record with an address of four bytes, and the message.
 const IPV4: [(&[u8], &[&str], &str); 6] = [
     (&[10], &["a"], OTHER),
     (&SIXTEEN, &["a"], OTHER),
@@ -75,7 +75,7 @@ const IPV4: [(&[u8], &[&str], &str); 6] = [
     (&FOUR, &[""], "NameResolutionBlock: Ipv4Record len < 6"),
 ];
 
-// The same of sixteen bytes.
+// The same for addresses of sixteen bytes.
 const IPV6: [(&[u8], &[&str], &str); 4] = [
     (&FOUR, &["a"], OTHER),
     (&SIXTEEN, &["\0"], ZERO),
@@ -83,7 +83,7 @@ const IPV6: [(&[u8], &[&str], &str); 4] = [
     (&SIXTEEN, &[""], "NameResolutionBlock: Ipv6Record len < 18"),
 ];
 
-// Whether such a record is refused.
+// Returns whether such a record is refused.
 
 fn refuses_ipv4(alloc: Global, row: (&[u8], &[&str], &str)) -> Result<bool, AllocError> {
     refuses(alloc, ipv4(alloc, row.0, row.1)?, row.2)
@@ -107,7 +107,7 @@ fn addresses(rt: HostRuntime) {
 
 const LONG: &str = "NameResolutionBlock: Record length > 65535";
 
-// Whether records with names of so many bytes are refused.
+// Returns whether records with names of these lengths are refused.
 fn refuses_lengths(alloc: Global, first: usize, second: usize) -> Result<bool, AllocError> {
     let first = "a".repeat(alloc, first)?;
     let second = "b".repeat(alloc, second)?;
@@ -118,7 +118,7 @@ fn refuses_lengths(alloc: Global, first: usize, second: usize) -> Result<bool, A
 
 #[test]
 fn long_names(rt: HostRuntime) {
-    // with the zero byte of each name the values have 65536 bytes, and more
+    // with the zero byte of each name, the values have 65536 bytes or more
     for (first, second) in [
         (65_531, 0),
         (65_530, 0),
@@ -133,7 +133,7 @@ fn long_names(rt: HostRuntime) {
     }
 }
 
-// Whether a record of one name of so many bytes is refused.
+// Returns whether a record with one name of `length` bytes is refused.
 fn refuses_length(alloc: Global, length: usize) -> Result<bool, AllocError> {
     let text = "a".repeat(alloc, length)?;
     let record = ipv6(alloc, &SIXTEEN, &[text.as_str()])?;
@@ -145,13 +145,13 @@ fn long_name_alone(rt: HostRuntime) {
     assert!(rt; holds(refuses_length(rt.alloc(), 65_519)));
 }
 
-// Whether the mark of the end is refused among the records.
+// Returns whether the end mark is refused among the records.
 fn refuses_end(alloc: Global) -> Result<bool, AllocError> {
     let message = "NameResolutionBlock: nrb_record_end among the records";
     refuses(alloc, Record::End, message)
 }
 
-// Whether an unknown record is refused.
+// Returns whether an unknown record is refused.
 fn refuses_unknown(
     alloc: Global,
     type_: u16,
@@ -162,7 +162,7 @@ fn refuses_unknown(
     refuses(alloc, unknown(type_, length, value), message)
 }
 
-// The same of a value of so many bytes.
+// Returns the same for a value of `count` bytes.
 fn refuses_stated(
     alloc: Global,
     type_: u16,

@@ -1,4 +1,4 @@
-//! Blocks as they are written, one a row: the order of their section, all their bytes, and the value that they are.
+//! Written blocks, one a row: the byte order of their section, all their bytes, and their value.
 //!
 //! The rows were made by a model of the format in plain Python, and tests/model/run compares them with it.
 
@@ -100,7 +100,7 @@ pub(crate) const STRINGS: &str = r#"
     big 0a0d0d0a 00000038 1a2b3c4d 00010000 ffffffff ffffffff 00010005 61626364 65000000 00030005 c3a9c3a9 78000000 00000000 00000038 => SectionHeader(SectionHeaderBlock { magic: 439041101, major_version: 1, minor_version: 0, section_length: -1, options: [Comment("abcde"), OS("ééx")] })
 "#;
 
-// Blocks that end with bytes, which need no padding.
+// Blocks that end with bytes without padding.
 pub(crate) const WHOLE: &str = r#"
     big 00000003 00000010 01020304 00000010 => SimplePacket(SimplePacketBlock { original_len: 16909060, data_: Borrowed([]) })
     big 00000009 0000000c 0000000c => SystemdJournalExport(SystemdJournalExportBlock { journal_entry: Borrowed([]) })

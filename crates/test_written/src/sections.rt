@@ -1,4 +1,4 @@
-//! Sections that follow each other, and their interfaces.
+//! Consecutive sections, and their interfaces.
 
 use crate::writing::{begun, holds, interface, is_refused};
 use pcap_blocks::{
@@ -13,7 +13,7 @@ use test_support::rows::are_digits;
 
 const MISSING: &str = "Block: interface_id is not described";
 
-// A section without options whose numbers have this order.
+// Returns a section without options in this byte order.
 fn section(alloc: Global, order: Endianness) -> SectionHeaderBlock<'static> {
     SectionHeaderBlock {
         magic: match order {
@@ -38,12 +38,12 @@ fn packet(alloc: Global, interface_id: u32) -> EnhancedPacketBlock<'static> {
     }
 }
 
-// Whether these are the order and the number of interfaces of the section that is being written.
+// Returns whether the section that is being written has this byte order and number of interfaces.
 fn is_at(writer: &PcapNgWriter<Vec<u8>>, order: Endianness, interfaces: u32) -> bool {
     writer.endianness() == order && writer.interfaces() == interfaces && !writer.failed()
 }
 
-// Whether a packet of this interface is refused.
+// Returns whether a packet of this interface is refused.
 fn misses(alloc: Global, writer: &mut PcapNgWriter<Vec<u8>>, interface_id: u32) -> bool {
     is_refused(
         &writer.write_pcapng_block(&packet(alloc, interface_id)),
@@ -51,7 +51,7 @@ fn misses(alloc: Global, writer: &mut PcapNgWriter<Vec<u8>>, interface_id: u32) 
     )
 }
 
-// Writes a block, and tells whether the section then has this order and so many interfaces.
+// Writes a block, and returns whether the section then has this byte order and number of interfaces.
 fn leads<B: PcapNgBlock>(
     writer: &mut PcapNgWriter<Vec<u8>>,
     block: &B,
@@ -61,7 +61,7 @@ fn leads<B: PcapNgBlock>(
     writer.write_pcapng_block(block).is_ok() && is_at(writer, order, interfaces)
 }
 
-// Whether a packet has no interface at the beginning of a section in this order, which then gets one.
+// Returns whether a packet has no interface at the beginning of a section in this byte order. The section then gets an interface.
 fn describes(alloc: Global, writer: &mut PcapNgWriter<Vec<u8>>, order: Endianness) -> bool {
     let described = InterfaceDescriptionBlock {
         snaplen: 0x40000,
@@ -70,13 +70,13 @@ fn describes(alloc: Global, writer: &mut PcapNgWriter<Vec<u8>>, order: Endiannes
     is_at(writer, order, 0) && misses(alloc, writer, 0) && leads(writer, &described, order, 1)
 }
 
-// Whether a section in little-endian order follows.
+// Returns whether a section in little-endian byte order follows.
 fn turns(alloc: Global, writer: &mut PcapNgWriter<Vec<u8>>) -> bool {
     let section = ParsedBlock::SectionHeader(section(alloc, Endianness::Little));
     writer.write_block(&section).is_ok()
 }
 
-// Whether a section with an interface goes out in each order.
+// Returns whether a section with an interface is written in each byte order.
 fn describes_both(alloc: Global) -> bool {
     let Ok(mut writer) = PcapNgWriter::with_endianness(alloc, Endianness::Big, Vec::new(alloc))
     else {
@@ -93,14 +93,14 @@ fn two_sections(rt: HostRuntime) {
     assert!(rt; describes_both(rt.alloc()));
 }
 
-// Whether the packet of an interface is refused until it is described, and then goes out.
+// Returns whether the packet of an interface is refused until the interface is described, and is then written.
 fn grows(alloc: Global, writer: &mut PcapNgWriter<Vec<u8>>, id: u32) -> bool {
     misses(alloc, writer, id)
         && writer.write_pcapng_block(&interface(alloc)).is_ok()
         && writer.write_pcapng_block(&packet(alloc, id)).is_ok()
 }
 
-// Whether this is what goes out of packets of the interfaces below three, each behind a new interface.
+// Returns whether these digits are written for packets of the first three interfaces, each after a new interface.
 fn are_described(alloc: Global, order: Endianness, digits: &str) -> ResultParsing<bool> {
     let out = Vec::new(alloc);
     let mut writer = PcapNgWriter::with_section_header(alloc, &section(alloc, order), out)?;
@@ -139,7 +139,7 @@ fn interfaces_that_grow(rt: HostRuntime) {
     }
 }
 
-// Whether a section in this order follows one with two interfaces, and starts them anew.
+// Returns whether a section in this byte order follows one with two interfaces, and begins without interfaces.
 fn starts(alloc: Global, writer: &mut PcapNgWriter<Vec<u8>>, order: Endianness) -> bool {
     leads(writer, &section(alloc, order), order, 0)
         && misses(alloc, writer, 0)
@@ -147,7 +147,7 @@ fn starts(alloc: Global, writer: &mut PcapNgWriter<Vec<u8>>, order: Endianness) 
         && misses(alloc, writer, 1)
 }
 
-// The same of one behind two interfaces of a section in that order.
+// Does the same after two interfaces of a section in the byte order `first`.
 fn starts_anew(alloc: Global, first: Endianness, second: Endianness) -> bool {
     match begun(alloc, first) {
         Ok(mut writer) => starts(alloc, &mut writer, second),
@@ -167,7 +167,7 @@ fn interfaces_of_each_section(rt: HostRuntime) {
     }
 }
 
-// Whether a writer begins with a section in little-endian order.
+// Returns whether a writer begins with a section in little-endian byte order.
 fn begins_plain(alloc: Global) -> bool {
     let little = "0a0d0d0a 1c000000 4d3c2b1a 0100 0000 ffffffffffffffff 1c000000";
     match PcapNgWriter::new(alloc, Vec::new(alloc)) {
@@ -184,7 +184,7 @@ fn plain_section(rt: HostRuntime) {
     assert!(rt; begins_plain(rt.alloc()));
 }
 
-// Whether one begins with a section in the order that is asked for.
+// Returns whether a writer begins with a section in the requested byte order.
 fn begins_big(alloc: Global) -> bool {
     match PcapNgWriter::with_endianness(alloc, Endianness::Big, Vec::new(alloc)) {
         Ok(big) => big.get_ref().as_slice() == front(&SECTIONS, 28),
@@ -197,7 +197,7 @@ fn plain_big_endian_section(rt: HostRuntime) {
     assert!(rt; begins_big(rt.alloc()));
 }
 
-// Whether an interface goes out alone where the section was taken off the writer.
+// Returns whether only an interface is written after the section was removed from the writer's output.
 fn goes_out_alone(alloc: Global, writer: &mut PcapNgWriter<Vec<u8>>) -> bool {
     writer.get_mut().clear();
     let is_written = writer.write_pcapng_block(&interface(alloc)).is_ok();

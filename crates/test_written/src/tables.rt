@@ -1,4 +1,4 @@
-//! The blocks of the rows: each is read, is the value of its row, and is written as the bytes of its row.
+//! The blocks of the rows. Each is read, has the value of its row, and is written as the bytes of its row.
 
 use crate::rows::{
     ENHANCED_PACKETS, INTERFACES, NAMES, PACKETS, SECTIONS, STATISTICS, STRINGS, WHOLE,
@@ -11,7 +11,7 @@ use std::alloc::Global;
 use std::test::*;
 use test_support::rows::bytes;
 
-// Whether the block of these bytes is the value of this text, and is written as these bytes.
+// Returns whether the block of these bytes has the value of this text, and is written as these bytes.
 fn is_block<B: ByteOrder>(alloc: Global, order: Endianness, block: &[u8], text: &str) -> bool {
     if block.len() < 12 {
         return false;
@@ -24,7 +24,7 @@ fn is_block<B: ByteOrder>(alloc: Global, order: Endianness, block: &[u8], text: 
     }
 }
 
-// Whether a value is shown as this text.
+// Returns whether a value is formatted as this text.
 fn shows(alloc: Global, value: &ParsedBlock<'_>, text: &str) -> bool {
     match format!(in alloc; "{value:?}") {
         Ok(shown) => shown.as_str() == text,
@@ -32,7 +32,7 @@ fn shows(alloc: Global, value: &ParsedBlock<'_>, text: &str) -> bool {
     }
 }
 
-// Whether the bytes of a row are a block in its order, which is the value of its text and is written as these bytes.
+// Returns whether the bytes of a row are a block in its byte order, with the value of its text, and are written again as they were.
 fn is_row(alloc: Global, row: &str) -> Result<bool, Fail> {
     let (place, text) = row.split_once(" => ").ok_or("a row with no arrow")?;
     let (order, digits) = place.trim().split_once(" ").ok_or("a row with no order")?;

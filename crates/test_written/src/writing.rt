@@ -1,4 +1,4 @@
-//! Writers that have begun a capture, and what they write of a block.
+//! Writers that have begun a capture, and the bytes that they write for a block.
 
 use pcap_blocks::{EnhancedPacketBlock, InterfaceDescriptionBlock};
 use pcap_core::{CowBytes, DataLink, Endianness, PcapError, ResultParsing};
@@ -7,7 +7,7 @@ use std::alloc::Global;
 use test_support::captures::back;
 use test_support::rows::are_digits;
 
-// A block that any writer here can write next, in either order: an enhanced packet of the second interface.
+// A block that any writer here can write next, in either byte order: an enhanced packet of the second interface.
 const NEXT: [(Endianness, &str); 2] = [
     (
         Endianness::Big,
@@ -19,7 +19,7 @@ const NEXT: [(Endianness, &str); 2] = [
     ),
 ];
 
-// That block as a value.
+// Returns that block as a value.
 fn next_packet(alloc: Global) -> EnhancedPacketBlock<'static> {
     EnhancedPacketBlock {
         interface_id: 1,
@@ -31,7 +31,7 @@ fn next_packet(alloc: Global) -> EnhancedPacketBlock<'static> {
     }
 }
 
-// An interface without options.
+// Returns an interface without options.
 pub(crate) fn interface(alloc: Global) -> InterfaceDescriptionBlock<'static> {
     InterfaceDescriptionBlock {
         linktype: DataLink::ETHERNET,
@@ -41,7 +41,7 @@ pub(crate) fn interface(alloc: Global) -> InterfaceDescriptionBlock<'static> {
     }
 }
 
-// A writer of a section in this order that has described two interfaces.
+// Returns a writer of a section in this byte order that has described two interfaces.
 pub(crate) fn begun(alloc: Global, order: Endianness) -> ResultParsing<PcapNgWriter<Vec<u8>>> {
     let mut writer = PcapNgWriter::with_endianness(alloc, order, Vec::new(alloc))?;
     for _ in 0..2u8 {
@@ -50,12 +50,12 @@ pub(crate) fn begun(alloc: Global, order: Endianness) -> ResultParsing<PcapNgWri
     Ok(writer)
 }
 
-// Whether a call answered that it is so.
+// Returns whether a call succeeded with true.
 pub(crate) fn holds<E: Drop>(answer: Result<bool, E>) -> bool {
     matches!(answer, Ok(true))
 }
 
-// Whether bytes are the first so many of these digits.
+// Returns whether the bytes are the first `count` of these digits.
 pub(crate) fn are_digits_up_to(bytes: &[u8], digits: &str, count: usize) -> bool {
     let mut seen = 0usize;
     for (place, sign) in digits.bytes().enumerate() {
@@ -69,14 +69,14 @@ pub(crate) fn are_digits_up_to(bytes: &[u8], digits: &str, count: usize) -> bool
     are_digits(bytes, digits) && bytes.len() == count
 }
 
-// Whether a block goes out next, as these digits.
+// Returns whether a block is written next, as these digits.
 fn writes<B: PcapNgBlock>(writer: &mut PcapNgWriter<Vec<u8>>, block: &B, digits: &str) -> bool {
     let before = writer.get_ref().len();
     let is_written = writer.write_pcapng_block(block).is_ok();
     is_written && are_digits(back(writer.get_ref().as_slice(), before), digits)
 }
 
-// Whether a block goes out as these bytes behind a section in this order and two interfaces.
+// Returns whether a block is written as these bytes after a section in this byte order and two interfaces.
 pub(crate) fn goes_out<B: PcapNgBlock>(
     alloc: Global,
     order: Endianness,
@@ -93,7 +93,7 @@ pub(crate) fn goes_out<B: PcapNgBlock>(
     }
 }
 
-// The same of these digits.
+// Does the same for digits.
 fn goes_out_as<B: PcapNgBlock>(alloc: Global, order: Endianness, block: &B, digits: &str) -> bool {
     match begun(alloc, order) {
         Ok(mut writer) => writes(&mut writer, block, digits),
@@ -101,14 +101,14 @@ fn goes_out_as<B: PcapNgBlock>(alloc: Global, order: Endianness, block: &B, digi
     }
 }
 
-// Whether a block goes out as the first of these digits in the order with the high byte first, and as the second in the other.
+// Returns whether a block is written as the first of these digits in big-endian byte order, and as the second in little-endian.
 pub(crate) fn is_written<B: PcapNgBlock>(alloc: Global, block: &B, digits: [&str; 2]) -> bool {
     let [big, little] = digits;
     goes_out_as(alloc, Endianness::Big, block, big)
         && goes_out_as(alloc, Endianness::Little, block, little)
 }
 
-// Whether a call was refused with this message.
+// Returns whether a call was refused with this message.
 pub(crate) fn is_refused(answer: &ResultParsing<()>, message: &str) -> bool {
     match answer {
         Ok(_) => false,
@@ -116,7 +116,7 @@ pub(crate) fn is_refused(answer: &ResultParsing<()>, message: &str) -> bool {
     }
 }
 
-// Whether an error is an `InvalidField` with this message.
+// Returns whether an error is an `InvalidField` with this message.
 pub(crate) fn has_message(error: &PcapError, message: &str) -> bool {
     match error {
         PcapError::InvalidField(said) => *said == message,
@@ -124,15 +124,15 @@ pub(crate) fn has_message(error: &PcapError, message: &str) -> bool {
     }
 }
 
-// Whether a block is refused with this message; then nothing has gone out and the writer has not failed.
+// Returns whether a block is refused with this message, nothing is written, and the writer has not failed.
 fn refuses<B: PcapNgBlock>(writer: &mut PcapNgWriter<Vec<u8>>, block: &B, message: &str) -> bool {
     let before = writer.get_ref().len();
     let is_told = is_refused(&writer.write_pcapng_block(block), message);
     is_told && writer.get_ref().len() == before && !writer.failed()
 }
 
-// Whether in each order a block is refused with this message, and without a trace: nothing goes out, the writer has not failed,
-// and it writes the next block.
+// Returns whether, in each byte order, a block is refused with this message and leaves no trace: nothing is written, the writer has not
+// failed, and it writes the next block.
 pub(crate) fn leaves_no_trace<B: PcapNgBlock>(alloc: Global, block: &B, message: &str) -> bool {
     let mut is_so = true;
     for (order, next) in NEXT {

@@ -1,4 +1,4 @@
-/* What the program asks of memory, which ../../wasm_support.c has. */
+/* The calls for memory that the program makes. ../../wasm_support.c has them. */
 #include <stddef.h>
 
 void *memcpy(void *to, const void *from, size_t length);

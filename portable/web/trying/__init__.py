@@ -1,1 +1,1 @@
-"""Tries the page in headless Chromium: what it shows and what it lets one download is what the program writes."""
+"""Tries the page in headless Chromium: what it shows and what it offers as a download must be what the program writes."""

@@ -20,12 +20,12 @@ FLAGS = (
 
 
 def program():
-    """The path of Chromium, or None."""
+    """Returns the path of Chromium, or None."""
     return next((path for it in NAMES if (path := shutil.which(it))), None)
 
 
 class Fault(Exception):
-    """What the browser refused, or what did not come."""
+    """The browser refused something, or something did not come."""
 
 
 class Chromium:
@@ -76,7 +76,7 @@ class Chromium:
         return json.loads(one)
 
     def call(self, method, **parameters):
-        """The result of a method; what happens meanwhile is kept in `events`."""
+        """Returns the result of a method. Events that come meanwhile are kept in `events`."""
         self.number += 1
         order = {"id": self.number, "method": method, "params": parameters}
         if self.session:
@@ -92,14 +92,14 @@ class Chromium:
                 return answer["result"]
 
     def value(self, expression):
-        """What an expression of the page is, a promise's value too."""
+        """Returns the value of an expression of the page, also the value of a promise."""
         result = self.call("Runtime.evaluate", expression=expression, awaitPromise=True, returnByValue=True)
         if "exceptionDetails" in result:
             raise Fault(result["exceptionDetails"].get("exception", {}).get("description", str(result["exceptionDetails"])))
         return result["result"].get("value")
 
     def until(self, expression, seconds=60):
-        """The value of an expression as soon as it is neither null nor false."""
+        """Returns the value of an expression as soon as it is neither null nor false."""
         end = time.monotonic() + seconds
         while time.monotonic() < end:
             value = self.value(expression)
@@ -125,7 +125,7 @@ class Chromium:
             raise Fault(f"there is no button {text!r}")
 
     def look(self, width, height, dark=False, mobile=False):
-        """The size of the window, and whether it is dark."""
+        """Sets the size of the window, and whether it is dark."""
         self.call("Emulation.setDeviceMetricsOverride", width=width, height=height, deviceScaleFactor=1, mobile=mobile)
         self.call("Emulation.setEmulatedMedia", features=[{"name": "prefers-color-scheme", "value": "dark" if dark else "light"}])
 
@@ -135,12 +135,12 @@ class Chromium:
             file.write(base64.b64decode(data))
 
     def faults(self):
-        """What the page threw, and what the browser says is wrong with it."""
+        """Returns what the page threw, and what the browser reports as wrong with it."""
         of_log = [it for it in self.events if it.get("params", {}).get("entry", {}).get("level") == "error"]
         return [str(it) for it in self.events if it.get("method") == "Runtime.exceptionThrown"] + [str(it) for it in of_log]
 
     def take_downloads(self):
-        """Has downloads saved in a folder of their own."""
+        """Makes the browser save downloads in a folder of their own."""
         session, self.session = self.session, None
         self.call("Browser.setDownloadBehavior", behavior="allow", downloadPath=self.downloads, eventsEnabled=True)
         self.session = session

@@ -1,4 +1,4 @@
-"""Large captures: how long the page takes, and how much memory."""
+"""Measures large captures: how long the page takes, and how much memory."""
 import json
 import os
 import struct
@@ -11,7 +11,7 @@ MOST_MEMORY = 10 * MILLION
 
 
 def write_small_packets(path, count):
-    """A capture of so many packets of 84 bytes each with 16 of a head, which are 100 bytes."""
+    """Writes a capture of this many packets. Each has 84 bytes and a head of 16, which are 100 bytes."""
     with open(path, "wb") as file:
         file.write(struct.pack("<IHHiIII", 0xA1B23C4D, 2, 4, 0, 0, 65535, 1))
         filler = bytes(84)
@@ -37,7 +37,7 @@ READ_ALONE = """new Promise((done) => {
 
 
 def seconds_of_info(page, path):
-    """How long it takes from the choice of a file until its figures are shown."""
+    """Returns how long the page takes from the choice of a file until it shows its figures."""
     page.empty()
     begun = time.monotonic()
     page.give(path)
@@ -46,11 +46,11 @@ def seconds_of_info(page, path):
 
 
 def try_large(tally, native, page):
-    """100 MB with a million packets: figures within two seconds, a list that is scrolled through, and memory that stays small."""
+    """Checks 100 MB with a million packets: figures within two seconds, a list that scrolls, and memory that remains small."""
     path = os.path.join(page.browser.folder, "million.pcap")
     write_small_packets(path, MILLION)
     seconds = min(seconds_of_info(page, path) for _ in range(3))
-    # Where other work keeps the machine busy, what the browser takes for reading alone is the measure.
+    # If other work keeps the machine busy, the test measures what the browser takes for reading alone.
     alone = page.value(READ_ALONE)
     info = json.loads(native.run(["info", "--json", "in"], {"in": path})["output"])
     cost = page.value("JSON.stringify({ ...document.querySelector('.cost').dataset })")
@@ -94,7 +94,7 @@ SCROLL = """(async () => {
 
 
 def try_rows(tally, page, alone):
-    """A million rows: each is reached, neighbours stay together however far one scrolls, and frames come without a gap."""
+    """Checks a million rows: each can be reached, neighbours remain together however far one scrolls, and frames come without a gap."""
     page.tab("Packets")
     begun = time.monotonic()
     page.until("document.querySelector('.packet-window .packet-row')?.children[1].textContent")
@@ -128,7 +128,7 @@ def try_rows(tally, page, alone):
 
 
 def resident(browser, kind):
-    """Bytes that the processes of a kind have in memory now, and at most since the last call."""
+    """Returns the bytes that the processes of a kind have in memory now, and at most since the last call."""
     session, browser.session = browser.session, None
     processes = browser.call("SystemInfo.getProcessInfo")["processInfo"]
     browser.session = session
@@ -153,7 +153,8 @@ WATCH = """(() => {
 
 
 def try_progress(tally, page):
-    """How far a large file is read is shown, a stop ends it, and it can be read again; the program's memory does not grow with the file."""
+    """Checks that the page shows how far it has read a large file, that a stop ends the reading, and that it can read the file again.
+    The program's memory must not grow with the file."""
     path = os.path.join(page.browser.folder, "large.pcap")
     page.empty()
     with open(path, "wb") as file:

@@ -1,4 +1,4 @@
-"""What the page makes of captures is what the program makes."""
+"""Checks that the page makes of captures what the program makes."""
 import json
 import os
 
@@ -6,7 +6,7 @@ from .page import DATA, grouped
 
 
 def compare(tally, native, page, name, words, files):
-    """The newest job made and said what the program does."""
+    """Compares what the newest job made, and its messages, with the program's."""
     said, made = page.job(), page.made()
     wanted = native.run(words, files)
     lines = [it.removeprefix("pcapfile: ") for it in wanted["errors"].decode().splitlines()]
@@ -20,7 +20,7 @@ def compare(tally, native, page, name, words, files):
 
 
 def try_making(tally, native, page):
-    """Repair, convert and cut, of each capture that was opened."""
+    """Checks repair, convert and cut for each open capture."""
     for name in page.names():
         files = {name: os.path.join(DATA, name)}
         stem, ending = os.path.splitext(name)
@@ -47,7 +47,7 @@ def try_making(tally, native, page):
 
 
 def try_span(tally, native, page):
-    """Bars over time that the mouse is dragged over are cut out."""
+    """Checks that dragging the mouse over bars of time cuts them out."""
     name = "classic.pcap"
     files = {name: os.path.join(DATA, name)}
     time_ = json.loads(native.run(["info", "--json", name], files)["output"])["over_time"]
@@ -70,7 +70,7 @@ def try_span(tally, native, page):
 
 
 def try_several(tally, native, page):
-    """Parts that are cut join to the capture again, and captures are merged."""
+    """Checks that parts from a cut join to the capture again, and that captures are merged."""
     path = os.path.join(DATA, "classic.pcap")
     page.select("classic.pcap")
     page.tab("Export")
@@ -97,7 +97,7 @@ def try_several(tally, native, page):
 
 
 def try_names(tally, native, page):
-    """Two files of one name, and a name that begins with a hyphen, are each their own."""
+    """Checks that two files of one name, and a name that begins with a hyphen, are each their own."""
     folder, paths = page.browser.folder, []
     for place, source in (("a", "classic.pcap"), ("b", "torn.pcap")):
         os.makedirs(os.path.join(folder, place))

@@ -1,4 +1,4 @@
-"""The page in a browser, as the tests use it."""
+"""Gives the tests the page in a browser."""
 import json
 import os
 import re
@@ -9,7 +9,7 @@ from .chromium import Fault
 TOP = os.path.dirname(os.path.dirname(os.path.dirname(os.path.dirname(os.path.abspath(__file__)))))
 DATA = os.path.join(TOP, "crates", "pcapfile", "data")
 
-# What the tests below ask the page: elements in sight, by a selector or by their text.
+# Functions for the tests below: they find elements in sight, by a selector or by their text.
 HELPERS = """
 window.all = (selector) => [...document.querySelectorAll(selector)];
 window.inSight = (selector) => all(selector).filter((it) => it.offsetParent);
@@ -27,7 +27,7 @@ PAUSE = 0.25
 
 
 class Page:
-    """The page in a browser, as somebody uses it who knows the texts of its buttons."""
+    """The page in a browser, for a user who knows the texts of its buttons."""
 
     def __init__(self, browser, path):
         self.browser = browser
@@ -73,28 +73,28 @@ class Page:
         return self.value(f"inSight({json.dumps(selector)}).map((it) => it.textContent)")
 
     def figures(self):
-        """What the figures in sight say, by their names."""
+        """Returns what the figures in sight show, by their names."""
         parts = "[...it.querySelector('dd').childNodes].map((part) => part.textContent)"
         pairs = f"inSight('.figure, .facts-list > div').map((it) => [it.querySelector('dt').textContent, {parts}])"
         return self.value(f"Object.fromEntries({pairs})")
 
     def rows(self):
-        """The texts of the rows of packets in sight."""
+        """Returns the texts of the rows of packets in sight."""
         return self.value("inSight('.packet-window .packet-row').map(textsOf)")
 
     def job(self):
-        """Waits for the newest file that is made; its messages."""
+        """Waits for the newest file that the page makes, and returns its messages."""
         self.until("Boolean(job()) && /done|failed/.test(job().className)")
         return self.value("[...job().querySelectorAll('.messages li')].map((it) => it.textContent)")
 
     def made(self):
-        """What the newest job made, as it is downloaded: bytes by name."""
+        """Returns what the newest job made, as it is downloaded: bytes by name."""
         links = "[...job().querySelectorAll('a[download]')].filter((it) => it.textContent === 'Download')"
         names = self.value(f"{links}.map((it) => it.download)")
         return {name: self.download(f"{links}[{at}]", name) for at, name in enumerate(names)}
 
     def download(self, link, name):
-        """The bytes of a link that is pressed; a browser replaces what no file's name may have."""
+        """Presses a link and returns the bytes of the download. A browser replaces characters that no file's name may have."""
         folder = self.browser.downloads
         for old in os.listdir(folder):
             os.remove(os.path.join(folder, old))
@@ -110,7 +110,7 @@ class Page:
             return file.read()
 
     def table(self, button, name):
-        """Presses a button of the tables, and gives what is downloaded."""
+        """Presses a button of the tables, and returns what the page downloads."""
         self.press(button)
         link = f"inSight('a[download]').find((it) => it.download === {json.dumps(name)})"
         self.until(f"Boolean({link})")

@@ -1,4 +1,4 @@
-"""What the page shows of captures is what the program writes."""
+"""Checks that the page shows of captures what the program writes."""
 import json
 import os
 import time
@@ -7,7 +7,7 @@ from .page import DATA, grouped, verdict_text
 
 
 def try_info(tally, native, page):
-    """What is shown of each stored capture is what `info --json` says."""
+    """Checks that the page shows for each stored capture what `info --json` writes."""
     paths = [
         os.path.join(DATA, it)
         for it in (
@@ -60,7 +60,7 @@ def try_info(tally, native, page):
 
 
 def row_of(line, linked):
-    """What a row shows of a line of `list --as-is`: number, lengths, interface and flaws."""
+    """Returns what a row shows of a line of `list --as-is`: number, lengths, interface and flaws."""
     words = line.split(" ")
     flaws = " ".join(it if it in ("!utf8", "!short") else f"rule {it[1:]}" for it in words if it.startswith("!"))
     if words[1] == "refused":

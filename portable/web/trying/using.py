@@ -1,11 +1,11 @@
-"""The page as it is used: other files, drops, keys, widths, and what its policy forbids."""
+"""Checks the use of the page: other files, drops, keys, widths, and what its policy forbids."""
 import os
 
 from .page import DATA
 
 
 def try_other_files(tally, page):
-    """Files that are no captures are refused in words, and the page goes on."""
+    """Checks that the page refuses files that are no captures in words, and goes on."""
     folder = page.browser.folder
     for name, content, said in (
         ("packed.pcap.gz", b"\x1f\x8b\x08\x00" + bytes(40), "compressed by gzip"),
@@ -50,7 +50,7 @@ IN_WORKER = """new Promise((done) => {
 
 
 def try_policy(tally, page):
-    """The policy of the page forbids each way out that is tried, of a Worker too, and nothing was asked of a network until now."""
+    """Checks that the page's policy forbids each way out that the test tries, also those of a Worker, and that nothing used a network before."""
     found = page.value(POLICY_TRIES)
     wanted = {"connect-src", "img-src", "script-src-elem"}
     tally.note(
@@ -68,7 +68,7 @@ def try_policy(tally, page):
     tally.note("requests", out and f"the page asked for {out}")
 
 def try_drop(tally, page):
-    """Files that are dragged over the page show where they may be dropped, and are opened where they are."""
+    """Checks that the page shows where dragged files may be dropped, and opens them there."""
     path = os.path.join(page.browser.folder, "dropped.pcap")
     with open(os.path.join(DATA, "classic.pcap"), "rb") as given, open(path, "wb") as file:
         file.write(given.read())
@@ -89,7 +89,7 @@ def try_drop(tally, page):
 
 
 def try_keyboard(tally, page):
-    """Arrow keys go between tabs, and each button in sight is reached."""
+    """Checks that arrow keys move between tabs, and that the keyboard reaches each button in sight."""
     page.give(os.path.join(DATA, "classic.pcap"))
     page.select("classic.pcap")
     page.tab("Overview")
@@ -103,7 +103,7 @@ def try_keyboard(tally, page):
 
 
 def try_widths(tally, page):
-    """Nothing is wider than the window."""
+    """Checks that nothing is wider than the window."""
     for width in (1280, 768, 400, 320):
         page.browser.look(width, 800)
         for title in ("Overview", "Packets", "Check", "Export"):

@@ -1,10 +1,10 @@
-/* libpcap's calls on captures that lie in files, answered by the proved parser.
+/* Answers libpcap's calls on captures in files by the proved parser.
  *
- * Loaded before libpcap (LD_PRELOAD), it gives an unchanged program, as tcpdump -r, its packets. All else stays libpcap's:
- * each capture has a handle of libpcap that has seen the header and no packet, so that filters compile and captures are
- * written as ever. Calls on other handles, as those of interfaces, go on to libpcap.
+ * Loaded before libpcap (LD_PRELOAD), it gives an unchanged program, such as tcpdump -r, its packets. Everything else remains libpcap's.
+ * Each capture has a handle of libpcap that has seen the header and no packet, so that filters compile and captures are written as
+ * before. Calls on other handles, such as those of interfaces, go on to libpcap.
  *
- * Where the parser refuses what libpcap would take, the program is told so as of any bad file.
+ * If the parser refuses what libpcap would take, the program gets the error of any bad file.
  */
 #define _GNU_SOURCE
 #include <dlfcn.h>
@@ -17,20 +17,20 @@
 
 #include "pcapfile.h"
 
-/* How many packets one call of the library takes. */
+/* The number of packets that one call of the library takes. */
 enum { BATCH = 256 };
 
 struct capture {
     pcap_t *handle;
     uint8_t *bytes;
-    size_t mapped; /* how many of the bytes are a file's that is mapped, 0 where they were read */
+    size_t mapped; /* how many of the bytes are those of a mapped file, 0 if they were read */
     pcapfile_bytes left;
     union {
         pcapfile_packet classic[BATCH];
         pcapfile_ng_packet ng[BATCH];
     } packets;
-    size_t taken, given; /* how many of these packets are there, and how many of them the program has */
-    pcapfile_header header; /* of a PcapNg capture one that stands for its first interface */
+    size_t taken, given; /* how many of these packets there are, and how many the program already has */
+    pcapfile_header header; /* for a PcapNg capture a header made from its first interface */
     pcapfile_section section;
     pcapfile_interface *interfaces; /* those of the section */
     int is_ng;
@@ -68,7 +68,7 @@ static void say(char *said, int32_t status, const pcapfile_error *error) {
                  (const char *)text.ptr);
 }
 
-/* A file from where it stands on, which must not change while it is open. */
+/* Maps a file from its position on. The file must not change while it is open. */
 static int map_file(FILE *file, struct capture *capture) {
     struct stat status;
     off_t at = ftello(file);
@@ -107,14 +107,14 @@ static int take_header(struct capture *capture, char *said) {
     return status == PCAPFILE_OK;
 }
 
-/* In versions before 2.3 a packet's lengths stand the other way round. */
+/* Before version 2.3 a packet's lengths were in the other order. */
 static int has_old_lengths(const pcapfile_header *header, char *said) {
     unsigned major = header->version_major, minor = header->version_minor;
     snprintf(said, PCAP_ERRBUF_SIZE, "pcapfile: version %u.%u", major, minor);
     return (major == 2 && minor < 3) || major == 543;
 }
 
-/* A handle of libpcap that knows the header alone, as the proved writer writes it. */
+/* Returns a handle of libpcap that knows only the header, as the proved writer writes it. */
 static pcap_t *open_handle(struct capture *capture, char *said) {
     pcapfile_error error = PCAPFILE_ERROR_INIT;
     size_t written = 0;
@@ -123,7 +123,7 @@ static pcap_t *open_handle(struct capture *capture, char *said) {
     return head ? ORIGINAL(pcap_fopen_offline_with_tstamp_precision)(head, capture->precision, said) : NULL;
 }
 
-/* Keeps the interface that a block describes. libpcap wants all to be as the first one. */
+/* Keeps the interface that a block describes. libpcap requires all to be like the first one. */
 static int keep_interface(struct capture *capture, const pcapfile_block *block, char *said) {
     uint32_t count = capture->section.interfaces;
     pcapfile_error error = PCAPFILE_ERROR_INIT;
@@ -152,7 +152,7 @@ static int keep_interface(struct capture *capture, const pcapfile_block *block, 
     return 1;
 }
 
-/* Takes the next block. 1: it is there. 0: the capture is over. -1: what is left is refused. */
+/* Takes the next block. Returns 1 if there is one, 0 at the end of the capture, and -1 if what is left is refused. */
 static int take_block(struct capture *capture, pcapfile_block *block, char *said) {
     pcapfile_error error = PCAPFILE_ERROR_INIT;
     uint32_t magic = capture->section.magic_number, before = capture->section.interfaces;
@@ -174,7 +174,7 @@ static int is_packet(const pcapfile_block *block) {
            block->type == PCAPFILE_BLOCK_PACKET;
 }
 
-/* Takes the blocks up to the first interface, and makes of that a header. */
+/* Takes the blocks up to the first interface, and makes a header from it. */
 static int take_first_interface(struct capture *capture, char *said) {
     pcapfile_block block = PCAPFILE_BLOCK_INIT;
     int taken = 1;
@@ -194,7 +194,7 @@ static int is_ng(pcapfile_bytes bytes) {
     return bytes.len >= 4 && !memcmp(bytes.ptr, "\x0a\x0d\x0d\x0a", 4);
 }
 
-/* The library fills in packets that have a value. */
+/* Gives packets a value, which the library then replaces. */
 static void make_packets(struct capture *capture) {
     for (size_t at = 0; at < BATCH; at++) {
         if (capture->is_ng)
@@ -262,7 +262,7 @@ static int is_native(const pcapfile_header *header) {
     return is_big != order[0];
 }
 
-/* A packet of a PcapNg capture, as libpcap shows it. */
+/* Gives a packet of a PcapNg capture as libpcap shows it. */
 static int show_ng_packet(struct capture *capture, const pcapfile_ng_packet *packet, struct pcap_pkthdr *header) {
     pcapfile_time time = PCAPFILE_TIME_INIT;
     if (packet->interface_id >= capture->section.interfaces) {
@@ -289,7 +289,7 @@ static int show_ng_packet(struct capture *capture, const pcapfile_ng_packet *pac
     return 1;
 }
 
-/* A packet of a classic capture, as libpcap shows it. */
+/* Gives a packet of a classic capture as libpcap shows it. */
 static void show_packet(const struct capture *capture, const pcapfile_packet *packet, struct pcap_pkthdr *header) {
     int is_nano = capture->precision == PCAP_TSTAMP_PRECISION_NANO;
     /* In the order of this machine libpcap takes seconds for a signed number. */
@@ -299,7 +299,8 @@ static void show_packet(const struct capture *capture, const pcapfile_packet *pa
     header->caplen = packet->bytes.len < capture->snaplen ? (uint32_t)packet->bytes.len : capture->snaplen;
 }
 
-/* Takes the next packets, as many as there is room for. 1: there are some. 0: the capture is over. -1: what is left is refused. */
+/* Takes the next packets, as many as there is room for. Returns 1 if there are any, 0 at the end of the capture, and -1 if what is left
+ * is refused. */
 static int take_packets(struct capture *capture) {
     pcapfile_block block = PCAPFILE_BLOCK_INIT;
     capture->given = capture->taken = 0;
@@ -320,7 +321,7 @@ static int take_packets(struct capture *capture) {
     return 0;
 }
 
-/* Takes the next packet. 1: it is there. 0: the capture is over. -1: what is left is refused. */
+/* Takes the next packet. Returns 1 if there is one, 0 at the end of the capture, and -1 if what is left is refused. */
 static int take(struct capture *capture, struct pcap_pkthdr *header, const u_char **data) {
     int taken = capture->given < capture->taken ? 1 : take_packets(capture);
     if (taken != 1) return taken;
@@ -334,7 +335,7 @@ static int take(struct capture *capture, struct pcap_pkthdr *header, const u_cha
     return 1;
 }
 
-/* Takes the next packet that the filter lets through. */
+/* Takes the next packet that the filter accepts. */
 static int take_matching(struct capture *capture, struct pcap_pkthdr *header, const u_char **data) {
     int taken = take(capture, header, data);
     while (taken == 1 && capture->filter.bf_insns && !pcap_offline_filter(&capture->filter, header, *data))
