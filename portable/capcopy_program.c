@@ -7,7 +7,7 @@
  * Toolchain: rattle-kit-13f logic dac8208d650f15bf
  * Proof of the crate capcopy: logic=proved functions=3 axioms=12 target=x86_64-unknown-linux-gnu cpu=x86-64-v2
  * sum=dac8208d650f15bf native=nat,char,string
- * Sources: sha256 d893e057ae017537b747fc28c79ec0580344514b0da613bbf95a19e7aa7c7e23
+ * Sources: sha256 493147243c67f0c46b950a603df58ad788bf898af463e584b1e5b159b3096c2d
  * (of src and specs of capcopy, capcopy_run, pcap_blocks, pcap_classic, pcap_core, pcap_file, pcap_items, pcap_ng,
  * pcap_options, pcap_times, pcap_written)
  *

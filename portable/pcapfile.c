@@ -5,9 +5,9 @@
  * the translator that wrote this file, nor the compiler that you use.
  *
  * Toolchain: rattle-kit-13f logic dac8208d650f15bf
- * Proof of the crate pcapfile_c: logic=proved functions=118 axioms=3 target=x86_64-unknown-linux-gnu cpu=x86-64-v2
+ * Proof of the crate pcapfile_c: logic=proved functions=120 axioms=3 target=x86_64-unknown-linux-gnu cpu=x86-64-v2
  * sum=dac8208d650f15bf native=nat,char,string
- * Sources: sha256 cce72bd01179f10385d078b7330427610e5d65e05e4fca4acfc24edebe0a7c01
+ * Sources: sha256 7fae68cad80bdce667a95b7fdc1b27690c6e28b6ee8c1184c41536782956dd26
  * (of src and specs of pcap_blocks, pcap_classic, pcap_core, pcap_items, pcap_ng, pcap_options, pcap_parts,
  * pcap_raw_options, pcap_times, pcap_tolerant, pcap_tolerant_blocks, pcap_tolerant_captures, pcap_written, pcapfile_c,
  * pcapfile_values)
@@ -224,6 +224,8 @@ int32_t pcapfile_cut_blocks(ptr v1, ptr v2, u64 v3, ptr v4, ptr v5, u64 v6, ptr 
 int32_t pcapfile_cut_blocks_at_least(ptr v1, u64 v2, ptr v3, u64 v4, ptr v5, ptr v6, u64 v7, ptr v8, ptr v9);
 int32_t pcapfile_cut_packets(ptr v1, ptr v2, u64 v3, ptr v4, ptr v5);
 int32_t pcapfile_cut_packets_at_least(ptr v1, u64 v2, ptr v3, u64 v4, ptr v5, ptr v6);
+int32_t pcapfile_fcs_len(u32 v1);
+int32_t pcapfile_link_type(u32 v1);
 int32_t pcapfile_push_put(ptr v1, ptr v2, u64 v3, u64 v4);
 int32_t pcapfile_push_space(ptr v1, ptr v2, u64 v3, u64 v4, ptr v5);
 int32_t pcapfile_put_interface(ptr v1, ptr v2, ptr v3, u64 v4, ptr v5, ptr v6);
@@ -9781,6 +9783,13 @@ int32_t pcapfile_cut_packets_at_least(ptr v1, u64 v2, ptr v3, u64 v4, ptr v5, pt
 	v7 = v11;
 L0:;
 	return (int32_t)(v7);
+}
+int32_t pcapfile_fcs_len(u32 v1) {
+	return (int32_t)((v1 & 67108864) == 0 ? 4294967295u : (v1 >> 27) & 30);
+}
+int32_t pcapfile_link_type(u32 v1) {
+	t_8_32 v2 = pcap_core_link_DataLinkFromU32_from(v1 & 65535);
+	return (int32_t)(pcap_core_link_U32FromDataLink_from(v2.f0, v2.f1));
 }
 int32_t pcapfile_push_put(ptr v1, ptr v2, u64 v3, u64 v4) {
 	u32 v5;
