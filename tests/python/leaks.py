@@ -1,6 +1,7 @@
-"""leaks.py [MILLIONS]: walks over this many million packets, by default two, of both formats in all ways. It fails if the process grows,
-or keeps objects."""
+"""leaks.py [MILLIONS]: walks over this many million packets, by default two, of both formats in all ways. It fails if more bytes are
+allocated afterwards, or more objects exist."""
 
+import ctypes
 import gc
 import os
 import pickle
@@ -17,9 +18,27 @@ EACH = 20_000
 NAMED = interface(1, 0, option(2, b"eth0") + option(0, b""))
 
 
-def resident():
-    with open("/proc/self/statm") as file:
-        return int(file.read().split()[1]) * os.sysconf("SC_PAGE_SIZE")
+# The most that may be allocated after the walks: bytes by malloc, and blocks by Python's own allocator. One byte of each packet is more.
+MOST_BYTES, MOST_BLOCKS = 256 << 10, 1000
+
+
+class Mallinfo(ctypes.Structure):
+    """What mallinfo2 of the C library returns. `hblkhd` are bytes in mappings of their own, and `uordblks` other allocated bytes."""
+
+    _fields_ = [
+        (name, ctypes.c_size_t)
+        for name in "arena ordblks smblks hblks hblkhd usmblks fsmblks uordblks fordblks keepcost".split()
+    ]
+
+
+def allocated():
+    """Returns the bytes that malloc has given out, and the number of blocks of Python's own allocator. Resident memory would tell less,
+    since it also counts freed memory."""
+    mallinfo = ctypes.CDLL(None).mallinfo2
+    mallinfo.restype = Mallinfo
+    gc.collect()
+    found = mallinfo()
+    return found.hblkhd + found.uordblks, sys.getallocatedblocks()
 
 
 def walk(path, data):
@@ -58,16 +77,15 @@ def main():
         for _ in range(3):
             for path, data in zip(paths, captures):
                 walk(path, data)
-        gc.collect()
-        before, objects, count = resident(), len(gc.get_objects()), 0
+        before, objects, count = allocated(), len(gc.get_objects()), 0
         while count < millions * 1e6:
             for path, data in zip(paths, captures):
                 count += walk(path, data)
-        gc.collect()
-        grown, kept = resident() - before, len(gc.get_objects()) - objects
-    if grown > 4 << 20 or kept > 100:
-        sys.exit(f"leaks.py: {grown} bytes and {kept} objects more after {count} packets")
-    print(f"leaks.py: {count} packets, {max(grown, 0) >> 10} KiB more, {kept} objects more")
+        grown, blocks = (now - then for now, then in zip(allocated(), before))
+        kept = len(gc.get_objects()) - objects
+    if grown > MOST_BYTES or blocks > MOST_BLOCKS or kept > 100:
+        sys.exit(f"leaks.py: {grown} bytes, {blocks} blocks and {kept} objects more after {count} packets")
+    print(f"leaks.py: {count} packets, {grown} bytes, {blocks} blocks and {kept} objects more")
 
 
 main()
