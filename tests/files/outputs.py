@@ -353,7 +353,8 @@ def try_merges(tally):
         with Folder(tally.program, text=b"this is no capture of packets", out=b"old") as folder:
             status, _, said = folder.run("merge", *names, "-o", "out")
             tally.note(f"a merge of {names}", status != AT_FAULT and f"it ended with {status}: {said}", folder.get("out") != b"old" and "the output was replaced", folder.names() != ["out", "text"] and f"it left {folder.names()}")
-    large = struct.pack("<IHHiIII", 0xA1B23C4D, 2, 4, 0, 0, 65535, 0x24000001) + packet(1, b"fcs")
+    # Ethernet, with 4 bytes of frame check sequence, and with all reserved bits of the field
+    large = struct.pack("<IHHiIII", 0xA1B23C4D, 2, 4, 0, 0, 65535, 0x2FFF0001) + packet(1, b"fcs")
     section = block(0x0A0D0D0A, struct.pack("<IHHq", 0x1A2B3C4D, 1, 0, -1))
     described = block(1, struct.pack("<HHIHHB3xHHB3xHH", 1, 0, 65535, 9, 1, 9, 13, 1, 32, 0, 0))
     stored = block(6, struct.pack("<IIIII", 0, 0, 10**9, 3, 3) + b"fcs")
