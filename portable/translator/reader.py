@@ -167,7 +167,7 @@ class Reader:
                 offset += number * size(step)
         self.need(")")
         if base.kind != "global":
-            raise Unknown("an address in what is no global", self.line)
+            raise Unknown("an address of something that is not a global", self.line)
         return Operand(PTR, "global", base.value, offset)
 
     def parts(self, word, type_):

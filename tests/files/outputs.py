@@ -255,7 +255,8 @@ def try_parts(tally):
 
 
 def try_unfinished(tally):
-    """Checks that a run removes what an ended run left. It does not remove what another run writes, or what is no file of a run."""
+    """Checks that a run removes what an ended run left. It leaves the files that another run writes, and
+    files that no run made."""
     with Folder(tally.program, **{"in": CAPTURE, "out.part": b"left", "out": b"old"}) as folder:
         ended = folder.run(*COPY, "out")
         tally.note(

@@ -176,7 +176,7 @@ def try_progress(tally, page):
     now, most = resident(page.browser, "renderer")
     tally.note(
         "progress and stop",
-        "stopped" not in stopped and f"it is told as {stopped!r}",
+        "stopped" not in stopped and f"the page reports {stopped!r}",
         len({it for it in seen if 0 < it < 1}) < 3 and f"progress was {seen}",
         any(not 0 <= it <= 1 for it in seen) and f"progress was {seen}",
         page.figures()["Packets"][0] != "300,000" and f"then it shows {page.figures()}",

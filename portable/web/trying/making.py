@@ -66,7 +66,7 @@ def try_span(tally, native, page):
     nanoseconds = [(time_["first"] + it) * time_["width"] for it in (begin, end + 1)]
     since, until = (f"{it // 10**9}.{it % 10**9:09}" for it in nanoseconds)
     compare(tally, native, page, "cut of a span", ["cut", name, "--from", since, "--until", until, "-o", "classic-cut.pcap"], files)
-    tally.note("what is told of a span", not told.endswith(f": {counted} packet{'' if counted == 1 else 's'}") and f"{told!r}, and not {counted}")
+    tally.note("the packet count of a time span", not told.endswith(f": {counted} packet{'' if counted == 1 else 's'}") and f"{told!r}, and not {counted}")
 
 
 def try_several(tally, native, page):

@@ -105,5 +105,5 @@ def try_check(tally, native, page):
         tally.note(
             f"check of {name}",
             found != lines and f"{found}, and not {lines}",
-            (title == "No fault found") != (wanted["status"] == 0) and f"it is told as {title!r}",
+            (title == "No fault found") != (wanted["status"] == 0) and f"the page reports {title!r}",
         )
