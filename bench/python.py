@@ -7,7 +7,6 @@ process that took most of it. Last comes the peak memory in bytes. If a way's mo
 import importlib.util
 import multiprocessing
 import random
-import resource
 import sys
 import threading
 import time
@@ -180,6 +179,12 @@ WHOLE = [way for way in WAYS if way not in ("filter", "open and one packet", "ra
 begun = (0.0, 0.0, 0.0)
 
 
+def peak():
+    """Returns the peak memory of this process in bytes. A process inherits `ru_maxrss` from the one that started it."""
+    with open("/proc/self/status") as status:
+        return 1024 * next(int(line.split()[1]) for line in status if line.startswith("VmHWM:"))
+
+
 def main():
     global begun
     path, way, rounds = sys.argv[1], sys.argv[2], int(sys.argv[3])
@@ -202,8 +207,7 @@ def main():
         processors.append((time.process_time() - processor + sum(workers)) * share)
         taken[threading.get_ident()] = time.thread_time() - own
         longest.append(max([*taken.values(), *workers]))
-    held = 1024 * resource.getrusage(resource.RUSAGE_SELF).ru_maxrss
-    print(count, min(walls), min(processors), min(longest), held)
+    print(count, min(walls), min(processors), min(longest), peak())
 
 
 if __name__ == "__main__":

@@ -62,13 +62,18 @@ def signature(node, name):
     return f"{waits}{name}({ast.unparse(node.args)}){returned}"
 
 
+def described(text):
+    """Returns a docstring in one line, without its example."""
+    return " ".join(text.partition(">>>")[0].split())
+
+
 def entry(name, module, found):
     """Returns the text of the page about a class or function."""
     node, path = found[module, name]
     said = [f"## {name}", ast.get_docstring(node) or ""]
     if isinstance(node, ast.ClassDef):
         shown = [it for part, it in sorted(parts_of(node, module, found).items()) if not part.startswith("_")]
-        said.append("\n".join(f"- `{called}`" + (f": {' '.join(text.split())}" if text else "") for called, text in shown))
+        said.append("\n".join(f"- `{called}`" + (f": {described(text)}" if text else "") for called, text in shown))
     else:
         said.insert(1, f"```python\n{signature(node, name)}\n```")
     return [*said, f"Source: [{path}](../../{path})."]

@@ -5,11 +5,17 @@ typedef struct {
     int32_t version; /* 4 or 6 */
 } Address;
 
-/* The distinct addresses, and a hash table of them. A slot has the index of an address plus one, or 0 if it is free. */
+/* A slot of the hash table. `low` are the low 32 bits of an address. `kind` is 0 in a free slot. In others it is twice the number of the
+ * address plus one, and one more for IPv6. So a slot identifies an IPv4 address without a look at the address itself. */
+typedef struct {
+    uint32_t low, kind;
+} Slot;
+
+/* The distinct addresses, and a hash table of them. */
 typedef struct {
     PyObject_HEAD
     Address *at;
-    uint32_t *slots;
+    Slot *slots;
     size_t count, room; /* there are twice as many slots, and their number is a power of two */
     uint64_t seed;
     int is_used; /* by a call that released the interpreter's lock */
@@ -40,39 +46,53 @@ static inline size_t slot_of(const Addresses *addresses, const Address *address)
     return (size_t)((uint64_t)(second >> 64) ^ (uint64_t)second) & (2 * addresses->room - 1);
 }
 
+/* Fetches the slot of an address into the processor's cache. */
+static inline void fetch_slot(const Addresses *addresses, Address address) {
+    if (addresses->room > 0) __builtin_prefetch(&addresses->slots[slot_of(addresses, &address)]);
+}
+
+/* Returns whether a slot that is not free has an address. */
+static inline int has_address(const Addresses *addresses, const Slot *slot, const Address *address) {
+    if (slot->low != (uint32_t)address->low || (slot->kind & 1) != (uint32_t)(address->version == 6)) return 0;
+    const Address *there = &addresses->at[slot->kind / 2 - 1];
+    return address->version == 4 || (there->low == address->low && there->high == address->high);
+}
+
 /* Returns the slot of an address: the one that has it, or a free one. */
-static inline size_t find_slot(const Addresses *addresses, const Address *address) {
-    size_t slot = slot_of(addresses, address);
-    for (; addresses->slots[slot]; slot = (slot + 1) & (2 * addresses->room - 1)) {
-        const Address *there = &addresses->at[addresses->slots[slot] - 1];
-        if (there->low == address->low && there->high == address->high && there->version == address->version) break;
-    }
-    return slot;
+static inline Slot *find_slot(const Addresses *addresses, const Address *address) {
+    size_t at = slot_of(addresses, address);
+    while (addresses->slots[at].kind && !has_address(addresses, &addresses->slots[at], address)) at = (at + 1) & (2 * addresses->room - 1);
+    return &addresses->slots[at];
+}
+
+/* Puts the address with this number into its slot. */
+static inline void fill_slot(Slot *slot, const Address *address, size_t number) {
+    *slot = (Slot){ (uint32_t)address->low, 2 * ((uint32_t)number + 1) + (address->version == 6) };
 }
 
 static int addresses_grow(Addresses *addresses) {
     size_t room = addresses->room ? 2 * addresses->room : 1024;
-    if (room > INT32_MAX) return -1;
+    if (room > INT32_MAX / 2) return -1;
     Address *at = realloc(addresses->at, room * sizeof *at);
     if (!at) return -1;
     addresses->at = at;
-    uint32_t *slots = calloc(2 * room, sizeof *slots);
+    Slot *slots = calloc(2 * room, sizeof *slots);
     if (!slots) return -1;
     free(addresses->slots);
     addresses->slots = slots, addresses->room = room;
-    for (size_t i = 0; i < addresses->count; i++) slots[find_slot(addresses, &at[i])] = (uint32_t)i + 1;
+    for (size_t i = 0; i < addresses->count; i++) fill_slot(find_slot(addresses, &at[i]), &at[i], i);
     return 0;
 }
 
 /* Returns the index of an address, which it adds if necessary. Returns -1 if memory or indexes are exhausted. */
 static inline int32_t number_of(Addresses *addresses, Address address) {
     if (addresses->count == addresses->room && addresses_grow(addresses) < 0) return -1;
-    size_t slot = find_slot(addresses, &address);
-    if (!addresses->slots[slot]) {
+    Slot *slot = find_slot(addresses, &address);
+    if (!slot->kind) {
         addresses->at[addresses->count] = address;
-        addresses->slots[slot] = (uint32_t)++addresses->count;
+        fill_slot(slot, &address, addresses->count++);
     }
-    return (int32_t)(addresses->slots[slot] - 1);
+    return (int32_t)(slot->kind / 2 - 1);
 }
 
 /* given() returns the bytes of each address, 4 or 16. */

@@ -83,12 +83,17 @@ static void decode_packet(const uint8_t *bytes, size_t len, uint32_t link, Decod
     else if (kind == ETHERTYPE_IPV6) read_ipv6(bytes + at, len - at, to);
 }
 
+static inline Address source_of(const Decoded *from) { return (Address){ from->source_high, from->source, from->version }; }
+static inline Address destination_of(const Decoded *from) {
+    return (Address){ from->destination_high, from->destination, from->version };
+}
+
 /* Writes the values to a row. Returns 0, or -1 if memory is exhausted. */
 static inline int tell(const Decoded *from, Addresses *const addresses[2], Told *to) {
     *to = (Told){ -1, -1, 0, 0, 0, NO_PORTS | NO_PROTOCOL };
     if (from->version == 0) return 0;
-    to->source = number_of(addresses[0], (Address){ from->source_high, from->source, from->version });
-    to->destination = number_of(addresses[1], (Address){ from->destination_high, from->destination, from->version });
+    to->source = number_of(addresses[0], source_of(from));
+    to->destination = number_of(addresses[1], destination_of(from));
     if (from->protocol >= 0) to->protocol = (uint8_t)from->protocol, to->missing &= NO_PORTS;
     if (from->source_port >= 0) {
         to->source_port = (uint16_t)from->source_port, to->destination_port = (uint16_t)from->destination_port;
@@ -111,17 +116,32 @@ static inline const uint8_t *bytes_of(const OfRows *of, const pcapfile_row *row)
     return begin > shown || row->len > shown - begin ? NULL : (const uint8_t *)of->shown->buf + begin;
 }
 
+/* The number of packets that are decoded before their addresses are looked up. */
+enum { GROUP = 16 };
+
+/* Decodes some packets. Returns 0, or -2 if one exceeds the bytes. */
+static int decode_group(const OfRows *of, const pcapfile_row *rows, size_t count, Decoded group[]) {
+    for (size_t i = 0; i < count; i++) {
+        const uint8_t *bytes = bytes_of(of, &rows[i]);
+        if (!bytes) return -2;
+        decode_packet(bytes, rows[i].len, rows[i].link, &group[i]);
+        fetch_slot(of->addresses[0], source_of(&group[i]));
+        fetch_slot(of->addresses[1], destination_of(&group[i]));
+    }
+    return 0;
+}
+
 static int decode_rows(const OfRows *of) {
     const pcapfile_row *rows = of->rows->buf;
     size_t count = (size_t)of->rows->len / sizeof *rows;
     Told *to = of->to->buf;
     if ((size_t)of->to->len / sizeof *to != count) return -2;
-    for (size_t i = 0; i < count; i++) {
-        const uint8_t *bytes = bytes_of(of, &rows[i]);
-        Decoded decoded;
-        if (!bytes) return -2;
-        decode_packet(bytes, rows[i].len, rows[i].link, &decoded);
-        if (tell(&decoded, of->addresses, &to[i]) < 0) return -1;
+    for (size_t begin = 0; begin < count; begin += GROUP) {
+        Decoded group[GROUP];
+        size_t length = count - begin < GROUP ? count - begin : GROUP;
+        if (decode_group(of, rows + begin, length, group) < 0) return -2;
+        for (size_t i = 0; i < length; i++)
+            if (tell(&group[i], of->addresses, &to[begin + i]) < 0) return -1;
     }
     return 0;
 }

@@ -28,11 +28,15 @@ typedef struct {
     void *free[FREE + 1];
 } State;
 
+#include "chunks.h"
+#include "interfaces.h"
 #include "packets.h"
 #include "walk.h"
+#include "batches.h"
 #include "rows.h"
 #include "addresses.h"
 #include "decode.h"
+#include "put_rows.h"
 
 /* ---- the types ---- */
 
@@ -186,6 +190,7 @@ static PyMethodDef methods[] = {
     { "rows", make_rows, METH_VARARGS, "Fills rows of columns from a window." },
     { "decode", decode, METH_VARARGS, "Decodes addresses, ports and protocols of rows." },
     { "gather", gather, METH_VARARGS, "Copies the bytes of rows." },
+    { "put_rows", put_rows, METH_VARARGS, "Writes the packets of rows." },
     { "addresses", make_addresses, METH_NOARGS, "Returns an empty table of addresses." },
     { "clocks", make_clocks, METH_NOARGS, "Returns an empty table of interfaces." },
     { "packet", make_packet, METH_VARARGS, "Returns a packet whose data is in these bytes." },

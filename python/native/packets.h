@@ -1,197 +1,4 @@
-/* packets.h: packets, and the bytes and interfaces that they refer to. A part of native.c. */
-
-/* ---- whether a capture is open: closing it also drops packets that were taken and not yet returned ---- */
-
-typedef struct {
-    PyObject_HEAD
-    int is_closed;
-} Open;
-
-static PyObject *open_new(PyTypeObject *type, PyObject *args, PyObject *words) {
-    (void)args, (void)words;
-    Open *open = PyObject_New(Open, type);
-    if (open) open->is_closed = 0;
-    return (PyObject *)open;
-}
-
-static PyObject *open_close(PyObject *self, PyObject *unused) {
-    (void)unused;
-    ((Open *)self)->is_closed = 1;
-    Py_RETURN_NONE;
-}
-
-static PyObject *open_is_closed(PyObject *self, void *closure) {
-    (void)closure;
-    return PyBool_FromLong(((Open *)self)->is_closed);
-}
-
-static void plain_dealloc(PyObject *self) {
-    PyTypeObject *type = Py_TYPE(self);
-    PyObject_Free(self);
-    Py_DECREF(type);
-}
-
-/* ---- the bytes that packets refer to ---- */
-
-typedef struct {
-    PyObject_HEAD
-    PyObject *module; /* keeps the state alive as long as packets live */
-    State *state;
-    PyObject *shown;  /* the window's view, to recognize it */
-    PyObject *view;   /* a view of its own, because the window's view may be released while packets live */
-    Py_buffer buffer;
-    uint64_t base;    /* the offset of the bytes in the capture, modulo 2^64 */
-} Chunk;
-
-static void chunk_dealloc(PyObject *self) {
-    Chunk *chunk = (Chunk *)self;
-    PyTypeObject *type = Py_TYPE(self);
-    PyBuffer_Release(&chunk->buffer);
-    Py_XDECREF(chunk->view);
-    Py_XDECREF(chunk->shown);
-    PyObject *module = chunk->module;
-    PyObject_Free(self);
-    Py_DECREF(type);
-    Py_DECREF(module);
-}
-
-static Chunk *chunk_new(PyObject *module, PyObject *shown, uint64_t base) {
-    State *state = PyModule_GetState(module);
-    Chunk *chunk = PyObject_New(Chunk, state->chunk);
-    if (!chunk) return NULL;
-    memset(&chunk->buffer, 0, sizeof chunk->buffer);
-    Py_INCREF(module), Py_INCREF(shown);
-    chunk->module = module, chunk->state = state, chunk->base = base, chunk->shown = shown;
-    chunk->view = PyMemoryView_FromObject(shown);
-    if (chunk->view && PyObject_GetBuffer(chunk->view, &chunk->buffer, PyBUF_SIMPLE) == 0) return chunk;
-    Py_DECREF(chunk);
-    return NULL;
-}
-
-/* ---- an interface, which gives its packets their times ---- */
-
-typedef struct {
-    PyObject_HEAD
-    pcapfile_interface interface;
-    uint64_t each, most; /* nanoseconds in a unit, and the most units; 0 if the library divides */
-    PyObject *shown;     /* the package's Interface */
-} Clock;
-
-static void clock_dealloc(PyObject *self) {
-    Py_XDECREF(((Clock *)self)->shown);
-    plain_dealloc(self);
-}
-
-static Clock *clock_new(State *state, PyObject *structure, PyObject *shown) {
-    Py_buffer view;
-    if (PyObject_GetBuffer(structure, &view, PyBUF_SIMPLE) < 0) return NULL;
-    Clock *clock = (size_t)view.len == sizeof clock->interface ? PyObject_New(Clock, state->clock) : NULL;
-    if (clock) {
-        memcpy(&clock->interface, view.buf, sizeof clock->interface);
-        clock->each = clock->most = 0;
-        if (clock->interface.ts_base == 10 && clock->interface.ts_exponent <= 9 && clock->interface.ts_offset == 0) {
-            clock->each = 1;
-            for (int i = clock->interface.ts_exponent; i < 9; i++) clock->each *= 10;
-            clock->most = (uint64_t)INT64_MAX / clock->each;
-        }
-        Py_INCREF(shown);
-        clock->shown = shown;
-    } else if (!PyErr_Occurred()) {
-        PyErr_SetString(PyExc_TypeError, "an interface of another size");
-    }
-    PyBuffer_Release(&view);
-    return clock;
-}
-
-#define NO_TIME INT64_MIN
-
-/* Returns nanoseconds since 1970, or NO_TIME if they exceed 64 bits. */
-static int64_t time_in_ns(const Clock *clock, uint64_t units) {
-    pcapfile_time time = PCAPFILE_TIME_INIT;
-    int64_t ns;
-    if (clock->each && units <= clock->most) return (int64_t)(units * clock->each);
-    if (pcapfile_time_of(&clock->interface, units, &time) != PCAPFILE_OK) return NO_TIME;
-    if (__builtin_mul_overflow(time.seconds, (int64_t)1000000000, &ns)) return NO_TIME;
-    return __builtin_add_overflow(ns, (int64_t)time.nanoseconds, &ns) ? NO_TIME : ns;
-}
-
-/* ---- the interfaces of a section, by number ---- */
-
-typedef struct {
-    PyObject_HEAD
-    PyObject *module;
-    Clock **at;
-    size_t count, room;
-    int is_used; /* by a call that released the interpreter's lock */
-} Clocks;
-
-static void clocks_dealloc(PyObject *self) {
-    Clocks *clocks = (Clocks *)self;
-    PyObject *module = clocks->module;
-    for (size_t i = 0; i < clocks->count; i++) Py_XDECREF(clocks->at[i]);
-    PyMem_Free(clocks->at);
-    plain_dealloc(self);
-    Py_DECREF(module);
-}
-
-static Clocks *clocks_new(PyObject *module, size_t room) {
-    Clocks *clocks = PyObject_New(Clocks, ((State *)PyModule_GetState(module))->clocks);
-    if (!clocks) return NULL;
-    Py_INCREF(module);
-    clocks->module = module;
-    clocks->count = 0, clocks->room = room, clocks->is_used = 0;
-    if ((clocks->at = PyMem_Calloc(room, sizeof *clocks->at))) return clocks;
-    Py_DECREF(clocks);
-    PyErr_NoMemory();
-    return NULL;
-}
-
-static PyObject *make_clocks(PyObject *module, PyObject *unused) {
-    (void)unused;
-    return (PyObject *)clocks_new(module, 4);
-}
-
-/* Makes room for the interfaces up to this number, and for one more. */
-static int clocks_grow(Clocks *clocks, size_t number) {
-    if (clocks->is_used) return PyErr_SetString(PyExc_ValueError, "interfaces are in use"), -1;
-    if (number < clocks->room) return 0;
-    size_t room = number < SIZE_MAX / (2 * sizeof *clocks->at) - 1 ? 2 * number + 1 : 0;
-    Clock **at = room ? PyMem_Realloc(clocks->at, room * sizeof *at) : NULL;
-    if (!at) return PyErr_NoMemory(), -1;
-    memset(at + clocks->room, 0, (room - clocks->room) * sizeof *at);
-    clocks->at = at, clocks->room = room;
-    return 0;
-}
-
-/* add(number, struct, Interface) adds an interface. */
-static PyObject *clocks_add(PyObject *self, PyObject *args) {
-    Clocks *clocks = (Clocks *)self;
-    unsigned int number;
-    PyObject *structure, *shown;
-    if (!PyArg_ParseTuple(args, "IOO", &number, &structure, &shown)) return NULL;
-    if (clocks_grow(clocks, number) < 0) return NULL;
-    Clock *clock = clock_new(PyModule_GetState(clocks->module), structure, shown), *before = clocks->at[number];
-    if (!clock) return NULL;
-    clocks->at[number] = clock;
-    if (number >= clocks->count) clocks->count = (size_t)number + 1;
-    Py_XDECREF(before);
-    Py_RETURN_NONE;
-}
-
-static PyObject *clocks_copy(PyObject *self, PyObject *unused) {
-    const Clocks *from = (Clocks *)self;
-    Clocks *clocks = clocks_new(from->module, from->count + 1);
-    (void)unused;
-    if (!clocks) return NULL;
-    for (size_t i = 0; i < from->count; i++) {
-        Py_XINCREF(from->at[i]);
-        clocks->at[i] = from->at[i];
-    }
-    clocks->count = from->count;
-    return (PyObject *)clocks;
-}
-
-/* ---- packets ---- */
+/* packets.h: packets of both formats. A part of native.c. */
 
 typedef struct {
     PyObject_HEAD
@@ -323,40 +130,60 @@ static PyObject *get_around(PyObject *self, void *closure) {
     return Py_BuildValue("(On)", packet->chunk->view, place_in_chunk(packet));
 }
 
+/* The documentation of an attribute: what it is, and an example with its value in a capture of the tests. */
+#define SHOWN(TEXT, EXAMPLE, VALUE) TEXT "\n\n    >>> " EXAMPLE "\n    " VALUE
+
 #define AROUND { "_around", get_around, NULL, "The buffer that contains the data, and the place at which the data begins in it.", NULL }
-#define DATA { "data", get_data, NULL, "The stored bytes, as a view that stays valid as long as it exists.", NULL }
-#define OFFSET { "offset", get_offset, NULL, "Where its data begins, in bytes from the capture's start.", NULL }
-#define LENGTH { "length", get_length, NULL, "The number of bytes that the capture stores of the packet.", NULL }
-#define ORIGINAL { "original_length", get_original_length, NULL, "The number of bytes of the packet on the wire.", NULL }
+#define DATA(VALUE) \
+    { "data", get_data, NULL, \
+      SHOWN("The stored bytes, as a view that stays valid as long as it exists.", "bytes(packet.data[:2])", VALUE), NULL }
+#define OFFSET(VALUE) \
+    { "offset", get_offset, NULL, SHOWN("Where its data begins, in bytes from the capture's start.", "packet.offset", VALUE), NULL }
+#define LENGTH(VALUE) \
+    { "length", get_length, NULL, SHOWN("The number of bytes that the capture stores of the packet.", "packet.length", VALUE), NULL }
+#define ORIGINAL(VALUE) \
+    { "original_length", get_original_length, NULL, \
+      SHOWN("The number of bytes of the packet on the wire.", "packet.original_length", VALUE), NULL }
+#define NANOSECONDS(GET, VALUE) \
+    { "nanoseconds", GET, NULL, SHOWN("The nanoseconds of the time after `seconds`.", "packet.nanoseconds", VALUE), NULL }
 
 /* The first attributes are also the items of the packet as a sequence. */
 static PyGetSetDef packet_attributes[] = {
-    { "seconds", get_seconds, NULL, "The whole seconds of the time since 1970.", NULL },
-    { "nanoseconds", get_nanoseconds, NULL, "The nanoseconds of the time after `seconds`.", NULL },
-    ORIGINAL,
-    DATA,
-    { "link", get_kind, NULL, "The number of the packet's link type.", NULL },
-    OFFSET,
-    LENGTH,
-    { "time", get_float, NULL, "The time in seconds since 1970, as a float. `seconds` and `nanoseconds` are exact.", NULL },
-    { "time_ns", get_ns, NULL, "The time in nanoseconds since 1970.", NULL },
-    { "interface", get_none, NULL, "None, because a classic capture has no interfaces.", NULL },
+    { "seconds", get_seconds, NULL, SHOWN("The whole seconds of the time since 1970.", "packet.seconds", "1335958313"), NULL },
+    NANOSECONDS(get_nanoseconds, "152630000"),
+    ORIGINAL("98"),
+    DATA("b'\\x00\\x01'"),
+    { "link", get_kind, NULL, SHOWN("The number of the packet's link type.", "packet.link", "1"), NULL },
+    OFFSET("40"),
+    LENGTH("98"),
+    { "time", get_float, NULL,
+      SHOWN("The time in seconds since 1970, as a float. `seconds` and `nanoseconds` are exact.", "packet.time", "1335958313.15263"), NULL },
+    { "time_ns", get_ns, NULL, SHOWN("The time in nanoseconds since 1970.", "packet.time_ns", "1335958313152630000"), NULL },
+    { "interface", get_none, NULL,
+      SHOWN("None, because a classic capture has no interfaces.", "print(packet.interface)", "None"), NULL },
     AROUND,
     { NULL, NULL, NULL, NULL, NULL },
 };
 static PyGetSetDef block_packet_attributes[] = {
-    { "seconds", get_seconds_ng, NULL, "The whole seconds of the time since 1970, or None.", NULL },
-    { "nanoseconds", get_nanoseconds_ng, NULL, "The nanoseconds of the time after `seconds`.", NULL },
-    ORIGINAL,
-    DATA,
-    { "timestamp", get_timestamp, NULL, "The time in units of the packet's interface.", NULL },
-    { "interface_id", get_interface_id, NULL, "The number of the packet's interface in its section.", NULL },
-    { "interface", get_interface, NULL, "The packet's interface, or None if it is unknown.", NULL },
-    OFFSET,
-    LENGTH,
-    { "time", get_float_ng, NULL, "The time in seconds since 1970, as a float, or None. `seconds` and `nanoseconds` are exact.", NULL },
-    { "time_ns", get_ns_ng, NULL, "The time in nanoseconds since 1970, or None.", NULL },
-    { "link", get_link_ng, NULL, "The number of the packet's link type, or None if its interface is unknown.", NULL },
+    { "seconds", get_seconds_ng, NULL, SHOWN("The whole seconds of the time since 1970, or None.", "packet.seconds", "1700000000"), NULL },
+    NANOSECONDS(get_nanoseconds_ng, "0"),
+    ORIGINAL("60"),
+    DATA("b'ab'"),
+    { "timestamp", get_timestamp, NULL,
+      SHOWN("The time in units of the packet's interface.", "packet.timestamp", "1700000000000000000"), NULL },
+    { "interface_id", get_interface_id, NULL,
+      SHOWN("The number of the packet's interface in its section.", "packet.interface_id", "0"), NULL },
+    { "interface", get_interface, NULL,
+      SHOWN("The packet's interface, or None if it is unknown.", "packet.interface.ts_exponent", "9"), NULL },
+    OFFSET("108"),
+    LENGTH("3"),
+    { "time", get_float_ng, NULL,
+      SHOWN("The time in seconds since 1970, as a float, or None. `seconds` and `nanoseconds` are exact.", "packet.time", "1700000000.0"),
+      NULL },
+    { "time_ns", get_ns_ng, NULL,
+      SHOWN("The time in nanoseconds since 1970, or None.", "packet.time_ns", "1700000000000000000"), NULL },
+    { "link", get_link_ng, NULL,
+      SHOWN("The number of the packet's link type, or None if its interface is unknown.", "packet.link", "1"), NULL },
     AROUND,
     { NULL, NULL, NULL, NULL, NULL },
 };

@@ -1,14 +1,14 @@
 """Captures whose packets an asyncio program awaits."""
 
 import asyncio
-import os
 from builtins import open as _open
 from typing import Any, AsyncIterator, Optional, Union
 
+from ._arguments import is_name, stream
 from ._blocks import BlockCapture
 from ._capture import Capture
 from ._open import Name, open as _open_capture
-from ._source import CHUNK
+from ._windows import CHUNK
 
 
 class _Fed:
@@ -62,7 +62,12 @@ class AsyncCapture:
         self.close()
 
     def close(self) -> None:
-        """Closes the capture, and the file if `aopen` opened it. A reader that the caller gave stays open."""
+        """Closes the capture, and the file if `aopen` opened it. A reader that the caller gave stays open.
+
+            >>> async def opened_and_closed(name):
+            ...     (await pcapfile.aopen(name)).close()
+            >>> asyncio.run(opened_and_closed("capture.pcap"))
+        """
         self.capture.close()
         if isinstance(self._reader, _InThread):
             self._reader.close()
@@ -92,7 +97,8 @@ async def aopen(source: Union[Name, Any], *, strict: bool = True) -> AsyncCaptur
         >>> asyncio.run(formats("options.pcapng"))
         'pcapng'
     """
-    reader = _InThread(source) if isinstance(source, (str, bytes, os.PathLike)) else source
+    wanted = "a name, or an object with an asynchronous `read`"
+    reader = _InThread(source) if is_name(source) else stream("source", source, ("read",), wanted)
     fed = _Fed()
     try:
         while True:

@@ -2,193 +2,23 @@
 
 import ctypes
 import struct
-from typing import TYPE_CHECKING, Any, Dict, Iterator, List, Optional, Tuple
+from typing import TYPE_CHECKING, Any, Iterator, List, Optional
 
-from . import _columns, _library
-from ._capture import BATCH, Packets, Take, make
+from . import _library
+from ._common import BATCH, Packets, make
 from ._errors import CaptureError, error_of, refused
 from ._extension import native
-from ._interfaces import Interface, described
+from ._interfaces import Interface
 from ._options import Block
-from ._packets import BlockPacket
-from ._source import File, Source, Stream, Stretch, Window
-
-_SIMPLE_PACKET = 3
-
-# The magic number of a section in big-endian byte order.
-_BIG = 0x1A2B3C4D
+from ._packets import SIMPLE_PACKET, BlockPacket
+from ._sections import UNKNOWN, Walk
+from ._source import File, Source, Stretch
+from ._streams import Stream
+from ._windows import Window
 
 # A packet in the layout in which the library returns it: block type, interface, original length, timestamp in the interface's
 # units, address of the data, and length of the data.
 _PACKET = struct.Struct("@IIIQPN")
-
-
-class _Unknown:
-    """The stand-in for an interface that the section does not describe: its packets have no time."""
-
-    interface: Optional[Interface] = None
-    per_second, nanoseconds = 0, 0
-
-    def time(self, units: int) -> Tuple[Optional[int], int]:
-        return None, 0
-
-    def stored(self, length: int, original: int) -> int:
-        """Returns how many bytes of a simple packet block are data; the others are padding."""
-        snaplen = self.interface.snaplen if self.interface else 0
-        return min(length, original, snaplen or original)
-
-
-_UNKNOWN = _Unknown()
-
-
-class _Known(_Unknown):
-    """An interface of the current section, and its clock.
-
-    If the unit of time is a decimal fraction from a tenth to a billionth of a second, and the clock has no offset, the package
-    divides the units itself. A second then has `per_second` of them, each of `nanoseconds`. Otherwise `per_second` is 0, and the library
-    computes the times."""
-
-    def __init__(self, shown: _library.Interface, block: Block) -> None:
-        self.interface = described(block, *(getattr(shown, name) for name, _ in shown._fields_))
-        self.shown = shown
-        is_plain = shown.ts_base == 10 and 1 <= shown.ts_exponent <= 9 and shown.ts_offset == 0
-        self.per_second = 10**shown.ts_exponent if is_plain else 0
-        self.nanoseconds = 10 ** (9 - shown.ts_exponent) if is_plain else 0
-
-    def time(self, units: int) -> Tuple[Optional[int], int]:
-        """Returns seconds and nanoseconds, or None and 0 if the seconds exceed 64 bits."""
-        time = _library.Time()  # each call has its own, because threads share an interface
-        if _library.time_of(self.shown, units, time) != _library.OK:
-            return None, 0
-        return time.seconds, time.nanoseconds
-
-
-class Walk:
-    """A pass over the blocks of a capture, with the interfaces of the current section."""
-
-    # How many bytes of the block precede the data: of an enhanced packet, and of a simple packet.
-    HEAD, SIMPLE_HEAD = 28, 12
-
-    # The rows as the library returns them, with timestamps in the interface's units, and with the block type where a column has
-    # the link type.
-    rows = [("timestamp", "u8"), ("len", "u4"), ("orig_len", "u4"), ("interface", "u4"), ("type", "u4"), ("offset", "u8")]
-
-    def __init__(self, window: Window) -> None:
-        self.window = window
-        self.section, self.error = _library.Section(), _library.Error()
-        self.block: Any = _library.Block(0, _library.no_bytes())
-        self.known: Dict[int, _Known] = {}
-        # The interfaces of all sections so far.
-        self.described: List[Interface] = []
-        # The interfaces of the current section, for the extension.
-        self.clocks: Any = None if native is None else native.clocks()
-
-    def take(self) -> None:
-        """Takes the next block. If it describes an interface, the walk keeps the interface."""
-        before = self.section.interfaces
-        while (status := self._take()) != _library.OK:
-            if status != _library.INCOMPLETE or not self.window.more(self.error.missing):
-                raise error_of(status, self.error, self.window.offset)
-        if self.section.interfaces == 0:
-            self.known = {}
-            self.clocks = None if native is None else native.clocks()
-        elif self.section.interfaces != before:
-            self._keep(before)
-
-    def _take(self) -> int:
-        self.window.offset  # raises a ValueError if the capture is closed
-        return _library.take_block(self.section, self.window.left, self.block, self.error)
-
-    def shown(self) -> Block:
-        """Returns the block that was taken last."""
-        return self._block()
-
-    def _block(self) -> Block:
-        """Returns the block that was taken last, without its flaws."""
-        window, length = self.window, self.block.body.len
-        begin = self.block.body.ptr - window.start if length > 0 else 0
-        body = window.data[begin : begin + length]
-        return Block(self.block.type, body, window.offset - length - 4, self.section.magic_number)
-
-    def _keep(self, number: int) -> None:
-        shown = _library.Interface()
-        if _library.read_interface(self.section, self.block, shown, self.error) == _library.OK:
-            self._add(number, shown)
-
-    def _add(self, number: int, shown: _library.Interface) -> None:
-        known = self.known[number] = _Known(shown, self._block())
-        self.described.append(known.interface)
-        if native is not None:
-            self.clocks.add(number, shown, known.interface)
-
-    @property
-    def head(self) -> _library.Section:
-        return self.section
-
-    @property
-    def state(self) -> Any:
-        """The state that the packets depend on: the section's byte order, and its interfaces."""
-        interfaces = {number: known.interface for number, known in self.known.items()}
-        return self.section.magic_number, self.section.interfaces, interfaces
-
-    def over(self, window: Window) -> "Walk":
-        """Returns a walk over other bytes of the same capture, with a copy of this walk's section and interfaces."""
-        walk = Walk(window)
-        walk.section, walk.known = _library.Section.from_buffer_copy(self.section), dict(self.known)
-        walk.clocks = None if native is None else self.clocks.copy()
-        return walk
-
-    def restore(self, known: Dict[int, _Known], count: int, magic_number: int) -> None:
-        """Makes a section current, with its first `count` interfaces."""
-        self.section = _library.Section(magic_number, 1, 0, count)
-        self.known = {number: found for number, found in known.items() if number < count}
-        if native is not None:
-            self.clocks = native.clocks()
-            for number, found in self.known.items():
-                self.clocks.add(number, found.shown, found.interface)
-
-    def ahead(self, window: Window) -> "Walk":
-        """Returns a walk over the same bytes that has the section and the interfaces at the first packet."""
-        walk = self.over(window)
-        packet, taken = _library.NgPacket(0, 0, 0, 0, _library.no_bytes()), ctypes.c_size_t()
-        try:
-            for _ in walk.batches(lambda left, error: _library.take_ng_packets(walk.section, left, packet, 1, taken, error)):
-                if taken.value > 0:
-                    break
-        except CaptureError:
-            pass
-        return walk
-
-    def batches(self, take: Take) -> Iterator[bool]:
-        """Calls `take` until the capture has no more packets, and yields after each call. The value is False if the section or
-        its interfaces may change next."""
-        window = self.window
-        while window.left.len > 0 or window.more(1):
-            window.offset  # raises a ValueError if the capture is closed
-            status = take(window.left, self.error)
-            stays = status in (_library.OK, _library.INCOMPLETE)
-            yield stays
-            is_cut = status == _library.INCOMPLETE and not window.more(self.error.missing)
-            if is_cut or status == _library.NO_MEMORY:
-                raise error_of(status, self.error, window.offset)
-            if not stays:
-                # The next block is a section header, an interface, an unreadable packet, or malformed.
-                self.take()
-
-    def take_rows(self, left: _library.Bytes, rows: int, room: int, taken: ctypes.c_size_t, error: _library.Error) -> int:
-        status: int = _library.take_ng_rows(self.section, left, rows, room, taken, error)
-        return status
-
-    def settle(self, rows: Any) -> None:
-        """Converts rows in the library's layout to rows of columns, in place."""
-        _columns.settle_blocks(rows, self.known)
-
-    def guess(self, data: memoryview, place: int) -> Optional[int]:
-        """Returns a likely start of blocks in `data`, or None. `place` is the offset of `data` in the capture."""
-        order = ">" if self.section.magic_number == _BIG else "<"
-        begin = -place % 4
-        found = _columns.guess_block(data[begin:], order)
-        return None if found is None else place + begin + found
 
 
 class BlockCapture(Packets):
@@ -259,7 +89,7 @@ class BlockCapture(Packets):
             return list(self._first.described)
         walk = self._walk(lends=False)
         try:
-            self.pass_over(walk)
+            self._pass_over(walk)
         except CaptureError:
             pass
         return walk.described
@@ -279,9 +109,9 @@ class BlockCapture(Packets):
                 if is_open.is_closed:
                     window.check()
                 if number != last:
-                    last, known = number, walk.known.get(number, _UNKNOWN)
+                    last, known = number, walk.known.get(number, UNKNOWN)
                     interface, per_second, each = known.interface, known.per_second, known.nanoseconds
-                if kind == _SIMPLE_PACKET:
+                if kind == SIMPLE_PACKET:
                     seconds, nanoseconds, length = None, 0, known.stored(length, original)
                 elif per_second:
                     seconds, nanoseconds = units // per_second, units % per_second * each

@@ -16,12 +16,13 @@ OFFSET = "i8"
 
 class Wanted(NamedTuple):
     """The optional columns that a caller wants: interface names, data, and decoded headers. `times` is the range of times in
-    nanoseconds, or None for all packets."""
+    nanoseconds, or None for all packets. `is_copied` is True if the caller copies each batch before it asks for the next one."""
 
     names: bool = False
     data: bool = False
     decode: bool = False
     times: Optional[Tuple[int, int]] = None
+    is_copied: bool = False
 
     @property
     def kinds(self) -> List[Tuple[str, Any]]:
@@ -48,7 +49,7 @@ NOTHING = Wanted()
 
 
 def wanted_of(names: bool, data: bool, decode: bool, since: Optional[Moment], until: Optional[Moment]) -> Wanted:
-    times = range_of(nanoseconds_of(since), nanoseconds_of(until)) if since is not None or until is not None else None
+    times = range_of(nanoseconds_of("since", since), nanoseconds_of("until", until)) if since is not None or until is not None else None
     return Wanted(names, data, decode, times)
 
 

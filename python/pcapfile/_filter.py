@@ -5,8 +5,9 @@ import datetime
 import struct
 import tempfile
 import threading
-from decimal import Decimal
 from typing import Any, Dict, Optional, Tuple, Union
+
+from . import _arguments
 
 # The most bytes of a packet that an expression examines.
 _SNAPLEN = 262144
@@ -40,16 +41,19 @@ def _load() -> Any:
 Moment = Union[float, datetime.datetime]
 
 
-def nanoseconds_of(moment: Optional[Moment]) -> Optional[int]:
-    """Returns a datetime, or seconds since 1970, as nanoseconds since 1970. It raises a ValueError for a datetime without a zone."""
+def nanoseconds_of(name: str, moment: Optional[Moment]) -> Optional[int]:
+    """Returns an argument that is a datetime, or seconds since 1970, as nanoseconds since 1970. It raises a ValueError for a datetime
+    without a zone."""
     if moment is None:
         return None
     if not isinstance(moment, datetime.datetime):
-        return round(Decimal(moment) * 1_000_000_000)
+        return _arguments.nanoseconds(name, moment, "a datetime with a zone, or seconds since 1970")
     if moment.tzinfo is None:
-        raise ValueError(f"{moment} has no time zone; use for example datetime.timezone.utc")
+        raise ValueError(f"{name} is {moment}, and has no time zone; use for example datetime.timezone.utc")
     since = moment - datetime.datetime(1970, 1, 1, tzinfo=datetime.timezone.utc)
-    return (since.days * 86400 + since.seconds) * 1_000_000_000 + since.microseconds * 1000
+    # A Timestamp of pandas is a datetime, and also counts nanoseconds.
+    below = since.microseconds * 1000 + getattr(since, "nanoseconds", 0)
+    return (since.days * 86400 + since.seconds) * 1_000_000_000 + below
 
 
 def range_of(since: Optional[int], until: Optional[int]) -> Tuple[int, int]:
@@ -65,11 +69,13 @@ class Filter:
     _lock = threading.Lock()
 
     def __init__(self, expression: Optional[str], since: Optional[Moment] = None, until: Optional[Moment] = None) -> None:
+        self._programs: Dict[int, _Program] = {}
+        if not isinstance(expression, (str, type(None))):
+            raise _arguments.wrong_type("expression", expression, "a text")
         if expression is not None and Filter._pcap is None:
             Filter._pcap = _load()
         self.expression = expression
-        self._programs: Dict[int, _Program] = {}
-        self._since, self._until = nanoseconds_of(since), nanoseconds_of(until)
+        self._since, self._until = nanoseconds_of("since", since), nanoseconds_of("until", until)
 
     def told(self) -> Tuple[int, int, int, bool]:
         """Returns what the extension needs: the address of the function that runs a program, the range of times in 64 bits, and

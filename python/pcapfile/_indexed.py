@@ -7,7 +7,7 @@ from collections.abc import Sequence
 from itertools import islice
 from typing import Any, Dict, Iterator, List, NamedTuple, Optional, Union
 
-from . import _library
+from . import _arguments, _library
 from ._errors import CaptureError
 
 # The number of rows in one call of the library, and of 64-bit numbers in a row.
@@ -104,7 +104,7 @@ class Indexed(Sequence):  # type: ignore[type-arg]
 
     def __getitem__(self, number: Union[int, slice]) -> Any:
         if not isinstance(number, slice):
-            at = number.__index__()
+            at = _arguments.whole("number", number)
             if not -len(self) <= at < len(self):
                 raise IndexError(f"the capture has {len(self)} packets")
             return next(self._between(at % len(self), at % len(self) + 1))
@@ -123,7 +123,7 @@ class Indexed(Sequence):  # type: ignore[type-arg]
         first, last = self._start(begin), self._end if end == len(self) else self._start(end)
         source = self._source
         window = source.piece(first, last) if last - first <= _AT_ONCE else source.between(first, last)
-        packets: Iterator[Any] = self._capture.packets_of(self._walk_from(begin, window))
+        packets: Iterator[Any] = self._capture._packets_of(self._walk_from(begin, window))
         return packets
 
     def _start(self, number: int) -> int:

@@ -33,7 +33,11 @@ class Interface(_Fields):
 
     @property
     def block(self) -> Optional[Block]:
-        """A copy of the block that describes the interface, or None if no capture described it."""
+        """A copy of the block that describes the interface, or None if no capture described it.
+
+            >>> packet.interface.block.type
+            1
+        """
         return None if self._told is None else Block(_DESCRIPTION, memoryview(self._told[0]), *self._told[1:])
 
     def _text(self, code: int) -> Optional[str]:
@@ -42,27 +46,47 @@ class Interface(_Fields):
 
     @property
     def name(self) -> Optional[str]:
-        """The name of the interface, for example "eth0", or None."""
+        """The name of the interface, for example "eth0", or None.
+
+            >>> print(packet.interface.name)
+            None
+        """
         return self._text(2)
 
     @property
     def description(self) -> Optional[str]:
-        """The description of the interface, or None."""
+        """The description of the interface, or None.
+
+            >>> print(packet.interface.description)
+            None
+        """
         return self._text(3)
 
     @property
     def os(self) -> Optional[str]:
-        """The operating system of the machine that has the interface, or None."""
+        """The operating system of the machine that has the interface, or None.
+
+            >>> print(packet.interface.os)
+            None
+        """
         return self._text(12)
 
     @property
     def hardware(self) -> Optional[str]:
-        """The hardware of the interface, or None."""
+        """The hardware of the interface, or None.
+
+            >>> print(packet.interface.hardware)
+            None
+        """
         return self._text(15)
 
     @property
     def comment(self) -> Optional[str]:
-        """The first comment on the interface, or None."""
+        """The first comment on the interface, or None.
+
+            >>> packet.interface.comment
+            'hm'
+        """
         return self._text(1)
 
 

@@ -2,7 +2,7 @@
 
 from typing import Optional
 
-from . import _library
+from . import _arguments, _library
 
 
 def link_type(number: int) -> int:
@@ -13,7 +13,7 @@ def link_type(number: int) -> int:
         >>> pcapfile.link_type(0x24000001)
         1
     """
-    return int(_library.link_type(_library.within(number, 32)))
+    return int(_library.link_type(_arguments.of_32_bits("number", number)))
 
 
 def fcs_len(number: int) -> Optional[int]:
@@ -24,5 +24,5 @@ def fcs_len(number: int) -> Optional[int]:
         >>> pcapfile.fcs_len(0x24000001), pcapfile.fcs_len(1)
         (4, None)
     """
-    length = int(_library.fcs_len(_library.within(number, 32)))
+    length = int(_library.fcs_len(_arguments.of_32_bits("number", number)))
     return None if length < 0 else length

@@ -6,12 +6,15 @@ import weakref
 from builtins import open as _open
 from typing import Any, Callable, Optional, Union
 
+from . import _arguments
 from ._as_is import CaptureAsIs
 from ._blocks import BlockCapture
 from ._blocks_as_is import BlockCaptureAsIs
 from ._capture import Capture
 from ._compressed import Decompressed, decompressor
-from ._source import Data, File, Growing, Memory, Source, Stream, Stretch, Window
+from ._source import Data, File, Memory, Source, Stretch
+from ._streams import Growing, Stream
+from ._windows import Window
 
 Name = Union[str, bytes, "os.PathLike[Any]"]
 
@@ -63,11 +66,12 @@ def open(file: Union[Name, int, Any], *, strict: bool = True, follow: bool = Fal
         1335958313.15263 98
     """
     if follow:
-        if not isinstance(file, (str, bytes, os.PathLike)):
-            raise TypeError("follow=True needs the name of a file")
+        if not _arguments.is_name(file):
+            raise _arguments.wrong_type("file", file, "the name of a file if follow=True is given")
         file = Growing(file)
-    if not isinstance(file, (str, bytes, os.PathLike, int)):
-        return _of_stream(file, strict)
+    if not _arguments.is_name(file) and not isinstance(file, int):
+        wanted = "a name, the number of a descriptor, or an object with `readinto` or `read`"
+        return _of_stream(_arguments.stream("file", file, ("readinto", "read"), wanted), strict)
     stream = _open(file, "rb", buffering=0)
     status = os.fstat(stream.fileno())
     try:

@@ -3,7 +3,9 @@
 import io
 import os
 from builtins import open as _open
-from typing import Any, List, Optional, Union
+from typing import Any, List, Optional, Tuple, Union
+
+from . import _arguments
 
 Name = Union[str, bytes, "os.PathLike[Any]"]
 
@@ -11,11 +13,18 @@ Name = Union[str, bytes, "os.PathLike[Any]"]
 class Output:
     """A file that the Writer opened, or an object that has `write`. After a write has failed, each later one raises an OSError."""
 
+    # True if several packets may be written together.
+    joins = True
+
     def __init__(self, file: Any, is_mine: bool) -> None:
         self._file, self._is_mine, self._has_failed = file, is_mine, False
 
     def front(self, text: bytes) -> None:
         """Writes a header, or a block that later packets need."""
+        self._write(text)
+
+    def packets(self, text: memoryview) -> None:
+        """Writes several packets, if the output joins them."""
         self._write(text)
 
     def packet(self, text: bytes, time: int) -> None:
@@ -27,7 +36,7 @@ class Output:
         if self._has_failed:
             raise OSError("an earlier write failed, or the Writer is closed")
 
-    def _write(self, text: bytes) -> None:
+    def _write(self, text: Union[bytes, memoryview]) -> None:
         self.check()
         self._has_failed = True
         left = memoryview(text)
@@ -57,6 +66,8 @@ class Numbered(Output):
 
     The next file begins with the packet that would make the current one longer than `most_bytes`, or that is at least `most_time`
     nanoseconds later than its first packet."""
+
+    joins = False
 
     def __init__(self, name: Name, most_bytes: Optional[int], most_time: Optional[int]) -> None:
         self._name, self._most_bytes, self._most_time = os.fsdecode(name), most_bytes, most_time
@@ -104,3 +115,27 @@ class Numbered(Output):
             last.close()
             raise
         self._length, self._begin = sum(map(len, self._front)), None
+
+
+def limits_of(file: Any, append: bool, max_bytes: Optional[int], max_seconds: Optional[float]) -> Tuple[Optional[int], Optional[int]]:
+    """Checks the limits of a Writer's files. Returns the most bytes of a file, and the most nanoseconds from its first packet to the
+    next file, or None."""
+    is_numbered = max_bytes is not None or max_seconds is not None
+    if (append or is_numbered) and not _arguments.is_name(file):
+        raise _arguments.wrong_type("file", file, "the name of a file if append, max_bytes or max_seconds is given")
+    if append and is_numbered:
+        raise ValueError("append does not work with max_bytes or max_seconds")
+    most_bytes = None if max_bytes is None else _arguments.whole("max_bytes", max_bytes, 1)
+    most_time = None if max_seconds is None else _arguments.nanoseconds("max_seconds", max_seconds)
+    if most_time is not None and most_time <= 0:
+        raise ValueError(f"max_seconds is {max_seconds}, and must be above 0")
+    return most_bytes, most_time
+
+
+def output_of(file: Any, most_bytes: Optional[int], most_time: Optional[int]) -> Output:
+    """Returns numbered files if there is a limit, and otherwise the one file."""
+    if most_bytes is not None or most_time is not None:
+        return Numbered(file, most_bytes, most_time)
+    if _arguments.is_name(file):
+        return Output(_open(file, "wb"), True)
+    return Output(_arguments.stream("file", file, ("write",), "a name, or an object that has `write`"), False)

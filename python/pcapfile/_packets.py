@@ -13,7 +13,7 @@ _EPOCH = _datetime.datetime(1970, 1, 1, tzinfo=_datetime.timezone.utc)
 
 # The types of blocks whose packets have options, and the type whose packets have neither options nor times.
 _WITH_OPTIONS = (6, 2)
-_SIMPLE = 3
+SIMPLE_PACKET = 3
 
 # The bytes of a block before the data, in little-endian and big-endian order, each with the magic number of such a section. They
 # are the type, the block's length, the interface, both halves of the time, and both lengths.
@@ -42,42 +42,70 @@ class Told:
 
     @property
     def time(self) -> Optional[float]:
-        """The time in seconds since 1970, as a float, or None if the packet has no time. `seconds` and `nanoseconds` are exact."""
+        """The time in seconds since 1970, as a float, or None if the packet has no time. `seconds` and `nanoseconds` are exact.
+
+            >>> packet.time
+            1700000000.0
+        """
         return None if self.seconds is None else self.seconds + self.nanoseconds / 1e9
 
     @property
     def time_ns(self) -> Optional[int]:
-        """The time in nanoseconds since 1970, or None if the packet has no time."""
+        """The time in nanoseconds since 1970, or None if the packet has no time.
+
+            >>> packet.time_ns
+            1700000000000000000
+        """
         return None if self.seconds is None else self.seconds * 1_000_000_000 + self.nanoseconds
 
     @property
     def datetime(self) -> Optional[_datetime.datetime]:
         """The time as a datetime in UTC, in whole microseconds, or None if the packet has no time. It raises an OverflowError if
-        no datetime can represent the time, for example after the year 9999."""
+        no datetime can represent the time, for example after the year 9999.
+
+            >>> print(packet.datetime)
+            2023-11-14 22:13:20+00:00
+        """
         if self.seconds is None:
             return None
         return _EPOCH + _datetime.timedelta(seconds=self.seconds, microseconds=self.nanoseconds // 1000)
 
     @property
     def length(self) -> int:
-        """The number of bytes that the capture stores of the packet."""
+        """The number of bytes that the capture stores of the packet.
+
+            >>> packet.length, packet.original_length
+            (3, 60)
+        """
         return len(self.data)
 
     @property
     def block(self) -> Optional[Block]:
         """The `Block` that a PcapNg packet comes from. It is None for a classic packet, and for a simple packet, which has no
-        options."""
+        options.
+
+            >>> packet.block.type
+            6
+        """
         return _block_of(self)
 
     @property
     def options(self) -> List[Option]:
-        """The options of the packet. A classic packet has none."""
+        """The options of the packet. A classic packet has none.
+
+            >>> [(option.code, bytes(option.value)) for option in packet.options]
+            [(1, b'seen')]
+        """
         block = self.block
         return [] if block is None else block.options
 
     @property
     def comment(self) -> Optional[str]:
-        """The first comment on the packet, or None."""
+        """The first comment on the packet, or None.
+
+            >>> packet.comment
+            'seen'
+        """
         block = self.block
         return None if block is None else block.comment
 
@@ -159,7 +187,11 @@ class Timed(Told):
 
     @property
     def link(self) -> Optional[int]:  # type: ignore[override]
-        """The number of the packet's link type, or None if its interface is unknown."""
+        """The number of the packet's link type, or None if its interface is unknown.
+
+            >>> packet.link
+            1
+        """
         return None if self.interface is None else self.interface.link
 
 
@@ -217,6 +249,6 @@ def _restored(kind: Any, text: bytes, at: int, length: int, fields: Tuple[Any, .
         return native.packet(False, text, at, length, offset, stamp, original, 0, named["link"], None, None)
     interface = named["interface"]
     shown = None if interface is None else _library.Interface(*interface)
-    block_type = _SIMPLE if at < _HEAD else _WITH_OPTIONS[0]
+    block_type = SIMPLE_PACKET if at < _HEAD else _WITH_OPTIONS[0]
     told = (named["timestamp"], original, named["interface_id"], block_type, shown, interface)
     return native.packet(True, text, at, length, offset, *told)

@@ -1,6 +1,5 @@
 """Functions that run the program `pcapfile` on files: the program inside the package, or an installed one."""
 
-import datetime
 import json
 import os
 import re
@@ -8,9 +7,11 @@ import shutil
 import subprocess
 import sys
 import warnings
+from collections.abc import Iterable
 from pathlib import Path
 from typing import Any, Dict, List, NoReturn, Optional, Sequence, Union
 
+from . import _arguments
 from ._errors import CaptureError
 from ._filter import Moment, nanoseconds_of
 
@@ -95,7 +96,7 @@ def info(file: Name, *, repaired: bool = False) -> Dict[str, Any]:
         >>> pcapfile.info("capture.pcap")["packets"]
         1
     """
-    done = _run(["info", "--json", *_repaired(repaired), "--", _named(file)])
+    done = _run(["info", "--json", *_repaired(repaired), "--", _named("file", file)])
     if done.returncode not in (0, _REFUSED) or not done.stdout:
         raise _error_of(done.returncode, _lines(done.stderr))
     _warn(_lines(done.stderr), 1)
@@ -116,9 +117,12 @@ def merge(files: Sequence[Name], out: Name, *, repaired: bool = False) -> List[s
         >>> pcapfile.merge(["monday.pcap", "tuesday.pcapng"], "both.pcapng")
         []
     """
-    if isinstance(files, (str, bytes, os.PathLike)):
-        raise TypeError("files must be a sequence of names")
-    return _written(["merge", *_repaired(repaired)], files, out)
+    if _arguments.is_name(files) or not isinstance(files, Iterable):
+        raise _arguments.wrong_type("files", files, "a sequence of names")
+    named = [_named("files", file) for file in files]
+    if not named:
+        raise ValueError("files is empty, and must be at least one name")
+    return _written(["merge", *_repaired(repaired)], named, out)
 
 
 def cut(
@@ -152,13 +156,13 @@ def cut(
     words = ["cut", *_repaired(repaired)]
     if packets is not None:
         words.append(f"--packets={_numbers(packets)}")
-    words += [f"--{word}={_seconds(moment)}" for word, moment in (("from", since), ("until", until)) if moment is not None]
+    for word, name, moment in (("from", "since", since), ("until", "until", until)):
+        if moment is not None:
+            words.append(f"--{word}={_seconds(nanoseconds_of(name, moment) or 0)}")
     for word, name, count in (("every", "every", every), ("parts", "parts", parts), ("bytes", "at_least", at_least)):
         if count is not None:
-            if count.__index__() < 1:
-                raise ValueError(f"{name} is {count}, and must be at least 1")
-            words.append(f"--{word}={count.__index__()}")
-    return _written(words, [file], out)
+            words.append(f"--{word}={_arguments.whole(name, count, 1)}")
+    return _written(words, [_named("file", file)], out)
 
 
 def convert(file: Name, out: Name, *, to: Optional[str] = None, repaired: bool = False) -> List[str]:
@@ -169,9 +173,8 @@ def convert(file: Name, out: Name, *, to: Optional[str] = None, repaired: bool =
         >>> pcapfile.convert("capture.pcap", "capture.pcapng")
         []
     """
-    if to not in (None, "pcap", "pcapng"):
-        raise ValueError(f"to is {to!r}, and must be 'pcap' or 'pcapng'")
-    return _written(["convert", *_repaired(repaired), *([] if to is None else [f"--to={to}"])], [file], out)
+    words = [] if to is None else [f"--to={_arguments.one_of('to', to, ('pcap', 'pcapng'))}"]
+    return _written(["convert", *_repaired(repaired), *words], [_named("file", file)], out)
 
 
 def repair(file: Name, out: Name) -> List[str]:
@@ -181,11 +184,11 @@ def repair(file: Name, out: Name) -> List[str]:
         >>> pcapfile.repair("capture.pcap", "sound.pcap")
         []
     """
-    return _written(["repair"], [file], out)
+    return _written(["repair"], [_named("file", file)], out)
 
 
 def _written(words: List[str], files: Sequence[Name], out: Name) -> List[str]:
-    done = _run([*words, b"--output=" + os.fsencode(_named(out)), "--", *map(_named, files)])
+    done = _run([*words, b"--output=" + os.fsencode(_named("out", out)), "--", *files])
     lines = _lines(done.stderr)
     if done.returncode != 0:
         raise _error_of(done.returncode, lines)
@@ -198,12 +201,10 @@ def _run(words: List[Any]) -> "subprocess.CompletedProcess[bytes]":
     return subprocess.run(given, executable=program(), stdin=subprocess.DEVNULL, capture_output=True, check=False)
 
 
-def _named(file: Name) -> Name:
+def _named(argument: str, file: Name) -> Name:
     """Returns a file's name in a form that the program never takes for its standard input or output."""
-    name = os.fspath(file)
-    if os.fsencode(name) == b"-":
-        return "./-"
-    return name
+    name: Name = _arguments.name_of(argument, file)
+    return "./-" if os.fsencode(name) == b"-" else name
 
 
 def _repaired(repaired: bool) -> List[str]:
@@ -212,7 +213,10 @@ def _repaired(repaired: bool) -> List[str]:
 
 def _numbers(packets: Union[slice, range]) -> str:
     """Returns a range of packets that begins at 0 in the program's form, which begins at 1."""
-    begin, end = packets.start or 0, packets.stop
+    if not isinstance(packets, (slice, range)):
+        raise _arguments.wrong_type("packets", packets, "a slice or a range")
+    begin, end = _arguments.whole("packets", packets.start or 0), packets.stop
+    end = None if end is None else _arguments.whole("packets", end)
     if packets.step not in (None, 1):
         raise ValueError(f"the step of packets is {packets.step}, and must be 1")
     if begin < 0 or end is not None and end <= begin:
@@ -220,8 +224,8 @@ def _numbers(packets: Union[slice, range]) -> str:
     return f"{begin + 1}-{'' if end is None else end}"
 
 
-def _seconds(moment: Union[float, datetime.datetime]) -> str:
-    nanoseconds = nanoseconds_of(moment) or 0
+def _seconds(nanoseconds: int) -> str:
+    """Returns a time in the program's form."""
     sign, nanoseconds = "-" if nanoseconds < 0 else "", abs(nanoseconds)
     return f"{sign}{nanoseconds // 10**9}.{nanoseconds % 10**9:09}"
 
@@ -248,5 +252,8 @@ def _error_of(status: int, lines: List[str]) -> Exception:
         return ValueError(message)
     if status == _NO_MEMORY:
         return MemoryError(message)
-    numbers = re.findall(r"\(os error (\d+)\)$", message)
-    return OSError(int(numbers[0]), message) if numbers else OSError(message)
+    told = re.search(r"(.*): .*? \(os error (\d+)\)$", message)
+    if told is None:
+        return OSError(message)
+    number, file = int(told[2]), told[1]
+    return OSError(number, os.strerror(number), file) if len(lines) == 1 else OSError(number, message)

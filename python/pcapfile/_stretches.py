@@ -8,7 +8,8 @@ from typing import TYPE_CHECKING, Any, Deque, Iterator, List, NamedTuple, Option
 from ._columns import of_walk
 from ._errors import CaptureError, Incomplete
 from ._extras import Wanted
-from ._source import PIECE_OF_MANY, room_of
+from ._source import PIECE_OF_MANY
+from ._windows import room_of
 
 if TYPE_CHECKING:
     from ._source import File, Memory

@@ -2,12 +2,14 @@
 
 from typing import TYPE_CHECKING, Any, Callable, Iterator, List, Optional
 
-from . import _columns
-from ._columns import COLUMNS
+from . import _arguments, _columns
+from ._columns import COLUMNS, JOINED
 from ._extension import native
 from ._extras import Wanted, wanted_of
 from ._filter import Moment
-from ._source import PIECE_TO_DECODE, File, Source, Stream, room_of
+from ._source import PIECE_TO_DECODE, File, Source
+from ._streams import Stream
+from ._windows import room_of
 
 if TYPE_CHECKING:
     from ._arrow import Arrow
@@ -60,9 +62,7 @@ class Tables:
         return self._wanted(batch, threads, wanted_of(names, data, False, since, until))
 
     def _wanted(self, batch: int, threads: int, wanted: Wanted) -> Iterator[Any]:
-        for name, number in (("batch", batch), ("threads", threads)):
-            if number < 1:
-                raise ValueError(f"{name} is {number}, and must be at least 1")
+        batch, threads = _arguments.whole("batch", batch, 1), _arguments.whole("threads", threads, 1)
         if threads > 1 and _columns.numpy is not None and not isinstance(self._source, Stream):
             return self._side_by_side(batch, threads, wanted)
         return self._begun(("columns", batch, wanted), lambda: self._columns(batch, wanted))
@@ -105,7 +105,7 @@ class Tables:
         for a truncated or malformed capture.
 
             >>> with pcapfile.open("capture.pcap") as capture:
-            ...     capture.to_pandas()["len"].sum()
+            ...     int(capture.to_pandas()["len"].sum())
             98
         """
         if decode and threads != 1:
@@ -115,7 +115,11 @@ class Tables:
         wanted = wanted_of(names, False, decode, since, until)
         if isinstance(self._source, Stream):
             return _columns.to_pandas(self._kept(wanted), 0, wanted)
-        return _columns.to_pandas(self._wanted(COLUMNS, threads, wanted), self._end(), wanted)
+        if threads == 1:
+            batches = self._wanted(JOINED, 1, wanted._replace(is_copied=True))
+        else:
+            batches = self._wanted(COLUMNS, threads, wanted)
+        return _columns.to_pandas(batches, self._end(), wanted)
 
     def to_arrow(
         self, *, names: bool = False, data: bool = False, since: Optional[Moment] = None, until: Optional[Moment] = None

@@ -16,7 +16,7 @@ except ImportError:
     pandas = None
 
 import pcapfile
-from pcapfile import _source
+from pcapfile import _windows
 from test_pcapfile import HEADER, INTERFACE, SECTION, enhanced, packet
 
 
@@ -235,7 +235,7 @@ class Streams(unittest.TestCase):
         with self.assertRaises(pcapfile.Incomplete) as told:
             list(pcapfile.open(stream))
         self.assertEqual(told.exception.missing, 2**32 - 4 - 108)
-        self.assertLessEqual(max(stream.asked), _source.CHUNK)
+        self.assertLessEqual(max(stream.asked), _windows.CHUNK)
 
     def test_columns(self):
         with pcapfile.open(Some(CLASSIC, 100)) as capture:

@@ -9,7 +9,7 @@ from pathlib import Path
 from unittest import mock
 
 import pcapfile
-from pcapfile import _columns, _source, _stretches
+from pcapfile import _columns, _source, _stretches, _windows
 from test_parts import MAKERS, rows
 from test_pcapfile import HEADER, INTERFACE, NANOSECONDS, SECTION, block, enhanced, packet
 
@@ -50,7 +50,7 @@ class Threads(unittest.TestCase):
         room = tempfile.TemporaryDirectory()
         self.addCleanup(room.cleanup)
         self.folder = Path(room.name)
-        small = ((_stretches, "_STRETCH", 1000), (_stretches, "PIECE_OF_MANY", 512), (_source, "PIECE", 256), (_source, "PAGE", 16))
+        small = ((_stretches, "_STRETCH", 1000), (_stretches, "PIECE_OF_MANY", 512), (_source, "PIECE", 256), (_windows, "PAGE", 16))
         for module, name, value in small:
             patch = mock.patch.object(module, name, value)
             patch.start()
