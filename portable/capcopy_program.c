@@ -7,12 +7,14 @@
  * Toolchain: rattle-kit-13f logic dac8208d650f15bf
  * Proof of the crate capcopy: logic=proved functions=3 axioms=12 target=x86_64-unknown-linux-gnu cpu=x86-64-v2
  * sum=dac8208d650f15bf native=nat,char,string
- * Sources: sha256 493147243c67f0c46b950a603df58ad788bf898af463e584b1e5b159b3096c2d
+ * Sources: sha256 dd8efa48efbd7a5d2a5576bfc48cb2a10b954044f914bff01082a9848f1dce23
  * (of src and specs of capcopy, capcopy_run, pcap_blocks, pcap_classic, pcap_core, pcap_file, pcap_items, pcap_ng,
  * pcap_options, pcap_times, pcap_written)
  *
  * MIT licence: see LICENSE and NOTICE.
  * It holds parts of byteorder (MIT), itoa (MIT): see LICENSE.NAME of each, and NOTICE.
+ * It holds parts of the toolchain's core, io, libc, os, std, std_alloc, std_heap, std_io, which have no licence file:
+ * see NOTICE.
  */
 #if !defined __GNUC__
 #error "this file needs gcc or clang: it uses 128-bit integers and vectors"
@@ -47,7 +49,8 @@ typedef __int128 s128;
 typedef u8 *ptr;
 
 #define INLINE static inline __attribute__((always_inline, unused))
-#define APART static __attribute__((noinline, unused))
+#define APART __attribute__((noinline))
+#define RARE __attribute__((cold))
 
 /* Each access to memory copies bytes: ld and st where the address is aligned, lu and su where it may be any. */
 #define ACCESS(name, type) \
@@ -97,10 +100,10 @@ FUNNEL(64)
 
 /* Each operation is a function of its own, so that no compiler joins a product and a sum into one that rounds once. */
 #define REAL(type, bits) \
-	APART type type##_add(type x, type y) { return x + y; } \
-	APART type type##_sub(type x, type y) { return x - y; } \
-	APART type type##_mul(type x, type y) { return x * y; } \
-	APART type type##_div(type x, type y) { return x / y; } \
+	static APART type type##_add(type x, type y) { return x + y; } \
+	static APART type type##_sub(type x, type y) { return x - y; } \
+	static APART type type##_mul(type x, type y) { return x * y; } \
+	static APART type type##_div(type x, type y) { return x / y; } \
 	INLINE type type##_of(u##bits n) { type v; memcpy(&v, &n, sizeof v); return v; }
 REAL(float, 32)
 REAL(double, 64)
@@ -154,58 +157,6 @@ u32 os_errno(void);
 u64 os_read(u32, ptr, u64);
 u64 os_write(u32, ptr, u64);
 
-static void core_str_utf8_from_utf8(ptr v1, ptr v2, u64 v3);
-static __attribute__((noinline)) u64 core_slice_words_skip_far_52f9(ptr v1, u64 v2, u64 v3);
-static void capcopy_run_commands_run_0456(ptr v1, ptr v2, u64 v3, ptr v4, ptr v5);
-static u8 core_lang_str_eq(ptr v1, u64 v2, ptr v3, u64 v4);
-static void pcap_classic_pcap_header_read_header_67f8(ptr v1, ptr v2, ptr v3);
-static void std_io_buffered_BufReaderRead_read_e988(ptr v1, ptr v2, ptr v3, u64 v4);
-static void capcopy_run_uninterrupted_UninterruptedRead_read_f128(ptr v1, ptr v2, u64 v3);
-static void std_io_io_error_Error_from_raw_os_error(ptr v1, u32 v2);
-static void std_io_io_error_Error_from_bytes(ptr v1, u8 v2, u8 v3, ptr v4, u64 v5, u64 v6);
-static t_8_32 pcap_core_link_DataLinkFromU32_from(u32 v1);
-static __attribute__((noinline, cold)) u8 std_alloc_vec_Vec_grow_amortized_56a3(ptr v1, u64 v2);
-static __attribute__((noinline, cold)) void std_io_buffered_BufWriter_write_cold_9d90(ptr v1, ptr v2, ptr v3, u64 v4);
-static void std_io_buffered_BufWriter_flush_buf_9d90(ptr v1, ptr v2);
-static u32 core_convert_AnyInto_into_d3a8(u8 v1, u32 v2);
-static __attribute__((noinline)) void pcap_classic_run_stretch_whole_packets(ptr v1, ptr v2, ptr v3, u64 v4, u64 v5);
-static void pcap_classic_pcap_writer_put_packet_ce79(ptr v1, ptr v2, ptr v3, u32 v4, ptr v5);
-static void pcap_ng_pcapng_block_Block_parsed(ptr v1, ptr v2);
-static void pcap_blocks_section_header_SectionHeaderBlock_read(ptr v1, ptr v2, u64 v3);
-static void blocks_interface_description_InterfaceDescriptionBlock_read_4da0(ptr v1, ptr v2, u64 v3);
-static void ptions_interface_option_InterfaceDescriptionOption_Destruct_drop(ptr v1);
-static void std_alloc_vec_Vec_drop_e82e(ptr v1);
-static __attribute__((noinline)) void pcap_options_records_records_from_slice_4da0(ptr v1, ptr v2, u64 v3);
-static void pcap_options_record_Record_from_value(ptr v1, u16 v2, u16 v3, ptr v4, u64 v5);
-static __attribute__((noinline)) void pcap_options_names_names_from_slice(ptr v1, ptr v2, u64 v3);
-static __attribute__((noinline, cold)) u8 std_alloc_vec_Vec_grow_amortized_2044(ptr v1);
-static __attribute__((noinline, cold)) u8 std_alloc_vec_Vec_grow_amortized_8416(ptr v1);
-static void pcap_options_pcap_options_record_Record_Destruct_drop(ptr v1);
-static __attribute__((noinline, cold)) u8 std_alloc_vec_Vec_grow_amortized_35f1(ptr v1);
-static void std_alloc_vec_Vec_drop_fe8c(ptr v1);
-static void std_alloc_vec_Vec_drop_15c9(ptr v1);
-static void std_alloc_vec_Vec_drop_4750(ptr v1);
-static void pcap_options_refusal_PcapErrorFromRefusal_from(ptr v1, ptr v2);
-static void blocks_interface_description_InterfaceDescriptionBlock_read_7f02(ptr v1, ptr v2, u64 v3);
-static __attribute__((noinline)) void pcap_options_records_records_from_slice_7f02(ptr v1, ptr v2, u64 v3);
-static void std_alloc_vec_Vec_drop_37c7(ptr v1);
-static void pcap_blocks_section_header_SectionHeaderBlock_into_owned(ptr v1, ptr v2);
-static void std_alloc_vec_deque_VecDeque_drop_0fd4(ptr v1);
-static __attribute__((cold)) void capcopy_run_blocks_write_section_ce79(ptr v1, ptr v2, ptr v3);
-static __attribute__((noinline, cold)) u8 core_fmt_formatter_Formatter_write_indented_1a69(ptr v1, ptr v2, u64 v3);
-static u8 core_fmt_formatter_Formatter_write_raw_1a69(ptr v1, ptr v2, u64 v3);
-static u8 core_fmt_formatter_Formatter_write_piece_7520(ptr v1, ptr v2);
-static __attribute__((noinline)) void pcap_ng_pcapng_block_Block_new_section(ptr v1, ptr v2, u64 v3);
-static __attribute__((noinline)) void pcap_ng_pcapng_block_Block_new_interface(ptr v1, ptr v2);
-static __attribute__((noinline)) void pcap_ng_pcapng_state_InForce_begin_section(ptr v1, ptr v2, ptr v3);
-static __attribute__((noinline)) void pcap_ng_pcapng_state_InForce_add_interface(ptr v1, ptr v2, ptr v3);
-static void std_alloc_vec_deque_VecDeque_drop_af98(ptr v1);
-static __attribute__((noinline, cold)) u8 std_alloc_vec_Vec_grow_amortized_1728(ptr v1);
-static void capcopy_run_blocks_KindLinesBlockLine_write_line_ce79(ptr v1, ptr v2, ptr v3, u64 v4, ptr v5);
-static void std_alloc_vec_Vec_drop_0f0e(ptr v1);
-static u8 core_fmt_formatter_Formatter_write_raw_bf26(ptr v1, ptr v2, u64 v3);
-static u8 std_io_io_buffer_Buffer_flush(ptr v1);
-static __attribute__((noinline, cold)) u8 core_fmt_formatter_Formatter_write_indented_bf26(ptr v1, ptr v2, u64 v3);
 int32_t program_main(void);
 
 static const u8 static_3[3] = "big";
@@ -286,18 +237,32 @@ static const u8 static_89[10] = "UTF8 error";
 static const u8 switch_table_pcap_options_refusal_PcapErrorFromRefusal_from[40] = "\035(\037\037 (\035\027&\025%+-:#+\027(2311/1/-02'+\037/00/'(\0321!";
 static _Alignas(8) const struct __attribute__((packed)) { ptr f0; ptr f1; ptr f2; ptr f3; ptr f4; ptr f5; ptr f6; ptr f7; ptr f8; ptr f9; ptr f10; ptr f11; ptr f12; ptr f13; ptr f14; ptr f15; ptr f16; ptr f17; ptr f18; ptr f19; ptr f20; ptr f21; ptr f22; ptr f23; ptr f24; ptr f25; ptr f26; ptr f27; ptr f28; ptr f29; ptr f30; ptr f31; ptr f32; ptr f33; ptr f34; ptr f35; ptr f36; ptr f37; ptr f38; ptr f39; } switch_table_pcap_options_refusal_PcapErrorFromRefusal_from_252 = { (ptr)static_10, (ptr)static_11, (ptr)static_12, (ptr)static_13, (ptr)static_14, (ptr)static_15, (ptr)static_16, (ptr)static_17, (ptr)static_18, (ptr)static_19, (ptr)static_20, (ptr)static_21, (ptr)static_22, (ptr)static_23, (ptr)static_24, (ptr)static_25, (ptr)static_26, (ptr)static_27, (ptr)static_28, (ptr)static_29, (ptr)static_30, (ptr)static_31, (ptr)static_32, (ptr)static_33, (ptr)static_34, (ptr)static_35, (ptr)static_36, (ptr)static_37, (ptr)static_38, (ptr)static_39, (ptr)static_40, (ptr)static_41, (ptr)static_42, (ptr)static_43, (ptr)static_44, (ptr)static_45, (ptr)static_46, (ptr)static_47, (ptr)static_48, (ptr)static_49 };
 
+static APART u64 core_slice_words_skip_far_52f9(ptr v1, u64 v2, u64 v3) {
+	u64 v4, v5;
+	if (v3 - v2 <= 63) { v5 = v2; goto L1; }
+	ptr v6 = lup(v1);
+	v4 = v2;
+L0:;
+	ptr v7 = at(v6, v4);
+	u64 v8 = lu64(v7+16) | lu64(v7) | lu64(v7+32) | lu64(v7+48) | lu64(v7+8) | lu64(v7+24) | lu64(v7+40);
+	if ((v8 | lu64(v7+56)) & 0x8080808080808080ull) { v5 = v4; goto L1; }
+	u64 v9 = v4 + 64;
+	if (v3 - v9 > 63) { v4 = v9; goto L0; }
+	v5 = v9;
+L1:
+	return v5;
+}
 static void core_str_utf8_from_utf8(ptr v1, ptr v2, u64 v3) {
 	u64 v4, v5, v6, v7, v8, v9, v10, v11, v12, v14, v15, v16, v17, v18;
 	u8 v13;
 	_Alignas(8) u8 v19[16];
-	if (v3 == 0) goto L20;
+	if (!v3) goto L20;
 	u64 v20 = v3 - 8;
 	ptr v21 = at(v2, v20);
 	v4 = 0;
 L0:;
 	ptr v22 = at(v2, v4);
-	u8 v23 = ld8(v22);
-	u8 v24 = (s8)v23 > -1;
+	u8 v23 = ld8(v22), v24 = (s8)v23 > -1;
 	u64 v25 = v3 - v4;
 	if (!((v25 > 1) & v24)) goto L11;
 	if ((s8)ld8(v22+1) <= -1) { v14 = 1; goto L18; }
@@ -305,54 +270,54 @@ L0:;
 	st64(v19+8, v3);
 	if (v25 >= 8) goto L2;
 	v5 = v4;
-L1:;
+L1:
 	if ((s8)ld8(at(v2, v5)) < 0) { v15 = v5; goto L19; }
 	u64 v26 = v5 + 1;
 	if (v26 == v3) goto L20;
 	v5 = v26; goto L1;
 L2:;
 	u64 v27 = lu64(v22) & 0x8080808080808080ull;
-	if (v27 != 0) goto L3;
+	if (v27) goto L3;
 	v6 = v4 + 8; goto L4;
 L3:;
 	u64 v28 = (trailing_zeros(v27) >> 3) + v4;
-	if (v28 < (v4 + 8)) { v15 = v28; goto L19; }
+	if (v28 < v4 + 8) { v15 = v28; goto L19; }
 	v6 = v28;
-L4:;
-	if ((v3 - v6) <= 31) { v8 = v6; goto L6; }
+L4:
+	if (v3 - v6 <= 31) { v8 = v6; goto L6; }
 	v7 = v6;
 L5:;
 	ptr v29 = at(v2, v7);
-	if (((lu64(v29+8) | lu64(v29) | lu64(v29+16) | lu64(v29+24)) & 0x8080808080808080ull) != 0) { v8 = v7; goto L6; }
+	if ((lu64(v29+8) | lu64(v29) | lu64(v29+16) | lu64(v29+24)) & 0x8080808080808080ull) { v8 = v7; goto L6; }
 	u64 v30 = core_slice_words_skip_far_52f9(v19, v7 + 32, v3);
-	if ((v3 - v30) > 31) { v7 = v30; goto L5; }
+	if (v3 - v30 > 31) { v7 = v30; goto L5; }
 	v8 = v30;
-L6:;
+L6:
 	v9 = v8;
-L7:;
-	if ((v3 - v9) <= 8) goto L10;
+L7:
+	if (v3 - v9 <= 8) goto L10;
 	u64 v31 = lu64(at(v2, v9)) & 0x8080808080808080ull;
-	if (v31 != 0) goto L8;
+	if (v31) goto L8;
 	u64 v32 = v9 + 8;
 	v10 = v32; v11 = v32; goto L9;
-L8:;
+L8:
 	v10 = v9 + 8; v11 = (trailing_zeros(v31) >> 3) + v9;
-L9:;
+L9:
 	if (v11 < v10) { v15 = v11; goto L19; }
 	v9 = v10; goto L7;
 L10:;
 	u64 v33 = lu64(v21) & 0x8080808080808080ull;
-	if (v33 == 0) goto L20;
+	if (!v33) goto L20;
 	v15 = (trailing_zeros(v33) >> 3) + v20; goto L19;
-L11:;
+L11:
 	if (v24) { v14 = 1; goto L18; }
-	if (v23 < 194) { v16 = 1; v17 = v4; v18 = 257; goto L21; }
+	if (v23 < 194) { M1: v17 = v4; v18 = 257; v16 = 1; goto L21; }
 	if (v23 >= 224) goto L12;
-	if (v25 < 2) { v16 = 1; v17 = v4; v18 = 0; goto L21; }
+	if (v25 < 2) { M2: v17 = v4; v16 = 1; v18 = 0; goto L21; }
 	u8 v34 = ld8(v22+1);
 	if ((s8)v34 > -65) { v13 = v34; goto L17; }
 	v14 = 2; goto L18;
-L12:;
+L12:
 	if (v23 >= 240) goto L13;
 	if (v25 < 3) goto L16;
 	u8 v35 = ld8(v22+1);
@@ -361,3702 +326,36 @@ L12:;
 	if (v36 < 32) { v13 = v35; goto L17; }
 	if (v36 < 864) { v14 = 3; goto L18; }
 	v12 = v36 < 896 ? 0ull : 3ull; goto L14;
-L13:;
+L13:
 	if (v25 < 4) goto L15;
 	u8 v37 = ld8(v22+1);
 	if (((s8)v37 > -65) | ((s8)ld8(v22+2) > -65) | ((s8)ld8(v22+3) > -65)) goto L15;
 	u32 v38 = ((u32)v23 << 6) - 15488 + (u32)v37;
 	if (v38 < 16) goto L15;
 	v12 = v38 < 272 ? 4ull : 0ull;
-L14:;
-	if (v12 != 0) { v14 = v12; goto L18; }
-L15:;
-	if (v23 >= 245) { v16 = 1; v17 = v4; v18 = 257; goto L21; }
-L16:;
-	if (v25 < 2) { v16 = 1; v17 = v4; v18 = 0; goto L21; }
+L14:
+	if (v12) { v14 = v12; goto L18; }
+L15:
+	if (v23 >= 245) goto M1;
+L16:
+	if (v25 < 2) goto M2;
 	v13 = ld8(v22+1);
 L17:;
 	u8 v39 = ((v23 == 224 ? 160 : (v23 == 240 ? 144u : 128u)) <= v13) & (v13 <= (v23 == 237 ? 159 : (v23 == 244 ? 143u : 191u)));
-	if (!v39) { v16 = 1; v17 = v4; v18 = 257; goto L21; }
-	if (v25 == 2) { v16 = 1; v17 = v4; v18 = 0; goto L21; }
-	if ((s8)ld8(v22+2) >= -64) { v16 = 1; v17 = v4; v18 = 513; goto L21; }
-	v16 = 1; v17 = v4; v18 = v25 > 3 ? 769ull : 0ull; goto L21;
-L18:;
+	if (!v39) goto M1;
+	if (v25 == 2) goto M2;
+	if ((s8)ld8(v22+2) >= -64) { v17 = v4; v18 = 513; v16 = 1; goto L21; }
+	v17 = v4; v18 = v25 > 3 ? 769ull : 0ull; v16 = 1; goto L21;
+L18:
 	v15 = v14 + v4;
-L19:;
+L19:
 	if (v15 < v3) { v4 = v15; goto L0; }
-L20:;
-	v16 = 0; v17 = (u64)v2; v18 = v3;
-L21:;
+L20:
+	v17 = (u64)v2; v18 = v3; v16 = 0;
+L21:
 	su64(v1, v16);
 	su64(v1+8, v17);
 	su64(v1+16, v18);
-	return;
-}
-static __attribute__((noinline)) u64 core_slice_words_skip_far_52f9(ptr v1, u64 v2, u64 v3) {
-	u64 v4, v5;
-	if ((v3 - v2) <= 63) { v5 = v2; goto L1; }
-	ptr v6 = lup(v1);
-	v4 = v2;
-L0:;
-	ptr v7 = at(v6, v4);
-	u64 v8 = lu64(v7+16) | lu64(v7) | lu64(v7+32) | lu64(v7+48) | lu64(v7+8) | lu64(v7+24) | lu64(v7+40);
-	if (((v8 | lu64(v7+56)) & 0x8080808080808080ull) != 0) { v5 = v4; goto L1; }
-	u64 v9 = v4 + 64;
-	if ((v3 - v9) > 63) { v4 = v9; goto L0; }
-	v5 = v9;
-L1:;
-	return v5;
-}
-static void capcopy_run_commands_run_0456(ptr v1, ptr v2, u64 v3, ptr v4, ptr v5) {
-	u64 v6, v7, v8, v9, v11, v13, v14, v15, v16, v17, v18, v19, v20, v21, v22, v23, v24, v25, v26, v27, v28, v29, v30, v31, v33, v34, v35, v36, v38, v40, v41, v42, v43, v44, v45, v46, v47, v48, v49, v50, v51, v52, v53, v54, v55, v56, v58, v59, v60, v61, v62, v63, v65, v67, v68, v69, v70, v71, v72, v73, v74, v75, v76, v77, v78, v79, v80, v81, v82, v83, v84, v85, v86, v87, v88, v89, v90, v92, v93, v94, v95, v96, v97, v98, v99, v100, v101, v102, v103, v104, v105, v106, v107, v108, v109, v110, v111, v112, v113, v114, v115, v116, v117, v120, v122, v124, v125, v126, v127, v128, v130, v131, v132, v133, v134, v135, v136, v137, v138, v139, v140, v141, v142, v143, v144, v146, v147, v148, v149, v150, v151, v152, v153, v154, v155, v156, v157, v158, v159, v160, v161, v162, v163, v164, v165, v166, v167, v168, v169, v170, v171, v172, v177, v178, v179, v180, v181, v182, v183, v184, v185, v186, v187, v188, v194, v195, v196, v197, v198, v199, v200, v201, v202, v203, v208, v209, v210, v211, v212, v213, v214, v215, v216, v217, v218, v219, v220, v221, v222, v223, v224, v225, v226, v227, v232, v233, v234, v235, v236, v237, v238, v239, v240, v242, v245, v246, v247, v248, v249, v251, v252, v253, v254, v255, v256, v264, v266, v267, v269, v270, v272, v273, v274, v282, v284, v285, v287, v288, v290, v291, v292, v294, v295, v297, v298, v300, v309, v310, v311, v312, v313, v314, v315, v317, v320, v324, v326, v327, v328, v329, v330, v331, v332, v333, v334, v335, v338, v339, v341, v342, v343, v344, v345, v346, v348, v351, v352, v353, v354, v355, v356, v357, v362, v364, v365, v366, v367, v373, v374, v375, v378, v379, v380, v381, v382, v384, v385, v386, v387, v388, v391, v392, v393, v394, v395, v396, v399, v402, v403, v404, v407, v408, v409, v410, v411, v413, v414, v415, v416, v417, v420, v421, v422, v423, v424, v425, v428, v434, v435, v436, v438, v439, v440, v441, v442, v445, v450, v451, v452, v456, v457, v458, v459, v460, v463, v465, v466, v467, v471, v472, v473, v474, v481, v482, v483, v486, v487, v493, v494, v495, v496, v497, v498, v499, v500, v501, v502, v507, v508, v509, v510, v511, v512, v513, v514, v515, v516, v517, v522, v523, v524, v525, v526, v527, v528, v529, v530, v531, v532, v533, v535, v536, v537, v538, v539, v540, v541, v542, v544, v547, v549, v550, v551, v553, v554, v555, v556, v557, v558, v561, v562, v563, v565, v566, v571, v572, v573, v577, v578, v579, v581, v582, v584, v585, v586, v589, v596, v597, v598, v600, v601, v603, v604, v605, v611, v612, v613, v614, v615, v616, v617, v618, v619, v620, v626, v627, v628, v629, v630, v631, v632, v633, v634, v635, v637, v638, v639, v640, v641, v642, v643, v644, v645, v646, v652, v653, v654, v656, v657, v658, v659, v660, v662, v663, v664, v666, v667, v668, v669, v670, v671, v672, v673, v674, v675, v676, v677, v678, v680, v682, v685, v687, v688, v689, v691, v692, v693, v694, v695, v696, v699, v700, v701, v704, v705, v706, v707, v708, v709, v710, v711, v712, v713, v714, v715, v716, v717, v718, v719, v723, v726, v730, v731, v732, v733, v734, v735, v736, v737, v738, v739, v740, v741, v743, v744, v746, v749, v750, v751, v752, v753, v754, v755, v757, v758, v759, v760, v761, v762, v763, v764, v768, v769, v770, v771, v773, v774, v775, v776, v777, v778, v781, v782, v783, v784, v785, v786, v787, v788, v789, v790, v791, v792, v795, v796, v797, v798, v799, v800, v801, v802, v805, v806, v807, v808, v810, v816, v817, v818, v819, v826, v827, v828, v829, v831, v833, v834, v835, v836, v837, v843, v844, v845, v846, v847, v850, v851, v852, v853, v854, v855, v856, v857, v858, v866, v867, v868, v869, v870, v874, v875, v876, v877, v880, v881, v882, v883, v884, v886, v887, v898, v899, v900, v901, v902, v903, v904, v905, v906, v911, v912, v913, v914, v915, v916, v917, v918, v919, v920, v921, v922, v923, v924, v925, v928, v929, v930, v931, v932, v933, v934, v935, v936, v937, v938;
-	ptr v10, v32, v37, v57, v66, v91, v123, v129, v145, v228, v241, v250, v268, v271, v286, v289, v296, v308, v316, v325, v340, v347, v358, v361, v406, v455, v521, v534, v543, v546, v548, v552, v560, v564, v576, v580, v599, v602, v625, v647, v651, v655, v665, v681, v686, v690, v720, v724, v727, v742, v747, v748, v794, v804, v811, v812, v813, v814, v815, v821, v822, v823, v824, v825, v832;
-	u32 v12, v39, v64, v121, v193, v231, v244, v262, v280, v305, v319, v322, v323, v350, v360, v363, v369, v370, v371, v372, v376, v390, v397, v400, v401, v419, v426, v429, v430, v431, v432, v433, v443, v446, v447, v448, v449, v453, v461, v464, v468, v470, v477, v478, v479, v480, v484, v492, v567, v568, v569, v570, v574, v583, v587, v595, v610, v661, v683, v684, v722, v725, v728, v729, v745, v838, v839, v841, v848, v849, v859, v861, v864, v865, v871, v873, v878, v879, v888, v891, v892, v893, v895, v896, v897, v907, v909;
-	u8 v118, v119, v173, v174, v175, v176, v189, v190, v191, v192, v204, v205, v206, v207, v229, v230, v243, v257, v258, v259, v260, v261, v263, v265, v275, v276, v277, v278, v279, v281, v283, v293, v299, v301, v302, v303, v304, v306, v307, v318, v321, v336, v337, v349, v359, v368, v377, v383, v389, v398, v405, v412, v418, v427, v437, v444, v454, v462, v469, v475, v476, v485, v488, v489, v490, v491, v503, v504, v505, v506, v518, v519, v520, v545, v559, v575, v588, v590, v591, v592, v593, v594, v606, v607, v608, v609, v621, v622, v623, v624, v636, v648, v649, v650, v679, v697, v698, v702, v703, v721, v756, v765, v766, v767, v772, v779, v780, v793, v803, v809, v820, v830, v840, v842, v860, v862, v863, v872, v885, v894, v908, v910, v926, v927, v939, v940;
-	u16 v889, v890;
-	_Alignas(8) u8 v941[1], v942[24], v943[24], v944[8], v945[104], v946[104], v947[40], v948[40], v949[96], v955[96], v960[56], v961[32], v962[56], v963[112], v964[104], v965[104], v966[40], v967[40], v968[56], v969[56], v970[112], v971[96], v972[96], v974[104], v975[24], v976[104], v977[40], v979[56], v980[96], v981[96], v984[32], v986[64], v988[112], v989[192], v990[192], v991[24], v992[96], v993[56], v997[48], v998[104], v999[96], v1000[56], v1001[24], v1003[24], v1004[24], v1005[56], v1006[56], v1007[96], v1008[56], v1009[56], v1010[56], v1012[104], v1014[48], v1015[96], v1016[56], v1017[56], v1018[96], v1019[56], v1020[56], v1021[56], v1022[56], v1023[56], v1024[56], v1035[96], v1036[96], v1039[12], v1040[104], v1042[16], v1043[32], v1045[96], v1046[96], v1047[12], v1048[12], v1049[96], v1051[96], v1052[96], v1053[12], v1054[12], v1055[96], v1057[96], v1058[96], v1059[96], v1060[96], v1061[104];
-	_Alignas(1) u8 v950[3], v951[3], v952[3], v953[3], v954[3], v956[3], v957[3], v958[3], v959[3], v973[7], v978[7], v982[7], v983[7], v985[7], v987[7], v994[56], v995[56], v996[56], v1002[56], v1011[3], v1013[1], v1025[56], v1026[56], v1027[56], v1028[56], v1029[56], v1030[3], v1031[56], v1032[56], v1033[3], v1034[3], v1044[7], v1062[1], v1063[128];
-	_Alignas(4) u8 v1037[24], v1038[24], v1041[56], v1050[16], v1056[16];
-	u8 v1064 = v3 < 2;
-	if (!v1064) goto L401;
-	ptr v1065 = lup(v2);
-	switch (lu64(v2+8)) {
-	case 4: goto L0;
-	case 6: goto L172;
-	default: v928 = 0; v929 = 0; v930 = 0; v931 = 0; v932 = 0; v933 = 0; v934 = 0; v935 = 0; v936 = 0; v937 = 0; v938 = 0; v939 = 3; v940 = 0; goto L518;
-	}
-L0:;
-	u64 v1066 = (u64)lu32(v1065);
-	switch ((v1066 << 32) | v1066) {
-	case 8391166445252471148u: goto L1;
-	case 8750616549010730851u: v649 = 1; v650 = 1; goto L407;
-	default: v928 = 0; v929 = 0; v930 = 0; v931 = 0; v932 = 0; v933 = 0; v934 = 0; v935 = 0; v936 = 0; v937 = 0; v938 = 0; v939 = 3; v940 = 0; goto L518;
-	}
-L1:;
-	clear(v1063, 128);
-	clear(v1061, 104);
-	pcap_classic_pcap_header_read_header_67f8(v1061, v4, v1062);
-	u32 v1067 = ld32(v1061+4);
-	u8 v1068 = ld8(v1061+8);
-	u8 v1069 = ld8(v1061+16);
-	u8 v1070 = ld8(v1061+17);
-	u8 v1071 = ld8(v1061+18);
-	u8 v1072 = ld8(v1061+19);
-	u32 v1073 = ld32(v1061+20);
-	u64 v1074 = ld64(v1061+24);
-	u64 v1075 = ld64(v1061+32);
-	u64 v1076 = ld64(v1061+40);
-	u64 v1077 = ld64(v1061+48);
-	u64 v1078 = ld64(v1061+56);
-	u64 v1079 = ld64(v1061+64);
-	u64 v1080 = ld64(v1061+72);
-	u64 v1081 = ld64(v1061+80);
-	u64 v1082 = ld64(v1061+88);
-	u64 v1083 = ld64(v1061+96);
-	if (ld8(v1061) != 0) goto L165;
-	u8 v1084 = v1067 != 2712847316u;
-	clear(v1063, 126);
-	st8(v1063+126, (v1067 != 2712812621u) & v1084);
-	st8(v1063+127, v1084 & (v1067 != 3569595041u));
-	v6 = 0;
-L2:;
-	clear(v1060, 96);
-	std_io_buffered_BufWriter_flush_buf_9d90(v1060, v5);
-	if (ld8(v1060) != 0) goto L164;
-	u64 v1085 = ld64(v4+24);
-	u64 v1086 = ld64(v4+32);
-	if (v1085 < v1086) { v7 = v1086; v8 = v1085; goto L3; }
-	clear(v4+24, 16);
-	ptr v1087 = ldp(v4);
-	u64 v1088 = ld64(v4+8);
-	clear(v1059, 96);
-	capcopy_run_uninterrupted_UninterruptedRead_read_f128(v1059, v1087, v1088);
-	u64 v1089 = ld64(v1059+8);
-	if (ld8(v1059) != 0) { v206 = 4; v207 = 1; v208 = v1089; v209 = ld64(v1059+16); v210 = ld64(v1059+24); v211 = ld64(v1059+32); v212 = ld64(v1059+40); v213 = ld64(v1059+48); v214 = ld64(v1059+56); v215 = ld64(v1059+64); v216 = ld64(v1059+72); v217 = ld64(v1059+80); v218 = ld64(v1059+88); goto L170; }
-	st64(v4+32, v1089);
-	v7 = v1089; v8 = ld64(v4+24);
-L3:;
-	ptr v1090 = at(ldp(v4), v8);
-	u64 v1091 = v7 - v8;
-	if (v1091 != 0) goto L4;
-	v928 = 0; v929 = 0; v930 = 0; v931 = 0; v932 = 0; v933 = 0; v934 = 0; v935 = 0; v936 = 0; v937 = 0; v938 = 0; v939 = 0; v940 = 0; goto L518;
-L4:;
-	u8 v1092 = ld8(v1063+127);
-	u8 v1093 = v1091 < 16;
-	if (ld8(v1063+126) != 0) goto L41;
-	if (v1093) { v61 = v6; v62 = v1091; goto L78; }
-	u8 v1094 = v1092 == 1;
-	v9 = v6; v10 = v1090; v11 = v1091;
-L5:;
-	u32 v1095 = (u32)__builtin_bswap32(lu32(v10));
-	u32 v1096 = (u32)__builtin_bswap32(lu32(v10+4));
-	u32 v1097 = lu32(v10+8);
-	u32 v1098 = (u32)__builtin_bswap32(v1097);
-	u64 v1099 = v11 - 16;
-	u32 v1100 = lu32(v10+12);
-	u32 v1101 = (u32)__builtin_bswap32(v1100);
-	if (v1094) { v12 = v1096; goto L6; }
-	if (v1096 > 4294967) { v61 = v9; v62 = v11; goto L78; }
-	v12 = v1096 * 1000;
-L6:;
-	if (((v1098 > 262144) | (v1101 > 262144)) || (v1101 < v1098)) { v61 = v9; v62 = v11; goto L78; }
-	u64 v1102 = (u64)__builtin_bswap64(((u64)v1097 << 32) | (u64)v1100);
-	u64 v1103 = v1102 & 4294967295u;
-	if (v1099 < v1103) { v61 = v9; v62 = v11; goto L78; }
-	ptr v1104 = at(v10+16, v1103);
-	u64 v1105 = v1099 - v1103;
-	u64 v1106 = v9 + 1;
-	u64 v1107 = v1102 >> 32;
-	st8(v1063+125, 10);
-	if (v1102 <= 0x270fffffffffull) { v15 = 125; v16 = v1107; goto L8; }
-	v13 = v1107; v14 = 125;
-L7:;
-	u64 v1108 = v13 / 10000;
-	u16 v1109 = (u16)(v13 % 10000);
-	ptr v1110 = at((ptr)static_51, (u64)(u16)((u32)(v1109 % 100) << 1));
-	ptr v1111 = at(v1063, v14);
-	u8 v1112 = ld8(v1110+1);
-	st8(v1111-2, ld8(v1110));
-	st8(v1111-1, v1112);
-	u64 v1113 = v14 - 4;
-	ptr v1114 = at((ptr)static_51, (u64)(u16)((u32)(v1109 / 100) << 1));
-	ptr v1115 = at(v1063, v1113);
-	u8 v1116 = ld8(v1114+1);
-	st8(v1115, ld8(v1114));
-	st8(v1115+1, v1116);
-	if (v13 > 99999999) { v13 = v1108; v14 = v1113; goto L7; }
-	v15 = v1113; v16 = v1108;
-L8:;
-	if (v16 >= 100) goto L10;
-	if (v16 >= 10) goto L9;
-	u64 v1117 = v15 - 1;
-	st8(at(v1063, v1117), (u8)v16 | 48);
-	v17 = v1117; goto L12;
-L9:;
-	u64 v1118 = v15 - 2;
-	ptr v1119 = at((ptr)static_51, v16 << 1);
-	ptr v1120 = at(v1063, v1118);
-	u8 v1121 = ld8(v1119+1);
-	st8(v1120, ld8(v1119));
-	st8(v1120+1, v1121);
-	v17 = v1118; goto L12;
-L10:;
-	u16 v1122 = (u16)v16;
-	ptr v1123 = at((ptr)static_51, (u64)(u16)((u32)(v1122 % 100) << 1));
-	ptr v1124 = at(v1063, v15);
-	u8 v1125 = ld8(v1123+1);
-	st8(v1124-2, ld8(v1123));
-	st8(v1124-1, v1125);
-	u16 v1126 = v1122 / 100;
-	if (v16 >= 1000) goto L11;
-	u64 v1127 = v15 - 3;
-	st8(at(v1063, v1127), (u8)v1126 | 48);
-	v17 = v1127; goto L12;
-L11:;
-	u64 v1128 = v15 - 4;
-	ptr v1129 = at((ptr)static_51, (u64)(u16)((u32)v1126 << 1));
-	ptr v1130 = at(v1063, v1128);
-	u8 v1131 = ld8(v1129+1);
-	st8(v1130, ld8(v1129));
-	st8(v1130+1, v1131);
-	v17 = v1128;
-L12:;
-	u64 v1132 = v17 - 1;
-	st8(at(v1063, v1132), 47);
-	if (v1103 <= 9999) { v20 = v1132; v21 = v1103; goto L14; }
-	v18 = v1103; v19 = v1132;
-L13:;
-	u64 v1133 = v18 / 10000;
-	u16 v1134 = (u16)(v18 % 10000);
-	ptr v1135 = at((ptr)static_51, (u64)(u16)((u32)(v1134 % 100) << 1));
-	ptr v1136 = at(v1063, v19);
-	u8 v1137 = ld8(v1135+1);
-	st8(v1136-2, ld8(v1135));
-	st8(v1136-1, v1137);
-	u64 v1138 = v19 - 4;
-	ptr v1139 = at((ptr)static_51, (u64)(u16)((u32)(v1134 / 100) << 1));
-	ptr v1140 = at(v1063, v1138);
-	u8 v1141 = ld8(v1139+1);
-	st8(v1140, ld8(v1139));
-	st8(v1140+1, v1141);
-	if (v18 > 99999999) { v18 = v1133; v19 = v1138; goto L13; }
-	v20 = v1138; v21 = v1133;
-L14:;
-	if (v21 >= 100) goto L16;
-	if (v21 >= 10) goto L15;
-	u64 v1142 = v20 - 1;
-	st8(at(v1063, v1142), (u8)v21 | 48);
-	v22 = v1142; goto L18;
-L15:;
-	u64 v1143 = v20 - 2;
-	ptr v1144 = at((ptr)static_51, v21 << 1);
-	ptr v1145 = at(v1063, v1143);
-	u8 v1146 = ld8(v1144+1);
-	st8(v1145, ld8(v1144));
-	st8(v1145+1, v1146);
-	v22 = v1143; goto L18;
-L16:;
-	u16 v1147 = (u16)v21;
-	ptr v1148 = at((ptr)static_51, (u64)(u16)((u32)(v1147 % 100) << 1));
-	ptr v1149 = at(v1063, v20);
-	u8 v1150 = ld8(v1148+1);
-	st8(v1149-2, ld8(v1148));
-	st8(v1149-1, v1150);
-	u16 v1151 = v1147 / 100;
-	if (v21 >= 1000) goto L17;
-	u64 v1152 = v20 - 3;
-	st8(at(v1063, v1152), (u8)v1151 | 48);
-	v22 = v1152; goto L18;
-L17:;
-	u64 v1153 = v20 - 4;
-	ptr v1154 = at((ptr)static_51, (u64)(u16)((u32)v1151 << 1));
-	ptr v1155 = at(v1063, v1153);
-	u8 v1156 = ld8(v1154+1);
-	st8(v1155, ld8(v1154));
-	st8(v1155+1, v1156);
-	v22 = v1153;
-L18:;
-	ptr v1157 = at(v1063, v22);
-	st8(v1157-1, 32);
-	u64 v1158 = (u64)v12 * 1441151881;
-	u64 v1159 = (v1158 & 0x1ffffffffffffffull) * 100;
-	u64 v1160 = (v1159 & 0x1fffffffffffffcull) * 100;
-	u64 v1161 = (v1160 & 0x1fffffffffffff0ull) * 100;
-	ptr v1162 = at((ptr)static_51, (((v1161 & 0x1ffffffffffffc0ull) * 100) >> 56) & 254);
-	st8(v1157-3, ld8(v1162));
-	st8(v1157-2, ld8(v1162+1));
-	ptr v1163 = at((ptr)static_51, (v1161 >> 56) & 254);
-	st8(v1157-5, ld8(v1163));
-	st8(v1157-4, ld8(v1163+1));
-	ptr v1164 = at((ptr)static_51, (v1160 >> 56) & 254);
-	st8(v1157-7, ld8(v1164));
-	st8(v1157-6, ld8(v1164+1));
-	ptr v1165 = at((ptr)static_51, (v1159 >> 56) & 254);
-	st8(v1157-9, ld8(v1165));
-	st8(v1157-8, ld8(v1165+1));
-	u64 v1166 = v1158 >> 57;
-	if (v12 >= 1000000000) goto L19;
-	u64 v1167 = v22 - 10;
-	st8(at(v1063, v1167), (u8)v1166 | 48);
-	v23 = v1167; goto L20;
-L19:;
-	u64 v1168 = v22 - 11;
-	ptr v1169 = at((ptr)static_51, v1166 << 1);
-	ptr v1170 = at(v1063, v1168);
-	u8 v1171 = ld8(v1169+1);
-	st8(v1170, ld8(v1169));
-	st8(v1170+1, v1171);
-	v23 = v1168;
-L20:;
-	u64 v1172 = v23 - 1;
-	ptr v1173 = at(v1063, v1172);
-	st8(v1173, 46);
-	u64 v1174 = (u64)v1095;
-	if (v1095 >= 100000000) goto L25;
-	if (v1095 <= 9999) { v24 = v1172; v25 = v1174; goto L21; }
-	u16 v1175 = (u16)(v1095 % 10000);
-	ptr v1176 = at((ptr)static_51, (u64)(u16)((u32)(v1175 % 100) << 1));
-	u8 v1177 = ld8(v1176+1);
-	st8(v1173-2, ld8(v1176));
-	st8(v1173-1, v1177);
-	u64 v1178 = v23 - 5;
-	ptr v1179 = at((ptr)static_51, (u64)(u16)((u32)(v1175 / 100) << 1));
-	ptr v1180 = at(v1063, v1178);
-	u8 v1181 = ld8(v1179+1);
-	st8(v1180, ld8(v1179));
-	st8(v1180+1, v1181);
-	v24 = v1178; v25 = (u64)(v1095 / 10000);
-L21:;
-	if (v25 >= 100) goto L23;
-	if (v25 >= 10) goto L22;
-	u64 v1182 = v24 - 1;
-	st8(at(v1063, v1182), (u8)v25 | 48);
-	v26 = v1182; goto L27;
-L22:;
-	u64 v1183 = v24 - 2;
-	ptr v1184 = at((ptr)static_51, v25 << 1);
-	ptr v1185 = at(v1063, v1183);
-	u8 v1186 = ld8(v1184+1);
-	st8(v1185, ld8(v1184));
-	st8(v1185+1, v1186);
-	v26 = v1183; goto L27;
-L23:;
-	u16 v1187 = (u16)v25;
-	ptr v1188 = at((ptr)static_51, (u64)(u16)((u32)(v1187 % 100) << 1));
-	ptr v1189 = at(v1063, v24);
-	u8 v1190 = ld8(v1188+1);
-	st8(v1189-2, ld8(v1188));
-	st8(v1189-1, v1190);
-	u16 v1191 = v1187 / 100;
-	if (v25 >= 1000) goto L24;
-	u64 v1192 = v24 - 3;
-	st8(at(v1063, v1192), (u8)v1191 | 48);
-	v26 = v1192; goto L27;
-L24:;
-	u64 v1193 = v24 - 4;
-	ptr v1194 = at((ptr)static_51, (u64)(u16)((u32)v1191 << 1));
-	ptr v1195 = at(v1063, v1193);
-	u8 v1196 = ld8(v1194+1);
-	st8(v1195, ld8(v1194));
-	st8(v1195+1, v1196);
-	v26 = v1193; goto L27;
-L25:;
-	u64 v1197 = v1174 * 1441151881;
-	u64 v1198 = (v1197 & 0x1ffffffffffffffull) * 100;
-	u64 v1199 = (v1198 & 0x1fffffffffffffcull) * 100;
-	u64 v1200 = (v1199 & 0x1fffffffffffff0ull) * 100;
-	ptr v1201 = at((ptr)static_51, (((v1200 & 0x1ffffffffffffc0ull) * 100) >> 56) & 254);
-	st8(v1173-2, ld8(v1201));
-	st8(v1173-1, ld8(v1201+1));
-	ptr v1202 = at((ptr)static_51, (v1200 >> 56) & 254);
-	st8(v1173-4, ld8(v1202));
-	st8(v1173-3, ld8(v1202+1));
-	ptr v1203 = at((ptr)static_51, (v1199 >> 56) & 254);
-	st8(v1173-6, ld8(v1203));
-	st8(v1173-5, ld8(v1203+1));
-	ptr v1204 = at((ptr)static_51, (v1198 >> 56) & 254);
-	st8(v1173-8, ld8(v1204));
-	st8(v1173-7, ld8(v1204+1));
-	u64 v1205 = v1197 >> 57;
-	if (v1095 >= 1000000000) goto L26;
-	u64 v1206 = v23 - 10;
-	st8(at(v1063, v1206), (u8)v1205 | 48);
-	v26 = v1206; goto L27;
-L26:;
-	u64 v1207 = v23 - 11;
-	ptr v1208 = at((ptr)static_51, v1205 << 1);
-	ptr v1209 = at(v1063, v1207);
-	u8 v1210 = ld8(v1208+1);
-	st8(v1209, ld8(v1208));
-	st8(v1209+1, v1210);
-	v26 = v1207;
-L27:;
-	u64 v1211 = v26 - 1;
-	st8(at(v1063, v1211), 32);
-	if (v9 <= 9998) { v29 = v1211; v30 = v1106; goto L29; }
-	v27 = v1106; v28 = v1211;
-L28:;
-	u64 v1212 = v27 / 10000;
-	u16 v1213 = (u16)(v27 % 10000);
-	ptr v1214 = at((ptr)static_51, (u64)(u16)((u32)(v1213 % 100) << 1));
-	ptr v1215 = at(v1063, v28);
-	u8 v1216 = ld8(v1214+1);
-	st8(v1215-2, ld8(v1214));
-	st8(v1215-1, v1216);
-	u64 v1217 = v28 - 4;
-	ptr v1218 = at((ptr)static_51, (u64)(u16)((u32)(v1213 / 100) << 1));
-	ptr v1219 = at(v1063, v1217);
-	u8 v1220 = ld8(v1218+1);
-	st8(v1219, ld8(v1218));
-	st8(v1219+1, v1220);
-	if (v27 > 99999999) { v27 = v1212; v28 = v1217; goto L28; }
-	v29 = v1217; v30 = v1212;
-L29:;
-	if (v30 >= 100) goto L31;
-	if (v30 >= 10) goto L30;
-	u64 v1221 = v29 - 1;
-	st8(at(v1063, v1221), (u8)v30 | 48);
-	v31 = v1221; goto L33;
-L30:;
-	u64 v1222 = v29 - 2;
-	ptr v1223 = at((ptr)static_51, v30 << 1);
-	ptr v1224 = at(v1063, v1222);
-	u8 v1225 = ld8(v1223+1);
-	st8(v1224, ld8(v1223));
-	st8(v1224+1, v1225);
-	v31 = v1222; goto L33;
-L31:;
-	u16 v1226 = (u16)v30;
-	ptr v1227 = at((ptr)static_51, (u64)(u16)((u32)(v1226 % 100) << 1));
-	ptr v1228 = at(v1063, v29);
-	u8 v1229 = ld8(v1227+1);
-	st8(v1228-2, ld8(v1227));
-	st8(v1228-1, v1229);
-	u16 v1230 = v1226 / 100;
-	if (v30 >= 1000) goto L32;
-	u64 v1231 = v29 - 3;
-	st8(at(v1063, v1231), (u8)v1230 | 48);
-	v31 = v1231; goto L33;
-L32:;
-	u64 v1232 = v29 - 4;
-	ptr v1233 = at((ptr)static_51, (u64)(u16)((u32)v1230 << 1));
-	ptr v1234 = at(v1063, v1232);
-	u8 v1235 = ld8(v1233+1);
-	st8(v1234, ld8(v1233));
-	st8(v1234+1, v1235);
-	v31 = v1232;
-L33:;
-	if (v31 == 126) goto L40;
-	v32 = at(v1063, v31); v33 = 126ull - v31;
-L34:;
-	clear(v1058, 96);
-	u64 v1236 = ld64(v5+16);
-	u64 v1237 = ld64(v5+8);
-	if (v33 >= (v1236 - v1237)) goto L38;
-	u64 v1238 = v1237 + v33;
-	ptr v1239 = ldp(v5);
-	ptr v1240 = at(v1239, v1237);
-	if (((u64)v1240 - (u64)v32) >= v33) goto L36;
-	v34 = 0;
-L35:;
-	st8(at(v1240, v34), ld8(at(v32, v34)));
-	u64 v1241 = v34 + 1;
-	if (v1241 == v33) goto L37;
-	v34 = v1241; goto L35;
-L36:;
-	move(v1240, v32, v33);
-L37:;
-	stp(v5, v1239);
-	st64(v5+8, v1238);
-	st64(v5+16, v1236);
-	v35 = v33; goto L39;
-L38:;
-	std_io_buffered_BufWriter_write_cold_9d90(v1058, v5, v32, v33);
-	u64 v1242 = ld64(v1058+8);
-	if (ld8(v1058) != 0) { v206 = 4; v207 = 1; v208 = v1242; v209 = ld64(v1058+16); v210 = ld64(v1058+24); v211 = ld64(v1058+32); v212 = ld64(v1058+40); v213 = ld64(v1058+48); v214 = ld64(v1058+56); v215 = ld64(v1058+64); v216 = ld64(v1058+72); v217 = ld64(v1058+80); v218 = ld64(v1058+88); goto L170; }
-	if (v1242 == 0) { v206 = 4; v207 = 1; v208 = 1513219; v209 = 0x7074756f20656874ull; v210 = 0x206b6f6f74207475ull; v211 = 0x2e676e6968746f6eull; v212 = 0x2e2e2e2e2e2e2e2eull; v213 = 0x2e2e2e2e2e2e2e2eull; v214 = 0x2e2e2e2e2e2e2e2eull; v215 = 0x2e2e2e2e2e2e2e2eull; v216 = 0x2e2e2e2e2e2e2e2eull; v217 = 0x2e2e2e2e2e2e2e2eull; v218 = 0x2e2e2e2e2e2e2e2eull; goto L170; }
-	v35 = v1242;
-L39:;
-	u64 v1243 = v33 - v35;
-	if (v1243 != 0) { v32 = at(v32, v35); v33 = v1243; goto L34; }
-L40:;
-	if ((v9 > 4294967293u) || (v1105 < 16)) { v61 = v1106; v62 = v1105; goto L78; }
-	v9 = v1106; v10 = v1104; v11 = v1105; goto L5;
-L41:;
-	if (v1093) { v61 = v6; v62 = v1091; goto L78; }
-	u8 v1244 = v1092 == 1;
-	v36 = v6; v37 = v1090; v38 = v1091;
-L42:;
-	u32 v1245 = lu32(v37);
-	u32 v1246 = lu32(v37+4);
-	u64 v1247 = lu64(v37+8);
-	u32 v1248 = (u32)v1247;
-	u64 v1249 = v38 - 16;
-	u64 v1250 = v1247 >> 32;
-	u32 v1251 = (u32)v1250;
-	if (v1244) { v39 = v1246; goto L43; }
-	if (v1246 > 4294967) { v61 = v36; v62 = v38; goto L78; }
-	v39 = v1246 * 1000;
-L43:;
-	if (((v1247 > 0x40000ffffffffull) | (v1248 > 262144)) || (v1251 < v1248)) { v61 = v36; v62 = v38; goto L78; }
-	u64 v1252 = v1247 & 524287;
-	if (v1249 < v1252) { v61 = v36; v62 = v38; goto L78; }
-	ptr v1253 = at(v37+16, v1252);
-	u64 v1254 = v1249 - v1252;
-	u64 v1255 = v36 + 1;
-	st8(v1063+125, 10);
-	if (v1247 <= 0x270fffffffffull) { v42 = 125; v43 = v1250; goto L45; }
-	v40 = v1250; v41 = 125;
-L44:;
-	u64 v1256 = v40 / 10000;
-	u16 v1257 = (u16)(v40 % 10000);
-	ptr v1258 = at((ptr)static_51, (u64)(u16)((u32)(v1257 % 100) << 1));
-	ptr v1259 = at(v1063, v41);
-	u8 v1260 = ld8(v1258+1);
-	st8(v1259-2, ld8(v1258));
-	st8(v1259-1, v1260);
-	u64 v1261 = v41 - 4;
-	ptr v1262 = at((ptr)static_51, (u64)(u16)((u32)(v1257 / 100) << 1));
-	ptr v1263 = at(v1063, v1261);
-	u8 v1264 = ld8(v1262+1);
-	st8(v1263, ld8(v1262));
-	st8(v1263+1, v1264);
-	if (v40 > 99999999) { v40 = v1256; v41 = v1261; goto L44; }
-	v42 = v1261; v43 = v1256;
-L45:;
-	if (v43 >= 100) goto L47;
-	if (v43 >= 10) goto L46;
-	u64 v1265 = v42 - 1;
-	st8(at(v1063, v1265), (u8)v43 | 48);
-	v44 = v1265; goto L49;
-L46:;
-	u64 v1266 = v42 - 2;
-	ptr v1267 = at((ptr)static_51, v43 << 1);
-	ptr v1268 = at(v1063, v1266);
-	u8 v1269 = ld8(v1267+1);
-	st8(v1268, ld8(v1267));
-	st8(v1268+1, v1269);
-	v44 = v1266; goto L49;
-L47:;
-	u16 v1270 = (u16)v43;
-	ptr v1271 = at((ptr)static_51, (u64)(u16)((u32)(v1270 % 100) << 1));
-	ptr v1272 = at(v1063, v42);
-	u8 v1273 = ld8(v1271+1);
-	st8(v1272-2, ld8(v1271));
-	st8(v1272-1, v1273);
-	u16 v1274 = v1270 / 100;
-	if (v43 >= 1000) goto L48;
-	u64 v1275 = v42 - 3;
-	st8(at(v1063, v1275), (u8)v1274 | 48);
-	v44 = v1275; goto L49;
-L48:;
-	u64 v1276 = v42 - 4;
-	ptr v1277 = at((ptr)static_51, (u64)(u16)((u32)v1274 << 1));
-	ptr v1278 = at(v1063, v1276);
-	u8 v1279 = ld8(v1277+1);
-	st8(v1278, ld8(v1277));
-	st8(v1278+1, v1279);
-	v44 = v1276;
-L49:;
-	u64 v1280 = v44 - 1;
-	ptr v1281 = at(v1063, v1280);
-	st8(v1281, 47);
-	if (v1252 <= 9999) goto L50;
-	u16 v1282 = (u16)(v1248 % 10000);
-	ptr v1283 = at((ptr)static_51, (u64)(u16)((u32)(v1282 % 100) << 1));
-	u8 v1284 = ld8(v1283+1);
-	st8(v1281-2, ld8(v1283));
-	st8(v1281-1, v1284);
-	u64 v1285 = v44 - 5;
-	ptr v1286 = at((ptr)static_51, (u64)(u16)((u32)(v1282 / 100) << 1));
-	ptr v1287 = at(v1063, v1285);
-	u8 v1288 = ld8(v1286+1);
-	st8(v1287, ld8(v1286));
-	st8(v1287+1, v1288);
-	v45 = (u64)(v1248 / 10000); v46 = v1285; goto L51;
-L50:;
-	if (v1252 >= 100) goto L53;
-	v45 = v1252; v46 = v1280;
-L51:;
-	if (v45 >= 10) goto L52;
-	u64 v1289 = v46 - 1;
-	st8(at(v1063, v1289), (u8)v45 | 48);
-	v47 = v1289; goto L55;
-L52:;
-	u64 v1290 = v46 - 2;
-	ptr v1291 = at((ptr)static_51, v45 << 1);
-	ptr v1292 = at(v1063, v1290);
-	u8 v1293 = ld8(v1291+1);
-	st8(v1292, ld8(v1291));
-	st8(v1292+1, v1293);
-	v47 = v1290; goto L55;
-L53:;
-	u16 v1294 = (u16)v1247;
-	ptr v1295 = at((ptr)static_51, (u64)(u16)((u32)(v1294 % 100) << 1));
-	u8 v1296 = ld8(v1295+1);
-	st8(v1281-2, ld8(v1295));
-	st8(v1281-1, v1296);
-	u16 v1297 = v1294 / 100;
-	if (v1252 >= 1000) goto L54;
-	u64 v1298 = v44 - 4;
-	st8(at(v1063, v1298), (u8)v1297 | 48);
-	v47 = v1298; goto L55;
-L54:;
-	u64 v1299 = v44 - 5;
-	ptr v1300 = at((ptr)static_51, (u64)(u16)((u32)v1297 << 1));
-	ptr v1301 = at(v1063, v1299);
-	u8 v1302 = ld8(v1300+1);
-	st8(v1301, ld8(v1300));
-	st8(v1301+1, v1302);
-	v47 = v1299;
-L55:;
-	ptr v1303 = at(v1063, v47);
-	st8(v1303-1, 32);
-	u64 v1304 = (u64)v39 * 1441151881;
-	u64 v1305 = (v1304 & 0x1ffffffffffffffull) * 100;
-	u64 v1306 = (v1305 & 0x1fffffffffffffcull) * 100;
-	u64 v1307 = (v1306 & 0x1fffffffffffff0ull) * 100;
-	ptr v1308 = at((ptr)static_51, (((v1307 & 0x1ffffffffffffc0ull) * 100) >> 56) & 254);
-	st8(v1303-3, ld8(v1308));
-	st8(v1303-2, ld8(v1308+1));
-	ptr v1309 = at((ptr)static_51, (v1307 >> 56) & 254);
-	st8(v1303-5, ld8(v1309));
-	st8(v1303-4, ld8(v1309+1));
-	ptr v1310 = at((ptr)static_51, (v1306 >> 56) & 254);
-	st8(v1303-7, ld8(v1310));
-	st8(v1303-6, ld8(v1310+1));
-	ptr v1311 = at((ptr)static_51, (v1305 >> 56) & 254);
-	st8(v1303-9, ld8(v1311));
-	st8(v1303-8, ld8(v1311+1));
-	u64 v1312 = v1304 >> 57;
-	if (v39 >= 1000000000) goto L56;
-	u64 v1313 = v47 - 10;
-	st8(at(v1063, v1313), (u8)v1312 | 48);
-	v48 = v1313; goto L57;
-L56:;
-	u64 v1314 = v47 - 11;
-	ptr v1315 = at((ptr)static_51, v1312 << 1);
-	ptr v1316 = at(v1063, v1314);
-	u8 v1317 = ld8(v1315+1);
-	st8(v1316, ld8(v1315));
-	st8(v1316+1, v1317);
-	v48 = v1314;
-L57:;
-	u64 v1318 = v48 - 1;
-	ptr v1319 = at(v1063, v1318);
-	st8(v1319, 46);
-	u64 v1320 = (u64)v1245;
-	if (v1245 >= 100000000) goto L62;
-	if (v1245 <= 9999) { v49 = v1318; v50 = v1320; goto L58; }
-	u16 v1321 = (u16)(v1245 % 10000);
-	ptr v1322 = at((ptr)static_51, (u64)(u16)((u32)(v1321 % 100) << 1));
-	u8 v1323 = ld8(v1322+1);
-	st8(v1319-2, ld8(v1322));
-	st8(v1319-1, v1323);
-	u64 v1324 = v48 - 5;
-	ptr v1325 = at((ptr)static_51, (u64)(u16)((u32)(v1321 / 100) << 1));
-	ptr v1326 = at(v1063, v1324);
-	u8 v1327 = ld8(v1325+1);
-	st8(v1326, ld8(v1325));
-	st8(v1326+1, v1327);
-	v49 = v1324; v50 = (u64)(v1245 / 10000);
-L58:;
-	if (v50 >= 100) goto L60;
-	if (v50 >= 10) goto L59;
-	u64 v1328 = v49 - 1;
-	st8(at(v1063, v1328), (u8)v50 | 48);
-	v51 = v1328; goto L64;
-L59:;
-	u64 v1329 = v49 - 2;
-	ptr v1330 = at((ptr)static_51, v50 << 1);
-	ptr v1331 = at(v1063, v1329);
-	u8 v1332 = ld8(v1330+1);
-	st8(v1331, ld8(v1330));
-	st8(v1331+1, v1332);
-	v51 = v1329; goto L64;
-L60:;
-	u16 v1333 = (u16)v50;
-	ptr v1334 = at((ptr)static_51, (u64)(u16)((u32)(v1333 % 100) << 1));
-	ptr v1335 = at(v1063, v49);
-	u8 v1336 = ld8(v1334+1);
-	st8(v1335-2, ld8(v1334));
-	st8(v1335-1, v1336);
-	u16 v1337 = v1333 / 100;
-	if (v50 >= 1000) goto L61;
-	u64 v1338 = v49 - 3;
-	st8(at(v1063, v1338), (u8)v1337 | 48);
-	v51 = v1338; goto L64;
-L61:;
-	u64 v1339 = v49 - 4;
-	ptr v1340 = at((ptr)static_51, (u64)(u16)((u32)v1337 << 1));
-	ptr v1341 = at(v1063, v1339);
-	u8 v1342 = ld8(v1340+1);
-	st8(v1341, ld8(v1340));
-	st8(v1341+1, v1342);
-	v51 = v1339; goto L64;
-L62:;
-	u64 v1343 = v1320 * 1441151881;
-	u64 v1344 = (v1343 & 0x1ffffffffffffffull) * 100;
-	u64 v1345 = (v1344 & 0x1fffffffffffffcull) * 100;
-	u64 v1346 = (v1345 & 0x1fffffffffffff0ull) * 100;
-	ptr v1347 = at((ptr)static_51, (((v1346 & 0x1ffffffffffffc0ull) * 100) >> 56) & 254);
-	st8(v1319-2, ld8(v1347));
-	st8(v1319-1, ld8(v1347+1));
-	ptr v1348 = at((ptr)static_51, (v1346 >> 56) & 254);
-	st8(v1319-4, ld8(v1348));
-	st8(v1319-3, ld8(v1348+1));
-	ptr v1349 = at((ptr)static_51, (v1345 >> 56) & 254);
-	st8(v1319-6, ld8(v1349));
-	st8(v1319-5, ld8(v1349+1));
-	ptr v1350 = at((ptr)static_51, (v1344 >> 56) & 254);
-	st8(v1319-8, ld8(v1350));
-	st8(v1319-7, ld8(v1350+1));
-	u64 v1351 = v1343 >> 57;
-	if (v1245 >= 1000000000) goto L63;
-	u64 v1352 = v48 - 10;
-	st8(at(v1063, v1352), (u8)v1351 | 48);
-	v51 = v1352; goto L64;
-L63:;
-	u64 v1353 = v48 - 11;
-	ptr v1354 = at((ptr)static_51, v1351 << 1);
-	ptr v1355 = at(v1063, v1353);
-	u8 v1356 = ld8(v1354+1);
-	st8(v1355, ld8(v1354));
-	st8(v1355+1, v1356);
-	v51 = v1353;
-L64:;
-	u64 v1357 = v51 - 1;
-	st8(at(v1063, v1357), 32);
-	if (v36 <= 9998) { v54 = v1357; v55 = v1255; goto L66; }
-	v52 = v1255; v53 = v1357;
-L65:;
-	u64 v1358 = v52 / 10000;
-	u16 v1359 = (u16)(v52 % 10000);
-	ptr v1360 = at((ptr)static_51, (u64)(u16)((u32)(v1359 % 100) << 1));
-	ptr v1361 = at(v1063, v53);
-	u8 v1362 = ld8(v1360+1);
-	st8(v1361-2, ld8(v1360));
-	st8(v1361-1, v1362);
-	u64 v1363 = v53 - 4;
-	ptr v1364 = at((ptr)static_51, (u64)(u16)((u32)(v1359 / 100) << 1));
-	ptr v1365 = at(v1063, v1363);
-	u8 v1366 = ld8(v1364+1);
-	st8(v1365, ld8(v1364));
-	st8(v1365+1, v1366);
-	if (v52 > 99999999) { v52 = v1358; v53 = v1363; goto L65; }
-	v54 = v1363; v55 = v1358;
-L66:;
-	if (v55 >= 100) goto L68;
-	if (v55 >= 10) goto L67;
-	u64 v1367 = v54 - 1;
-	st8(at(v1063, v1367), (u8)v55 | 48);
-	v56 = v1367; goto L70;
-L67:;
-	u64 v1368 = v54 - 2;
-	ptr v1369 = at((ptr)static_51, v55 << 1);
-	ptr v1370 = at(v1063, v1368);
-	u8 v1371 = ld8(v1369+1);
-	st8(v1370, ld8(v1369));
-	st8(v1370+1, v1371);
-	v56 = v1368; goto L70;
-L68:;
-	u16 v1372 = (u16)v55;
-	ptr v1373 = at((ptr)static_51, (u64)(u16)((u32)(v1372 % 100) << 1));
-	ptr v1374 = at(v1063, v54);
-	u8 v1375 = ld8(v1373+1);
-	st8(v1374-2, ld8(v1373));
-	st8(v1374-1, v1375);
-	u16 v1376 = v1372 / 100;
-	if (v55 >= 1000) goto L69;
-	u64 v1377 = v54 - 3;
-	st8(at(v1063, v1377), (u8)v1376 | 48);
-	v56 = v1377; goto L70;
-L69:;
-	u64 v1378 = v54 - 4;
-	ptr v1379 = at((ptr)static_51, (u64)(u16)((u32)v1376 << 1));
-	ptr v1380 = at(v1063, v1378);
-	u8 v1381 = ld8(v1379+1);
-	st8(v1380, ld8(v1379));
-	st8(v1380+1, v1381);
-	v56 = v1378;
-L70:;
-	if (v56 == 126) goto L77;
-	v57 = at(v1063, v56); v58 = 126ull - v56;
-L71:;
-	clear(v1057, 96);
-	u64 v1382 = ld64(v5+16);
-	u64 v1383 = ld64(v5+8);
-	if (v58 >= (v1382 - v1383)) goto L75;
-	u64 v1384 = v1383 + v58;
-	ptr v1385 = ldp(v5);
-	ptr v1386 = at(v1385, v1383);
-	if (((u64)v1386 - (u64)v57) >= v58) goto L73;
-	v59 = 0;
-L72:;
-	st8(at(v1386, v59), ld8(at(v57, v59)));
-	u64 v1387 = v59 + 1;
-	if (v1387 == v58) goto L74;
-	v59 = v1387; goto L72;
-L73:;
-	move(v1386, v57, v58);
-L74:;
-	stp(v5, v1385);
-	st64(v5+8, v1384);
-	st64(v5+16, v1382);
-	v60 = v58; goto L76;
-L75:;
-	std_io_buffered_BufWriter_write_cold_9d90(v1057, v5, v57, v58);
-	u64 v1388 = ld64(v1057+8);
-	if (ld8(v1057) != 0) { v206 = 4; v207 = 1; v208 = v1388; v209 = ld64(v1057+16); v210 = ld64(v1057+24); v211 = ld64(v1057+32); v212 = ld64(v1057+40); v213 = ld64(v1057+48); v214 = ld64(v1057+56); v215 = ld64(v1057+64); v216 = ld64(v1057+72); v217 = ld64(v1057+80); v218 = ld64(v1057+88); goto L170; }
-	if (v1388 == 0) { v206 = 4; v207 = 1; v208 = 1513219; v209 = 0x7074756f20656874ull; v210 = 0x206b6f6f74207475ull; v211 = 0x2e676e6968746f6eull; v212 = 0x2e2e2e2e2e2e2e2eull; v213 = 0x2e2e2e2e2e2e2e2eull; v214 = 0x2e2e2e2e2e2e2e2eull; v215 = 0x2e2e2e2e2e2e2e2eull; v216 = 0x2e2e2e2e2e2e2e2eull; v217 = 0x2e2e2e2e2e2e2e2eull; v218 = 0x2e2e2e2e2e2e2e2eull; goto L170; }
-	v60 = v1388;
-L76:;
-	u64 v1389 = v58 - v60;
-	if (v1389 != 0) { v57 = at(v57, v60); v58 = v1389; goto L71; }
-L77:;
-	if (!((v36 > 4294967293u) || (v1254 < 16))) { v36 = v1255; v37 = v1253; v38 = v1254; goto L42; }
-	v61 = v1255; v62 = v1254;
-L78:;
-	u64 v1390 = ld64(v4+24);
-	u64 v1391 = v1091 - v62;
-	u64 v1392 = ld64(v4+32) - v1390;
-	st64(v4+24, (v1391 < v1392 ? v1391 : v1392) + v1390);
-	if (v6 < v61) { v149 = v61; goto L160; }
-	u8 v1393 = ld8(v1063+127);
-	if (ld8(v1063+126) != 0) goto L121;
-	clear(v1056, 16);
-	v63 = 0;
-L79:;
-	clear(v1055, 96);
-	std_io_buffered_BufReaderRead_read_e988(v1055, v4, at(v1056, v63), 16ull - v63);
-	u64 v1394 = ld64(v1055+8);
-	if (ld8(v1055) != 0) { v95 = ld64(v1055+40); v96 = ld64(v1055+48); v97 = ld64(v1055+56); v98 = ld64(v1055+64); v99 = ld64(v1055+72); v100 = ld64(v1055+80); v101 = ld64(v1055+88); v102 = v1394; v103 = ld64(v1055+16); v104 = ld64(v1055+24); v105 = ld64(v1055+32); goto L119; }
-	if (v1394 == 0) { v95 = 0x2e2e2e2e2e2e2e2eull; v96 = 0x2e2e2e2e2e2e2e2eull; v97 = 0x2e2e2e2e2e2e2e2eull; v98 = 0x2e2e2e2e2e2e2e2eull; v99 = 0x2e2e2e2e2e2e2e2eull; v100 = 0x2e2e2e2e2e2e2e2eull; v101 = 0x2e2e2e2e2e2e2e2eull; v102 = 1451267; v103 = 0x6572747320656874ull; v104 = 0x6465646e65206d61ull; v105 = 0x2e2e796c72616520ull; goto L119; }
-	u64 v1395 = v1394 + v63;
-	if (v1395 < 16) { v63 = v1395; goto L79; }
-	u32 v1396 = (u32)__builtin_bswap32(ld32(v1056));
-	u32 v1397 = (u32)__builtin_bswap32(ld32(v1056+4));
-	u32 v1398 = ld32(v1056+8);
-	u32 v1399 = (u32)__builtin_bswap32(v1398);
-	u32 v1400 = ld32(v1056+12);
-	u32 v1401 = (u32)__builtin_bswap32(v1400);
-	if (v1393 == 1) { v64 = v1397; goto L80; }
-	if (v1397 > 4294967) { v65 = 40; v66 = (ptr)static_11; goto L81; }
-	v64 = v1397 * 1000;
-L80:;
-	if (v1399 > 262144) { v65 = 31; v66 = (ptr)static_12; goto L81; }
-	if (v1401 > 262144) { v65 = 31; v66 = (ptr)static_13; goto L81; }
-	if (v1401 >= v1399) goto L82;
-	v65 = 32; v66 = (ptr)static_14;
-L81:;
-	u64 v1402 = (u64)v66;
-	st32(v1053, 0);
-	su64(v1053+4, v1402);
-	v106 = ld64(v1053); v107 = v1402; v108 = v65; v109 = 0; v110 = 0; v111 = 0; v112 = 0; v113 = 0; v114 = 0; v115 = 0; v116 = 0; v117 = 0; v118 = 1; v119 = 2; goto L120;
-L82:;
-	u64 v1403 = (u64)__builtin_bswap64(((u64)v1398 << 32) | (u64)v1400);
-	u64 v1404 = v1403 >> 32;
-	u64 v1405 = v1403 & 4294967295u;
-	if (v1405 == 0) goto L85;
-	v67 = ld64(v4+32); v68 = ld64(v4+24); v69 = v1405;
-L83:;
-	if (v68 < v67) { v70 = v67; v71 = v68; goto L84; }
-	clear(v4+24, 16);
-	ptr v1406 = ldp(v4);
-	u64 v1407 = ld64(v4+8);
-	clear(v1052, 96);
-	capcopy_run_uninterrupted_UninterruptedRead_read_f128(v1052, v1406, v1407);
-	u64 v1408 = ld64(v1052+8);
-	if (ld8(v1052) != 0) { v175 = 4; v176 = 1; v177 = v1408; v178 = v1408; v179 = ld64(v1052+16); v180 = ld64(v1052+24); v181 = ld64(v1052+32); v182 = ld64(v1052+40); v183 = ld64(v1052+48); v184 = ld64(v1052+56); v185 = ld64(v1052+64); v186 = ld64(v1052+72); v187 = ld64(v1052+80); v188 = ld64(v1052+88); goto L163; }
-	st64(v4+32, v1408);
-	v70 = v1408; v71 = ld64(v4+24);
-L84:;
-	if (v70 == v71) { v175 = 4; v176 = 1; v177 = 1385731; v178 = 1385731; v179 = 0x75706e6920656874ull; v180 = 0x206465646e652074ull; v181 = 0x2e2e2e796c726165ull; v182 = 0x2e2e2e2e2e2e2e2eull; v183 = 0x2e2e2e2e2e2e2e2eull; v184 = 0x2e2e2e2e2e2e2e2eull; v185 = 0x2e2e2e2e2e2e2e2eull; v186 = 0x2e2e2e2e2e2e2e2eull; v187 = 0x2e2e2e2e2e2e2e2eull; v188 = 0x2e2e2e2e2e2e2e2eull; goto L163; }
-	u64 v1409 = v70 - v71;
-	u64 v1410 = v69 < v1409 ? v69 : v1409;
-	u64 v1411 = v1410 + v71;
-	st64(v4+24, v1411);
-	u64 v1412 = v69 - v1410;
-	if (v1412 != 0) { v67 = v70; v68 = v1411; v69 = v1412; goto L83; }
-L85:;
-	u64 v1413 = v61 + 1;
-	st8(v1063+125, 10);
-	if (v1403 <= 0x270fffffffffull) { v74 = 125; v75 = v1404; goto L87; }
-	v72 = v1404; v73 = 125;
-L86:;
-	u64 v1414 = v72 / 10000;
-	u16 v1415 = (u16)(v72 % 10000);
-	ptr v1416 = at((ptr)static_51, (u64)(u16)((u32)(v1415 % 100) << 1));
-	ptr v1417 = at(v1063, v73);
-	u8 v1418 = ld8(v1416+1);
-	st8(v1417-2, ld8(v1416));
-	st8(v1417-1, v1418);
-	u64 v1419 = v73 - 4;
-	ptr v1420 = at((ptr)static_51, (u64)(u16)((u32)(v1415 / 100) << 1));
-	ptr v1421 = at(v1063, v1419);
-	u8 v1422 = ld8(v1420+1);
-	st8(v1421, ld8(v1420));
-	st8(v1421+1, v1422);
-	if (v72 > 99999999) { v72 = v1414; v73 = v1419; goto L86; }
-	v74 = v1419; v75 = v1414;
-L87:;
-	if (v75 >= 100) goto L89;
-	if (v75 >= 10) goto L88;
-	u64 v1423 = v74 - 1;
-	st8(at(v1063, v1423), (u8)v75 | 48);
-	v76 = v1423; goto L91;
-L88:;
-	u64 v1424 = v74 - 2;
-	ptr v1425 = at((ptr)static_51, v75 << 1);
-	ptr v1426 = at(v1063, v1424);
-	u8 v1427 = ld8(v1425+1);
-	st8(v1426, ld8(v1425));
-	st8(v1426+1, v1427);
-	v76 = v1424; goto L91;
-L89:;
-	u16 v1428 = (u16)v75;
-	ptr v1429 = at((ptr)static_51, (u64)(u16)((u32)(v1428 % 100) << 1));
-	ptr v1430 = at(v1063, v74);
-	u8 v1431 = ld8(v1429+1);
-	st8(v1430-2, ld8(v1429));
-	st8(v1430-1, v1431);
-	u16 v1432 = v1428 / 100;
-	if (v75 >= 1000) goto L90;
-	u64 v1433 = v74 - 3;
-	st8(at(v1063, v1433), (u8)v1432 | 48);
-	v76 = v1433; goto L91;
-L90:;
-	u64 v1434 = v74 - 4;
-	ptr v1435 = at((ptr)static_51, (u64)(u16)((u32)v1432 << 1));
-	ptr v1436 = at(v1063, v1434);
-	u8 v1437 = ld8(v1435+1);
-	st8(v1436, ld8(v1435));
-	st8(v1436+1, v1437);
-	v76 = v1434;
-L91:;
-	u64 v1438 = v76 - 1;
-	st8(at(v1063, v1438), 47);
-	if (v1405 <= 9999) { v79 = v1438; v80 = v1405; goto L93; }
-	v77 = v1405; v78 = v1438;
-L92:;
-	u64 v1439 = v77 / 10000;
-	u16 v1440 = (u16)(v77 % 10000);
-	ptr v1441 = at((ptr)static_51, (u64)(u16)((u32)(v1440 % 100) << 1));
-	ptr v1442 = at(v1063, v78);
-	u8 v1443 = ld8(v1441+1);
-	st8(v1442-2, ld8(v1441));
-	st8(v1442-1, v1443);
-	u64 v1444 = v78 - 4;
-	ptr v1445 = at((ptr)static_51, (u64)(u16)((u32)(v1440 / 100) << 1));
-	ptr v1446 = at(v1063, v1444);
-	u8 v1447 = ld8(v1445+1);
-	st8(v1446, ld8(v1445));
-	st8(v1446+1, v1447);
-	if (v77 > 99999999) { v77 = v1439; v78 = v1444; goto L92; }
-	v79 = v1444; v80 = v1439;
-L93:;
-	if (v80 >= 100) goto L95;
-	if (v80 >= 10) goto L94;
-	u64 v1448 = v79 - 1;
-	st8(at(v1063, v1448), (u8)v80 | 48);
-	v81 = v1448; goto L97;
-L94:;
-	u64 v1449 = v79 - 2;
-	ptr v1450 = at((ptr)static_51, v80 << 1);
-	ptr v1451 = at(v1063, v1449);
-	u8 v1452 = ld8(v1450+1);
-	st8(v1451, ld8(v1450));
-	st8(v1451+1, v1452);
-	v81 = v1449; goto L97;
-L95:;
-	u16 v1453 = (u16)v80;
-	ptr v1454 = at((ptr)static_51, (u64)(u16)((u32)(v1453 % 100) << 1));
-	ptr v1455 = at(v1063, v79);
-	u8 v1456 = ld8(v1454+1);
-	st8(v1455-2, ld8(v1454));
-	st8(v1455-1, v1456);
-	u16 v1457 = v1453 / 100;
-	if (v80 >= 1000) goto L96;
-	u64 v1458 = v79 - 3;
-	st8(at(v1063, v1458), (u8)v1457 | 48);
-	v81 = v1458; goto L97;
-L96:;
-	u64 v1459 = v79 - 4;
-	ptr v1460 = at((ptr)static_51, (u64)(u16)((u32)v1457 << 1));
-	ptr v1461 = at(v1063, v1459);
-	u8 v1462 = ld8(v1460+1);
-	st8(v1461, ld8(v1460));
-	st8(v1461+1, v1462);
-	v81 = v1459;
-L97:;
-	ptr v1463 = at(v1063, v81);
-	st8(v1463-1, 32);
-	u64 v1464 = (u64)v64 * 1441151881;
-	u64 v1465 = (v1464 & 0x1ffffffffffffffull) * 100;
-	u64 v1466 = (v1465 & 0x1fffffffffffffcull) * 100;
-	u64 v1467 = (v1466 & 0x1fffffffffffff0ull) * 100;
-	ptr v1468 = at((ptr)static_51, (((v1467 & 0x1ffffffffffffc0ull) * 100) >> 56) & 254);
-	st8(v1463-3, ld8(v1468));
-	st8(v1463-2, ld8(v1468+1));
-	ptr v1469 = at((ptr)static_51, (v1467 >> 56) & 254);
-	st8(v1463-5, ld8(v1469));
-	st8(v1463-4, ld8(v1469+1));
-	ptr v1470 = at((ptr)static_51, (v1466 >> 56) & 254);
-	st8(v1463-7, ld8(v1470));
-	st8(v1463-6, ld8(v1470+1));
-	ptr v1471 = at((ptr)static_51, (v1465 >> 56) & 254);
-	st8(v1463-9, ld8(v1471));
-	st8(v1463-8, ld8(v1471+1));
-	u64 v1472 = v1464 >> 57;
-	if (v64 >= 1000000000) goto L98;
-	u64 v1473 = v81 - 10;
-	st8(at(v1063, v1473), (u8)v1472 | 48);
-	v82 = v1473; goto L99;
-L98:;
-	u64 v1474 = v81 - 11;
-	ptr v1475 = at((ptr)static_51, v1472 << 1);
-	ptr v1476 = at(v1063, v1474);
-	u8 v1477 = ld8(v1475+1);
-	st8(v1476, ld8(v1475));
-	st8(v1476+1, v1477);
-	v82 = v1474;
-L99:;
-	u64 v1478 = v82 - 1;
-	ptr v1479 = at(v1063, v1478);
-	st8(v1479, 46);
-	u64 v1480 = (u64)v1396;
-	if (v1396 >= 100000000) goto L104;
-	if (v1396 <= 9999) { v83 = v1478; v84 = v1480; goto L100; }
-	u16 v1481 = (u16)(v1396 % 10000);
-	ptr v1482 = at((ptr)static_51, (u64)(u16)((u32)(v1481 % 100) << 1));
-	u8 v1483 = ld8(v1482+1);
-	st8(v1479-2, ld8(v1482));
-	st8(v1479-1, v1483);
-	u64 v1484 = v82 - 5;
-	ptr v1485 = at((ptr)static_51, (u64)(u16)((u32)(v1481 / 100) << 1));
-	ptr v1486 = at(v1063, v1484);
-	u8 v1487 = ld8(v1485+1);
-	st8(v1486, ld8(v1485));
-	st8(v1486+1, v1487);
-	v83 = v1484; v84 = (u64)(v1396 / 10000);
-L100:;
-	if (v84 >= 100) goto L102;
-	if (v84 >= 10) goto L101;
-	u64 v1488 = v83 - 1;
-	st8(at(v1063, v1488), (u8)v84 | 48);
-	v85 = v1488; goto L106;
-L101:;
-	u64 v1489 = v83 - 2;
-	ptr v1490 = at((ptr)static_51, v84 << 1);
-	ptr v1491 = at(v1063, v1489);
-	u8 v1492 = ld8(v1490+1);
-	st8(v1491, ld8(v1490));
-	st8(v1491+1, v1492);
-	v85 = v1489; goto L106;
-L102:;
-	u16 v1493 = (u16)v84;
-	ptr v1494 = at((ptr)static_51, (u64)(u16)((u32)(v1493 % 100) << 1));
-	ptr v1495 = at(v1063, v83);
-	u8 v1496 = ld8(v1494+1);
-	st8(v1495-2, ld8(v1494));
-	st8(v1495-1, v1496);
-	u16 v1497 = v1493 / 100;
-	if (v84 >= 1000) goto L103;
-	u64 v1498 = v83 - 3;
-	st8(at(v1063, v1498), (u8)v1497 | 48);
-	v85 = v1498; goto L106;
-L103:;
-	u64 v1499 = v83 - 4;
-	ptr v1500 = at((ptr)static_51, (u64)(u16)((u32)v1497 << 1));
-	ptr v1501 = at(v1063, v1499);
-	u8 v1502 = ld8(v1500+1);
-	st8(v1501, ld8(v1500));
-	st8(v1501+1, v1502);
-	v85 = v1499; goto L106;
-L104:;
-	u64 v1503 = v1480 * 1441151881;
-	u64 v1504 = (v1503 & 0x1ffffffffffffffull) * 100;
-	u64 v1505 = (v1504 & 0x1fffffffffffffcull) * 100;
-	u64 v1506 = (v1505 & 0x1fffffffffffff0ull) * 100;
-	ptr v1507 = at((ptr)static_51, (((v1506 & 0x1ffffffffffffc0ull) * 100) >> 56) & 254);
-	st8(v1479-2, ld8(v1507));
-	st8(v1479-1, ld8(v1507+1));
-	ptr v1508 = at((ptr)static_51, (v1506 >> 56) & 254);
-	st8(v1479-4, ld8(v1508));
-	st8(v1479-3, ld8(v1508+1));
-	ptr v1509 = at((ptr)static_51, (v1505 >> 56) & 254);
-	st8(v1479-6, ld8(v1509));
-	st8(v1479-5, ld8(v1509+1));
-	ptr v1510 = at((ptr)static_51, (v1504 >> 56) & 254);
-	st8(v1479-8, ld8(v1510));
-	st8(v1479-7, ld8(v1510+1));
-	u64 v1511 = v1503 >> 57;
-	if (v1396 >= 1000000000) goto L105;
-	u64 v1512 = v82 - 10;
-	st8(at(v1063, v1512), (u8)v1511 | 48);
-	v85 = v1512; goto L106;
-L105:;
-	u64 v1513 = v82 - 11;
-	ptr v1514 = at((ptr)static_51, v1511 << 1);
-	ptr v1515 = at(v1063, v1513);
-	u8 v1516 = ld8(v1514+1);
-	st8(v1515, ld8(v1514));
-	st8(v1515+1, v1516);
-	v85 = v1513;
-L106:;
-	u64 v1517 = v85 - 1;
-	st8(at(v1063, v1517), 32);
-	if (v61 <= 9998) { v88 = v1517; v89 = v1413; goto L108; }
-	v86 = v1413; v87 = v1517;
-L107:;
-	u64 v1518 = v86 / 10000;
-	u16 v1519 = (u16)(v86 % 10000);
-	ptr v1520 = at((ptr)static_51, (u64)(u16)((u32)(v1519 % 100) << 1));
-	ptr v1521 = at(v1063, v87);
-	u8 v1522 = ld8(v1520+1);
-	st8(v1521-2, ld8(v1520));
-	st8(v1521-1, v1522);
-	u64 v1523 = v87 - 4;
-	ptr v1524 = at((ptr)static_51, (u64)(u16)((u32)(v1519 / 100) << 1));
-	ptr v1525 = at(v1063, v1523);
-	u8 v1526 = ld8(v1524+1);
-	st8(v1525, ld8(v1524));
-	st8(v1525+1, v1526);
-	if (v86 > 99999999) { v86 = v1518; v87 = v1523; goto L107; }
-	v88 = v1523; v89 = v1518;
-L108:;
-	if (v89 >= 100) goto L110;
-	if (v89 >= 10) goto L109;
-	u64 v1527 = v88 - 1;
-	st8(at(v1063, v1527), (u8)v89 | 48);
-	v90 = v1527; goto L112;
-L109:;
-	u64 v1528 = v88 - 2;
-	ptr v1529 = at((ptr)static_51, v89 << 1);
-	ptr v1530 = at(v1063, v1528);
-	u8 v1531 = ld8(v1529+1);
-	st8(v1530, ld8(v1529));
-	st8(v1530+1, v1531);
-	v90 = v1528; goto L112;
-L110:;
-	u16 v1532 = (u16)v89;
-	ptr v1533 = at((ptr)static_51, (u64)(u16)((u32)(v1532 % 100) << 1));
-	ptr v1534 = at(v1063, v88);
-	u8 v1535 = ld8(v1533+1);
-	st8(v1534-2, ld8(v1533));
-	st8(v1534-1, v1535);
-	u16 v1536 = v1532 / 100;
-	if (v89 >= 1000) goto L111;
-	u64 v1537 = v88 - 3;
-	st8(at(v1063, v1537), (u8)v1536 | 48);
-	v90 = v1537; goto L112;
-L111:;
-	u64 v1538 = v88 - 4;
-	ptr v1539 = at((ptr)static_51, (u64)(u16)((u32)v1536 << 1));
-	ptr v1540 = at(v1063, v1538);
-	u8 v1541 = ld8(v1539+1);
-	st8(v1540, ld8(v1539));
-	st8(v1540+1, v1541);
-	v90 = v1538;
-L112:;
-	if (v90 == 126) { v149 = v1413; goto L160; }
-	v91 = at(v1063, v90); v92 = 126ull - v90;
-L113:;
-	clear(v1051, 96);
-	u64 v1542 = ld64(v5+16);
-	u64 v1543 = ld64(v5+8);
-	if (v92 >= (v1542 - v1543)) goto L117;
-	u64 v1544 = v1543 + v92;
-	ptr v1545 = ldp(v5);
-	ptr v1546 = at(v1545, v1543);
-	if (((u64)v1546 - (u64)v91) >= v92) goto L115;
-	v93 = 0;
-L114:;
-	st8(at(v1546, v93), ld8(at(v91, v93)));
-	u64 v1547 = v93 + 1;
-	if (v1547 == v92) goto L116;
-	v93 = v1547; goto L114;
-L115:;
-	move(v1546, v91, v92);
-L116:;
-	stp(v5, v1545);
-	st64(v5+8, v1544);
-	st64(v5+16, v1542);
-	v94 = v92; goto L118;
-L117:;
-	std_io_buffered_BufWriter_write_cold_9d90(v1051, v5, v91, v92);
-	u64 v1548 = ld64(v1051+8);
-	if (ld8(v1051) != 0) { v175 = 4; v176 = 1; v177 = v1548; v178 = v1548; v179 = ld64(v1051+16); v180 = ld64(v1051+24); v181 = ld64(v1051+32); v182 = ld64(v1051+40); v183 = ld64(v1051+48); v184 = ld64(v1051+56); v185 = ld64(v1051+64); v186 = ld64(v1051+72); v187 = ld64(v1051+80); v188 = ld64(v1051+88); goto L163; }
-	if (v1548 == 0) { v175 = 4; v176 = 1; v177 = 1513219; v178 = 1513219; v179 = 0x7074756f20656874ull; v180 = 0x206b6f6f74207475ull; v181 = 0x2e676e6968746f6eull; v182 = 0x2e2e2e2e2e2e2e2eull; v183 = 0x2e2e2e2e2e2e2e2eull; v184 = 0x2e2e2e2e2e2e2e2eull; v185 = 0x2e2e2e2e2e2e2e2eull; v186 = 0x2e2e2e2e2e2e2e2eull; v187 = 0x2e2e2e2e2e2e2e2eull; v188 = 0x2e2e2e2e2e2e2e2eull; goto L163; }
-	v94 = v1548;
-L118:;
-	u64 v1549 = v92 - v94;
-	if (v1549 == 0) { v149 = v1413; goto L160; }
-	v91 = at(v91, v94); v92 = v1549; goto L113;
-L119:;
-	st32(v1054, 0);
-	su64(v1054+4, v102);
-	v106 = ld64(v1054); v107 = v102; v108 = v103; v109 = v104; v110 = v105; v111 = v95; v112 = v96; v113 = v97; v114 = v98; v115 = v99; v116 = v100; v117 = v101; v118 = 4; v119 = 1;
-L120:;
-	v175 = v118; v176 = v119; v177 = v106 >> 32; v178 = v107; v179 = v108; v180 = v109; v181 = v110; v182 = v111; v183 = v112; v184 = v113; v185 = v114; v186 = v115; v187 = v116; v188 = v117; goto L163;
-L121:;
-	clear(v1050, 16);
-	v120 = 0;
-L122:;
-	clear(v1049, 96);
-	std_io_buffered_BufReaderRead_read_e988(v1049, v4, at(v1050, v120), 16ull - v120);
-	u64 v1550 = ld64(v1049+8);
-	if (ld8(v1049) != 0) { v150 = ld64(v1049+40); v151 = ld64(v1049+48); v152 = ld64(v1049+56); v153 = ld64(v1049+64); v154 = ld64(v1049+72); v155 = ld64(v1049+80); v156 = ld64(v1049+88); v157 = v1550; v158 = ld64(v1049+16); v159 = ld64(v1049+24); v160 = ld64(v1049+32); goto L161; }
-	if (v1550 == 0) { v150 = 0x2e2e2e2e2e2e2e2eull; v151 = 0x2e2e2e2e2e2e2e2eull; v152 = 0x2e2e2e2e2e2e2e2eull; v153 = 0x2e2e2e2e2e2e2e2eull; v154 = 0x2e2e2e2e2e2e2e2eull; v155 = 0x2e2e2e2e2e2e2e2eull; v156 = 0x2e2e2e2e2e2e2e2eull; v157 = 1451267; v158 = 0x6572747320656874ull; v159 = 0x6465646e65206d61ull; v160 = 0x2e2e796c72616520ull; goto L161; }
-	u64 v1551 = v1550 + v120;
-	if (v1551 < 16) { v120 = v1551; goto L122; }
-	u32 v1552 = ld32(v1050);
-	u32 v1553 = ld32(v1050+4);
-	u64 v1554 = lu64(v1050+8);
-	u32 v1555 = (u32)v1554;
-	u64 v1556 = v1554 >> 32;
-	u32 v1557 = (u32)v1556;
-	if (v1393 == 1) { v121 = v1553; goto L123; }
-	if (v1553 > 4294967) { v122 = 40; v123 = (ptr)static_11; goto L124; }
-	v121 = v1553 * 1000;
-L123:;
-	if (v1555 > 262144) { v122 = 31; v123 = (ptr)static_12; goto L124; }
-	if (v1554 > 0x40000ffffffffull) { v122 = 31; v123 = (ptr)static_13; goto L124; }
-	if (v1557 >= v1555) goto L125;
-	v122 = 32; v123 = (ptr)static_14;
-L124:;
-	u64 v1558 = (u64)v123;
-	st32(v1047, 0);
-	su64(v1047+4, v1558);
-	v161 = ld64(v1047); v162 = v1558; v163 = v122; v164 = 0; v165 = 0; v166 = 0; v167 = 0; v168 = 0; v169 = 0; v170 = 0; v171 = 0; v172 = 0; v173 = 1; v174 = 2; goto L162;
-L125:;
-	u64 v1559 = v1554 & 524287;
-	if (v1559 == 0) goto L128;
-	v124 = ld64(v4+32); v125 = ld64(v4+24); v126 = v1559;
-L126:;
-	if (v125 < v124) { v127 = v124; v128 = v125; goto L127; }
-	clear(v4+24, 16);
-	ptr v1560 = ldp(v4);
-	u64 v1561 = ld64(v4+8);
-	clear(v1046, 96);
-	capcopy_run_uninterrupted_UninterruptedRead_read_f128(v1046, v1560, v1561);
-	u64 v1562 = ld64(v1046+8);
-	if (ld8(v1046) != 0) { v175 = 4; v176 = 1; v177 = v1562; v178 = v1562; v179 = ld64(v1046+16); v180 = ld64(v1046+24); v181 = ld64(v1046+32); v182 = ld64(v1046+40); v183 = ld64(v1046+48); v184 = ld64(v1046+56); v185 = ld64(v1046+64); v186 = ld64(v1046+72); v187 = ld64(v1046+80); v188 = ld64(v1046+88); goto L163; }
-	st64(v4+32, v1562);
-	v127 = v1562; v128 = ld64(v4+24);
-L127:;
-	if (v127 == v128) { v175 = 4; v176 = 1; v177 = 1385731; v178 = 1385731; v179 = 0x75706e6920656874ull; v180 = 0x206465646e652074ull; v181 = 0x2e2e2e796c726165ull; v182 = 0x2e2e2e2e2e2e2e2eull; v183 = 0x2e2e2e2e2e2e2e2eull; v184 = 0x2e2e2e2e2e2e2e2eull; v185 = 0x2e2e2e2e2e2e2e2eull; v186 = 0x2e2e2e2e2e2e2e2eull; v187 = 0x2e2e2e2e2e2e2e2eull; v188 = 0x2e2e2e2e2e2e2e2eull; goto L163; }
-	u64 v1563 = v127 - v128;
-	u64 v1564 = v126 < v1563 ? v126 : v1563;
-	u64 v1565 = v1564 + v128;
-	st64(v4+24, v1565);
-	u64 v1566 = v126 - v1564;
-	if (v1566 != 0) { v124 = v127; v125 = v1565; v126 = v1566; goto L126; }
-L128:;
-	u64 v1567 = v61 + 1;
-	st8(v1063+125, 10);
-	if (v1554 <= 0x270fffffffffull) { v129 = v1063+125; v130 = 125; v131 = v1556; goto L129; }
-	u16 v1568 = (u16)(v1556 % 10000);
-	ptr v1569 = at((ptr)static_51, (u64)(u16)((u32)(v1568 % 100) << 1));
-	u8 v1570 = ld8(v1569+1);
-	st8(v1063+123, ld8(v1569));
-	st8(v1063+124, v1570);
-	ptr v1571 = at((ptr)static_51, (u64)(u16)((u32)(v1568 / 100) << 1));
-	u8 v1572 = ld8(v1571+1);
-	st8(v1063+121, ld8(v1571));
-	st8(v1063+122, v1572);
-	v129 = v1063+121; v130 = 121; v131 = v1554 / 0x271000000000ull;
-L129:;
-	if (v131 >= 100) goto L131;
-	if (v131 >= 10) goto L130;
-	u64 v1573 = v130 - 1;
-	st8(at(v1063, v1573), (u8)v131 | 48);
-	v132 = v1573; goto L133;
-L130:;
-	u64 v1574 = v130 - 2;
-	ptr v1575 = at((ptr)static_51, v131 << 1);
-	ptr v1576 = at(v1063, v1574);
-	u8 v1577 = ld8(v1575+1);
-	st8(v1576, ld8(v1575));
-	st8(v1576+1, v1577);
-	v132 = v1574; goto L133;
-L131:;
-	u16 v1578 = (u16)v131;
-	ptr v1579 = at((ptr)static_51, (u64)(u16)((u32)(v1578 % 100) << 1));
-	u8 v1580 = ld8(v1579+1);
-	st8(v129-2, ld8(v1579));
-	st8(v129-1, v1580);
-	u16 v1581 = v1578 / 100;
-	if (v131 >= 1000) goto L132;
-	u64 v1582 = v130 - 3;
-	st8(at(v1063, v1582), (u8)v1581 | 48);
-	v132 = v1582; goto L133;
-L132:;
-	u64 v1583 = v130 - 4;
-	ptr v1584 = at((ptr)static_51, (u64)(u16)((u32)v1581 << 1));
-	ptr v1585 = at(v1063, v1583);
-	u8 v1586 = ld8(v1584+1);
-	st8(v1585, ld8(v1584));
-	st8(v1585+1, v1586);
-	v132 = v1583;
-L133:;
-	u64 v1587 = v132 - 1;
-	ptr v1588 = at(v1063, v1587);
-	st8(v1588, 47);
-	if (v1559 <= 9999) { v133 = v1587; v134 = v1559; goto L134; }
-	u16 v1589 = (u16)(v1559 % 10000);
-	ptr v1590 = at((ptr)static_51, (u64)(u16)((u32)(v1589 % 100) << 1));
-	u8 v1591 = ld8(v1590+1);
-	st8(v1588-2, ld8(v1590));
-	st8(v1588-1, v1591);
-	u64 v1592 = v132 - 5;
-	ptr v1593 = at((ptr)static_51, (u64)(u16)((u32)(v1589 / 100) << 1));
-	ptr v1594 = at(v1063, v1592);
-	u8 v1595 = ld8(v1593+1);
-	st8(v1594, ld8(v1593));
-	st8(v1594+1, v1595);
-	v133 = v1592; v134 = v1559 / 10000;
-L134:;
-	if (v134 >= 100) goto L136;
-	if (v134 >= 10) goto L135;
-	u64 v1596 = v133 - 1;
-	st8(at(v1063, v1596), (u8)v134 | 48);
-	v135 = v1596; goto L138;
-L135:;
-	u64 v1597 = v133 - 2;
-	ptr v1598 = at((ptr)static_51, v134 << 1);
-	ptr v1599 = at(v1063, v1597);
-	u8 v1600 = ld8(v1598+1);
-	st8(v1599, ld8(v1598));
-	st8(v1599+1, v1600);
-	v135 = v1597; goto L138;
-L136:;
-	u16 v1601 = (u16)v134;
-	ptr v1602 = at((ptr)static_51, (u64)(u16)((u32)(v1601 % 100) << 1));
-	ptr v1603 = at(v1063, v133);
-	u8 v1604 = ld8(v1602+1);
-	st8(v1603-2, ld8(v1602));
-	st8(v1603-1, v1604);
-	u16 v1605 = v1601 / 100;
-	if (v134 >= 1000) goto L137;
-	u64 v1606 = v133 - 3;
-	st8(at(v1063, v1606), (u8)v1605 | 48);
-	v135 = v1606; goto L138;
-L137:;
-	u64 v1607 = v133 - 4;
-	ptr v1608 = at((ptr)static_51, (u64)(u16)((u32)v1605 << 1));
-	ptr v1609 = at(v1063, v1607);
-	u8 v1610 = ld8(v1608+1);
-	st8(v1609, ld8(v1608));
-	st8(v1609+1, v1610);
-	v135 = v1607;
-L138:;
-	ptr v1611 = at(v1063, v135);
-	st8(v1611-1, 32);
-	u64 v1612 = (u64)v121 * 1441151881;
-	u64 v1613 = (v1612 & 0x1ffffffffffffffull) * 100;
-	u64 v1614 = (v1613 & 0x1fffffffffffffcull) * 100;
-	u64 v1615 = (v1614 & 0x1fffffffffffff0ull) * 100;
-	ptr v1616 = at((ptr)static_51, (((v1615 & 0x1ffffffffffffc0ull) * 100) >> 56) & 254);
-	st8(v1611-3, ld8(v1616));
-	st8(v1611-2, ld8(v1616+1));
-	ptr v1617 = at((ptr)static_51, (v1615 >> 56) & 254);
-	st8(v1611-5, ld8(v1617));
-	st8(v1611-4, ld8(v1617+1));
-	ptr v1618 = at((ptr)static_51, (v1614 >> 56) & 254);
-	st8(v1611-7, ld8(v1618));
-	st8(v1611-6, ld8(v1618+1));
-	ptr v1619 = at((ptr)static_51, (v1613 >> 56) & 254);
-	st8(v1611-9, ld8(v1619));
-	st8(v1611-8, ld8(v1619+1));
-	u64 v1620 = v1612 >> 57;
-	if (v121 >= 1000000000) goto L139;
-	u64 v1621 = v135 - 10;
-	st8(at(v1063, v1621), (u8)v1620 | 48);
-	v136 = v1621; goto L140;
-L139:;
-	u64 v1622 = v135 - 11;
-	ptr v1623 = at((ptr)static_51, v1620 << 1);
-	ptr v1624 = at(v1063, v1622);
-	u8 v1625 = ld8(v1623+1);
-	st8(v1624, ld8(v1623));
-	st8(v1624+1, v1625);
-	v136 = v1622;
-L140:;
-	u64 v1626 = v136 - 1;
-	ptr v1627 = at(v1063, v1626);
-	st8(v1627, 46);
-	u64 v1628 = (u64)v1552;
-	if (v1552 >= 100000000) goto L145;
-	if (v1552 <= 9999) { v137 = v1626; v138 = v1628; goto L141; }
-	u16 v1629 = (u16)(v1552 % 10000);
-	ptr v1630 = at((ptr)static_51, (u64)(u16)((u32)(v1629 % 100) << 1));
-	u8 v1631 = ld8(v1630+1);
-	st8(v1627-2, ld8(v1630));
-	st8(v1627-1, v1631);
-	u64 v1632 = v136 - 5;
-	ptr v1633 = at((ptr)static_51, (u64)(u16)((u32)(v1629 / 100) << 1));
-	ptr v1634 = at(v1063, v1632);
-	u8 v1635 = ld8(v1633+1);
-	st8(v1634, ld8(v1633));
-	st8(v1634+1, v1635);
-	v137 = v1632; v138 = (u64)(v1552 / 10000);
-L141:;
-	if (v138 >= 100) goto L143;
-	if (v138 >= 10) goto L142;
-	u64 v1636 = v137 - 1;
-	st8(at(v1063, v1636), (u8)v138 | 48);
-	v139 = v1636; goto L147;
-L142:;
-	u64 v1637 = v137 - 2;
-	ptr v1638 = at((ptr)static_51, v138 << 1);
-	ptr v1639 = at(v1063, v1637);
-	u8 v1640 = ld8(v1638+1);
-	st8(v1639, ld8(v1638));
-	st8(v1639+1, v1640);
-	v139 = v1637; goto L147;
-L143:;
-	u16 v1641 = (u16)v138;
-	ptr v1642 = at((ptr)static_51, (u64)(u16)((u32)(v1641 % 100) << 1));
-	ptr v1643 = at(v1063, v137);
-	u8 v1644 = ld8(v1642+1);
-	st8(v1643-2, ld8(v1642));
-	st8(v1643-1, v1644);
-	u16 v1645 = v1641 / 100;
-	if (v138 >= 1000) goto L144;
-	u64 v1646 = v137 - 3;
-	st8(at(v1063, v1646), (u8)v1645 | 48);
-	v139 = v1646; goto L147;
-L144:;
-	u64 v1647 = v137 - 4;
-	ptr v1648 = at((ptr)static_51, (u64)(u16)((u32)v1645 << 1));
-	ptr v1649 = at(v1063, v1647);
-	u8 v1650 = ld8(v1648+1);
-	st8(v1649, ld8(v1648));
-	st8(v1649+1, v1650);
-	v139 = v1647; goto L147;
-L145:;
-	u64 v1651 = v1628 * 1441151881;
-	u64 v1652 = (v1651 & 0x1ffffffffffffffull) * 100;
-	u64 v1653 = (v1652 & 0x1fffffffffffffcull) * 100;
-	u64 v1654 = (v1653 & 0x1fffffffffffff0ull) * 100;
-	ptr v1655 = at((ptr)static_51, (((v1654 & 0x1ffffffffffffc0ull) * 100) >> 56) & 254);
-	st8(v1627-2, ld8(v1655));
-	st8(v1627-1, ld8(v1655+1));
-	ptr v1656 = at((ptr)static_51, (v1654 >> 56) & 254);
-	st8(v1627-4, ld8(v1656));
-	st8(v1627-3, ld8(v1656+1));
-	ptr v1657 = at((ptr)static_51, (v1653 >> 56) & 254);
-	st8(v1627-6, ld8(v1657));
-	st8(v1627-5, ld8(v1657+1));
-	ptr v1658 = at((ptr)static_51, (v1652 >> 56) & 254);
-	st8(v1627-8, ld8(v1658));
-	st8(v1627-7, ld8(v1658+1));
-	u64 v1659 = v1651 >> 57;
-	if (v1552 >= 1000000000) goto L146;
-	u64 v1660 = v136 - 10;
-	st8(at(v1063, v1660), (u8)v1659 | 48);
-	v139 = v1660; goto L147;
-L146:;
-	u64 v1661 = v136 - 11;
-	ptr v1662 = at((ptr)static_51, v1659 << 1);
-	ptr v1663 = at(v1063, v1661);
-	u8 v1664 = ld8(v1662+1);
-	st8(v1663, ld8(v1662));
-	st8(v1663+1, v1664);
-	v139 = v1661;
-L147:;
-	u64 v1665 = v139 - 1;
-	st8(at(v1063, v1665), 32);
-	if (v61 <= 9998) { v142 = v1665; v143 = v1567; goto L149; }
-	v140 = v1567; v141 = v1665;
-L148:;
-	u64 v1666 = v140 / 10000;
-	u16 v1667 = (u16)(v140 % 10000);
-	ptr v1668 = at((ptr)static_51, (u64)(u16)((u32)(v1667 % 100) << 1));
-	ptr v1669 = at(v1063, v141);
-	u8 v1670 = ld8(v1668+1);
-	st8(v1669-2, ld8(v1668));
-	st8(v1669-1, v1670);
-	u64 v1671 = v141 - 4;
-	ptr v1672 = at((ptr)static_51, (u64)(u16)((u32)(v1667 / 100) << 1));
-	ptr v1673 = at(v1063, v1671);
-	u8 v1674 = ld8(v1672+1);
-	st8(v1673, ld8(v1672));
-	st8(v1673+1, v1674);
-	if (v140 > 99999999) { v140 = v1666; v141 = v1671; goto L148; }
-	v142 = v1671; v143 = v1666;
-L149:;
-	if (v143 >= 100) goto L151;
-	if (v143 >= 10) goto L150;
-	u64 v1675 = v142 - 1;
-	st8(at(v1063, v1675), (u8)v143 | 48);
-	v144 = v1675; goto L153;
-L150:;
-	u64 v1676 = v142 - 2;
-	ptr v1677 = at((ptr)static_51, v143 << 1);
-	ptr v1678 = at(v1063, v1676);
-	u8 v1679 = ld8(v1677+1);
-	st8(v1678, ld8(v1677));
-	st8(v1678+1, v1679);
-	v144 = v1676; goto L153;
-L151:;
-	u16 v1680 = (u16)v143;
-	ptr v1681 = at((ptr)static_51, (u64)(u16)((u32)(v1680 % 100) << 1));
-	ptr v1682 = at(v1063, v142);
-	u8 v1683 = ld8(v1681+1);
-	st8(v1682-2, ld8(v1681));
-	st8(v1682-1, v1683);
-	u16 v1684 = v1680 / 100;
-	if (v143 >= 1000) goto L152;
-	u64 v1685 = v142 - 3;
-	st8(at(v1063, v1685), (u8)v1684 | 48);
-	v144 = v1685; goto L153;
-L152:;
-	u64 v1686 = v142 - 4;
-	ptr v1687 = at((ptr)static_51, (u64)(u16)((u32)v1684 << 1));
-	ptr v1688 = at(v1063, v1686);
-	u8 v1689 = ld8(v1687+1);
-	st8(v1688, ld8(v1687));
-	st8(v1688+1, v1689);
-	v144 = v1686;
-L153:;
-	if (v144 == 126) { v149 = v1567; goto L160; }
-	v145 = at(v1063, v144); v146 = 126ull - v144;
-L154:;
-	clear(v1045, 96);
-	u64 v1690 = ld64(v5+16);
-	u64 v1691 = ld64(v5+8);
-	if (v146 >= (v1690 - v1691)) goto L158;
-	u64 v1692 = v1691 + v146;
-	ptr v1693 = ldp(v5);
-	ptr v1694 = at(v1693, v1691);
-	if (((u64)v1694 - (u64)v145) >= v146) goto L156;
-	v147 = 0;
-L155:;
-	st8(at(v1694, v147), ld8(at(v145, v147)));
-	u64 v1695 = v147 + 1;
-	if (v1695 == v146) goto L157;
-	v147 = v1695; goto L155;
-L156:;
-	move(v1694, v145, v146);
-L157:;
-	stp(v5, v1693);
-	st64(v5+8, v1692);
-	st64(v5+16, v1690);
-	v148 = v146; goto L159;
-L158:;
-	std_io_buffered_BufWriter_write_cold_9d90(v1045, v5, v145, v146);
-	u64 v1696 = ld64(v1045+8);
-	if (ld8(v1045) != 0) { v175 = 4; v176 = 1; v177 = v1696; v178 = v1696; v179 = ld64(v1045+16); v180 = ld64(v1045+24); v181 = ld64(v1045+32); v182 = ld64(v1045+40); v183 = ld64(v1045+48); v184 = ld64(v1045+56); v185 = ld64(v1045+64); v186 = ld64(v1045+72); v187 = ld64(v1045+80); v188 = ld64(v1045+88); goto L163; }
-	if (v1696 == 0) { v175 = 4; v176 = 1; v177 = 1513219; v178 = 1513219; v179 = 0x7074756f20656874ull; v180 = 0x206b6f6f74207475ull; v181 = 0x2e676e6968746f6eull; v182 = 0x2e2e2e2e2e2e2e2eull; v183 = 0x2e2e2e2e2e2e2e2eull; v184 = 0x2e2e2e2e2e2e2e2eull; v185 = 0x2e2e2e2e2e2e2e2eull; v186 = 0x2e2e2e2e2e2e2e2eull; v187 = 0x2e2e2e2e2e2e2e2eull; v188 = 0x2e2e2e2e2e2e2e2eull; goto L163; }
-	v148 = v1696;
-L159:;
-	u64 v1697 = v146 - v148;
-	if (v1697 != 0) { v145 = at(v145, v148); v146 = v1697; goto L154; }
-	v149 = v1567;
-L160:;
-	if (v149 < 4294967295u) { v6 = v149; goto L2; }
-	v206 = 2; v207 = 0; v208 = 0; v209 = 0; v210 = 0; v211 = 0; v212 = 0; v213 = 0; v214 = 0; v215 = 0; v216 = 0; v217 = 0; v218 = 0; goto L170;
-L161:;
-	st32(v1048, 0);
-	su64(v1048+4, v157);
-	v161 = ld64(v1048); v162 = v157; v163 = v158; v164 = v159; v165 = v160; v166 = v150; v167 = v151; v168 = v152; v169 = v153; v170 = v154; v171 = v155; v172 = v156; v173 = 4; v174 = 1;
-L162:;
-	v175 = v173; v176 = v174; v177 = v161 >> 32; v178 = v162; v179 = v163; v180 = v164; v181 = v165; v182 = v166; v183 = v167; v184 = v168; v185 = v169; v186 = v170; v187 = v171; v188 = v172;
-L163:;
-	v206 = v175; v207 = v176; v208 = (v178 & 0xffffffff00000000ull) | (v177 & 4294967295u); v209 = v179; v210 = v180; v211 = v181; v212 = v182; v213 = v183; v214 = v184; v215 = v185; v216 = v186; v217 = v187; v218 = v188; goto L170;
-L164:;
-	v206 = 4; v207 = 1; v208 = ld64(v1060+8); v209 = ld64(v1060+16); v210 = ld64(v1060+24); v211 = ld64(v1060+32); v212 = ld64(v1060+40); v213 = ld64(v1060+48); v214 = ld64(v1060+56); v215 = ld64(v1060+64); v216 = ld64(v1060+72); v217 = ld64(v1060+80); v218 = ld64(v1060+88); goto L170;
-L165:;
-	switch (v1068) {
-	case 0: goto L166;
-	case 1: goto L167;
-	case 5: v189 = 0; v190 = 0; v191 = 0; v192 = 0; v193 = 0; v194 = 0; v195 = 0; v196 = 0; v197 = 0; v198 = 0; v199 = 0; v200 = 0; v201 = 0; v202 = 0; v203 = 0; v204 = v1068; v205 = 0; goto L169;
-	case 2: case 3: case 4: case 6: goto L168;
-	default: goto L171;
-	}
-L166:;
-	v189 = 3; v190 = 37; v191 = 23; v192 = 0; v193 = 0; v194 = 0x7470616320656874ull; v195 = 0x65646e6520657275ull; v196 = 0x2e796c7261652064ull; v197 = 0x2e2e2e2e2e2e2e2eull; v198 = 0x2e2e2e2e2e2e2e2eull; v199 = 0x2e2e2e2e2e2e2e2eull; v200 = 0x2e2e2e2e2e2e2e2eull; v201 = 0x2e2e2e2e2e2e2e2eull; v202 = 0x2e2e2e2e2e2e2e2eull; v203 = 0x2e2e2e2e2e2e2e2eull; v204 = 4; v205 = 1; goto L169;
-L167:;
-	v189 = v1069; v190 = v1070; v191 = v1071; v192 = v1072; v193 = v1073; v194 = v1074; v195 = v1075; v196 = v1076; v197 = v1077; v198 = v1078; v199 = v1079; v200 = v1080; v201 = v1081; v202 = v1082; v203 = v1083; v204 = 4; v205 = v1068; goto L169;
-L168:;
-	v189 = v1069; v190 = v1070; v191 = v1071; v192 = v1072; v193 = v1073; v194 = v1074; v195 = v1075; v196 = v1076; v197 = v1077; v198 = v1078; v199 = v1079; v200 = v1080; v201 = v1081; v202 = v1082; v203 = v1083; v204 = 1; v205 = v1068;
-L169:;
-	v206 = v204; v207 = v205; v208 = ((u64)v193 << 32) | ((u64)v192 << 24) | ((u64)v191 << 16) | ((u64)v190 << 8) | (u64)v189; v209 = v194; v210 = v195; v211 = v196; v212 = v197; v213 = v198; v214 = v199; v215 = v200; v216 = v201; v217 = v202; v218 = v203;
-L170:;
-	v928 = v208; v929 = v209; v930 = v210; v931 = v211; v932 = v212; v933 = v213; v934 = v214; v935 = v215; v936 = v216; v937 = v217; v938 = v218; v939 = v206; v940 = v207; goto L518;
-L171:;
-	__builtin_trap();
-L172:;
-	if ((((u64)lu32(v1065+2) << 32) | (u64)lu32(v1065)) != 0x736b636f636f6c62ull) { v928 = 0; v929 = 0; v930 = 0; v931 = 0; v932 = 0; v933 = 0; v934 = 0; v935 = 0; v936 = 0; v937 = 0; v938 = 0; v939 = 3; v940 = 0; goto L518; }
-	clear(v986, 64);
-	clear(v987, 7);
-	clear(v988, 112);
-	clear(v989, 192);
-	clear(v990, 192);
-	clear(v991, 24);
-	clear(v985, 7);
-	stp(v984, v941);
-	clear(v984+8, 24);
-	clear(v982, 7);
-	clear(v983, 7);
-	v219 = 0; v220 = 0; v221 = 0; v222 = 12;
-L173:;
-	u64 v1698 = v222 < 65536 ? v222 : 65536;
-	u64 v1699 = v1698 + v221;
-	if (v220 >= v1699) goto L176;
-	u64 v1700 = v1699 - v220;
-	if (v1700 <= (v219 - v220)) { v223 = v219; v224 = v220; goto L174; }
-	u8 v1701 = std_alloc_vec_Vec_grow_amortized_56a3(v984, v1700);
-	if (!v1701) { v548 = (ptr)0; v549 = 0; v550 = 0; v551 = 0; v552 = (ptr)0; v553 = 0; v554 = 0; v555 = 0; v556 = 0; v557 = 0; v558 = 0; v559 = 5; goto L389; }
-	v223 = ld64(v984+16); v224 = ld64(v984+8);
-L174:;
-	u64 v1702 = v224 + v1700;
-	ptr v1703 = ldp(v984);
-	if (v224 >= v1702) goto L175;
-	clear(at(v1703, v224), v1700);
-L175:;
-	st64(v984+8, v1702);
-	st64(v984+16, v223);
-	v225 = v223; v226 = v1702; v227 = ld64(v984+24); v228 = v1703; goto L177;
-L176:;
-	v225 = v219; v226 = v220; v227 = v221; v228 = ldp(v984);
-L177:;
-	clear(v980, 96);
-	std_io_buffered_BufReaderRead_read_e988(v980, v4, at(v228, v227), v1698);
-	u64 v1704 = ld64(v980+8);
-	if (ld8(v980) != 0) { v548 = ldp(v980+64); v549 = ld64(v980+72); v550 = ld64(v980+80); v551 = ld64(v980+88); v552 = ldp(v980+40); v553 = ld64(v980+48); v554 = ld64(v980+56); v555 = ld64(v980+16); v556 = ld64(v980+24); v557 = ld64(v980+32); v558 = v1704; v559 = 1; goto L389; }
-	u64 v1705 = v1704 + v227;
-	st64(v984+24, v1705);
-	if (v1704 != 0) goto L178;
-	if (v1705 == 0) { v589 = v225; v590 = 1; v591 = 3; v592 = 37; v593 = 22; v594 = 0; v595 = 0; v596 = 0x6572747320656874ull; v597 = 0x6465646e65206d61ull; v598 = 0x2e2e796c72616520ull; v599 = (ptr)0x2e2e2e2e2e2e2e2eull; v600 = 0x2e2e2e2e2e2e2e2eull; v601 = 0x2e2e2e2e2e2e2e2eull; v602 = (ptr)0x2e2e2e2e2e2e2e2eull; v603 = 0x2e2e2e2e2e2e2e2eull; v604 = 0x2e2e2e2e2e2e2e2eull; v605 = 0x2e2e2e2e2e2e2e2eull; goto L392; }
-	v560 = (ptr)0x2e2e2e2e2e2e2e2eull; v561 = 0x2e2e2e2e2e2e2e2eull; v562 = 0x2e2e2e2e2e2e2e2eull; v563 = 0x2e2e2e2e2e2e2e2eull; v564 = (ptr)0x2e2e2e2e2e2e2e2eull; v565 = 0x2e2e2e2e2e2e2e2eull; v566 = 0x2e2e2e2e2e2e2e2eull; v567 = 37; v568 = 22; v569 = 0; v570 = 0; v571 = 0x6572747320656874ull; v572 = 0x6465646e65206d61ull; v573 = 0x2e2e796c72616520ull; v574 = 3; v575 = 1; goto L390;
-L178:;
-	u64 v1706 = v222 - v1704;
-	if (v1706 != 0) { v219 = v225; v220 = v226; v221 = v1705; v222 = v1706; goto L173; }
-	ptr v1707 = ldp(v984);
-	u32 v1708 = lu32(v1707);
-	u32 v1709 = (u32)__builtin_bswap32(v1708);
-	if (v1708 != 168627466) goto L181;
-	switch ((u32)__builtin_bswap32(lu32(v1707+8))) {
-	case 439041101: goto L179;
-	case 1295788826: goto L180;
-	default: v546 = (ptr)static_15; v547 = 40; goto L388;
-	}
-L179:;
-	v229 = 1; v230 = 0; v231 = (u32)__builtin_bswap32(lu32(v1707+4)); goto L182;
-L180:;
-	v229 = 0; v230 = 1; v231 = lu32(v1707+4); goto L182;
-L181:;
-	v229 = 1; v230 = 0; v231 = (u32)__builtin_bswap32(lu32(v1707+4));
-L182:;
-	if ((v231 & 3) != 0) { v546 = (ptr)static_16; v547 = 29; goto L388; }
-	if (v231 < 12) { v546 = (ptr)static_17; v547 = 23; goto L388; }
-	u64 v1710 = (u64)v231;
-	u64 v1711 = v1710 - 12;
-	if (v1711 == 0) { v242 = v225; goto L189; }
-	v232 = v225; v233 = v226; v234 = v1705; v235 = v1711;
-L183:;
-	u64 v1712 = v235 < 65536 ? v235 : 65536;
-	u64 v1713 = v1712 + v234;
-	if (v233 >= v1713) goto L186;
-	u64 v1714 = v1713 - v233;
-	if (v1714 <= (v232 - v233)) { v236 = v232; v237 = v233; goto L184; }
-	u8 v1715 = std_alloc_vec_Vec_grow_amortized_56a3(v984, v1714);
-	if (!v1715) { v534 = (ptr)0; v535 = 0; v536 = 0; v537 = 0; v538 = 0; v539 = 0; v540 = 0; v541 = 0; v542 = 0; v543 = (ptr)0; v544 = 0; v545 = 5; goto L387; }
-	v236 = ld64(v984+16); v237 = ld64(v984+8);
-L184:;
-	u64 v1716 = v237 + v1714;
-	ptr v1717 = ldp(v984);
-	if (v237 >= v1716) goto L185;
-	clear(at(v1717, v237), v1714);
-L185:;
-	st64(v984+8, v1716);
-	st64(v984+16, v236);
-	v238 = v236; v239 = v1716; v240 = ld64(v984+24); v241 = v1717; goto L187;
-L186:;
-	v238 = v232; v239 = v233; v240 = v234; v241 = ldp(v984);
-L187:;
-	clear(v981, 96);
-	std_io_buffered_BufReaderRead_read_e988(v981, v4, at(v241, v240), v1712);
-	u64 v1718 = ld64(v981+8);
-	if (ld8(v981) != 0) { v534 = ldp(v981+40); v535 = ld64(v981+48); v536 = ld64(v981+56); v537 = ld64(v981+16); v538 = ld64(v981+24); v539 = ld64(v981+32); v540 = ld64(v981+88); v541 = ld64(v981+80); v542 = ld64(v981+72); v543 = ldp(v981+64); v544 = v1718; v545 = 1; goto L387; }
-	u64 v1719 = v1718 + v240;
-	st64(v984+24, v1719);
-	if (v1718 != 0) goto L188;
-	if (v1719 == 0) { v242 = v238; goto L189; }
-	v576 = (ptr)0x2e2e2e2e2e2e2e2eull; v577 = 0x2e2e2e2e2e2e2e2eull; v578 = 0x2e2e2e2e2e2e2e2eull; v579 = 0x2e2e2e2e2e2e2e2eull; v580 = (ptr)0x2e2e2e2e2e2e2e2eull; v581 = 0x2e2e2e2e2e2e2e2eull; v582 = 0x2e2e2e2e2e2e2e2eull; v583 = 0; v584 = 0x6572747320656874ull; v585 = 0x6465646e65206d61ull; v586 = 0x2e2e796c72616520ull; v587 = 1451267; v588 = 1; goto L391;
-L188:;
-	u64 v1720 = v235 - v1718;
-	if (v1720 != 0) { v232 = v238; v233 = v239; v234 = v1719; v235 = v1720; goto L183; }
-	v242 = v238;
-L189:;
-	ptr v1721 = ldp(v984);
-	clear(v978, 7);
-	u32 v1722 = lu32(at(v1721+8, v1711));
-	if ((v229 ? (u32)__builtin_bswap32(v1722) : v1722) != v231) goto L273;
-	switch (v1709) {
-	case 168627466: v243 = 0; v244 = 0; goto L198;
-	case 1: goto L190;
-	case 2: goto L191;
-	case 3: goto L192;
-	case 4: goto L193;
-	case 5: goto L194;
-	case 6: goto L195;
-	case 9: goto L196;
-	default: goto L197;
-	}
-L190:;
-	v243 = 1; v244 = 0; goto L198;
-L191:;
-	v243 = 2; v244 = 0; goto L198;
-L192:;
-	v243 = 3; v244 = 0; goto L198;
-L193:;
-	v243 = 4; v244 = 0; goto L198;
-L194:;
-	v243 = 5; v244 = 0; goto L198;
-L195:;
-	v243 = 6; v244 = 0; goto L198;
-L196:;
-	v243 = 7; v244 = 0; goto L198;
-L197:;
-	v243 = 8; v244 = v1709;
-L198:;
-	st8(v979, v243);
-	st_bytes(v979+1, 0, 3);
-	st32(v979+4, v244);
-	stp(v979+8, (ptr)v1710);
-	st64(v979+16, 0);
-	stp(v979+24, v1721+8);
-	st64(v979+32, v1711);
-	st64(v979+40, 0);
-	st32(v979+48, v231);
-	st8(v979+52, v230);
-	st_bytes(v979+53, 0, 3);
-	clear(v976, 104);
-	clear(v974, 104);
-	pcap_ng_pcapng_block_Block_parsed(v974, v979);
-	u8 v1723 = ld8(v974+8);
-	u64 v1724 = ld64(v974+48);
-	u64 v1725 = ld64(v974+56);
-	u64 v1726 = ld64(v974+64);
-	ptr v1727 = ldp(v974+72);
-	u64 v1728 = ld64(v974+80);
-	u64 v1729 = ld64(v974+88);
-	if (ld8(v974) != 0) goto L270;
-	u64 v1730 = ld64(v974+16);
-	u64 v1731 = ld64(v974+24);
-	u64 v1732 = ld64(v974+32);
-	u64 v1733 = ld64(v974+40);
-	u8 v1734 = (u8)v1733;
-	if (v1723 != 0) goto L200;
-	st64(v977, v1730);
-	st64(v977+8, v1731);
-	st64(v977+16, v1732);
-	st64(v977+24, v1733);
-	st64(v977+32, v1724);
-	pcap_blocks_section_header_SectionHeaderBlock_into_owned(v976, v977);
-	u8 v1735 = ld8(v976+8);
-	if (ld8(v976) != 0) goto L199;
-	u64 v1736 = (u64)ld_bytes(v976+17, 7) & 0xffffffffffffffull;
-	u8 v1737 = ld8(v976+16);
-	u8 v1738 = ld8(v976+24);
-	u64 v1739 = (u64)ld_bytes(v976+25, 7) & 0xffffffffffffffull;
-	u8 v1740 = ld8(v976+32);
-	u64 v1741 = (u64)ld_bytes(v976+33, 7) & 0xffffffffffffffull;
-	u64 v1742 = ld64(v976+40);
-	copy(v978, v976+9, 7);
-	copy(v983, v978, 7);
-	copy(v973, v983, 7);
-	v293 = 1; v294 = 0; v295 = 0; v296 = v941; v297 = v1742; v298 = v1741; v299 = v1740; v300 = v1739; v301 = v1738; v302 = (u8)v1736; v303 = (u8)(v1736 >> 8); v304 = (u8)(v1736 >> 16); v305 = (u32)(v1736 >> 24); v306 = v1737; v307 = v1735; v308 = (ptr)0; v309 = 0; v310 = 0; v311 = 0; goto L274;
-L199:;
-	u64 v1743 = (u64)ld_bytes(v976+17, 7) & 0xffffffffffffffull;
-	v275 = v1735; v276 = ld8(v976+16); v277 = (u8)v1743; v278 = (u8)(v1743 >> 8); v279 = (u8)(v1743 >> 16); v280 = (u32)(v1743 >> 24); v281 = ld8(v976+24); v282 = (u64)ld_bytes(v976+25, 7) & 0xffffffffffffffull; v283 = ld8(v976+32); v284 = (u64)ld_bytes(v976+33, 7) & 0xffffffffffffffull; v285 = ld64(v976+40); v286 = ldp(v976+48); v287 = ld64(v976+56); v288 = ld64(v976+64); v289 = ldp(v976+72); v290 = ld64(v976+80); v291 = ld64(v976+88); v292 = ld64(v976+96); goto L272;
-L200:;
-	u64 v1744 = (u64)(ptr)static_19 >> 8;
-	switch (v1723) {
-	case 1: goto L201;
-	case 2: goto L202;
-	case 3: goto L214;
-	case 4: goto L215;
-	case 5: goto L245;
-	case 6: goto L255;
-	case 7: goto L267;
-	case 8: goto L268;
-	default: goto L269;
-	}
-L201:;
-	st64(v975, v1732);
-	st64(v975+8, v1733);
-	st64(v975+16, v1724);
-	std_alloc_vec_Vec_drop_37c7(v975);
-	v257 = 2; v258 = (u64)(ptr)static_19; v259 = (u8)v1744; v260 = (u8)((u64)(ptr)static_19 >> 16); v261 = (u8)((u64)(ptr)static_19 >> 24); v262 = (u32)((u64)(ptr)static_19 >> 32); v263 = 21; v264 = 0; v265 = 0; v266 = 0; v267 = 0; v268 = (ptr)0; v269 = 0; v270 = 0; v271 = (ptr)0; v272 = 0; v273 = 0; v274 = 0; goto L271;
-L202:;
-	if ((v1734 != 1) || (v1726 == 0)) goto L203;
-	deallocate((ptr)v1724);
-L203:;
-	if (v1728 == 0) goto L212;
-	v245 = 0;
-L204:;
-	ptr v1745 = at(v1727, v245 * 48);
-	u64 v1746 = lu64(v1745+16);
-	u64 v1747 = lu64(v1745+24);
-	u64 v1748 = lu64(v1745+32);
-	u64 v1749 = lu64(v1745+40);
-	u8 v1750 = (u8)lu16(v1745+8);
-	u8 v1751 = (u8)v1746;
-	switch (ld8(v1745)) {
-	case 0: goto L205;
-	case 1: goto L211;
-	case 2: goto L206;
-	case 3: goto L207;
-	case 4: goto L208;
-	case 5: goto L209;
-	default: goto L213;
-	}
-L205:;
-	if ((v1750 == 0) || (v1748 == 0)) goto L211;
-	v246 = v1746; goto L210;
-L206:;
-	if ((v1750 == 0) || (v1748 == 0)) goto L211;
-	v246 = v1746; goto L210;
-L207:;
-	if ((v1751 == 0) || (v1749 == 0)) goto L211;
-	v246 = v1747; goto L210;
-L208:;
-	if ((v1751 == 0) || (v1749 == 0)) goto L211;
-	v246 = v1747; goto L210;
-L209:;
-	if ((v1751 == 0) || (v1749 == 0)) goto L211;
-	v246 = v1747;
-L210:;
-	deallocate((ptr)v246);
-L211:;
-	u64 v1752 = v245 + 1;
-	if (v1752 != v1728) { v245 = v1752; goto L204; }
-L212:;
-	u8 v1753 = (u8)v1744;
-	u8 v1754 = (u8)((u64)(ptr)static_19 >> 16);
-	u8 v1755 = (u8)((u64)(ptr)static_19 >> 24);
-	u32 v1756 = (u32)((u64)(ptr)static_19 >> 32);
-	if (v1729 == 0) { v257 = 2; v258 = (u64)(ptr)static_19; v259 = v1753; v260 = v1754; v261 = v1755; v262 = v1756; v263 = 21; v264 = 0; v265 = 0; v266 = 0; v267 = 0; v268 = (ptr)0; v269 = 0; v270 = 0; v271 = (ptr)0; v272 = 0; v273 = 0; v274 = 0; goto L271; }
-	deallocate(v1727);
-	v257 = 2; v258 = (u64)(ptr)static_19; v259 = v1753; v260 = v1754; v261 = v1755; v262 = v1756; v263 = 21; v264 = 0; v265 = 0; v266 = 0; v267 = 0; v268 = (ptr)0; v269 = 0; v270 = 0; v271 = (ptr)0; v272 = 0; v273 = 0; v274 = 0; goto L271;
-L213:;
-	__builtin_trap();
-L214:;
-	u8 v1757 = (u8)v1744;
-	u8 v1758 = (u8)((u64)(ptr)static_19 >> 16);
-	u8 v1759 = (u8)((u64)(ptr)static_19 >> 24);
-	u32 v1760 = (u32)((u64)(ptr)static_19 >> 32);
-	if (((v1731 & 255) != 1) || (v1724 == 0)) { v257 = 2; v258 = (u64)(ptr)static_19; v259 = v1757; v260 = v1758; v261 = v1759; v262 = v1760; v263 = 21; v264 = 0; v265 = 0; v266 = 0; v267 = 0; v268 = (ptr)0; v269 = 0; v270 = 0; v271 = (ptr)0; v272 = 0; v273 = 0; v274 = 0; goto L271; }
-	deallocate((ptr)v1732);
-	v257 = 2; v258 = (u64)(ptr)static_19; v259 = v1757; v260 = v1758; v261 = v1759; v262 = v1760; v263 = 21; v264 = 0; v265 = 0; v266 = 0; v267 = 0; v268 = (ptr)0; v269 = 0; v270 = 0; v271 = (ptr)0; v272 = 0; v273 = 0; v274 = 0; goto L271;
-L215:;
-	if (v1731 == 0) goto L230;
-	v247 = 0;
-L216:;
-	ptr v1761 = at((ptr)v1730, v247 << 6);
-	u64 v1762 = lu64(v1761+16);
-	u64 v1763 = lu64(v1761+24);
-	u64 v1764 = lu64(v1761+32);
-	u64 v1765 = lu64(v1761+40);
-	u64 v1766 = lu64(v1761+48);
-	u64 v1767 = lu64(v1761+56);
-	u8 v1768 = (u8)lu16(v1761+8);
-	switch (ld8(v1761)) {
-	case 0: goto L229;
-	case 1: goto L217;
-	case 2: goto L222;
-	case 3: goto L227;
-	default: goto L244;
-	}
-L217:;
-	if ((v1768 == 0) || (v1764 == 0)) goto L218;
-	deallocate((ptr)v1762);
-L218:;
-	if (v1766 == 0) goto L221;
-	v248 = 0;
-L219:;
-	ptr v1769 = at((ptr)v1765, v248 << 5);
-	if ((ld8(v1769) == 0) || (lu64(v1769+24) == 0)) goto L220;
-	deallocate(lup(v1769+8));
-L220:;
-	u64 v1770 = v248 + 1;
-	if (v1770 != v1766) { v248 = v1770; goto L219; }
-L221:;
-	if (v1767 == 0) goto L229;
-	v250 = (ptr)v1765; goto L228;
-L222:;
-	if ((v1768 == 0) || (v1764 == 0)) goto L223;
-	deallocate((ptr)v1762);
-L223:;
-	if (v1766 == 0) goto L226;
-	v249 = 0;
-L224:;
-	ptr v1771 = at((ptr)v1765, v249 << 5);
-	if ((ld8(v1771) == 0) || (lu64(v1771+24) == 0)) goto L225;
-	deallocate(lup(v1771+8));
-L225:;
-	u64 v1772 = v249 + 1;
-	if (v1772 != v1766) { v249 = v1772; goto L224; }
-L226:;
-	if (v1767 == 0) goto L229;
-	v250 = (ptr)v1765; goto L228;
-L227:;
-	if (((v1762 & 255) == 0) || (v1765 == 0)) goto L229;
-	v250 = (ptr)v1763;
-L228:;
-	deallocate(v250);
-L229:;
-	u64 v1773 = v247 + 1;
-	if (v1773 != v1731) { v247 = v1773; goto L216; }
-L230:;
-	if (v1732 == 0) goto L231;
-	deallocate((ptr)v1730);
-L231:;
-	if (v1724 == 0) goto L242;
-	v251 = 0;
-L232:;
-	ptr v1774 = at((ptr)v1733, v251 * 48);
-	u64 v1775 = lu64(v1774+16);
-	u64 v1776 = lu64(v1774+24);
-	u64 v1777 = lu64(v1774+32);
-	u64 v1778 = lu64(v1774+40);
-	u8 v1779 = (u8)lu16(v1774+8);
-	u8 v1780 = (u8)v1775;
-	switch (ld8(v1774)) {
-	case 0: goto L233;
-	case 1: goto L234;
-	case 2: goto L235;
-	case 3: goto L236;
-	case 4: goto L237;
-	case 5: goto L238;
-	case 6: goto L239;
-	default: goto L243;
-	}
-L233:;
-	if ((v1779 == 0) || (v1777 == 0)) goto L241;
-	v252 = v1775; goto L240;
-L234:;
-	if ((v1779 == 0) || (v1777 == 0)) goto L241;
-	v252 = v1775; goto L240;
-L235:;
-	if ((v1779 == 0) || (v1777 == 0)) goto L241;
-	v252 = v1775; goto L240;
-L236:;
-	if ((v1779 == 0) || (v1777 == 0)) goto L241;
-	v252 = v1775; goto L240;
-L237:;
-	if ((v1780 == 0) || (v1778 == 0)) goto L241;
-	v252 = v1776; goto L240;
-L238:;
-	if ((v1780 == 0) || (v1778 == 0)) goto L241;
-	v252 = v1776; goto L240;
-L239:;
-	if ((v1780 == 0) || (v1778 == 0)) goto L241;
-	v252 = v1776;
-L240:;
-	deallocate((ptr)v252);
-L241:;
-	u64 v1781 = v251 + 1;
-	if (v1781 != v1724) { v251 = v1781; goto L232; }
-L242:;
-	u8 v1782 = (u8)v1744;
-	u8 v1783 = (u8)((u64)(ptr)static_19 >> 16);
-	u8 v1784 = (u8)((u64)(ptr)static_19 >> 24);
-	u32 v1785 = (u32)((u64)(ptr)static_19 >> 32);
-	if (v1725 == 0) { v257 = 2; v258 = (u64)(ptr)static_19; v259 = v1782; v260 = v1783; v261 = v1784; v262 = v1785; v263 = 21; v264 = 0; v265 = 0; v266 = 0; v267 = 0; v268 = (ptr)0; v269 = 0; v270 = 0; v271 = (ptr)0; v272 = 0; v273 = 0; v274 = 0; goto L271; }
-	deallocate((ptr)v1733);
-	v257 = 2; v258 = (u64)(ptr)static_19; v259 = v1782; v260 = v1783; v261 = v1784; v262 = v1785; v263 = 21; v264 = 0; v265 = 0; v266 = 0; v267 = 0; v268 = (ptr)0; v269 = 0; v270 = 0; v271 = (ptr)0; v272 = 0; v273 = 0; v274 = 0; goto L271;
-L243:;
-	__builtin_trap();
-L244:;
-	__builtin_trap();
-L245:;
-	if (v1733 == 0) goto L253;
-	v253 = 0;
-L246:;
-	ptr v1786 = at((ptr)v1732, v253 * 48);
-	u64 v1787 = lu64(v1786+16);
-	u64 v1788 = lu64(v1786+24);
-	u64 v1789 = lu64(v1786+40);
-	u8 v1790 = (u8)v1787;
-	switch (ld8(v1786)) {
-	case 0: goto L247;
-	case 1: case 2: case 3: case 4: case 5: case 6: case 7: goto L252;
-	case 8: goto L248;
-	case 9: goto L249;
-	case 10: goto L250;
-	default: goto L254;
-	}
-L247:;
-	if (((lu64(v1786+8) & 255) == 0) || (lu64(v1786+32) == 0)) goto L252;
-	v254 = v1787; goto L251;
-L248:;
-	if ((v1790 == 0) || (v1789 == 0)) goto L252;
-	v254 = v1788; goto L251;
-L249:;
-	if ((v1790 == 0) || (v1789 == 0)) goto L252;
-	v254 = v1788; goto L251;
-L250:;
-	if ((v1790 == 0) || (v1789 == 0)) goto L252;
-	v254 = v1788;
-L251:;
-	deallocate((ptr)v254);
-L252:;
-	u64 v1791 = v253 + 1;
-	if (v1791 != v1733) { v253 = v1791; goto L246; }
-L253:;
-	u8 v1792 = (u8)v1744;
-	u8 v1793 = (u8)((u64)(ptr)static_19 >> 16);
-	u8 v1794 = (u8)((u64)(ptr)static_19 >> 24);
-	u32 v1795 = (u32)((u64)(ptr)static_19 >> 32);
-	if (v1724 == 0) { v257 = 2; v258 = (u64)(ptr)static_19; v259 = v1792; v260 = v1793; v261 = v1794; v262 = v1795; v263 = 21; v264 = 0; v265 = 0; v266 = 0; v267 = 0; v268 = (ptr)0; v269 = 0; v270 = 0; v271 = (ptr)0; v272 = 0; v273 = 0; v274 = 0; goto L271; }
-	deallocate((ptr)v1732);
-	v257 = 2; v258 = (u64)(ptr)static_19; v259 = v1792; v260 = v1793; v261 = v1794; v262 = v1795; v263 = 21; v264 = 0; v265 = 0; v266 = 0; v267 = 0; v268 = (ptr)0; v269 = 0; v270 = 0; v271 = (ptr)0; v272 = 0; v273 = 0; v274 = 0; goto L271;
-L254:;
-	__builtin_trap();
-L255:;
-	if ((v1734 != 1) || (v1726 == 0)) goto L256;
-	deallocate((ptr)v1724);
-L256:;
-	if (v1728 == 0) goto L265;
-	v255 = 0;
-L257:;
-	ptr v1796 = at(v1727, v255 * 48);
-	u64 v1797 = lu64(v1796+16);
-	u64 v1798 = lu64(v1796+24);
-	u64 v1799 = lu64(v1796+32);
-	u64 v1800 = lu64(v1796+40);
-	u8 v1801 = (u8)lu64(v1796+8);
-	u8 v1802 = (u8)v1797;
-	switch (ld8(v1796)) {
-	case 0: goto L258;
-	case 1: case 3: goto L264;
-	case 2: goto L259;
-	case 4: goto L260;
-	case 5: goto L261;
-	case 6: goto L262;
-	default: goto L266;
-	}
-L258:;
-	if ((v1801 == 0) || (v1799 == 0)) goto L264;
-	v256 = v1797; goto L263;
-L259:;
-	if ((v1801 == 0) || (v1799 == 0)) goto L264;
-	v256 = v1797; goto L263;
-L260:;
-	if ((v1802 == 0) || (v1800 == 0)) goto L264;
-	v256 = v1798; goto L263;
-L261:;
-	if ((v1802 == 0) || (v1800 == 0)) goto L264;
-	v256 = v1798; goto L263;
-L262:;
-	if ((v1802 == 0) || (v1800 == 0)) goto L264;
-	v256 = v1798;
-L263:;
-	deallocate((ptr)v256);
-L264:;
-	u64 v1803 = v255 + 1;
-	if (v1803 != v1728) { v255 = v1803; goto L257; }
-L265:;
-	u8 v1804 = (u8)v1744;
-	u8 v1805 = (u8)((u64)(ptr)static_19 >> 16);
-	u8 v1806 = (u8)((u64)(ptr)static_19 >> 24);
-	u32 v1807 = (u32)((u64)(ptr)static_19 >> 32);
-	if (v1729 == 0) { v257 = 2; v258 = (u64)(ptr)static_19; v259 = v1804; v260 = v1805; v261 = v1806; v262 = v1807; v263 = 21; v264 = 0; v265 = 0; v266 = 0; v267 = 0; v268 = (ptr)0; v269 = 0; v270 = 0; v271 = (ptr)0; v272 = 0; v273 = 0; v274 = 0; goto L271; }
-	deallocate(v1727);
-	v257 = 2; v258 = (u64)(ptr)static_19; v259 = v1804; v260 = v1805; v261 = v1806; v262 = v1807; v263 = 21; v264 = 0; v265 = 0; v266 = 0; v267 = 0; v268 = (ptr)0; v269 = 0; v270 = 0; v271 = (ptr)0; v272 = 0; v273 = 0; v274 = 0; goto L271;
-L266:;
-	__builtin_trap();
-L267:;
-	u8 v1808 = (u8)v1744;
-	u8 v1809 = (u8)((u64)(ptr)static_19 >> 16);
-	u8 v1810 = (u8)((u64)(ptr)static_19 >> 24);
-	u32 v1811 = (u32)((u64)(ptr)static_19 >> 32);
-	if (((v1730 & 255) != 1) || (v1733 == 0)) { v257 = 2; v258 = (u64)(ptr)static_19; v259 = v1808; v260 = v1809; v261 = v1810; v262 = v1811; v263 = 21; v264 = 0; v265 = 0; v266 = 0; v267 = 0; v268 = (ptr)0; v269 = 0; v270 = 0; v271 = (ptr)0; v272 = 0; v273 = 0; v274 = 0; goto L271; }
-	deallocate((ptr)v1731);
-	v257 = 2; v258 = (u64)(ptr)static_19; v259 = v1808; v260 = v1809; v261 = v1810; v262 = v1811; v263 = 21; v264 = 0; v265 = 0; v266 = 0; v267 = 0; v268 = (ptr)0; v269 = 0; v270 = 0; v271 = (ptr)0; v272 = 0; v273 = 0; v274 = 0; goto L271;
-L268:;
-	u8 v1812 = (u8)v1744;
-	u8 v1813 = (u8)((u64)(ptr)static_19 >> 16);
-	u8 v1814 = (u8)((u64)(ptr)static_19 >> 24);
-	u32 v1815 = (u32)((u64)(ptr)static_19 >> 32);
-	if (((v1732 & 255) != 1) || (v1725 == 0)) { v257 = 2; v258 = (u64)(ptr)static_19; v259 = v1812; v260 = v1813; v261 = v1814; v262 = v1815; v263 = 21; v264 = 0; v265 = 0; v266 = 0; v267 = 0; v268 = (ptr)0; v269 = 0; v270 = 0; v271 = (ptr)0; v272 = 0; v273 = 0; v274 = 0; goto L271; }
-	deallocate((ptr)v1733);
-	v257 = 2; v258 = (u64)(ptr)static_19; v259 = v1812; v260 = v1813; v261 = v1814; v262 = v1815; v263 = 21; v264 = 0; v265 = 0; v266 = 0; v267 = 0; v268 = (ptr)0; v269 = 0; v270 = 0; v271 = (ptr)0; v272 = 0; v273 = 0; v274 = 0; goto L271;
-L269:;
-	__builtin_trap();
-L270:;
-	u32 v1816 = (u32)ld_bytes(v974+17, 3) & 16777215;
-	u64 v1817 = (u64)v1816;
-	v257 = v1723; v258 = ld8(v974+16); v259 = (u8)v1816; v260 = (u8)(v1817 >> 8); v261 = (u8)(v1817 >> 16); v262 = ld32(v974+20); v263 = ld8(v974+24); v264 = (u64)ld_bytes(v974+25, 7) & 0xffffffffffffffull; v265 = ld8(v974+32); v266 = (u64)ld_bytes(v974+33, 7) & 0xffffffffffffffull; v267 = ld64(v974+40); v268 = (ptr)v1724; v269 = v1725; v270 = v1726; v271 = v1727; v272 = v1728; v273 = v1729; v274 = ld64(v974+96);
-L271:;
-	v275 = v257; v276 = v258; v277 = v259; v278 = v260; v279 = v261; v280 = v262; v281 = v263; v282 = v264; v283 = v265; v284 = v266; v285 = v267; v286 = v268; v287 = v269; v288 = v270; v289 = v271; v290 = v272; v291 = v273; v292 = v274;
-L272:;
-	clear(v973, 7);
-	v293 = 0; v294 = v288; v295 = v287; v296 = v286; v297 = v285; v298 = v284; v299 = v283; v300 = v282; v301 = v281; v302 = v277; v303 = v278; v304 = v279; v305 = v280; v306 = v276; v307 = v275; v308 = v289; v309 = v290; v310 = v291; v311 = v292; goto L274;
-L273:;
-	clear(v973, 7);
-	v293 = 0; v294 = 0; v295 = 0; v296 = (ptr)0; v297 = 0; v298 = 0; v299 = 0; v300 = 0; v301 = 38; v302 = (u8)((u64)(ptr)static_18 >> 8); v303 = (u8)((u64)(ptr)static_18 >> 16); v304 = (u8)((u64)(ptr)static_18 >> 24); v305 = (u32)((u64)(ptr)static_18 >> 32); v306 = (u64)(ptr)static_18; v307 = 2; v308 = (ptr)0; v309 = 0; v310 = 0; v311 = 0;
-L274:;
-	copy(v982, v973, 7);
-	u64 v1818 = (v300 << 8) | (u64)v301;
-	u64 v1819 = (v298 << 8) | (u64)v299;
-	if (!v293) { v589 = v242; v590 = v307; v591 = v306; v592 = v302; v593 = v303; v594 = v304; v595 = v305; v596 = v1818; v597 = v1819; v598 = v297; v599 = v296; v600 = v295; v601 = v294; v602 = v308; v603 = v309; v604 = v310; v605 = v311; goto L392; }
-	copy(v985, v982, 7);
-	if (v242 == 0) goto L275;
-	deallocate(v1721);
-L275:;
-	copy(v987, v985, 7);
-	st8(v986, v307);
-	copy(v986+1, v987, 7);
-	st8(v986+8, v306);
-	st8(v986+9, v302);
-	st8(v986+10, v303);
-	st8(v986+11, v304);
-	st32(v986+12, v305);
-	st64(v986+16, v1818);
-	st64(v986+24, v1819);
-	st64(v986+32, v297);
-	st64(v986+40, (u64)v296);
-	st64(v986+48, v295);
-	st64(v986+56, v294);
-	capcopy_run_blocks_write_section_ce79(v988, v5, v986);
-	u8 v1820 = ld8(v988+16);
-	if (ld8(v988) != 0) goto L384;
-	clear(v989, 126);
-	copy(v989+128, v986, 64);
-	copy(v990, v989, 192);
-	u32 v1821 = (u32)((u64)(ptr)static_18 >> 32);
-	v312 = 0;
-L276:;
-	clear(v972, 96);
-	std_io_buffered_BufWriter_flush_buf_9d90(v972, v5);
-	if (ld8(v972) != 0) goto L379;
-	u64 v1822 = ld64(v4+24);
-	u64 v1823 = ld64(v4+32);
-	if (v1822 < v1823) { v313 = v1823; v314 = v1822; goto L277; }
-	clear(v4+24, 16);
-	ptr v1824 = ldp(v4);
-	u64 v1825 = ld64(v4+8);
-	clear(v971, 96);
-	capcopy_run_uninterrupted_UninterruptedRead_read_f128(v971, v1824, v1825);
-	u64 v1826 = ld64(v971+8);
-	u64 v1827 = ld64(v971+16);
-	u64 v1828 = ld64(v971+24);
-	u64 v1829 = ld64(v971+32);
-	u64 v1830 = ld64(v971+40);
-	u64 v1831 = ld64(v971+48);
-	u64 v1832 = ld64(v971+56);
-	u64 v1833 = ld64(v971+64);
-	u64 v1834 = ld64(v971+72);
-	u64 v1835 = ld64(v971+80);
-	u64 v1836 = ld64(v971+88);
-	if (ld8(v971) != 0) goto L378;
-	st64(v4+32, v1826);
-	v313 = v1826; v314 = ld64(v4+24);
-L277:;
-	u64 v1837 = v313 - v314;
-	u8 v1838 = v1837 == 0;
-	if (v1838) { v518 = v1838; v519 = 0; v520 = 0; v521 = (ptr)0; v522 = 0; v523 = 0; v524 = 0; v525 = 0; v526 = 0; v527 = 0; v528 = 0; v529 = 0; v530 = 0; v531 = 0; goto L380; }
-	ptr v1839 = at(ldp(v4), v314);
-	clear(v969, 56);
-	clear(v970, 112);
-	v315 = v312; v316 = v1839; v317 = v1837;
-L278:;
-	u8 v1840 = ld32(v990+128) != 439041101;
-	if (v317 < 12) goto L307;
-	u32 v1841 = lu32(v316);
-	u32 v1842 = v1840 ? v1841 : (u32)__builtin_bswap32(v1841);
-	if (v1842 != 168627466) goto L281;
-	switch ((u32)__builtin_bswap32(lu32(v316+8))) {
-	case 439041101: goto L279;
-	case 1295788826: goto L280;
-	default: goto L307;
-	}
-L279:;
-	v318 = 0; v319 = (u32)__builtin_bswap32(lu32(v316+4)); goto L282;
-L280:;
-	v318 = 1; v319 = lu32(v316+4); goto L282;
-L281:;
-	u32 v1843 = lu32(v316+4);
-	v318 = v1840; v319 = v1840 ? v1843 : (u32)__builtin_bswap32(v1843);
-L282:;
-	if ((v319 < 12) | ((v319 & 3) != 0)) goto L307;
-	u64 v1844 = (u64)v319;
-	if (v317 < v1844) goto L307;
-	u64 v1845 = v1844 - 12;
-	ptr v1846 = at(v316+8, v1845);
-	u32 v1847 = lu32(v1846);
-	u64 v1848 = v317 - v1844;
-	if ((v318 == 0 ? (u32)__builtin_bswap32(v1847) : v1847) != v319) goto L307;
-	switch (v1842) {
-	case 168627466: v320 = 0; goto L291;
-	case 1: goto L283;
-	case 2: goto L284;
-	case 3: goto L285;
-	case 4: goto L286;
-	case 5: goto L287;
-	case 6: goto L288;
-	case 9: goto L289;
-	default: goto L290;
-	}
-L283:;
-	v320 = 1; goto L291;
-L284:;
-	v320 = 2; goto L291;
-L285:;
-	v320 = 3; goto L291;
-L286:;
-	v320 = 4; goto L291;
-L287:;
-	v320 = 5; goto L291;
-L288:;
-	v320 = 6; goto L291;
-L289:;
-	v320 = 7; goto L291;
-L290:;
-	v320 = ((u64)v1842 << 32) | 8;
-L291:;
-	st64(v968, v320);
-	st32(v968+8, v319);
-	st32(v968+12, 0);
-	st64(v968+16, 0);
-	stp(v968+24, v316+8);
-	st64(v968+32, v1845);
-	st64(v968+40, 0);
-	st32(v968+48, v319);
-	st8(v968+52, v318);
-	clear(v968+53, 3);
-	clear(v965, 104);
-	clear(v966, 40);
-	clear(v967, 40);
-	clear(v964, 104);
-	switch ((u8)v320) {
-	case 0: goto L292;
-	case 1: goto L293;
-	case 2: case 3: case 4: case 5: case 6: case 7: case 8: goto L301;
-	default: goto L306;
-	}
-L292:;
-	pcap_ng_pcapng_block_Block_new_section(v964, v316+8, v1845);
-	goto L294;
-L293:;
-	pcap_ng_pcapng_block_Block_new_interface(v964, v968);
-L294:;
-	u8 v1849 = ld8(v964+8);
-	u64 v1850 = ld64(v964+16);
-	u64 v1851 = ld64(v964+24);
-	u32 v1852 = ld32(v964+32);
-	u32 v1853 = ld32(v964+36);
-	u64 v1854 = ld64(v964+40);
-	ptr v1855 = ldp(v964+48);
-	if (ld8(v964) != 0) goto L299;
-	switch (v1849) {
-	case 0: goto L295;
-	case 1: goto L296;
-	case 2: goto L302;
-	default: goto L298;
-	}
-L295:;
-	st64(v966, v1850);
-	st64(v966+8, v1851);
-	st32(v966+16, v1852);
-	st32(v966+20, v1853);
-	st64(v966+24, v1854);
-	stp(v966+32, v1855);
-	pcap_ng_pcapng_state_InForce_begin_section(v965, v990+128, v966);
-	goto L297;
-L296:;
-	st64(v967, v1850);
-	st64(v967+8, v1851);
-	st32(v967+16, v1852);
-	st32(v967+20, v1853);
-	st64(v967+24, v1854);
-	stp(v967+32, v1855);
-	pcap_ng_pcapng_state_InForce_add_interface(v965, v990+128, v967);
-L297:;
-	if (ld8(v965) == 0) goto L303;
-	v321 = ld8(v965+8); v322 = ld32(v965+36); v323 = ld32(v965+32); v324 = ld64(v965+16); goto L300;
-L298:;
-	__builtin_trap();
-L299:;
-	v321 = v1849; v322 = v1853; v323 = v1852; v324 = v1850;
-L300:;
-	if (v321 == 5) { v325 = (ptr)0; v326 = 0; v327 = 0; v328 = 0; v329 = 0; v330 = 0; v331 = 0; v332 = 0; v333 = 0; v334 = 0; v335 = 0; v336 = 5; v337 = 0; goto L305; }
-	if ((v321 != 4) || ((v323 | v322) == 0)) { v338 = v315; v339 = v317; goto L308; }
-	deallocate((ptr)v324);
-	v338 = v315; v339 = v317; goto L308;
-L301:;
-L302:;
-L303:;
-	st64(v969, v320);
-	st64(v969+8, v1844);
-	st64(v969+16, 0);
-	stp(v969+24, v316+8);
-	st64(v969+32, v1845);
-	st64(v969+40, 0);
-	st32(v969+48, v319);
-	st8(v969+52, v318);
-	clear(v969+53, 3);
-	u64 v1856 = v315 + 1;
-	capcopy_run_blocks_KindLinesBlockLine_write_line_ce79(v970, v990, v5, v1856, v969);
-	if (ld8(v970) != 0) goto L304;
-	if (v315 < 4294967294u) { v315 = v1856; v316 = v1846+4; v317 = v1848; goto L278; }
-	v338 = v1856; v339 = v1848; goto L308;
-L304:;
-	v325 = ldp(v970+24); v326 = ld64(v970+32); v327 = ld64(v970+40); v328 = ld64(v970+48); v329 = ld64(v970+56); v330 = ld64(v970+64); v331 = ld64(v970+72); v332 = ld64(v970+80); v333 = ld64(v970+88); v334 = ld64(v970+96); v335 = ld64(v970+104); v336 = ld8(v970+8); v337 = ld8(v970+16);
-L305:;
-	v518 = 0; v519 = v336; v520 = v337; v521 = v325; v522 = v326; v523 = v327; v524 = v328; v525 = v329; v526 = v330; v527 = v331; v528 = v332; v529 = v333; v530 = v334; v531 = v335; goto L380;
-L306:;
-	__builtin_trap();
-L307:;
-	v338 = v315; v339 = v317;
-L308:;
-	u64 v1857 = ld64(v4+24);
-	u64 v1858 = v1837 - v339;
-	u64 v1859 = ld64(v4+32) - v1857;
-	st64(v4+24, (v1858 < v1859 ? v1858 : v1859) + v1857);
-	if (v312 < v338) { v487 = v338; goto L368; }
-	clear(v962, 56);
-	clear(v963, 112);
-	clear(v961+8, 24);
-	stp(v961, v941);
-	clear(v960, 56);
-	u8 v1860 = ld32(v990+128) != 439041101;
-	clear(v958, 3);
-	clear(v959, 3);
-	clear(v953, 3);
-	clear(v954, 3);
-	clear(v952, 3);
-	v340 = v941; v341 = 0; v342 = 0; v343 = 12;
-L309:;
-	clear(v951, 3);
-	u64 v1861 = v343 < 65536 ? v343 : 65536;
-	u64 v1862 = v1861 + v342;
-	if (v341 >= v1862) { v346 = v342; v347 = v340; v348 = v341; goto L313; }
-	u64 v1863 = v1862 - v341;
-	u64 v1864 = ld64(v961+16);
-	if (v1863 <= (v1864 - v341)) { v344 = v1864; v345 = v341; goto L311; }
-	u8 v1865 = std_alloc_vec_Vec_grow_amortized_56a3(v961, v1863);
-	if (!v1865) goto L310;
-	v344 = ld64(v961+16); v345 = ld64(v961+8); goto L311;
-L310:;
-	clear(v952, 3);
-	v408 = 0; v409 = 0; v410 = 0; v411 = 0; v412 = 5; v413 = 0; v414 = 0; v415 = 0; v416 = 0; v417 = 0; v418 = 0; v419 = 0; v420 = 0; goto L361;
-L311:;
-	u64 v1866 = v345 + v1863;
-	ptr v1867 = ldp(v961);
-	if (v345 >= v1866) goto L312;
-	clear(at(v1867, v345), v1863);
-L312:;
-	st64(v961+8, v1866);
-	st64(v961+16, v344);
-	v346 = ld64(v961+24); v347 = v1867; v348 = v1866;
-L313:;
-	clear(v949, 96);
-	std_io_buffered_BufReaderRead_read_e988(v949, v4, at(v347, v346), v1861);
-	u64 v1868 = ld64(v949+8);
-	u64 v1869 = ld64(v949+16);
-	u64 v1870 = ld64(v949+24);
-	u64 v1871 = ld64(v949+32);
-	u64 v1872 = ld64(v949+40);
-	u32 v1873 = ld32(v949+48);
-	u8 v1874 = ld8(v949+52);
-	u8 v1875 = ld8(v949);
-	copy(v950, v949+53, 3);
-	u64 v1876 = ld64(v949+56);
-	u64 v1877 = ld64(v949+64);
-	u64 v1878 = ld64(v949+72);
-	u64 v1879 = ld64(v949+80);
-	u64 v1880 = ld64(v949+88);
-	if (v1875 != 0) goto L360;
-	u64 v1881 = v1868 + v346;
-	st64(v961+24, v1881);
-	copy(v952, v951, 3);
-	if (v1868 != 0) goto L315;
-	if (v1881 != 0) goto L314;
-	v470 = 0; v471 = 0; v472 = 0; v473 = 0; v474 = 0; v475 = 1; v476 = 0; v477 = 0; v478 = 0; v479 = 0; v480 = 0; v481 = 0; v482 = 0; v483 = 0; v484 = 0; v485 = 0; v486 = 0; goto L365;
-L314:;
-	fill(v954, 46, 3);
-	v421 = 0x2e2e2e2e2e2e2e2eull; v422 = 0x2e2e2e2e2e2e2e2eull; v423 = 0x2e2e2e2e2e2e2e2eull; v424 = 0x2e2e2e2e2e2e2e2eull; v425 = 0x2e2e2e2e2e2e2e2eull; v426 = 774778414; v427 = 46; v428 = 0x2e2e2e2e2e2e2e2eull; v429 = 3; v430 = 37; v431 = 22; v432 = 0; v433 = 0; v434 = 0x6572747320656874ull; v435 = 0x6465646e65206d61ull; v436 = 0x2e2e796c72616520ull; v437 = 1; goto L362;
-L315:;
-	u64 v1882 = v343 - v1868;
-	if (v1882 != 0) { v340 = v347; v341 = v348; v342 = v1881; v343 = v1882; goto L309; }
-	u32 v1883 = lu32(v347);
-	u32 v1884 = v1860 ? v1883 : (u32)__builtin_bswap32(v1883);
-	if (v1884 != 168627466) goto L318;
-	switch ((u32)__builtin_bswap32(lu32(v347+8))) {
-	case 439041101: goto L316;
-	case 1295788826: goto L317;
-	default: v406 = (ptr)static_15; v407 = 40; goto L359;
-	}
-L316:;
-	v349 = 0; v350 = (u32)__builtin_bswap32(lu32(v347+4)); goto L319;
-L317:;
-	v349 = 1; v350 = lu32(v347+4); goto L319;
-L318:;
-	u32 v1885 = lu32(v347+4);
-	v349 = v1860; v350 = v1860 ? v1885 : (u32)__builtin_bswap32(v1885);
-L319:;
-	if ((v350 & 3) != 0) { v406 = (ptr)static_16; v407 = 29; goto L359; }
-	if (v350 < 12) { v406 = (ptr)static_17; v407 = 23; goto L359; }
-	u64 v1886 = (u64)v350 - 12;
-	copy(v958, v953, 3);
-	u8 v1887 = v1886 == 0;
-	if (!v1887) goto L320;
-	v358 = ldp(v961); goto L328;
-L320:;
-	v351 = ld64(v961+8); v352 = v1881; v353 = v1886;
-L321:;
-	u64 v1888 = v353 < 65536 ? v353 : 65536;
-	u64 v1889 = v1888 + v352;
-	if (v351 >= v1889) { v356 = v352; v357 = v351; goto L325; }
-	u64 v1890 = v1889 - v351;
-	u64 v1891 = ld64(v961+16);
-	if (v1890 <= (v1891 - v351)) { v354 = v1891; v355 = v351; goto L323; }
-	u8 v1892 = std_alloc_vec_Vec_grow_amortized_56a3(v961, v1890);
-	if (!v1892) goto L322;
-	v354 = ld64(v961+16); v355 = ld64(v961+8); goto L323;
-L322:;
-	clear(v957, 3);
-	v379 = 0; v380 = 0; v381 = 0; v382 = 0; v383 = 5; v384 = 0; v385 = 0; v386 = 0; v387 = 0; v388 = 0; v389 = 0; v390 = 0; v391 = 0; goto L357;
-L323:;
-	u64 v1893 = v355 + v1890;
-	if (v355 >= v1893) goto L324;
-	clear(at(ldp(v961), v355), v1890);
-L324:;
-	st64(v961+8, v1893);
-	st64(v961+16, v354);
-	v356 = ld64(v961+24); v357 = v1893;
-L325:;
-	ptr v1894 = ldp(v961);
-	clear(v955, 96);
-	std_io_buffered_BufReaderRead_read_e988(v955, v4, at(v1894, v356), v1888);
-	u64 v1895 = ld64(v955+8);
-	u64 v1896 = ld64(v955+16);
-	u64 v1897 = ld64(v955+24);
-	u64 v1898 = ld64(v955+32);
-	u64 v1899 = ld64(v955+40);
-	u32 v1900 = ld32(v955+48);
-	u8 v1901 = ld8(v955+52);
-	u8 v1902 = ld8(v955);
-	copy(v956, v955+53, 3);
-	u64 v1903 = ld64(v955+56);
-	u64 v1904 = ld64(v955+64);
-	u64 v1905 = ld64(v955+72);
-	u64 v1906 = ld64(v955+80);
-	u64 v1907 = ld64(v955+88);
-	if (v1902 != 0) goto L356;
-	u64 v1908 = v1895 + v356;
-	st64(v961+24, v1908);
-	clear(v957, 3);
-	if (v1895 != 0) goto L326;
-	if (v1908 == 0) goto L327;
-	fill(v959, 46, 3);
-	v392 = 0x2e2e2e2e2e2e2e2eull; v393 = 0x2e2e2e2e2e2e2e2eull; v394 = 0x2e2e2e2e2e2e2e2eull; v395 = 0x2e2e2e2e2e2e2e2eull; v396 = 0x2e2e2e2e2e2e2e2eull; v397 = 774778414; v398 = 46; v399 = 0x2e2e2e2e2e2e2e2eull; v400 = 1451267; v401 = 0; v402 = 0x6572747320656874ull; v403 = 0x6465646e65206d61ull; v404 = 0x2e2e796c72616520ull; v405 = 1; goto L358;
-L326:;
-	u64 v1909 = v353 - v1895;
-	if (v1909 != 0) { v351 = v357; v352 = v1908; v353 = v1909; goto L321; }
-L327:;
-	v358 = v1894;
-L328:;
-	u32 v1910 = lu32(at(v358+8, v1886));
-	if ((v349 == 0 ? (u32)__builtin_bswap32(v1910) : v1910) != v350) goto L355;
-	switch (v1884) {
-	case 168627466: v359 = 0; v360 = 0; goto L337;
-	case 1: goto L329;
-	case 2: goto L330;
-	case 3: goto L331;
-	case 4: goto L332;
-	case 5: goto L333;
-	case 6: goto L334;
-	case 9: goto L335;
-	default: goto L336;
-	}
-L329:;
-	v359 = 1; v360 = 0; goto L337;
-L330:;
-	v359 = 2; v360 = 0; goto L337;
-L331:;
-	v359 = 3; v360 = 0; goto L337;
-L332:;
-	v359 = 4; v360 = 0; goto L337;
-L333:;
-	v359 = 5; v360 = 0; goto L337;
-L334:;
-	v359 = 6; v360 = 0; goto L337;
-L335:;
-	v359 = 7; v360 = 0; goto L337;
-L336:;
-	v359 = 8; v360 = v1884;
-L337:;
-	if (v1887) { v361 = v941; goto L338; }
-	t_64_64 v1911 = allocate(v1886, 1);
-	if (!(v1911.f0 & 1)) { v470 = 0; v471 = 0; v472 = 0; v473 = 0; v474 = 0; v475 = 0; v476 = 5; v477 = 0; v478 = 0; v479 = 0; v480 = 0; v481 = 0; v482 = 0; v483 = 0; v484 = 0; v485 = 0; v486 = 0; goto L365; }
-	v361 = (ptr)v1911.f1;
-L338:;
-	if (((u64)v361 - (u64)(v358+8)) >= v1886) goto L340;
-	v362 = 0;
-L339:;
-	st8(at(v361, v362), ld8(at(v358+8, v362)));
-	u64 v1912 = v362 + 1;
-	if (v1912 == v1886) goto L341;
-	v362 = v1912; goto L339;
-L340:;
-	move(v361, v358+8, v1886);
-L341:;
-	st8(v960, v359);
-	st_bytes(v960+1, 0, 3);
-	st32(v960+4, v360);
-	st32(v960+8, v350);
-	st32(v960+12, 0);
-	st64(v960+16, 1);
-	stp(v960+24, v361);
-	st64(v960+32, v1886);
-	st64(v960+40, v1886);
-	st32(v960+48, v350);
-	st8(v960+52, v349);
-	clear(v960+53, 3);
-	clear(v946, 104);
-	clear(v945, 104);
-	u64 v1913 = (u64)v361;
-	u32 v1914 = (u32)v1886;
-	switch (v359) {
-	case 0: goto L342;
-	case 1: goto L343;
-	case 2: case 3: case 4: case 5: case 6: case 7: case 8: goto L351;
-	default: goto L354;
-	}
-L342:;
-	pcap_ng_pcapng_block_Block_new_section(v945, v361, v1886);
-	goto L344;
-L343:;
-	pcap_ng_pcapng_block_Block_new_interface(v945, v960);
-L344:;
-	u8 v1915 = ld8(v945+8);
-	u32 v1916 = ld32(v945+56);
-	u8 v1917 = ld8(v945+60);
-	u64 v1918 = ld64(v945+64);
-	u32 v1919 = ld32(v945+16);
-	u32 v1920 = ld32(v945+20);
-	u32 v1921 = ld32(v945+24);
-	u32 v1922 = ld32(v945+28);
-	u64 v1923 = ld64(v945+32);
-	u64 v1924 = ld64(v945+40);
-	u64 v1925 = ld64(v945+48);
-	u32 v1926 = (u32)ld_bytes(v945+61, 3) & 16777215;
-	u64 v1927 = ld64(v945+72);
-	u64 v1928 = ld64(v945+80);
-	u64 v1929 = ld64(v945+88);
-	u64 v1930 = ld64(v945+96);
-	if (ld8(v945) != 0) goto L349;
-	switch (v1915) {
-	case 0: goto L345;
-	case 1: goto L346;
-	case 2: goto L352;
-	default: goto L348;
-	}
-L345:;
-	st32(v947, v1919);
-	st32(v947+4, v1920);
-	st32(v947+8, v1921);
-	st32(v947+12, v1922);
-	st64(v947+16, v1923);
-	st64(v947+24, v1924);
-	st64(v947+32, v1925);
-	pcap_ng_pcapng_state_InForce_begin_section(v946, v990+128, v947);
-	goto L347;
-L346:;
-	st32(v948, v1919);
-	st32(v948+4, v1920);
-	st32(v948+8, v1921);
-	st32(v948+12, v1922);
-	st64(v948+16, v1923);
-	st64(v948+24, v1924);
-	st64(v948+32, v1925);
-	pcap_ng_pcapng_state_InForce_add_interface(v946, v990+128, v948);
-L347:;
-	if (ld8(v946) == 0) goto L353;
-	v363 = (u32)ld_bytes(v946+61, 3) & 16777215; v364 = ld64(v946+72); v365 = ld64(v946+80); v366 = ld64(v946+88); v367 = ld64(v946+96); v368 = ld8(v946+8); v369 = ld32(v946+16); v370 = ld32(v946+20); v371 = ld32(v946+24); v372 = ld32(v946+28); v373 = ld64(v946+32); v374 = ld64(v946+40); v375 = ld64(v946+48); v376 = ld32(v946+56); v377 = ld8(v946+60); v378 = ld64(v946+64); goto L350;
-L348:;
-	__builtin_trap();
-L349:;
-	v363 = v1926; v364 = v1927; v365 = v1928; v366 = v1929; v367 = v1930; v368 = v1915; v369 = v1919; v370 = v1920; v371 = v1921; v372 = v1922; v373 = v1923; v374 = v1924; v375 = v1925; v376 = v1916; v377 = v1917; v378 = v1918;
-L350:;
-	if (v1887) { v470 = v363; v471 = v364; v472 = v365; v473 = v366; v474 = v367; v475 = 0; v476 = v368; v477 = v369; v478 = v370; v479 = v371; v480 = v372; v481 = v373; v482 = v374; v483 = v375; v484 = v376; v485 = v377; v486 = v378; goto L365; }
-	deallocate(v361);
-	v470 = v363; v471 = v364; v472 = v365; v473 = v366; v474 = v367; v475 = 0; v476 = v368; v477 = v369; v478 = v370; v479 = v371; v480 = v372; v481 = v373; v482 = v374; v483 = v375; v484 = v376; v485 = v377; v486 = v378; goto L365;
-L351:;
-L352:;
-L353:;
-	v470 = 0; v471 = 0; v472 = 0; v473 = 0; v474 = 0; v475 = 1; v476 = 1; v477 = ld32(v960); v478 = v360; v479 = v350; v480 = 0; v481 = 1; v482 = v1913; v483 = v1886; v484 = v1914; v485 = 0; v486 = ld64(v960+48); goto L365;
-L354:;
-	__builtin_trap();
-L355:;
-	st8(v944, 38);
-	st_bytes(v944+1, 0, 7);
-	v470 = 0; v471 = 0; v472 = 0; v473 = 0; v474 = 0; v475 = 0; v476 = 2; v477 = (u64)(ptr)static_18; v478 = v1821; v479 = ld32(v944); v480 = 0; v481 = 0; v482 = 0; v483 = 0; v484 = 0; v485 = 0; v486 = 0; goto L365;
-L356:;
-	copy(v957, v956, 3);
-	v379 = v1904; v380 = v1905; v381 = v1906; v382 = v1907; v383 = 1; v384 = v1895; v385 = v1898; v386 = v1897; v387 = v1896; v388 = v1903; v389 = v1901; v390 = v1900; v391 = v1899;
-L357:;
-	copy(v959, v957, 3);
-	v392 = v379; v393 = v380; v394 = v381; v395 = v382; v396 = v391; v397 = v390; v398 = v389; v399 = v388; v400 = (u32)v384; v401 = (u32)(v384 >> 32); v402 = v387; v403 = v386; v404 = v385; v405 = v383;
-L358:;
-	v455 = v959; v456 = v393; v457 = v394; v458 = v395; v459 = v392; v460 = v396; v461 = v397; v462 = v398; v463 = v399; v464 = v401; v465 = v402; v466 = v403; v467 = v404; v468 = v400; v469 = v405; goto L364;
-L359:;
-	u64 v1931 = (u64)v406;
-	clear(v958, 3);
-	v438 = 0; v439 = 0; v440 = 0; v441 = 0; v442 = 0; v443 = 0; v444 = 0; v445 = 0; v446 = (u32)(v1931 >> 8); v447 = (u32)(v1931 >> 16); v448 = (u32)(v1931 >> 24); v449 = (u32)(v1931 >> 32); v450 = v407; v451 = 0; v452 = 0; v453 = (u32)v1931; v454 = 2; goto L363;
-L360:;
-	copy(v952, v950, 3);
-	v408 = v1880; v409 = v1879; v410 = v1878; v411 = v1877; v412 = 1; v413 = v1868; v414 = v1871; v415 = v1870; v416 = v1869; v417 = v1876; v418 = v1874; v419 = v1873; v420 = v1872;
-L361:;
-	copy(v954, v952, 3);
-	v421 = v411; v422 = v410; v423 = v409; v424 = v408; v425 = v420; v426 = v419; v427 = v418; v428 = v417; v429 = (u32)v413; v430 = (u32)(v413 >> 8); v431 = (u32)(v413 >> 16); v432 = (u32)(v413 >> 24); v433 = (u32)(v413 >> 32); v434 = v416; v435 = v415; v436 = v414; v437 = v412;
-L362:;
-	copy(v958, v954, 3);
-	v438 = v421; v439 = v422; v440 = v423; v441 = v424; v442 = v425; v443 = v426; v444 = v427; v445 = v428; v446 = v430; v447 = v431; v448 = v432; v449 = v433; v450 = v434; v451 = v435; v452 = v436; v453 = v429; v454 = v437;
-L363:;
-	v455 = v958; v456 = v439; v457 = v440; v458 = v441; v459 = v438; v460 = v442; v461 = v443; v462 = v444; v463 = v445; v464 = v449; v465 = v450; v466 = v451; v467 = v452; v468 = (v453 & 255) | (((v446 << 8) & 65280) | ((v447 << 16) & 16711680) | (v448 << 24)); v469 = v454;
-L364:;
-	v470 = (u32)ld_bytes(v455, 3) & 16777215; v471 = v459; v472 = v456; v473 = v457; v474 = v458; v475 = 0; v476 = v469; v477 = v468; v478 = v464; v479 = (u32)v465; v480 = (u32)(v465 >> 32); v481 = v466; v482 = v467; v483 = v460; v484 = v461; v485 = v462; v486 = v463;
-L365:;
-	if (ld64(v961+16) == 0) goto L366;
-	deallocate(ldp(v961));
-L366:;
-	if (!v475) goto L371;
-	if (v476 != 1) goto L370;
-	u64 v1932 = ((u64)v485 << 32) | (u64)v484 | ((u64)v470 << 40);
-	st32(v962, v477);
-	st32(v962+4, v478);
-	st64(v962+8, ((u64)v480 << 32) | (u64)v479);
-	st64(v962+16, v481);
-	st64(v962+24, v482);
-	st64(v962+32, v483);
-	st64(v962+40, v1932);
-	st64(v962+48, v486);
-	u64 v1933 = v338 + 1;
-	capcopy_run_blocks_KindLinesBlockLine_write_line_ce79(v963, v990, v5, v1933, v962);
-	u8 v1934 = ld8(v963+16);
-	u8 v1935 = (u8)v481;
-	if (ld8(v963) != 0) goto L369;
-	if ((v1935 != 1) || (v1932 == 0)) goto L367;
-	deallocate((ptr)v482);
-L367:;
-	v487 = v1933;
-L368:;
-	if (v487 < 4294967295u) { v312 = v487; goto L276; }
-	v518 = v1838; v519 = 2; v520 = 0; v521 = (ptr)0; v522 = 0; v523 = 0; v524 = 0; v525 = 0; v526 = 0; v527 = 0; v528 = 0; v529 = 0; v530 = 0; v531 = 0; goto L380;
-L369:;
-	u8 v1936 = ld8(v963+8);
-	u64 v1937 = ld64(v963+24);
-	u64 v1938 = ld64(v963+32);
-	u64 v1939 = ld64(v963+40);
-	u64 v1940 = ld64(v963+48);
-	u64 v1941 = ld64(v963+56);
-	u64 v1942 = ld64(v963+64);
-	u64 v1943 = ld64(v963+72);
-	u64 v1944 = ld64(v963+80);
-	u64 v1945 = ld64(v963+88);
-	u64 v1946 = ld64(v963+96);
-	u64 v1947 = ld64(v963+104);
-	if ((v1935 != 1) || (v1932 == 0)) { v505 = v1936; v506 = v1934; v507 = v1937; v508 = v1938; v509 = v1939; v510 = v1940; v511 = v1941; v512 = v1942; v513 = v1943; v514 = v1944; v515 = v1945; v516 = v1946; v517 = v1947; goto L376; }
-	deallocate((ptr)v482);
-	v505 = v1936; v506 = v1934; v507 = v1937; v508 = v1938; v509 = v1939; v510 = v1940; v511 = v1941; v512 = v1942; v513 = v1943; v514 = v1944; v515 = v1945; v516 = v1946; v517 = v1947; goto L376;
-L370:;
-	v518 = 1; v519 = 0; v520 = 0; v521 = (ptr)0; v522 = 0; v523 = 0; v524 = 0; v525 = 0; v526 = 0; v527 = 0; v528 = 0; v529 = 0; v530 = 0; v531 = 0; goto L380;
-L371:;
-	u64 v1948 = ((u64)v480 << 32) | (u64)v479;
-	u64 v1949 = ((u64)v485 << 32) | (u64)v484 | ((u64)v470 << 40);
-	u8 v1950 = (u8)v477;
-	u8 v1951 = (u8)(v477 >> 8);
-	u8 v1952 = (u8)(v477 >> 16);
-	u8 v1953 = (u8)(v477 >> 24);
-	switch (v476) {
-	case 0: goto L372;
-	case 1: goto L373;
-	case 5: v488 = 0; v489 = 0; v490 = 0; v491 = 0; v492 = 0; v493 = 0; v494 = 0; v495 = 0; v496 = 0; v497 = 0; v498 = 0; v499 = 0; v500 = 0; v501 = 0; v502 = 0; v503 = v476; v504 = 0; goto L375;
-	case 2: case 3: case 4: case 6: goto L374;
-	default: goto L377;
-	}
-L372:;
-	v488 = 3; v489 = 37; v490 = 23; v491 = 0; v492 = 0; v493 = 0x7470616320656874ull; v494 = 0x65646e6520657275ull; v495 = 0x2e796c7261652064ull; v496 = 0x2e2e2e2e2e2e2e2eull; v497 = 0x2e2e2e2e2e2e2e2eull; v498 = 0x2e2e2e2e2e2e2e2eull; v499 = 0x2e2e2e2e2e2e2e2eull; v500 = 0x2e2e2e2e2e2e2e2eull; v501 = 0x2e2e2e2e2e2e2e2eull; v502 = 0x2e2e2e2e2e2e2e2eull; v503 = 4; v504 = 1; goto L375;
-L373:;
-	v488 = v1950; v489 = v1951; v490 = v1952; v491 = v1953; v492 = v478; v493 = v1948; v494 = v481; v495 = v482; v496 = v483; v497 = v1949; v498 = v486; v499 = v471; v500 = v472; v501 = v473; v502 = v474; v503 = 4; v504 = v476; goto L375;
-L374:;
-	v488 = v1950; v489 = v1951; v490 = v1952; v491 = v1953; v492 = v478; v493 = v1948; v494 = v481; v495 = v482; v496 = v483; v497 = v1949; v498 = v486; v499 = v471; v500 = v472; v501 = v473; v502 = v474; v503 = 1; v504 = v476;
-L375:;
-	v505 = v503; v506 = v504; v507 = ((u64)v489 << 8) | (u64)v488 | ((u64)v490 << 16) | ((u64)v491 << 24) | ((u64)v492 << 32); v508 = v493; v509 = v494; v510 = v495; v511 = v496; v512 = v497; v513 = v498; v514 = v499; v515 = v500; v516 = v501; v517 = v502;
-L376:;
-	v518 = 0; v519 = v505; v520 = v506; v521 = (ptr)v507; v522 = v508; v523 = v509; v524 = v510; v525 = v511; v526 = v512; v527 = v513; v528 = v514; v529 = v515; v530 = v516; v531 = v517; goto L380;
-L377:;
-	__builtin_trap();
-L378:;
-	v518 = 0; v519 = 4; v520 = 1; v521 = (ptr)v1826; v522 = v1827; v523 = v1828; v524 = v1829; v525 = v1830; v526 = v1831; v527 = v1832; v528 = v1833; v529 = v1834; v530 = v1835; v531 = v1836; goto L380;
-L379:;
-	v518 = 0; v519 = 4; v520 = 1; v521 = ldp(v972+8); v522 = ld64(v972+16); v523 = ld64(v972+24); v524 = ld64(v972+32); v525 = ld64(v972+40); v526 = ld64(v972+48); v527 = ld64(v972+56); v528 = ld64(v972+64); v529 = ld64(v972+72); v530 = ld64(v972+80); v531 = ld64(v972+88);
-L380:;
-	ptr v1954 = ldp(v990+168);
-	u64 v1955 = ld64(v990+176);
-	u64 v1956 = ld64(v990+184);
-	copy(v991, v990+144, 24);
-	std_alloc_vec_Vec_drop_0f0e(v991);
-	if (v1955 == 0) goto L382;
-	v532 = 0;
-L381:;
-	copy(v943, at(v1954, v532 * 40)+16, 24);
-	std_alloc_vec_Vec_drop_37c7(v943);
-	u64 v1957 = v532 + 1;
-	if (v1957 != v1955) { v532 = v1957; goto L381; }
-L382:;
-	if (v1956 == 0) goto L383;
-	deallocate(v1954);
-L383:;
-	if (v518) { v928 = 0; v929 = 0; v930 = 0; v931 = 0; v932 = 0; v933 = 0; v934 = 0; v935 = 0; v936 = 0; v937 = 0; v938 = 0; v939 = 0; v940 = 0; goto L518; }
-	v636 = v519; v637 = v531; v638 = v530; v639 = v529; v640 = v528; v641 = v527; v642 = v526; v643 = v525; v644 = v524; v645 = v523; v646 = v522; v647 = v521; v648 = v520; goto L399;
-L384:;
-	u8 v1958 = ld8(v988+8);
-	ptr v1959 = ldp(v988+24);
-	u64 v1960 = ld64(v988+32);
-	u64 v1961 = ld64(v988+40);
-	u64 v1962 = ld64(v988+48);
-	u64 v1963 = ld64(v988+56);
-	u64 v1964 = ld64(v988+64);
-	u64 v1965 = ld64(v988+72);
-	u64 v1966 = ld64(v988+80);
-	u64 v1967 = ld64(v988+88);
-	u64 v1968 = ld64(v988+96);
-	u64 v1969 = ld64(v988+104);
-	std_alloc_vec_Vec_drop_0f0e(v986+16);
-	if (v295 == 0) goto L386;
-	v533 = 0;
-L385:;
-	copy(v942, at(v296, v533 * 40)+16, 24);
-	std_alloc_vec_Vec_drop_37c7(v942);
-	u64 v1970 = v533 + 1;
-	if (v1970 != v295) { v533 = v1970; goto L385; }
-L386:;
-	if (v294 == 0) { v623 = v1958; v624 = v1820; v625 = v1959; v626 = v1960; v627 = v1961; v628 = v1962; v629 = v1963; v630 = v1964; v631 = v1965; v632 = v1966; v633 = v1967; v634 = v1968; v635 = v1969; goto L398; }
-	deallocate(v296);
-	v623 = v1958; v624 = v1820; v625 = v1959; v626 = v1960; v627 = v1961; v628 = v1962; v629 = v1963; v630 = v1964; v631 = v1965; v632 = v1966; v633 = v1967; v634 = v1968; v635 = v1969; goto L398;
-L387:;
-	v576 = v543; v577 = v542; v578 = v541; v579 = v540; v580 = v534; v581 = v535; v582 = v536; v583 = (u32)(v544 >> 32); v584 = v537; v585 = v538; v586 = v539; v587 = (u32)v544; v588 = v545; goto L391;
-L388:;
-	u64 v1971 = (u64)v546;
-	v560 = (ptr)0; v561 = 0; v562 = 0; v563 = 0; v564 = (ptr)0; v565 = 0; v566 = 0; v567 = (u32)(v1971 >> 8); v568 = (u32)(v1971 >> 16); v569 = (u32)(v1971 >> 24); v570 = (u32)(v1971 >> 32); v571 = v547; v572 = 0; v573 = 0; v574 = (u32)v1971; v575 = 2; goto L390;
-L389:;
-	v560 = v548; v561 = v549; v562 = v550; v563 = v551; v564 = v552; v565 = v553; v566 = v554; v567 = (u32)(v558 >> 8); v568 = (u32)(v558 >> 16); v569 = (u32)(v558 >> 24); v570 = (u32)(v558 >> 32); v571 = v555; v572 = v556; v573 = v557; v574 = (u32)v558; v575 = v559;
-L390:;
-	v576 = v560; v577 = v561; v578 = v562; v579 = v563; v580 = v564; v581 = v565; v582 = v566; v583 = v570; v584 = v571; v585 = v572; v586 = v573; v587 = (v574 & 255) | (((v567 << 8) & 65280) | ((v568 << 16) & 16711680) | (v569 << 24)); v588 = v575;
-L391:;
-	v589 = ld64(v984+16); v590 = v588; v591 = (u8)v587; v592 = (u8)(v587 >> 8); v593 = (u8)(v587 >> 16); v594 = (u8)(v587 >> 24); v595 = v583; v596 = v584; v597 = v585; v598 = v586; v599 = v580; v600 = v581; v601 = v582; v602 = v576; v603 = v577; v604 = v578; v605 = v579;
-L392:;
-	if (v589 == 0) goto L393;
-	deallocate(ldp(v984));
-L393:;
-	u64 v1972 = (u64)v599;
-	u64 v1973 = (u64)v602;
-	switch (v590) {
-	case 0: goto L394;
-	case 1: goto L395;
-	case 5: v606 = 0; v607 = 0; v608 = 0; v609 = 0; v610 = 0; v611 = 0; v612 = 0; v613 = 0; v614 = 0; v615 = 0; v616 = 0; v617 = 0; v618 = 0; v619 = 0; v620 = 0; v621 = v590; v622 = 0; goto L397;
-	case 2: case 3: case 4: case 6: goto L396;
-	default: goto L400;
-	}
-L394:;
-	v606 = 3; v607 = 37; v608 = 23; v609 = 0; v610 = 0; v611 = 0x7470616320656874ull; v612 = 0x65646e6520657275ull; v613 = 0x2e796c7261652064ull; v614 = 0x2e2e2e2e2e2e2e2eull; v615 = 0x2e2e2e2e2e2e2e2eull; v616 = 0x2e2e2e2e2e2e2e2eull; v617 = 0x2e2e2e2e2e2e2e2eull; v618 = 0x2e2e2e2e2e2e2e2eull; v619 = 0x2e2e2e2e2e2e2e2eull; v620 = 0x2e2e2e2e2e2e2e2eull; v621 = 4; v622 = 1; goto L397;
-L395:;
-	v606 = v591; v607 = v592; v608 = v593; v609 = v594; v610 = v595; v611 = v596; v612 = v597; v613 = v598; v614 = v1972; v615 = v600; v616 = v601; v617 = v1973; v618 = v603; v619 = v604; v620 = v605; v621 = 4; v622 = v590; goto L397;
-L396:;
-	v606 = v591; v607 = v592; v608 = v593; v609 = v594; v610 = v595; v611 = v596; v612 = v597; v613 = v598; v614 = v1972; v615 = v600; v616 = v601; v617 = v1973; v618 = v603; v619 = v604; v620 = v605; v621 = 1; v622 = v590;
-L397:;
-	ptr v1974 = (ptr)(((u64)v607 << 8) | (u64)v606 | ((u64)v608 << 16) | ((u64)v609 << 24) | ((u64)v610 << 32));
-	v623 = v621; v624 = v622; v625 = v1974; v626 = v611; v627 = v612; v628 = v613; v629 = v614; v630 = v615; v631 = v616; v632 = v617; v633 = v618; v634 = v619; v635 = v620;
-L398:;
-	v636 = v623; v637 = v635; v638 = v634; v639 = v633; v640 = v632; v641 = v631; v642 = v630; v643 = v629; v644 = v628; v645 = v627; v646 = v626; v647 = v625; v648 = v624;
-L399:;
-	v928 = (u64)v647; v929 = v646; v930 = v645; v931 = v644; v932 = v643; v933 = v642; v934 = v641; v935 = v640; v936 = v639; v937 = v638; v938 = v637; v939 = v636; v940 = v648; goto L518;
-L400:;
-	__builtin_trap();
-L401:;
-	if (v3 == 2) { v928 = 0; v929 = 0; v930 = 0; v931 = 0; v932 = 0; v933 = 0; v934 = 0; v935 = 0; v936 = 0; v937 = 0; v938 = 0; v939 = 3; v940 = 0; goto L518; }
-	if (lu64(v2+8) != 4) { v928 = 0; v929 = 0; v930 = 0; v931 = 0; v932 = 0; v933 = 0; v934 = 0; v935 = 0; v936 = 0; v937 = 0; v938 = 0; v939 = 3; v940 = 0; goto L518; }
-	u64 v1975 = (u64)lu32(lup(v2));
-	if (((v1975 << 32) | v1975) != 0x79706f6379706f63ull) { v928 = 0; v929 = 0; v930 = 0; v931 = 0; v932 = 0; v933 = 0; v934 = 0; v935 = 0; v936 = 0; v937 = 0; v938 = 0; v939 = 3; v940 = 0; goto L518; }
-	ptr v1976 = lup(v2+16);
-	switch (lu64(v2+24)) {
-	case 3: goto L402;
-	case 6: goto L405;
-	default: v928 = 0; v929 = 0; v930 = 0; v931 = 0; v932 = 0; v933 = 0; v934 = 0; v935 = 0; v936 = 0; v937 = 0; v938 = 0; v939 = 3; v940 = 0; goto L518;
-	}
-L402:;
-	if ((((u64)ld8(v1976+1) << 8) | ((u64)ld8(v1976) << 16) | (u64)ld8(v1976+2)) != 6449511) { v928 = 0; v929 = 0; v930 = 0; v931 = 0; v932 = 0; v933 = 0; v934 = 0; v935 = 0; v936 = 0; v937 = 0; v938 = 0; v939 = 3; v940 = 0; goto L518; }
-	ptr v1977 = lup(v2+32);
-	switch (lu64(v2+40)) {
-	case 5: goto L403;
-	case 4: goto L404;
-	default: v928 = 0; v929 = 0; v930 = 0; v931 = 0; v932 = 0; v933 = 0; v934 = 0; v935 = 0; v936 = 0; v937 = 0; v938 = 0; v939 = 3; v940 = 0; goto L518;
-	}
-L403:;
-	if ((((u64)lu32(v1977+1) << 32) | (u64)lu32(v1977)) == 0x6f7263697263696dull) { v649 = 1; v650 = 1; goto L407; }
-	v928 = 0; v929 = 0; v930 = 0; v931 = 0; v932 = 0; v933 = 0; v934 = 0; v935 = 0; v936 = 0; v937 = 0; v938 = 0; v939 = 3; v940 = 0; goto L518;
-L404:;
-	u64 v1978 = (u64)lu32(v1977);
-	if (((v1978 << 32) | v1978) == 0x6f6e616e6f6e616eull) { v649 = 1; v650 = 0; goto L407; }
-	v928 = 0; v929 = 0; v930 = 0; v931 = 0; v932 = 0; v933 = 0; v934 = 0; v935 = 0; v936 = 0; v937 = 0; v938 = 0; v939 = 3; v940 = 0; goto L518;
-L405:;
-	if ((((u64)lu32(v1976+2) << 32) | (u64)lu32(v1976)) != 0x656c74747474696cull) { v928 = 0; v929 = 0; v930 = 0; v931 = 0; v932 = 0; v933 = 0; v934 = 0; v935 = 0; v936 = 0; v937 = 0; v938 = 0; v939 = 3; v940 = 0; goto L518; }
-	ptr v1979 = lup(v2+32);
-	u64 v1980 = lu64(v2+40);
-	if (v1980 != 5) goto L406;
-	if ((((u64)lu32(v1979+1) << 32) | (u64)lu32(v1979)) == 0x6f7263697263696dull) { v649 = 0; v650 = 1; goto L407; }
-L406:;
-	u8 v1981 = core_lang_str_eq(v1979, v1980, (ptr)static_5, 4);
-	if (!v1981) { v928 = 0; v929 = 0; v930 = 0; v931 = 0; v932 = 0; v933 = 0; v934 = 0; v935 = 0; v936 = 0; v937 = 0; v938 = 0; v939 = 3; v940 = 0; goto L518; }
-	v649 = 0; v650 = 0;
-L407:;
-	clear(v1041, 56);
-	clear(v1042, 16);
-	stp(v1043, v941);
-	clear(v1043+8, 24);
-	clear(v1040, 104);
-	pcap_classic_pcap_header_read_header_67f8(v1040, v4, v1042+8);
-	u32 v1982 = ld32(v1040+4);
-	u8 v1983 = ld8(v1040+8);
-	if (ld8(v1040) != 0) goto L510;
-	ptr v1984 = ldp(v1040+16);
-	u64 v1985 = ld64(v1040+24);
-	u32 v1986 = (u32)ld_bytes(v1040+9, 3) & 16777215;
-	st32(v1039, ld32(v1040+12));
-	sup(v1039+4, v1984);
-	u32 v1987 = v1064 ? v1982 : (v649 ? (v650 ? 2712847316u : 2712812621u) : (v650 ? 3569595041u : 1295823521u));
-	u32 v1988 = (v1986 << 8) | (u32)v1983;
-	u64 v1989 = (u64)v1988 << 32;
-	u64 v1990 = ld64(v1039);
-	u32 v1991 = (u32)((u64)v1984 >> 32);
-	u8 v1992 = (u8)v1985;
-	u32 v1993 = (u32)(v1985 >> 32);
-	u32 v1994 = (u32)((v1985 >> 8) & 16777215);
-	u32 v1995 = (u32)__builtin_bswap32(v1987);
-	switch (v1987) {
-	case 2712847316u: case 2712812621u: goto L408;
-	default: goto L415;
-	}
-L408:;
-	u32 v1996 = core_convert_AnyInto_into_d3a8(v1992, v1993);
-	st32(v1037, v1995);
-	st16(v1037+4, (u16)__builtin_bswap16((u16)v1988));
-	st16(v1037+6, (u16)__builtin_bswap16((u16)(v1986 >> 8)));
-	st32(v1037+8, (u32)__builtin_bswap32((u32)v1990));
-	st32(v1037+12, (u32)__builtin_bswap32((u32)(v1990 >> 32)));
-	st32(v1037+16, (u32)__builtin_bswap32(v1991));
-	st32(v1037+20, (u32)__builtin_bswap32(v1996));
-	v651 = v1037; v652 = 24;
-L409:;
-	clear(v1036, 96);
-	u64 v1997 = ld64(v5+16);
-	u64 v1998 = ld64(v5+8);
-	if (v652 >= (v1997 - v1998)) goto L413;
-	u64 v1999 = v1998 + v652;
-	ptr v2000 = ldp(v5);
-	ptr v2001 = at(v2000, v1998);
-	if (((u64)v2001 - (u64)v651) >= v652) goto L411;
-	v653 = 0;
-L410:;
-	st8(at(v2001, v653), ld8(at(v651, v653)));
-	u64 v2002 = v653 + 1;
-	if (v2002 == v652) goto L412;
-	v653 = v2002; goto L410;
-L411:;
-	move(v2001, v651, v652);
-L412:;
-	stp(v5, v2000);
-	st64(v5+8, v1999);
-	st64(v5+16, v1997);
-	v654 = v652; goto L414;
-L413:;
-	std_io_buffered_BufWriter_write_cold_9d90(v1036, v5, v651, v652);
-	u64 v2003 = ld64(v1036+8);
-	if (ld8(v1036) != 0) { v864 = (u32)ld_bytes(v1036+45, 3) & 16777215; v865 = ld32(v1036+52); v866 = ld64(v1036+56); v867 = ld64(v1036+64); v868 = ld64(v1036+72); v869 = ld64(v1036+80); v870 = ld64(v1036+88); v871 = ld32(v1036+48); v872 = ld8(v1036+44); v873 = ld32(v1036+40); v874 = v2003; v875 = ld64(v1036+16); v876 = ld64(v1036+24); v877 = ld64(v1036+32); goto L509; }
-	if (v2003 == 0) { v864 = 3026478; v865 = 774778414; v866 = 0x2e2e2e2e2e2e2e2eull; v867 = 0x2e2e2e2e2e2e2e2eull; v868 = 0x2e2e2e2e2e2e2e2eull; v869 = 0x2e2e2e2e2e2e2e2eull; v870 = 0x2e2e2e2e2e2e2e2eull; v871 = 774778414; v872 = 46; v873 = 774778414; v874 = 1513219; v875 = 0x7469727720656874ull; v876 = 0x206b6f6f74207265ull; v877 = 0x2e676e6968746f6eull; goto L509; }
-	v654 = v2003;
-L414:;
-	u64 v2004 = v652 - v654;
-	if (v2004 == 0) goto L422;
-	v651 = at(v651, v654); v652 = v2004; goto L409;
-L415:;
-	u32 v2005 = core_convert_AnyInto_into_d3a8(v1992, v1993);
-	st32(v1038, v1995);
-	st32(v1038+4, v1988);
-	su64(v1038+8, v1990);
-	st32(v1038+16, v1991);
-	st32(v1038+20, v2005);
-	v655 = v1038; v656 = 24;
-L416:;
-	clear(v1035, 96);
-	u64 v2006 = ld64(v5+16);
-	u64 v2007 = ld64(v5+8);
-	if (v656 >= (v2006 - v2007)) goto L420;
-	u64 v2008 = v2007 + v656;
-	ptr v2009 = ldp(v5);
-	ptr v2010 = at(v2009, v2007);
-	if (((u64)v2010 - (u64)v655) >= v656) goto L418;
-	v657 = 0;
-L417:;
-	st8(at(v2010, v657), ld8(at(v655, v657)));
-	u64 v2011 = v657 + 1;
-	if (v2011 == v656) goto L419;
-	v657 = v2011; goto L417;
-L418:;
-	move(v2010, v655, v656);
-L419:;
-	stp(v5, v2009);
-	st64(v5+8, v2008);
-	st64(v5+16, v2006);
-	v658 = v656; goto L421;
-L420:;
-	std_io_buffered_BufWriter_write_cold_9d90(v1035, v5, v655, v656);
-	u64 v2012 = ld64(v1035+8);
-	if (ld8(v1035) != 0) { v864 = (u32)ld_bytes(v1035+45, 3) & 16777215; v865 = ld32(v1035+52); v866 = ld64(v1035+56); v867 = ld64(v1035+64); v868 = ld64(v1035+72); v869 = ld64(v1035+80); v870 = ld64(v1035+88); v871 = ld32(v1035+48); v872 = ld8(v1035+44); v873 = ld32(v1035+40); v874 = v2012; v875 = ld64(v1035+16); v876 = ld64(v1035+24); v877 = ld64(v1035+32); goto L509; }
-	if (v2012 == 0) { v864 = 3026478; v865 = 774778414; v866 = 0x2e2e2e2e2e2e2e2eull; v867 = 0x2e2e2e2e2e2e2e2eull; v868 = 0x2e2e2e2e2e2e2e2eull; v869 = 0x2e2e2e2e2e2e2e2eull; v870 = 0x2e2e2e2e2e2e2e2eull; v871 = 774778414; v872 = 46; v873 = 774778414; v874 = 1513219; v875 = 0x7469727720656874ull; v876 = 0x206b6f6f74207265ull; v877 = 0x2e676e6968746f6eull; goto L509; }
-	v658 = v2012;
-L421:;
-	u64 v2013 = v656 - v658;
-	if (v2013 != 0) { v655 = at(v655, v658); v656 = v2013; goto L416; }
-L422:;
-	copy(v1044, v1040+9, 7);
-	st32(v1041, v1982);
-	st8(v1041+4, v1983);
-	copy(v1041+5, v1044, 7);
-	sup(v1041+12, v1984);
-	su64(v1041+20, v1985);
-	su64(v1041+28, v1989 | (u64)v1987);
-	su64(v1041+36, v1990);
-	st32(v1041+44, v1991);
-	st8(v1041+48, v1992);
-	st_bytes(v1041+49, v1994, 3);
-	st32(v1041+52, v1993);
-	clear(v1034, 3);
-	u64 v2014 = ld64(v1042);
-	if (v2014 >= 4294967295u) { v847 = 0; v848 = 0; v849 = 0; v850 = 0; v851 = 0; v852 = 0; v853 = 0; v854 = 0; v855 = 0; v856 = 0; v857 = 0; v858 = 0; v859 = 0; v860 = 0; v861 = 0; v862 = 0; v863 = 0; goto L506; }
-	v659 = 0; v660 = 0; v661 = v1982; v662 = v2014;
-L423:;
-	clear(v1010, 56);
-	clear(v1011, 3);
-	u64 v2015 = ld64(v4+24);
-	u64 v2016 = ld64(v4+32);
-	if (v2015 < v2016) { v663 = v2016; v664 = v2015; goto L424; }
-	clear(v4+24, 16);
-	ptr v2017 = ldp(v4);
-	u64 v2018 = ld64(v4+8);
-	clear(v1007, 96);
-	capcopy_run_uninterrupted_UninterruptedRead_read_f128(v1007, v2017, v2018);
-	u64 v2019 = ld64(v1007+8);
-	u64 v2020 = ld64(v1007+16);
-	u64 v2021 = ld64(v1007+24);
-	u64 v2022 = ld64(v1007+32);
-	u8 v2023 = ld8(v1007);
-	copy(v1008, v1007+40, 56);
-	if (v2023 != 0) goto L503;
-	st64(v4+32, v2019);
-	v663 = v2019; v664 = ld64(v4+24);
-L424:;
-	ptr v2024 = at(ldp(v4), v664);
-	u64 v2025 = v663 - v664;
-	clear(v1009, 56);
-	if (v2025 != 0) goto L425;
-	v847 = v659; v848 = 0; v849 = 0; v850 = 0; v851 = 0; v852 = 0; v853 = 0; v854 = 0; v855 = 0; v856 = 0; v857 = 0; v858 = 0; v859 = 0; v860 = 0; v861 = 0; v862 = 0; v863 = 0; goto L506;
-L425:;
-	u64 v2026 = v662 ^ 4294967295u;
-	clear(v1006, 56);
-	clear(v1005, 56);
-	if (v661 != v1987) goto L436;
-	clear(v1001, 24);
-	clear(v1003, 24);
-	clear(v1004, 24);
-	pcap_classic_run_stretch_whole_packets(v1001, v1041, v2024, v2025, v2026);
-	u64 v2027 = ld64(v1001);
-	u64 v2028 = ld64(v1001+16);
-	u64 v2029 = v2025 - v2028;
-	if (v2029 == 0) goto L432;
-	v665 = v2024; v666 = v2029;
-L426:;
-	clear(v999, 96);
-	u64 v2030 = ld64(v5+16);
-	u64 v2031 = ld64(v5+8);
-	if (v666 >= (v2030 - v2031)) goto L430;
-	u64 v2032 = v2031 + v666;
-	ptr v2033 = ldp(v5);
-	clear(v5+8, 16);
-	ptr v2034 = at(v2033, v2031);
-	if (((u64)v2034 - (u64)v665) >= v666) goto L428;
-	v667 = 0;
-L427:;
-	st8(at(v2034, v667), ld8(at(v665, v667)));
-	u64 v2035 = v667 + 1;
-	if (v2035 == v666) goto L429;
-	v667 = v2035; goto L427;
-L428:;
-	move(v2034, v665, v666);
-L429:;
-	stp(v5, v2033);
-	st64(v5+8, v2032);
-	st64(v5+16, v2030);
-	clear(v1000, 56);
-	v668 = v666; goto L431;
-L430:;
-	std_io_buffered_BufWriter_write_cold_9d90(v999, v5, v665, v666);
-	u64 v2036 = ld64(v999+8);
-	u64 v2037 = ld64(v999+16);
-	u64 v2038 = ld64(v999+24);
-	u64 v2039 = ld64(v999+32);
-	u8 v2040 = ld8(v999);
-	copy(v1000, v999+40, 56);
-	if (v2040 != 0) goto L433;
-	if (v2036 != 0) { v668 = v2036; goto L431; }
-	st8(v1042+9, 1);
-	fill(v1002, 46, 56);
-	v669 = 1513219; v670 = 0x7469727720656874ull; v671 = 0x206b6f6f74207265ull; v672 = 0x2e676e6968746f6eull; goto L434;
-L431:;
-	u64 v2041 = v666 - v668;
-	if (v2041 != 0) { v665 = at(v665, v668); v666 = v2041; goto L426; }
-L432:;
-	clear(v1002, 56);
-	v673 = 0; v674 = 0; v675 = 0; v676 = 0; v677 = v2028; v678 = v2027; v679 = 0; goto L435;
-L433:;
-	st8(v1042+9, 1);
-	copy(v1002, v1000, 56);
-	v669 = v2036; v670 = v2037; v671 = v2038; v672 = v2039;
-L434:;
-	u64 v2042 = v2029 - v666;
-	pcap_classic_run_stretch_whole_packets(v1003, v1041, v2024, v2042, v2026);
-	u64 v2043 = v2042 - ld64(v1003+16);
-	u64 v2044 = ld64(v1003);
-	pcap_classic_run_stretch_whole_packets(v1004, v1041, at(v2024, v2043), v2025 - v2043, 1);
-	v673 = v669; v674 = v670; v675 = v671; v676 = v672; v677 = ld64(v1004+16); v678 = v2044; v679 = 1;
-L435:;
-	copy(v1005, v1002, 56);
-	v699 = v662; v700 = v678; v701 = v677; v702 = v679; v703 = v679; v704 = v673; v705 = v674; v706 = v675; v707 = v676; goto L448;
-L436:;
-	clear(v996, 56);
-	clear(v997, 48);
-	clear(v998, 104);
-	u8 v2045 = v661 == 2712847316u;
-	v680 = v2025; v681 = v2024; v682 = 0;
-L437:;
-	u8 v2046 = v680 < 16;
-	switch (v661) {
-	case 2712847316u: case 2712812621u: goto L438;
-	default: goto L440;
-	}
-L438:;
-	if (v2046) goto L443;
-	u32 v2047 = (u32)__builtin_bswap32(lu32(v681));
-	u32 v2048 = (u32)__builtin_bswap32(lu32(v681+4));
-	u32 v2049 = lu32(v681+8);
-	u32 v2050 = (u32)__builtin_bswap32(v2049);
-	u64 v2051 = v680 - 16;
-	u32 v2052 = lu32(v681+12);
-	u32 v2053 = (u32)__builtin_bswap32(v2052);
-	if (!v2045) { v683 = v2048; goto L439; }
-	if (v2048 > 4294967) goto L443;
-	v683 = v2048 * 1000;
-L439:;
-	if (((v2050 > 262144) | (v2053 > 262144)) || (v2053 < v2050)) goto L443;
-	u64 v2054 = (u64)__builtin_bswap64(((u64)v2049 << 32) | (u64)v2052);
-	u64 v2055 = v2054 & 4294967295u;
-	if (v2051 < v2055) goto L443;
-	v685 = v2055; v686 = at(v681+16, v2055); v687 = v2051 - v2055; v688 = ((u64)v683 << 32) | (u64)v2047; v689 = v2054 >> 32; v690 = v681+16; goto L445;
-L440:;
-	if (v2046) goto L443;
-	u32 v2056 = lu32(v681);
-	u32 v2057 = lu32(v681+4);
-	u64 v2058 = lu64(v681+8);
-	u32 v2059 = (u32)v2058;
-	u64 v2060 = v680 - 16;
-	u64 v2061 = v2058 >> 32;
-	u32 v2062 = (u32)v2061;
-	switch (v661) {
-	case 3569595041u: case 2712847316u: goto L441;
-	default: v684 = v2057; goto L442;
-	}
-L441:;
-	if (v2057 > 4294967) goto L443;
-	v684 = v2057 * 1000;
-L442:;
-	if (((v2058 > 0x40000ffffffffull) | (v2059 > 262144)) || (v2062 < v2059)) goto L443;
-	u64 v2063 = v2058 & 524287;
-	if (v2060 >= v2063) goto L444;
-L443:;
-	clear(v996, 56);
-	v691 = 0; v692 = 0; v693 = 0; v694 = 0; v695 = v682; v696 = v680; v697 = 0; v698 = 0; goto L447;
-L444:;
-	v685 = v2063; v686 = at(v681+16, v2063); v687 = v2060 - v2063; v688 = ((u64)v684 << 32) | (u64)v2056; v689 = v2061; v690 = v681+16;
-L445:;
-	st64(v997, v688);
-	st64(v997+8, (v689 << 32) | v685);
-	st64(v997+16, 0);
-	st64(v997+24, (u64)v690);
-	st64(v997+32, v685);
-	st64(v997+40, 0);
-	pcap_classic_pcap_writer_put_packet_ce79(v998, v5, v1042+9, v1987, v997);
-	if (ld8(v998) != 1) goto L446;
-	u8 v2064 = ld8(v998+8);
-	u64 v2065 = ld64(v998+16);
-	u64 v2066 = ld64(v998+24);
-	u64 v2067 = ld64(v998+32);
-	u64 v2068 = ld64(v998+40);
-	copy(v996, v998+48, 56);
-	v691 = v2065; v692 = v2066; v693 = v2067; v694 = v2068; v695 = v682; v696 = v687; v697 = 1; v698 = v2064; goto L447;
-L446:;
-	u64 v2069 = v682 + 1;
-	if (v2069 != v2026) { v680 = v687; v681 = v686; v682 = v2069; goto L437; }
-	clear(v996, 56);
-	v691 = 0; v692 = 0; v693 = 0; v694 = 0; v695 = v2026; v696 = v687; v697 = 0; v698 = 0;
-L447:;
-	copy(v1005, v996, 56);
-	v699 = ld64(v1042); v700 = v695; v701 = v696; v702 = v697; v703 = v698; v704 = v691; v705 = v692; v706 = v693; v707 = v694;
-L448:;
-	copy(v1006, v1005, 56);
-	copy(v1010, v1006, 56);
-	u64 v2070 = ld64(v4+24);
-	u64 v2071 = v2025 - v701;
-	u64 v2072 = ld64(v4+32) - v2070;
-	st64(v4+24, (v2071 < v2072 ? v2071 : v2072) + v2070);
-	u64 v2073 = v700 + v699;
-	st64(v1042, v2073);
-	if (v702 != 0) { v821 = v1010+4; v822 = v1010+5; v823 = v1010+8; v824 = v1010+12; v825 = v1010; v826 = v707; v827 = v706; v828 = v705; v829 = v704; v830 = v703; goto L504; }
-	copy(v1033, v1011, 3);
-	if (v2073 == 4294967295u) { v847 = v659; v848 = 0; v849 = 0; v850 = 0; v851 = 0; v852 = 0; v853 = 0; v854 = 0; v855 = 0; v856 = 0; v857 = 0; v858 = 0; v859 = 0; v860 = 0; v861 = 0; v862 = 0; v863 = 0; goto L506; }
-	clear(v1030, 3);
-	clear(v1031, 56);
-	clear(v1032, 56);
-	clear(v1027, 56);
-	clear(v1028, 56);
-	clear(v1029, 56);
-	clear(v1024, 56);
-	clear(v1025, 56);
-	clear(v1026, 56);
-	switch (v661) {
-	case 1295823521: case 2712812621u: case 2712847316u: case 3569595041u: goto L449;
-	default: v708 = 1; goto L450;
-	}
-L449:;
-	v708 = 16;
-L450:;
-	clear(v1022, 56);
-	clear(v1023, 56);
-	v709 = v659; v710 = v660; v711 = v660; v712 = 0; v713 = v708;
-L451:;
-	clear(v1016, 56);
-	clear(v1017, 56);
-	u64 v2074 = v713 < 65536 ? v713 : 65536;
-	u64 v2075 = v2074 + v712;
-	if (v711 >= v2075) goto L455;
-	u64 v2076 = v2075 - v711;
-	if (v2076 <= (v709 - v711)) { v714 = v709; v715 = v711; goto L453; }
-	u8 v2077 = std_alloc_vec_Vec_grow_amortized_56a3(v1043, v2076);
-	if (!v2077) goto L452;
-	v714 = ld64(v1043+16); v715 = ld64(v1043+8); goto L453;
-L452:;
-	clear(v1023, 56);
-	v780 = 5; v781 = 0; v782 = 0; v783 = 0; v784 = 0; goto L498;
-L453:;
-	u64 v2078 = v715 + v2076;
-	ptr v2079 = ldp(v1043);
-	if (v715 >= v2078) goto L454;
-	clear(at(v2079, v715), v2076);
-L454:;
-	st64(v1043+8, v2078);
-	st64(v1043+16, v714);
-	v716 = v714; v717 = v2078; v718 = v2078; v719 = ld64(v1043+24); v720 = v2079; goto L456;
-L455:;
-	v716 = v709; v717 = v710; v718 = v711; v719 = v712; v720 = ldp(v1043);
-L456:;
-	clear(v1015, 96);
-	std_io_buffered_BufReaderRead_read_e988(v1015, v4, at(v720, v719), v2074);
-	u64 v2080 = ld64(v1015+8);
-	u64 v2081 = ld64(v1015+16);
-	u64 v2082 = ld64(v1015+24);
-	u64 v2083 = ld64(v1015+32);
-	u8 v2084 = ld8(v1015);
-	copy(v1016, v1015+40, 56);
-	if (v2084 != 0) goto L497;
-	u64 v2085 = v2080 + v719;
-	st64(v1043+24, v2085);
-	copy(v1023, v1017, 56);
-	if (v2080 != 0) goto L458;
-	if (v2085 != 0) goto L457;
-	v847 = v716; v848 = 0; v849 = 0; v850 = 0; v851 = 0; v852 = 0; v853 = 0; v854 = 0; v855 = 0; v856 = 0; v857 = 0; v858 = 0; v859 = 0; v860 = 0; v861 = 0; v862 = 0; v863 = 0; goto L506;
-L457:;
-	fill(v1025, 46, 56);
-	v785 = 3; v786 = 9472; v787 = 1441792; v788 = 0; v789 = 0; v790 = 0x6572747320656874ull; v791 = 0x6465646e65206d61ull; v792 = 0x2e2e796c72616520ull; v793 = 1; goto L499;
-L458:;
-	u64 v2086 = v713 - v2080;
-	if (v2086 != 0) { v709 = v716; v710 = v717; v711 = v718; v712 = v2085; v713 = v2086; goto L451; }
-	copy(v1025, v1022, 56);
-	ptr v2087 = ldp(v1043);
-	u32 v2088 = ld32(v1041);
-	switch (v2088) {
-	case 2712847316u: v721 = 0; goto L460;
-	case 2712812621u: goto L459;
-	case 3569595041u: goto L465;
-	case 1295823521: goto L466;
-	default: v777 = (u64)(ptr)static_10; v778 = 29; v779 = 2; goto L496;
-	}
-L459:;
-	v721 = 1;
-L460:;
-	if (v2085 >= 16) goto L461;
-	v777 = 16ull - v2085; v778 = 0; v779 = 0; goto L496;
-L461:;
-	u32 v2089 = (u32)__builtin_bswap32(lu32(v2087));
-	u32 v2090 = (u32)__builtin_bswap32(lu32(v2087+4));
-	u32 v2091 = lu32(v2087+8);
-	u32 v2092 = (u32)__builtin_bswap32(v2091);
-	u32 v2093 = lu32(v2087+12);
-	u32 v2094 = (u32)__builtin_bswap32(v2093);
-	if (v721) { v722 = v2090; goto L462; }
-	if (v2090 > 4294967) { v723 = 40; v724 = (ptr)static_11; goto L463; }
-	v722 = v2090 * 1000;
-L462:;
-	if (v2092 > 262144) { v723 = 31; v724 = (ptr)static_12; goto L463; }
-	if (v2094 > 262144) { v723 = 31; v724 = (ptr)static_13; goto L463; }
-	if (v2094 >= v2092) goto L464;
-	v723 = 32; v724 = (ptr)static_14;
-L463:;
-	v777 = (u64)v724; v778 = v723; v779 = 2; goto L496;
-L464:;
-	v728 = v722; v729 = v2089; v730 = (u64)__builtin_bswap64(((u64)v2091 << 32) | (u64)v2093); goto L471;
-L465:;
-	if (v2085 < 16) goto L467;
-	u32 v2095 = lu32(v2087+4);
-	if (v2095 > 4294967) { v726 = 40; v727 = (ptr)static_11; goto L470; }
-	v725 = v2095 * 1000; goto L469;
-L466:;
-	if (v2085 >= 16) goto L468;
-L467:;
-	v777 = 16ull - v2085; v778 = 0; v779 = 0; goto L496;
-L468:;
-	v725 = lu32(v2087+4);
-L469:;
-	u32 v2096 = lu32(v2087);
-	u64 v2097 = lu64(v2087+8);
-	u32 v2098 = (u32)v2097;
-	u32 v2099 = (u32)(v2097 >> 32);
-	if (v2098 > 262144) { v726 = 31; v727 = (ptr)static_12; goto L470; }
-	if (v2097 > 0x40000ffffffffull) { v726 = 31; v727 = (ptr)static_13; goto L470; }
-	if (v2099 >= v2098) { v728 = v725; v729 = v2096; v730 = v2097; goto L471; }
-	v726 = 32; v727 = (ptr)static_14;
-L470:;
-	v777 = (u64)v727; v778 = v726; v779 = 2; goto L496;
-L471:;
-	u64 v2100 = v730 & 4294967295u;
-	copy(v1028, v1024, 56);
-	if (v2100 == 0) { v743 = v716; v744 = v717; v745 = v2088; v746 = v2085; v747 = v2087; goto L480; }
-	clear(v1021, 56);
-	v731 = v716; v732 = v717; v733 = v718; v734 = v2085; v735 = v2100;
-L472:;
-	clear(v1019, 56);
-	clear(v1020, 56);
-	u64 v2101 = v735 < 65536 ? v735 : 65536;
-	u64 v2102 = v2101 + v734;
-	if (v733 >= v2102) goto L476;
-	u64 v2103 = v2102 - v733;
-	if (v2103 <= (v731 - v733)) { v736 = v731; v737 = v733; goto L474; }
-	u8 v2104 = std_alloc_vec_Vec_grow_amortized_56a3(v1043, v2103);
-	if (!v2104) goto L473;
-	v736 = ld64(v1043+16); v737 = ld64(v1043+8); goto L474;
-L473:;
-	clear(v1021, 56);
-	v767 = 5; v768 = 0; v769 = 0; v770 = 0; v771 = 0; goto L494;
-L474:;
-	u64 v2105 = v737 + v2103;
-	ptr v2106 = ldp(v1043);
-	if (v737 >= v2105) goto L475;
-	clear(at(v2106, v737), v2103);
-L475:;
-	st64(v1043+8, v2105);
-	st64(v1043+16, v736);
-	v738 = v736; v739 = v2105; v740 = v2105; v741 = ld64(v1043+24); v742 = v2106; goto L477;
-L476:;
-	v738 = v731; v739 = v732; v740 = v733; v741 = v734; v742 = ldp(v1043);
-L477:;
-	clear(v1018, 96);
-	std_io_buffered_BufReaderRead_read_e988(v1018, v4, at(v742, v741), v2101);
-	u64 v2107 = ld64(v1018+8);
-	u64 v2108 = ld64(v1018+16);
-	u64 v2109 = ld64(v1018+24);
-	u64 v2110 = ld64(v1018+32);
-	u8 v2111 = ld8(v1018);
-	copy(v1019, v1018+40, 56);
-	if (v2111 != 0) goto L493;
-	u64 v2112 = v2107 + v741;
-	st64(v1043+24, v2112);
-	copy(v1021, v1020, 56);
-	if (v2107 != 0) goto L478;
-	if (v2112 == 0) goto L479;
-	fill(v1029, 46, 56);
-	v772 = 1; v773 = 1451267; v774 = 0x6572747320656874ull; v775 = 0x6465646e65206d61ull; v776 = 0x2e2e796c72616520ull; goto L495;
-L478:;
-	u64 v2113 = v735 - v2107;
-	if (v2113 != 0) { v731 = v738; v732 = v739; v733 = v740; v734 = v2112; v735 = v2113; goto L472; }
-L479:;
-	v743 = v738; v744 = v739; v745 = ld32(v1041); v746 = v2112; v747 = ldp(v1043);
-L480:;
-	copy(v1031, v1027, 56);
-	clear(v1012, 104);
-	if (v745 != v1987) goto L491;
-	clear(v995, 56);
-	if (v746 == 0) goto L487;
-	v748 = v747; v749 = v746;
-L481:;
-	clear(v992, 96);
-	u64 v2114 = ld64(v5+16);
-	u64 v2115 = ld64(v5+8);
-	if (v749 >= (v2114 - v2115)) goto L485;
-	u64 v2116 = v2115 + v749;
-	ptr v2117 = ldp(v5);
-	clear(v5+8, 16);
-	ptr v2118 = at(v2117, v2115);
-	if (((u64)v2118 - (u64)v748) >= v749) goto L483;
-	v750 = 0;
-L482:;
-	st8(at(v2118, v750), ld8(at(v748, v750)));
-	u64 v2119 = v750 + 1;
-	if (v2119 == v749) goto L484;
-	v750 = v2119; goto L482;
-L483:;
-	move(v2118, v748, v749);
-L484:;
-	stp(v5, v2117);
-	st64(v5+8, v2116);
-	st64(v5+16, v2114);
-	clear(v993, 56);
-	v751 = v749; goto L486;
-L485:;
-	std_io_buffered_BufWriter_write_cold_9d90(v992, v5, v748, v749);
-	u64 v2120 = ld64(v992+8);
-	u64 v2121 = ld64(v992+16);
-	u64 v2122 = ld64(v992+24);
-	u64 v2123 = ld64(v992+32);
-	u8 v2124 = ld8(v992);
-	copy(v993, v992+40, 56);
-	if (v2124 != 0) goto L488;
-	if (v2120 != 0) { v751 = v2120; goto L486; }
-	fill(v994, 46, 56);
-	v752 = 1513219; v753 = 0x7469727720656874ull; v754 = 0x206b6f6f74207265ull; v755 = 0x2e676e6968746f6eull; goto L489;
-L486:;
-	u64 v2125 = v749 - v751;
-	if (v2125 != 0) { v748 = at(v748, v751); v749 = v2125; goto L481; }
-L487:;
-	v756 = 0; v757 = 0; v758 = 0; v759 = 0; v760 = 0; goto L490;
-L488:;
-	copy(v994, v993, 56);
-	v752 = v2120; v753 = v2121; v754 = v2122; v755 = v2123;
-L489:;
-	copy(v995, v994, 56);
-	v756 = 1; v757 = v752; v758 = v753; v759 = v754; v760 = v755;
-L490:;
-	copy(v1012+48, v995, 56);
-	v761 = v760; v762 = v759; v763 = v758; v764 = v757; v765 = v756; v766 = v756; goto L492;
-L491:;
-	st32(v1014, v729);
-	st32(v1014+4, v728);
-	st64(v1014+8, v730);
-	st64(v1014+16, 0);
-	stp(v1014+24, v747+16);
-	st64(v1014+32, v746 - 16);
-	st64(v1014+40, 0);
-	pcap_classic_pcap_writer_put_packet_ce79(v1012, v5, v1013, v1987, v1014);
-	v761 = ld64(v1012+40); v762 = ld64(v1012+32); v763 = ld64(v1012+24); v764 = ld64(v1012+16); v765 = ld8(v1012+8); v766 = ld8(v1012);
-L492:;
-	copy(v1032, v1012+48, 56);
-	if (v766 == 1) { v810 = v743; v811 = v1032+4; v812 = v1032+5; v813 = v1032+8; v814 = v1032+12; v815 = v1032; v816 = v761; v817 = v762; v818 = v763; v819 = v764; v820 = v765; goto L502; }
-	st64(v1043+24, 0);
-	u64 v2126 = ld64(v1042) + 1;
-	st64(v1042, v2126);
-	copy(v1034, v1030, 3);
-	if (v2126 < 4294967295u) { v659 = v743; v660 = v744; v661 = v745; v662 = v2126; goto L423; }
-	v847 = v743; v848 = 0; v849 = 0; v850 = 0; v851 = 0; v852 = 0; v853 = 0; v854 = 0; v855 = 0; v856 = 0; v857 = 0; v858 = 0; v859 = 0; v860 = 0; v861 = 0; v862 = 0; v863 = 0; goto L506;
-L493:;
-	copy(v1021, v1019, 56);
-	v767 = 1; v768 = v2107; v769 = v2110; v770 = v2109; v771 = v2108;
-L494:;
-	copy(v1029, v1021, 56);
-	v772 = v767; v773 = v768; v774 = v771; v775 = v770; v776 = v769;
-L495:;
-	v804 = v1029; v805 = v774; v806 = v775; v807 = v776; v808 = v773; v809 = v772; goto L501;
-L496:;
-	clear(v1026, 56);
-	v794 = v1026; v795 = v777; v796 = v777; v797 = v777; v798 = v777 & 0xffffffff00000000ull; v799 = v778; v800 = 0; v801 = 0; v802 = v777; v803 = v779; goto L500;
-L497:;
-	copy(v1023, v1016, 56);
-	v780 = 1; v781 = v2080; v782 = v2083; v783 = v2082; v784 = v2081;
-L498:;
-	copy(v1025, v1023, 56);
-	v785 = v781; v786 = v781; v787 = v781; v788 = v781; v789 = v781 & 0xffffffff00000000ull; v790 = v784; v791 = v783; v792 = v782; v793 = v780;
-L499:;
-	v794 = v1025; v795 = v786; v796 = v787; v797 = v788; v798 = v789; v799 = v790; v800 = v791; v801 = v792; v802 = v785; v803 = v793;
-L500:;
-	copy(v1028, v794, 56);
-	v804 = v1028; v805 = v799; v806 = v800; v807 = v801; v808 = (v796 & 16711680) | (v795 & 65280) | (v797 & 4278190080u) | v798 | (v802 & 255); v809 = v803;
-L501:;
-	copy(v1031, v804, 56);
-	v810 = ld64(v1043+16); v811 = v1031+4; v812 = v1031+5; v813 = v1031+8; v814 = v1031+12; v815 = v1031; v816 = v807; v817 = v806; v818 = v805; v819 = v808; v820 = v809;
-L502:;
-	u32 v2127 = lu32(v815);
-	u8 v2128 = ld8(v811);
-	copy(v1034, v812, 3);
-	v831 = v810; v832 = v1034; v833 = lu64(v814+4); v834 = lu64(v814+12); v835 = lu64(v814+20); v836 = lu64(v814+28); v837 = lu64(v814+36); v838 = lu32(v814); v839 = v2127; v840 = v2128; v841 = lu32(v813); v842 = v820; v843 = v819; v844 = v818; v845 = v817; v846 = v816; goto L505;
-L503:;
-	copy(v1009, v1008, 56);
-	v821 = v1009+4; v822 = v1009+5; v823 = v1009+8; v824 = v1009+12; v825 = v1009; v826 = v2022; v827 = v2021; v828 = v2020; v829 = v2019; v830 = 1;
-L504:;
-	u32 v2129 = ld32(v825);
-	u8 v2130 = ld8(v821);
-	copy(v1033, v822, 3);
-	v831 = v659; v832 = v1033; v833 = lu64(v824+4); v834 = lu64(v824+12); v835 = lu64(v824+20); v836 = lu64(v824+28); v837 = lu64(v824+36); v838 = ld32(v824); v839 = v2129; v840 = v2130; v841 = ld32(v823); v842 = v830; v843 = v829; v844 = v828; v845 = v827; v846 = v826;
-L505:;
-	v847 = v831; v848 = (u32)ld_bytes(v832, 3) & 16777215; v849 = v838; v850 = v833; v851 = v834; v852 = v835; v853 = v836; v854 = v837; v855 = v843; v856 = v844; v857 = v845; v858 = v846; v859 = v839; v860 = v840; v861 = v841; v862 = 1; v863 = v842;
-L506:;
-	u64 v2131 = ld64(v1042);
-	if (v847 != 0) goto L507;
-	if (v862) { v896 = v848; v897 = v849; v898 = v850; v899 = v851; v900 = v852; v901 = v853; v902 = v854; v903 = v855; v904 = v856; v905 = v857; v906 = v858; v907 = v859; v908 = v860; v909 = v861; v910 = v863; goto L512; }
-	goto L508;
-L507:;
-	deallocate(ldp(v1043));
-	if (v862) { v896 = v848; v897 = v849; v898 = v850; v899 = v851; v900 = v852; v901 = v853; v902 = v854; v903 = v855; v904 = v856; v905 = v857; v906 = v858; v907 = v859; v908 = v860; v909 = v861; v910 = v863; goto L512; }
-L508:;
-	v928 = 0; v929 = 0; v930 = 0; v931 = 0; v932 = 0; v933 = 0; v934 = 0; v935 = 0; v936 = 0; v937 = 0; v938 = 0; v939 = v2131 == 4294967295u ? 2u : 0u; v940 = 0; goto L518;
-L509:;
-	v878 = v864; v879 = v865; v880 = v866; v881 = v867; v882 = v868; v883 = v869; v884 = v870; v885 = 1; v886 = v874; v887 = v875; v888 = (u32)v876; v889 = (u16)(v876 >> 32); v890 = (u16)(v876 >> 48); v891 = (u32)v877; v892 = (u32)(v877 >> 32); v893 = v873; v894 = v872; v895 = v871; goto L511;
-L510:;
-	v878 = (u32)ld_bytes(v1040+53, 3) & 16777215; v879 = ld32(v1040+60); v880 = ld64(v1040+64); v881 = ld64(v1040+72); v882 = ld64(v1040+80); v883 = ld64(v1040+88); v884 = ld64(v1040+96); v885 = v1983; v886 = (u64)ldp(v1040+16); v887 = ld64(v1040+24); v888 = ld32(v1040+32); v889 = ld16(v1040+36); v890 = ld16(v1040+38); v891 = ld32(v1040+40); v892 = ld32(v1040+44); v893 = ld32(v1040+48); v894 = ld8(v1040+52); v895 = ld32(v1040+56);
-L511:;
-	v896 = v878; v897 = v879; v898 = v880; v899 = v881; v900 = v882; v901 = v883; v902 = v884; v903 = v886; v904 = v887; v905 = ((u64)v890 << 48) | ((u64)v889 << 32) | (u64)v888; v906 = ((u64)v892 << 32) | (u64)v891; v907 = v893; v908 = v894; v909 = v895; v910 = v885;
-L512:;
-	u64 v2132 = v903 >> 8;
-	u64 v2133 = v903 >> 16;
-	u64 v2134 = v903 >> 24;
-	u64 v2135 = v903 >> 32;
-	u64 v2136 = ((u64)v908 << 32) | ((u64)v896 << 40) | (u64)v907;
-	u64 v2137 = ((u64)v897 << 32) | (u64)v909;
-	switch (v910) {
-	case 0: goto L513;
-	case 1: goto L514;
-	case 5: v911 = 0; v912 = 0; v913 = 0; v914 = 0; v915 = 0; v916 = 0; v917 = 0; v918 = 0; v919 = 0; v920 = 0; v921 = 0; v922 = 0; v923 = 0; v924 = 0; v925 = 0; v926 = v910; v927 = 0; goto L516;
-	case 2: case 3: case 4: case 6: goto L515;
-	default: goto L517;
-	}
-L513:;
-	v911 = 3; v912 = 37; v913 = 23; v914 = 0; v915 = 0; v916 = 0x7470616320656874ull; v917 = 0x65646e6520657275ull; v918 = 0x2e796c7261652064ull; v919 = 0x2e2e2e2e2e2e2e2eull; v920 = 0x2e2e2e2e2e2e2e2eull; v921 = 0x2e2e2e2e2e2e2e2eull; v922 = 0x2e2e2e2e2e2e2e2eull; v923 = 0x2e2e2e2e2e2e2e2eull; v924 = 0x2e2e2e2e2e2e2e2eull; v925 = 0x2e2e2e2e2e2e2e2eull; v926 = 4; v927 = 1; goto L516;
-L514:;
-	v911 = v903; v912 = v2132; v913 = v2133; v914 = v2134; v915 = v2135; v916 = v904; v917 = v905; v918 = v906; v919 = v2136; v920 = v2137; v921 = v898; v922 = v899; v923 = v900; v924 = v901; v925 = v902; v926 = 4; v927 = v910; goto L516;
-L515:;
-	v911 = v903; v912 = v2132; v913 = v2133; v914 = v2134; v915 = v2135; v916 = v904; v917 = v905; v918 = v906; v919 = v2136; v920 = v2137; v921 = v898; v922 = v899; v923 = v900; v924 = v901; v925 = v902; v926 = 1; v927 = v910;
-L516:;
-	u64 v2138 = (v915 << 32) | ((v914 << 24) & 4278190080u) | ((v913 << 16) & 16711680) | ((v912 << 8) & 65280);
-	v928 = v2138 | (v911 & 255); v929 = v916; v930 = v917; v931 = v918; v932 = v919; v933 = v920; v934 = v921; v935 = v922; v936 = v923; v937 = v924; v938 = v925; v939 = v926; v940 = v927; goto L518;
-L517:;
-	__builtin_trap();
-L518:;
-	su64(v1, (u64)v939);
-	st8(v1+8, v940);
-	su64(v1+16, v928);
-	su64(v1+24, v929);
-	su64(v1+32, v930);
-	su64(v1+40, v931);
-	su64(v1+48, v932);
-	su64(v1+56, v933);
-	su64(v1+64, v934);
-	su64(v1+72, v935);
-	su64(v1+80, v936);
-	su64(v1+88, v937);
-	su64(v1+96, v938);
-	return;
-}
-static u8 core_lang_str_eq(ptr v1, u64 v2, ptr v3, u64 v4) {
-	u64 v5, v6;
-	u8 v7;
-	if (v2 != v4) { v7 = 0; goto L2; }
-	if (v2 <= 3) goto L0;
-	u64 v8 = v2 - 4;
-	v5 = (u64)__builtin_bswap64(((u64)lu32(at(v3, v8)) << 32) | (u64)lu32(v3)); v6 = (u64)__builtin_bswap64(((u64)lu32(at(v1, v8)) << 32) | (u64)lu32(v1)); goto L1;
-L0:;
-	v5 = ((u64)ld8(v3+1) << 8) | ((u64)ld8(v3) << 16) | (u64)ld8(v3+2); v6 = ((u64)ld8(v1+1) << 8) | ((u64)ld8(v1) << 16) | (u64)ld8(v1+2);
-L1:;
-	v7 = v6 == v5;
-L2:;
-	return v7;
-}
-static void pcap_classic_pcap_header_read_header_67f8(ptr v1, ptr v2, ptr v3) {
-	u64 v4, v13, v14, v15, v16;
-	u32 v5, v8, v9, v10, v11, v12;
-	u16 v6, v7;
-	_Alignas(8) u8 v17[96], v18[48], v20[48];
-	_Alignas(4) u8 v19[24];
-	clear(v19, 24);
-	v4 = 0;
-L0:;
-	clear(v17, 96);
-	std_io_buffered_BufReaderRead_read_e988(v17, v2, at(v19, v4), 24ull - v4);
-	u64 v21 = ld64(v17+8);
-	u64 v22 = ld64(v17+16);
-	u64 v23 = ld64(v17+24);
-	u64 v24 = ld64(v17+32);
-	u32 v25 = ld32(v17+40);
-	u32 v26 = ld32(v17+44);
-	u8 v27 = ld8(v17);
-	copy(v18, v17+48, 48);
-	if (v27 != 0) goto L6;
-	if (v21 != 0) goto L1;
-	fill(v20, 46, 48);
-	v11 = 774778414; v12 = 774778414; v13 = 1451267; v14 = 0x6572747320656874ull; v15 = 0x6465646e65206d61ull; v16 = 0x2e2e796c72616520ull; goto L7;
-L1:;
-	u64 v28 = v21 + v4;
-	if (v28 < 24) { v4 = v28; goto L0; }
-	u32 v29 = (u32)__builtin_bswap32(ld32(v19));
-	switch (v29) {
-	case 2712812621u: case 2712847316u: goto L2;
-	case 1295823521: case 3569595041u: goto L3;
-	default: goto L5;
-	}
-L2:;
-	v5 = (u32)__builtin_bswap32(ld32(v19+20)); v6 = (u16)__builtin_bswap16(ld16(v19+4)); v7 = (u16)__builtin_bswap16(ld16(v19+6)); v8 = (u32)__builtin_bswap32(ld32(v19+8)); v9 = (u32)__builtin_bswap32(ld32(v19+12)); v10 = (u32)__builtin_bswap32(ld32(v19+16)); goto L4;
-L3:;
-	v5 = ld32(v19+20); v6 = ld16(v19+4); v7 = ld16(v19+6); v8 = ld32(v19+8); v9 = ld32(v19+12); v10 = ld32(v19+16);
-L4:;
-	t_8_32 v30 = pcap_core_link_DataLinkFromU32_from(v5);
-	su32(v1, 0);
-	su32(v1+4, v29);
-	st8(v1+8, (u8)v6);
-	st_bytes(v1+9, (u32)(((((u64)v7 << 48) | ((u64)v6 << 32)) >> 40) & 16777215), 3);
-	su32(v1+12, v8);
-	su32(v1+16, v9);
-	su32(v1+20, v10);
-	su32(v1+24, (u32)v30.f0);
-	su32(v1+28, v30.f1);
-	clear(v1+32, 72);
-	goto L8;
-L5:;
-	su32(v1, 1);
-	su32(v1+4, 0);
-	st8(v1+8, 2);
-	st_bytes(v1+9, 0, 3);
-	su32(v1+12, 0);
-	su32(v1+16, (u64)(ptr)static_10);
-	su32(v1+20, (u32)((u64)(ptr)static_10 >> 32));
-	su32(v1+24, 29);
-	clear(v1+28, 76);
-	goto L8;
-L6:;
-	st8(v3, 1);
-	copy(v20, v18, 48);
-	v11 = v26; v12 = v25; v13 = v21; v14 = v22; v15 = v23; v16 = v24;
-L7:;
-	su32(v1, 1);
-	su32(v1+4, 0);
-	st8(v1+8, 1);
-	st_bytes(v1+9, 0, 3);
-	su32(v1+12, 0);
-	su64(v1+16, v13);
-	su64(v1+24, v14);
-	su64(v1+32, v15);
-	su64(v1+40, v16);
-	su32(v1+48, v12);
-	su32(v1+52, v11);
-	copy(v1+56, v20, 48);
-L8:;
-	return;
-}
-static void std_io_buffered_BufReaderRead_read_e988(ptr v1, ptr v2, ptr v3, u64 v4) {
-	u64 v5, v6, v7;
-	_Alignas(8) u8 v8[96], v9[80], v10[96], v11[80];
-	clear(v10, 96);
-	u64 v12 = ld64(v2+8);
-	u64 v13 = ld64(v2+24);
-	u64 v14 = ld64(v2+32);
-	if (!((v12 > v4) | (v14 != v13))) goto L5;
-	if (v13 < v14) { v5 = v14; v6 = v13; goto L0; }
-	clear(v2+24, 16);
-	ptr v15 = ldp(v2);
-	clear(v8, 96);
-	capcopy_run_uninterrupted_UninterruptedRead_read_f128(v8, v15, v12);
-	u64 v16 = ld64(v8+8);
-	u8 v17 = ld8(v8);
-	copy(v9, v8+16, 80);
-	if (v17 != 0) goto L4;
-	st64(v2+32, v16);
-	v5 = v16; v6 = ld64(v2+24);
-L0:;
-	ptr v18 = at(ldp(v2), v6);
-	u64 v19 = v5 - v6;
-	u64 v20 = v4 < v19 ? v4 : v19;
-	if (((u64)v3 - (u64)v18) >= v20) goto L2;
-	v7 = 0;
-L1:;
-	st8(at(v3, v7), ld8(at(v18, v7)));
-	u64 v21 = v7 + 1;
-	if (v21 == v20) goto L3;
-	v7 = v21; goto L1;
-L2:;
-	move(v3, v18, v20);
-L3:;
-	u64 v22 = ld64(v2+24);
-	u64 v23 = ld64(v2+32) - v22;
-	st64(v2+24, (v20 < v23 ? v20 : v23) + v22);
-	st64(v10+8, v20);
-	clear(v10+16, 80);
-	su64(v1, 0);
-	copy(v1+8, v10+8, 88);
-	goto L6;
-L4:;
-	copy(v11, v9, 80);
-	copy(v10+16, v11, 80);
-	st64(v10+8, v16);
-	su64(v1, 1);
-	copy(v1+8, v10+8, 88);
-	goto L6;
-L5:;
-	clear(v2+24, 16);
-	capcopy_run_uninterrupted_UninterruptedRead_read_f128(v10, v3, v4);
-	su64(v1, (u64)ld8(v10));
-	copy(v1+8, v10+8, 88);
-L6:;
-	return;
-}
-static void capcopy_run_uninterrupted_UninterruptedRead_read_f128(ptr v1, ptr v2, u64 v3) {
-	u64 v4, v5, v6, v7, v8, v9, v10, v11, v12, v13, v14, v15, v16;
-	_Alignas(1) u8 v17[41];
-	_Alignas(8) u8 v18[88];
-	v4 = 0;
-L0:;
-	u64 v19 = os_read(0, v2, v3);
-	if ((s64)v19 >= 0) goto L2;
-	u32 v20 = os_errno();
-	std_io_io_error_Error_from_raw_os_error(v18, v20);
-	u64 v21 = ld64(v18);
-	u64 v22 = ld64(v18+8);
-	u64 v23 = ld64(v18+16);
-	u64 v24 = ld64(v18+24);
-	u64 v25 = ld64(v18+32);
-	u64 v26 = ld64(v18+40);
-	u64 v27 = ld64(v18+48);
-	u64 v28 = ld64(v18+56);
-	u64 v29 = ld64(v18+64);
-	u64 v30 = ld64(v18+72);
-	u64 v31 = ld64(v18+80);
-	u64 v32 = v21 >> 8;
-	st8(v17, 0);
-	st8(v17+1, 1);
-	st8(v17+2, 2);
-	st8(v17+3, 3);
-	st8(v17+4, 4);
-	st8(v17+5, 5);
-	st8(v17+6, 6);
-	st8(v17+7, 7);
-	st8(v17+8, 8);
-	st8(v17+9, 9);
-	st8(v17+10, 10);
-	st8(v17+11, 11);
-	st8(v17+12, 12);
-	st8(v17+13, 13);
-	st8(v17+14, 14);
-	st8(v17+15, 15);
-	st8(v17+16, 16);
-	st8(v17+17, 17);
-	st8(v17+18, 18);
-	st8(v17+19, 19);
-	st8(v17+20, 20);
-	st8(v17+21, 21);
-	st8(v17+22, 22);
-	st8(v17+23, 23);
-	st8(v17+24, 24);
-	st8(v17+25, 25);
-	st8(v17+26, 26);
-	st8(v17+27, 27);
-	st8(v17+28, 28);
-	st8(v17+29, 29);
-	st8(v17+30, 30);
-	st8(v17+31, 31);
-	st8(v17+32, 32);
-	st8(v17+33, 33);
-	st8(v17+34, 34);
-	st8(v17+35, 35);
-	st8(v17+36, 36);
-	st8(v17+37, 37);
-	st8(v17+38, 38);
-	st8(v17+39, 39);
-	st8(v17+40, 40);
-	if ((u8)v32 >= 41) goto L1;
-	if (ld8(at(v17, v32 & 63)) != 35) { v5 = 1; v6 = v21; v7 = v22; v8 = v23; v9 = v24; v10 = v25; v11 = v26; v12 = v27; v13 = v28; v14 = v29; v15 = v30; v16 = v31; goto L3; }
-	u64 v33 = v4 + 1;
-	if (v33 == ~0ull) { v5 = 1; v6 = 1644035; v7 = 0x6165722068636165ull; v8 = 0x6e69207361772064ull; v9 = 0x6574707572726574ull; v10 = 0x2e2e2e2e2e2e2e64ull; v11 = 0x2e2e2e2e2e2e2e2eull; v12 = 0x2e2e2e2e2e2e2e2eull; v13 = 0x2e2e2e2e2e2e2e2eull; v14 = 0x2e2e2e2e2e2e2e2eull; v15 = 0x2e2e2e2e2e2e2e2eull; v16 = 0x2e2e2e2e2e2e2e2eull; goto L3; }
-	v4 = v33; goto L0;
-L1:;
-	v5 = 1; v6 = v21; v7 = v22; v8 = v23; v9 = v24; v10 = v25; v11 = v26; v12 = v27; v13 = v28; v14 = v29; v15 = v30; v16 = v31; goto L3;
-L2:;
-	v5 = 0; v6 = v19 < v3 ? v19 : v3; v7 = 0; v8 = 0; v9 = 0; v10 = 0; v11 = 0; v12 = 0; v13 = 0; v14 = 0; v15 = 0; v16 = 0;
-L3:;
-	su64(v1, v5);
-	su64(v1+8, v6);
-	su64(v1+16, v7);
-	su64(v1+24, v8);
-	su64(v1+32, v9);
-	su64(v1+40, v10);
-	su64(v1+48, v11);
-	su64(v1+56, v12);
-	su64(v1+64, v13);
-	su64(v1+72, v14);
-	su64(v1+80, v15);
-	su64(v1+88, v16);
 	return;
 }
 static void std_io_io_error_Error_from_raw_os_error(ptr v1, u32 v2) {
@@ -4102,81 +401,81 @@ static void std_io_io_error_Error_from_raw_os_error(ptr v1, u32 v2) {
 	case 122: goto L35;
 	default: goto L36;
 	}
-L0:;
+L0:
 	v3 = 0; goto L37;
-L1:;
+L1:
 	v3 = 35; goto L37;
-L2:;
+L2:
 	v3 = 34; goto L37;
-L3:;
+L3:
 	v3 = 13; goto L37;
-L4:;
+L4:
 	v3 = 38; goto L37;
-L5:;
+L5:
 	v3 = 28; goto L37;
-L6:;
+L6:
 	v3 = 12; goto L37;
-L7:;
+L7:
 	v3 = 31; goto L37;
-L8:;
+L8:
 	v3 = 14; goto L37;
-L9:;
+L9:
 	v3 = 15; goto L37;
-L10:;
+L10:
 	v3 = 20; goto L37;
-L11:;
+L11:
 	v3 = 29; goto L37;
-L12:;
+L12:
 	v3 = 27; goto L37;
-L13:;
+L13:
 	v3 = 24; goto L37;
-L14:;
+L14:
 	v3 = 25; goto L37;
-L15:;
+L15:
 	v3 = 17; goto L37;
-L16:;
+L16:
 	v3 = 32; goto L37;
-L17:;
+L17:
 	v3 = 11; goto L37;
-L18:;
+L18:
 	v3 = 30; goto L37;
-L19:;
+L19:
 	v3 = 33; goto L37;
-L20:;
+L20:
 	v3 = 36; goto L37;
-L21:;
+L21:
 	v3 = 16; goto L37;
-L22:;
+L22:
 	v3 = 18; goto L37;
-L23:;
+L23:
 	v3 = 8; goto L37;
-L24:;
+L24:
 	v3 = 9; goto L37;
-L25:;
+L25:
 	v3 = 10; goto L37;
-L26:;
+L26:
 	v3 = 5; goto L37;
-L27:;
+L27:
 	v3 = 6; goto L37;
-L28:;
+L28:
 	v3 = 3; goto L37;
-L29:;
+L29:
 	v3 = 7; goto L37;
-L30:;
+L30:
 	v3 = 22; goto L37;
-L31:;
+L31:
 	v3 = 2; goto L37;
-L32:;
+L32:
 	v3 = 4; goto L37;
-L33:;
+L33:
 	v3 = 39; goto L37;
-L34:;
+L34:
 	v3 = 19; goto L37;
-L35:;
+L35:
 	v3 = 26; goto L37;
-L36:;
+L36:
 	v3 = 41;
-L37:;
+L37:
 	st8(v1, 0);
 	st8(v1+1, v3);
 	st8(v1+2, 0);
@@ -4185,193 +484,140 @@ L37:;
 	clear(v1+8, 80);
 	return;
 }
-static void std_io_io_error_Error_from_bytes(ptr v1, u8 v2, u8 v3, ptr v4, u64 v5, u64 v6) {
-	u64 v7, v8, v9, v10, v11, v12, v13, v14, v15, v16, v17, v18, v19, v20, v21, v22, v23, v24, v25, v26, v27, v28, v29, v30, v31, v32, v33, v34, v35, v36, v37, v38, v39, v40, v41, v42, v43, v44, v46, v47, v48, v50, v51, v52, v54, v55, v56, v58, v59, v60, v62, v63, v64, v66, v67, v68, v70, v71, v72, v74, v75, v76, v78, v79, v80, v82, v83, v84, v85, v86;
-	u8 v45, v49, v53, v57, v61, v65, v69, v73, v77, v81;
-	if (v5 == 0) { v7 = 771751936; v8 = 11776; v9 = 0x2e00000000000000ull; v10 = 0x2e0000000000ull; v11 = 771751936; v12 = 11776; v13 = 0x2e00000000000000ull; v14 = 0x2e0000000000ull; v15 = 771751936; v16 = 11776; v17 = 0x2e00000000000000ull; v18 = 0x2e0000000000ull; v19 = 771751936; v20 = 11776; v21 = 0x2e00000000000000ull; v22 = 0x2e0000000000ull; v23 = 771751936; v24 = 11776; v25 = 0x2e00000000000000ull; v26 = 0x2e0000000000ull; v27 = 771751936; v28 = 11776; v29 = 0x2e00000000000000ull; v30 = 0x2e0000000000ull; v31 = 771751936; v32 = 11776; v33 = 0x2e00000000000000ull; v34 = 0x2e0000000000ull; v35 = 771751936; v36 = 11776; v37 = 0x2e00000000000000ull; v38 = 0x2e0000000000ull; v39 = 771751936; v40 = 11776; v41 = 0x2e00000000000000ull; v42 = 0x2e0000000000ull; v43 = 771751936; v44 = 11776; v45 = 46; v46 = 3014656; v47 = 0x2e00000000ull; v48 = 0x2e000000000000ull; v49 = 46; v50 = 3014656; v51 = 0x2e00000000ull; v52 = 0x2e000000000000ull; v53 = 46; v54 = 3014656; v55 = 0x2e00000000ull; v56 = 0x2e000000000000ull; v57 = 46; v58 = 3014656; v59 = 0x2e00000000ull; v60 = 0x2e000000000000ull; v61 = 46; v62 = 3014656; v63 = 0x2e00000000ull; v64 = 0x2e000000000000ull; v65 = 46; v66 = 3014656; v67 = 0x2e00000000ull; v68 = 0x2e000000000000ull; v69 = 46; v70 = 3014656; v71 = 0x2e00000000ull; v72 = 0x2e000000000000ull; v73 = 46; v74 = 3014656; v75 = 0x2e00000000ull; v76 = 0x2e000000000000ull; v77 = 46; v78 = 3014656; v79 = 0x2e00000000ull; v80 = 0x2e000000000000ull; v81 = 46; v82 = 3014656; v83 = 0x2e00000000ull; goto L0; }
-	u8 v87 = ld8(v4);
-	if (v5 == 1) { v7 = 771751936; v8 = 11776; v9 = 0x2e00000000000000ull; v10 = 0x2e0000000000ull; v11 = 771751936; v12 = 11776; v13 = 0x2e00000000000000ull; v14 = 0x2e0000000000ull; v15 = 771751936; v16 = 11776; v17 = 0x2e00000000000000ull; v18 = 0x2e0000000000ull; v19 = 771751936; v20 = 11776; v21 = 0x2e00000000000000ull; v22 = 0x2e0000000000ull; v23 = 771751936; v24 = 11776; v25 = 0x2e00000000000000ull; v26 = 0x2e0000000000ull; v27 = 771751936; v28 = 11776; v29 = 0x2e00000000000000ull; v30 = 0x2e0000000000ull; v31 = 771751936; v32 = 11776; v33 = 0x2e00000000000000ull; v34 = 0x2e0000000000ull; v35 = 771751936; v36 = 11776; v37 = 0x2e00000000000000ull; v38 = 0x2e0000000000ull; v39 = 771751936; v40 = 11776; v41 = 0x2e00000000000000ull; v42 = 0x2e0000000000ull; v43 = 771751936; v44 = 11776; v45 = v87; v46 = 3014656; v47 = 0x2e00000000ull; v48 = 0x2e000000000000ull; v49 = 46; v50 = 3014656; v51 = 0x2e00000000ull; v52 = 0x2e000000000000ull; v53 = 46; v54 = 3014656; v55 = 0x2e00000000ull; v56 = 0x2e000000000000ull; v57 = 46; v58 = 3014656; v59 = 0x2e00000000ull; v60 = 0x2e000000000000ull; v61 = 46; v62 = 3014656; v63 = 0x2e00000000ull; v64 = 0x2e000000000000ull; v65 = 46; v66 = 3014656; v67 = 0x2e00000000ull; v68 = 0x2e000000000000ull; v69 = 46; v70 = 3014656; v71 = 0x2e00000000ull; v72 = 0x2e000000000000ull; v73 = 46; v74 = 3014656; v75 = 0x2e00000000ull; v76 = 0x2e000000000000ull; v77 = 46; v78 = 3014656; v79 = 0x2e00000000ull; v80 = 0x2e000000000000ull; v81 = 46; v82 = 3014656; v83 = 0x2e00000000ull; goto L0; }
-	u64 v88 = (u64)ld8(v4+1) << 8;
-	if (v5 <= 2) { v7 = 771751936; v8 = 11776; v9 = 0x2e00000000000000ull; v10 = 0x2e0000000000ull; v11 = 771751936; v12 = 11776; v13 = 0x2e00000000000000ull; v14 = 0x2e0000000000ull; v15 = 771751936; v16 = 11776; v17 = 0x2e00000000000000ull; v18 = 0x2e0000000000ull; v19 = 771751936; v20 = 11776; v21 = 0x2e00000000000000ull; v22 = 0x2e0000000000ull; v23 = 771751936; v24 = 11776; v25 = 0x2e00000000000000ull; v26 = 0x2e0000000000ull; v27 = 771751936; v28 = 11776; v29 = 0x2e00000000000000ull; v30 = 0x2e0000000000ull; v31 = 771751936; v32 = 11776; v33 = 0x2e00000000000000ull; v34 = 0x2e0000000000ull; v35 = 771751936; v36 = 11776; v37 = 0x2e00000000000000ull; v38 = 0x2e0000000000ull; v39 = 771751936; v40 = 11776; v41 = 0x2e00000000000000ull; v42 = 0x2e0000000000ull; v43 = 771751936; v44 = v88; v45 = v87; v46 = 3014656; v47 = 0x2e00000000ull; v48 = 0x2e000000000000ull; v49 = 46; v50 = 3014656; v51 = 0x2e00000000ull; v52 = 0x2e000000000000ull; v53 = 46; v54 = 3014656; v55 = 0x2e00000000ull; v56 = 0x2e000000000000ull; v57 = 46; v58 = 3014656; v59 = 0x2e00000000ull; v60 = 0x2e000000000000ull; v61 = 46; v62 = 3014656; v63 = 0x2e00000000ull; v64 = 0x2e000000000000ull; v65 = 46; v66 = 3014656; v67 = 0x2e00000000ull; v68 = 0x2e000000000000ull; v69 = 46; v70 = 3014656; v71 = 0x2e00000000ull; v72 = 0x2e000000000000ull; v73 = 46; v74 = 3014656; v75 = 0x2e00000000ull; v76 = 0x2e000000000000ull; v77 = 46; v78 = 3014656; v79 = 0x2e00000000ull; v80 = 0x2e000000000000ull; v81 = 46; v82 = 3014656; v83 = 0x2e00000000ull; goto L0; }
-	u64 v89 = (u64)ld8(v4+2) << 16;
-	if (v5 == 3) { v7 = 771751936; v8 = 11776; v9 = 0x2e00000000000000ull; v10 = 0x2e0000000000ull; v11 = 771751936; v12 = 11776; v13 = 0x2e00000000000000ull; v14 = 0x2e0000000000ull; v15 = 771751936; v16 = 11776; v17 = 0x2e00000000000000ull; v18 = 0x2e0000000000ull; v19 = 771751936; v20 = 11776; v21 = 0x2e00000000000000ull; v22 = 0x2e0000000000ull; v23 = 771751936; v24 = 11776; v25 = 0x2e00000000000000ull; v26 = 0x2e0000000000ull; v27 = 771751936; v28 = 11776; v29 = 0x2e00000000000000ull; v30 = 0x2e0000000000ull; v31 = 771751936; v32 = 11776; v33 = 0x2e00000000000000ull; v34 = 0x2e0000000000ull; v35 = 771751936; v36 = 11776; v37 = 0x2e00000000000000ull; v38 = 0x2e0000000000ull; v39 = 771751936; v40 = 11776; v41 = 0x2e00000000000000ull; v42 = 0x2e0000000000ull; v43 = 771751936; v44 = v88; v45 = v87; v46 = v89; v47 = 0x2e00000000ull; v48 = 0x2e000000000000ull; v49 = 46; v50 = 3014656; v51 = 0x2e00000000ull; v52 = 0x2e000000000000ull; v53 = 46; v54 = 3014656; v55 = 0x2e00000000ull; v56 = 0x2e000000000000ull; v57 = 46; v58 = 3014656; v59 = 0x2e00000000ull; v60 = 0x2e000000000000ull; v61 = 46; v62 = 3014656; v63 = 0x2e00000000ull; v64 = 0x2e000000000000ull; v65 = 46; v66 = 3014656; v67 = 0x2e00000000ull; v68 = 0x2e000000000000ull; v69 = 46; v70 = 3014656; v71 = 0x2e00000000ull; v72 = 0x2e000000000000ull; v73 = 46; v74 = 3014656; v75 = 0x2e00000000ull; v76 = 0x2e000000000000ull; v77 = 46; v78 = 3014656; v79 = 0x2e00000000ull; v80 = 0x2e000000000000ull; v81 = 46; v82 = 3014656; v83 = 0x2e00000000ull; goto L0; }
-	u64 v90 = (u64)ld8(v4+3) << 24;
-	if (v5 <= 4) { v7 = 771751936; v8 = 11776; v9 = 0x2e00000000000000ull; v10 = 0x2e0000000000ull; v11 = 771751936; v12 = 11776; v13 = 0x2e00000000000000ull; v14 = 0x2e0000000000ull; v15 = 771751936; v16 = 11776; v17 = 0x2e00000000000000ull; v18 = 0x2e0000000000ull; v19 = 771751936; v20 = 11776; v21 = 0x2e00000000000000ull; v22 = 0x2e0000000000ull; v23 = 771751936; v24 = 11776; v25 = 0x2e00000000000000ull; v26 = 0x2e0000000000ull; v27 = 771751936; v28 = 11776; v29 = 0x2e00000000000000ull; v30 = 0x2e0000000000ull; v31 = 771751936; v32 = 11776; v33 = 0x2e00000000000000ull; v34 = 0x2e0000000000ull; v35 = 771751936; v36 = 11776; v37 = 0x2e00000000000000ull; v38 = 0x2e0000000000ull; v39 = 771751936; v40 = 11776; v41 = 0x2e00000000000000ull; v42 = 0x2e0000000000ull; v43 = v90; v44 = v88; v45 = v87; v46 = v89; v47 = 0x2e00000000ull; v48 = 0x2e000000000000ull; v49 = 46; v50 = 3014656; v51 = 0x2e00000000ull; v52 = 0x2e000000000000ull; v53 = 46; v54 = 3014656; v55 = 0x2e00000000ull; v56 = 0x2e000000000000ull; v57 = 46; v58 = 3014656; v59 = 0x2e00000000ull; v60 = 0x2e000000000000ull; v61 = 46; v62 = 3014656; v63 = 0x2e00000000ull; v64 = 0x2e000000000000ull; v65 = 46; v66 = 3014656; v67 = 0x2e00000000ull; v68 = 0x2e000000000000ull; v69 = 46; v70 = 3014656; v71 = 0x2e00000000ull; v72 = 0x2e000000000000ull; v73 = 46; v74 = 3014656; v75 = 0x2e00000000ull; v76 = 0x2e000000000000ull; v77 = 46; v78 = 3014656; v79 = 0x2e00000000ull; v80 = 0x2e000000000000ull; v81 = 46; v82 = 3014656; v83 = 0x2e00000000ull; goto L0; }
-	u64 v91 = (u64)ld8(v4+4) << 32;
-	if (v5 == 5) { v7 = 771751936; v8 = 11776; v9 = 0x2e00000000000000ull; v10 = 0x2e0000000000ull; v11 = 771751936; v12 = 11776; v13 = 0x2e00000000000000ull; v14 = 0x2e0000000000ull; v15 = 771751936; v16 = 11776; v17 = 0x2e00000000000000ull; v18 = 0x2e0000000000ull; v19 = 771751936; v20 = 11776; v21 = 0x2e00000000000000ull; v22 = 0x2e0000000000ull; v23 = 771751936; v24 = 11776; v25 = 0x2e00000000000000ull; v26 = 0x2e0000000000ull; v27 = 771751936; v28 = 11776; v29 = 0x2e00000000000000ull; v30 = 0x2e0000000000ull; v31 = 771751936; v32 = 11776; v33 = 0x2e00000000000000ull; v34 = 0x2e0000000000ull; v35 = 771751936; v36 = 11776; v37 = 0x2e00000000000000ull; v38 = 0x2e0000000000ull; v39 = 771751936; v40 = 11776; v41 = 0x2e00000000000000ull; v42 = 0x2e0000000000ull; v43 = v90; v44 = v88; v45 = v87; v46 = v89; v47 = v91; v48 = 0x2e000000000000ull; v49 = 46; v50 = 3014656; v51 = 0x2e00000000ull; v52 = 0x2e000000000000ull; v53 = 46; v54 = 3014656; v55 = 0x2e00000000ull; v56 = 0x2e000000000000ull; v57 = 46; v58 = 3014656; v59 = 0x2e00000000ull; v60 = 0x2e000000000000ull; v61 = 46; v62 = 3014656; v63 = 0x2e00000000ull; v64 = 0x2e000000000000ull; v65 = 46; v66 = 3014656; v67 = 0x2e00000000ull; v68 = 0x2e000000000000ull; v69 = 46; v70 = 3014656; v71 = 0x2e00000000ull; v72 = 0x2e000000000000ull; v73 = 46; v74 = 3014656; v75 = 0x2e00000000ull; v76 = 0x2e000000000000ull; v77 = 46; v78 = 3014656; v79 = 0x2e00000000ull; v80 = 0x2e000000000000ull; v81 = 46; v82 = 3014656; v83 = 0x2e00000000ull; goto L0; }
-	u64 v92 = (u64)ld8(v4+5) << 40;
-	if (v5 <= 6) { v7 = 771751936; v8 = 11776; v9 = 0x2e00000000000000ull; v10 = 0x2e0000000000ull; v11 = 771751936; v12 = 11776; v13 = 0x2e00000000000000ull; v14 = 0x2e0000000000ull; v15 = 771751936; v16 = 11776; v17 = 0x2e00000000000000ull; v18 = 0x2e0000000000ull; v19 = 771751936; v20 = 11776; v21 = 0x2e00000000000000ull; v22 = 0x2e0000000000ull; v23 = 771751936; v24 = 11776; v25 = 0x2e00000000000000ull; v26 = 0x2e0000000000ull; v27 = 771751936; v28 = 11776; v29 = 0x2e00000000000000ull; v30 = 0x2e0000000000ull; v31 = 771751936; v32 = 11776; v33 = 0x2e00000000000000ull; v34 = 0x2e0000000000ull; v35 = 771751936; v36 = 11776; v37 = 0x2e00000000000000ull; v38 = 0x2e0000000000ull; v39 = 771751936; v40 = 11776; v41 = 0x2e00000000000000ull; v42 = v92; v43 = v90; v44 = v88; v45 = v87; v46 = v89; v47 = v91; v48 = 0x2e000000000000ull; v49 = 46; v50 = 3014656; v51 = 0x2e00000000ull; v52 = 0x2e000000000000ull; v53 = 46; v54 = 3014656; v55 = 0x2e00000000ull; v56 = 0x2e000000000000ull; v57 = 46; v58 = 3014656; v59 = 0x2e00000000ull; v60 = 0x2e000000000000ull; v61 = 46; v62 = 3014656; v63 = 0x2e00000000ull; v64 = 0x2e000000000000ull; v65 = 46; v66 = 3014656; v67 = 0x2e00000000ull; v68 = 0x2e000000000000ull; v69 = 46; v70 = 3014656; v71 = 0x2e00000000ull; v72 = 0x2e000000000000ull; v73 = 46; v74 = 3014656; v75 = 0x2e00000000ull; v76 = 0x2e000000000000ull; v77 = 46; v78 = 3014656; v79 = 0x2e00000000ull; v80 = 0x2e000000000000ull; v81 = 46; v82 = 3014656; v83 = 0x2e00000000ull; goto L0; }
-	u64 v93 = (u64)ld8(v4+6) << 48;
-	if (v5 == 7) { v7 = 771751936; v8 = 11776; v9 = 0x2e00000000000000ull; v10 = 0x2e0000000000ull; v11 = 771751936; v12 = 11776; v13 = 0x2e00000000000000ull; v14 = 0x2e0000000000ull; v15 = 771751936; v16 = 11776; v17 = 0x2e00000000000000ull; v18 = 0x2e0000000000ull; v19 = 771751936; v20 = 11776; v21 = 0x2e00000000000000ull; v22 = 0x2e0000000000ull; v23 = 771751936; v24 = 11776; v25 = 0x2e00000000000000ull; v26 = 0x2e0000000000ull; v27 = 771751936; v28 = 11776; v29 = 0x2e00000000000000ull; v30 = 0x2e0000000000ull; v31 = 771751936; v32 = 11776; v33 = 0x2e00000000000000ull; v34 = 0x2e0000000000ull; v35 = 771751936; v36 = 11776; v37 = 0x2e00000000000000ull; v38 = 0x2e0000000000ull; v39 = 771751936; v40 = 11776; v41 = 0x2e00000000000000ull; v42 = v92; v43 = v90; v44 = v88; v45 = v87; v46 = v89; v47 = v91; v48 = v93; v49 = 46; v50 = 3014656; v51 = 0x2e00000000ull; v52 = 0x2e000000000000ull; v53 = 46; v54 = 3014656; v55 = 0x2e00000000ull; v56 = 0x2e000000000000ull; v57 = 46; v58 = 3014656; v59 = 0x2e00000000ull; v60 = 0x2e000000000000ull; v61 = 46; v62 = 3014656; v63 = 0x2e00000000ull; v64 = 0x2e000000000000ull; v65 = 46; v66 = 3014656; v67 = 0x2e00000000ull; v68 = 0x2e000000000000ull; v69 = 46; v70 = 3014656; v71 = 0x2e00000000ull; v72 = 0x2e000000000000ull; v73 = 46; v74 = 3014656; v75 = 0x2e00000000ull; v76 = 0x2e000000000000ull; v77 = 46; v78 = 3014656; v79 = 0x2e00000000ull; v80 = 0x2e000000000000ull; v81 = 46; v82 = 3014656; v83 = 0x2e00000000ull; goto L0; }
-	u64 v94 = (u64)ld8(v4+7) << 56;
-	if (v5 <= 8) { v7 = 771751936; v8 = 11776; v9 = 0x2e00000000000000ull; v10 = 0x2e0000000000ull; v11 = 771751936; v12 = 11776; v13 = 0x2e00000000000000ull; v14 = 0x2e0000000000ull; v15 = 771751936; v16 = 11776; v17 = 0x2e00000000000000ull; v18 = 0x2e0000000000ull; v19 = 771751936; v20 = 11776; v21 = 0x2e00000000000000ull; v22 = 0x2e0000000000ull; v23 = 771751936; v24 = 11776; v25 = 0x2e00000000000000ull; v26 = 0x2e0000000000ull; v27 = 771751936; v28 = 11776; v29 = 0x2e00000000000000ull; v30 = 0x2e0000000000ull; v31 = 771751936; v32 = 11776; v33 = 0x2e00000000000000ull; v34 = 0x2e0000000000ull; v35 = 771751936; v36 = 11776; v37 = 0x2e00000000000000ull; v38 = 0x2e0000000000ull; v39 = 771751936; v40 = 11776; v41 = v94; v42 = v92; v43 = v90; v44 = v88; v45 = v87; v46 = v89; v47 = v91; v48 = v93; v49 = 46; v50 = 3014656; v51 = 0x2e00000000ull; v52 = 0x2e000000000000ull; v53 = 46; v54 = 3014656; v55 = 0x2e00000000ull; v56 = 0x2e000000000000ull; v57 = 46; v58 = 3014656; v59 = 0x2e00000000ull; v60 = 0x2e000000000000ull; v61 = 46; v62 = 3014656; v63 = 0x2e00000000ull; v64 = 0x2e000000000000ull; v65 = 46; v66 = 3014656; v67 = 0x2e00000000ull; v68 = 0x2e000000000000ull; v69 = 46; v70 = 3014656; v71 = 0x2e00000000ull; v72 = 0x2e000000000000ull; v73 = 46; v74 = 3014656; v75 = 0x2e00000000ull; v76 = 0x2e000000000000ull; v77 = 46; v78 = 3014656; v79 = 0x2e00000000ull; v80 = 0x2e000000000000ull; v81 = 46; v82 = 3014656; v83 = 0x2e00000000ull; goto L0; }
-	u8 v95 = ld8(v4+8);
-	if (v5 == 9) { v7 = 771751936; v8 = 11776; v9 = 0x2e00000000000000ull; v10 = 0x2e0000000000ull; v11 = 771751936; v12 = 11776; v13 = 0x2e00000000000000ull; v14 = 0x2e0000000000ull; v15 = 771751936; v16 = 11776; v17 = 0x2e00000000000000ull; v18 = 0x2e0000000000ull; v19 = 771751936; v20 = 11776; v21 = 0x2e00000000000000ull; v22 = 0x2e0000000000ull; v23 = 771751936; v24 = 11776; v25 = 0x2e00000000000000ull; v26 = 0x2e0000000000ull; v27 = 771751936; v28 = 11776; v29 = 0x2e00000000000000ull; v30 = 0x2e0000000000ull; v31 = 771751936; v32 = 11776; v33 = 0x2e00000000000000ull; v34 = 0x2e0000000000ull; v35 = 771751936; v36 = 11776; v37 = 0x2e00000000000000ull; v38 = 0x2e0000000000ull; v39 = 771751936; v40 = 11776; v41 = v94; v42 = v92; v43 = v90; v44 = v88; v45 = v87; v46 = v89; v47 = v91; v48 = v93; v49 = v95; v50 = 3014656; v51 = 0x2e00000000ull; v52 = 0x2e000000000000ull; v53 = 46; v54 = 3014656; v55 = 0x2e00000000ull; v56 = 0x2e000000000000ull; v57 = 46; v58 = 3014656; v59 = 0x2e00000000ull; v60 = 0x2e000000000000ull; v61 = 46; v62 = 3014656; v63 = 0x2e00000000ull; v64 = 0x2e000000000000ull; v65 = 46; v66 = 3014656; v67 = 0x2e00000000ull; v68 = 0x2e000000000000ull; v69 = 46; v70 = 3014656; v71 = 0x2e00000000ull; v72 = 0x2e000000000000ull; v73 = 46; v74 = 3014656; v75 = 0x2e00000000ull; v76 = 0x2e000000000000ull; v77 = 46; v78 = 3014656; v79 = 0x2e00000000ull; v80 = 0x2e000000000000ull; v81 = 46; v82 = 3014656; v83 = 0x2e00000000ull; goto L0; }
-	u64 v96 = (u64)ld8(v4+9) << 8;
-	if (v5 <= 10) { v7 = 771751936; v8 = 11776; v9 = 0x2e00000000000000ull; v10 = 0x2e0000000000ull; v11 = 771751936; v12 = 11776; v13 = 0x2e00000000000000ull; v14 = 0x2e0000000000ull; v15 = 771751936; v16 = 11776; v17 = 0x2e00000000000000ull; v18 = 0x2e0000000000ull; v19 = 771751936; v20 = 11776; v21 = 0x2e00000000000000ull; v22 = 0x2e0000000000ull; v23 = 771751936; v24 = 11776; v25 = 0x2e00000000000000ull; v26 = 0x2e0000000000ull; v27 = 771751936; v28 = 11776; v29 = 0x2e00000000000000ull; v30 = 0x2e0000000000ull; v31 = 771751936; v32 = 11776; v33 = 0x2e00000000000000ull; v34 = 0x2e0000000000ull; v35 = 771751936; v36 = 11776; v37 = 0x2e00000000000000ull; v38 = 0x2e0000000000ull; v39 = 771751936; v40 = v96; v41 = v94; v42 = v92; v43 = v90; v44 = v88; v45 = v87; v46 = v89; v47 = v91; v48 = v93; v49 = v95; v50 = 3014656; v51 = 0x2e00000000ull; v52 = 0x2e000000000000ull; v53 = 46; v54 = 3014656; v55 = 0x2e00000000ull; v56 = 0x2e000000000000ull; v57 = 46; v58 = 3014656; v59 = 0x2e00000000ull; v60 = 0x2e000000000000ull; v61 = 46; v62 = 3014656; v63 = 0x2e00000000ull; v64 = 0x2e000000000000ull; v65 = 46; v66 = 3014656; v67 = 0x2e00000000ull; v68 = 0x2e000000000000ull; v69 = 46; v70 = 3014656; v71 = 0x2e00000000ull; v72 = 0x2e000000000000ull; v73 = 46; v74 = 3014656; v75 = 0x2e00000000ull; v76 = 0x2e000000000000ull; v77 = 46; v78 = 3014656; v79 = 0x2e00000000ull; v80 = 0x2e000000000000ull; v81 = 46; v82 = 3014656; v83 = 0x2e00000000ull; goto L0; }
-	u64 v97 = (u64)ld8(v4+10) << 16;
-	if (v5 == 11) { v7 = 771751936; v8 = 11776; v9 = 0x2e00000000000000ull; v10 = 0x2e0000000000ull; v11 = 771751936; v12 = 11776; v13 = 0x2e00000000000000ull; v14 = 0x2e0000000000ull; v15 = 771751936; v16 = 11776; v17 = 0x2e00000000000000ull; v18 = 0x2e0000000000ull; v19 = 771751936; v20 = 11776; v21 = 0x2e00000000000000ull; v22 = 0x2e0000000000ull; v23 = 771751936; v24 = 11776; v25 = 0x2e00000000000000ull; v26 = 0x2e0000000000ull; v27 = 771751936; v28 = 11776; v29 = 0x2e00000000000000ull; v30 = 0x2e0000000000ull; v31 = 771751936; v32 = 11776; v33 = 0x2e00000000000000ull; v34 = 0x2e0000000000ull; v35 = 771751936; v36 = 11776; v37 = 0x2e00000000000000ull; v38 = 0x2e0000000000ull; v39 = 771751936; v40 = v96; v41 = v94; v42 = v92; v43 = v90; v44 = v88; v45 = v87; v46 = v89; v47 = v91; v48 = v93; v49 = v95; v50 = v97; v51 = 0x2e00000000ull; v52 = 0x2e000000000000ull; v53 = 46; v54 = 3014656; v55 = 0x2e00000000ull; v56 = 0x2e000000000000ull; v57 = 46; v58 = 3014656; v59 = 0x2e00000000ull; v60 = 0x2e000000000000ull; v61 = 46; v62 = 3014656; v63 = 0x2e00000000ull; v64 = 0x2e000000000000ull; v65 = 46; v66 = 3014656; v67 = 0x2e00000000ull; v68 = 0x2e000000000000ull; v69 = 46; v70 = 3014656; v71 = 0x2e00000000ull; v72 = 0x2e000000000000ull; v73 = 46; v74 = 3014656; v75 = 0x2e00000000ull; v76 = 0x2e000000000000ull; v77 = 46; v78 = 3014656; v79 = 0x2e00000000ull; v80 = 0x2e000000000000ull; v81 = 46; v82 = 3014656; v83 = 0x2e00000000ull; goto L0; }
-	u64 v98 = (u64)ld8(v4+11) << 24;
-	if (v5 <= 12) { v7 = 771751936; v8 = 11776; v9 = 0x2e00000000000000ull; v10 = 0x2e0000000000ull; v11 = 771751936; v12 = 11776; v13 = 0x2e00000000000000ull; v14 = 0x2e0000000000ull; v15 = 771751936; v16 = 11776; v17 = 0x2e00000000000000ull; v18 = 0x2e0000000000ull; v19 = 771751936; v20 = 11776; v21 = 0x2e00000000000000ull; v22 = 0x2e0000000000ull; v23 = 771751936; v24 = 11776; v25 = 0x2e00000000000000ull; v26 = 0x2e0000000000ull; v27 = 771751936; v28 = 11776; v29 = 0x2e00000000000000ull; v30 = 0x2e0000000000ull; v31 = 771751936; v32 = 11776; v33 = 0x2e00000000000000ull; v34 = 0x2e0000000000ull; v35 = 771751936; v36 = 11776; v37 = 0x2e00000000000000ull; v38 = 0x2e0000000000ull; v39 = v98; v40 = v96; v41 = v94; v42 = v92; v43 = v90; v44 = v88; v45 = v87; v46 = v89; v47 = v91; v48 = v93; v49 = v95; v50 = v97; v51 = 0x2e00000000ull; v52 = 0x2e000000000000ull; v53 = 46; v54 = 3014656; v55 = 0x2e00000000ull; v56 = 0x2e000000000000ull; v57 = 46; v58 = 3014656; v59 = 0x2e00000000ull; v60 = 0x2e000000000000ull; v61 = 46; v62 = 3014656; v63 = 0x2e00000000ull; v64 = 0x2e000000000000ull; v65 = 46; v66 = 3014656; v67 = 0x2e00000000ull; v68 = 0x2e000000000000ull; v69 = 46; v70 = 3014656; v71 = 0x2e00000000ull; v72 = 0x2e000000000000ull; v73 = 46; v74 = 3014656; v75 = 0x2e00000000ull; v76 = 0x2e000000000000ull; v77 = 46; v78 = 3014656; v79 = 0x2e00000000ull; v80 = 0x2e000000000000ull; v81 = 46; v82 = 3014656; v83 = 0x2e00000000ull; goto L0; }
-	u64 v99 = (u64)ld8(v4+12) << 32;
-	if (v5 == 13) { v7 = 771751936; v8 = 11776; v9 = 0x2e00000000000000ull; v10 = 0x2e0000000000ull; v11 = 771751936; v12 = 11776; v13 = 0x2e00000000000000ull; v14 = 0x2e0000000000ull; v15 = 771751936; v16 = 11776; v17 = 0x2e00000000000000ull; v18 = 0x2e0000000000ull; v19 = 771751936; v20 = 11776; v21 = 0x2e00000000000000ull; v22 = 0x2e0000000000ull; v23 = 771751936; v24 = 11776; v25 = 0x2e00000000000000ull; v26 = 0x2e0000000000ull; v27 = 771751936; v28 = 11776; v29 = 0x2e00000000000000ull; v30 = 0x2e0000000000ull; v31 = 771751936; v32 = 11776; v33 = 0x2e00000000000000ull; v34 = 0x2e0000000000ull; v35 = 771751936; v36 = 11776; v37 = 0x2e00000000000000ull; v38 = 0x2e0000000000ull; v39 = v98; v40 = v96; v41 = v94; v42 = v92; v43 = v90; v44 = v88; v45 = v87; v46 = v89; v47 = v91; v48 = v93; v49 = v95; v50 = v97; v51 = v99; v52 = 0x2e000000000000ull; v53 = 46; v54 = 3014656; v55 = 0x2e00000000ull; v56 = 0x2e000000000000ull; v57 = 46; v58 = 3014656; v59 = 0x2e00000000ull; v60 = 0x2e000000000000ull; v61 = 46; v62 = 3014656; v63 = 0x2e00000000ull; v64 = 0x2e000000000000ull; v65 = 46; v66 = 3014656; v67 = 0x2e00000000ull; v68 = 0x2e000000000000ull; v69 = 46; v70 = 3014656; v71 = 0x2e00000000ull; v72 = 0x2e000000000000ull; v73 = 46; v74 = 3014656; v75 = 0x2e00000000ull; v76 = 0x2e000000000000ull; v77 = 46; v78 = 3014656; v79 = 0x2e00000000ull; v80 = 0x2e000000000000ull; v81 = 46; v82 = 3014656; v83 = 0x2e00000000ull; goto L0; }
-	u64 v100 = (u64)ld8(v4+13) << 40;
-	if (v5 <= 14) { v7 = 771751936; v8 = 11776; v9 = 0x2e00000000000000ull; v10 = 0x2e0000000000ull; v11 = 771751936; v12 = 11776; v13 = 0x2e00000000000000ull; v14 = 0x2e0000000000ull; v15 = 771751936; v16 = 11776; v17 = 0x2e00000000000000ull; v18 = 0x2e0000000000ull; v19 = 771751936; v20 = 11776; v21 = 0x2e00000000000000ull; v22 = 0x2e0000000000ull; v23 = 771751936; v24 = 11776; v25 = 0x2e00000000000000ull; v26 = 0x2e0000000000ull; v27 = 771751936; v28 = 11776; v29 = 0x2e00000000000000ull; v30 = 0x2e0000000000ull; v31 = 771751936; v32 = 11776; v33 = 0x2e00000000000000ull; v34 = 0x2e0000000000ull; v35 = 771751936; v36 = 11776; v37 = 0x2e00000000000000ull; v38 = v100; v39 = v98; v40 = v96; v41 = v94; v42 = v92; v43 = v90; v44 = v88; v45 = v87; v46 = v89; v47 = v91; v48 = v93; v49 = v95; v50 = v97; v51 = v99; v52 = 0x2e000000000000ull; v53 = 46; v54 = 3014656; v55 = 0x2e00000000ull; v56 = 0x2e000000000000ull; v57 = 46; v58 = 3014656; v59 = 0x2e00000000ull; v60 = 0x2e000000000000ull; v61 = 46; v62 = 3014656; v63 = 0x2e00000000ull; v64 = 0x2e000000000000ull; v65 = 46; v66 = 3014656; v67 = 0x2e00000000ull; v68 = 0x2e000000000000ull; v69 = 46; v70 = 3014656; v71 = 0x2e00000000ull; v72 = 0x2e000000000000ull; v73 = 46; v74 = 3014656; v75 = 0x2e00000000ull; v76 = 0x2e000000000000ull; v77 = 46; v78 = 3014656; v79 = 0x2e00000000ull; v80 = 0x2e000000000000ull; v81 = 46; v82 = 3014656; v83 = 0x2e00000000ull; goto L0; }
-	u64 v101 = (u64)ld8(v4+14) << 48;
-	if (v5 == 15) { v7 = 771751936; v8 = 11776; v9 = 0x2e00000000000000ull; v10 = 0x2e0000000000ull; v11 = 771751936; v12 = 11776; v13 = 0x2e00000000000000ull; v14 = 0x2e0000000000ull; v15 = 771751936; v16 = 11776; v17 = 0x2e00000000000000ull; v18 = 0x2e0000000000ull; v19 = 771751936; v20 = 11776; v21 = 0x2e00000000000000ull; v22 = 0x2e0000000000ull; v23 = 771751936; v24 = 11776; v25 = 0x2e00000000000000ull; v26 = 0x2e0000000000ull; v27 = 771751936; v28 = 11776; v29 = 0x2e00000000000000ull; v30 = 0x2e0000000000ull; v31 = 771751936; v32 = 11776; v33 = 0x2e00000000000000ull; v34 = 0x2e0000000000ull; v35 = 771751936; v36 = 11776; v37 = 0x2e00000000000000ull; v38 = v100; v39 = v98; v40 = v96; v41 = v94; v42 = v92; v43 = v90; v44 = v88; v45 = v87; v46 = v89; v47 = v91; v48 = v93; v49 = v95; v50 = v97; v51 = v99; v52 = v101; v53 = 46; v54 = 3014656; v55 = 0x2e00000000ull; v56 = 0x2e000000000000ull; v57 = 46; v58 = 3014656; v59 = 0x2e00000000ull; v60 = 0x2e000000000000ull; v61 = 46; v62 = 3014656; v63 = 0x2e00000000ull; v64 = 0x2e000000000000ull; v65 = 46; v66 = 3014656; v67 = 0x2e00000000ull; v68 = 0x2e000000000000ull; v69 = 46; v70 = 3014656; v71 = 0x2e00000000ull; v72 = 0x2e000000000000ull; v73 = 46; v74 = 3014656; v75 = 0x2e00000000ull; v76 = 0x2e000000000000ull; v77 = 46; v78 = 3014656; v79 = 0x2e00000000ull; v80 = 0x2e000000000000ull; v81 = 46; v82 = 3014656; v83 = 0x2e00000000ull; goto L0; }
-	u64 v102 = (u64)ld8(v4+15) << 56;
-	if (v5 <= 16) { v7 = 771751936; v8 = 11776; v9 = 0x2e00000000000000ull; v10 = 0x2e0000000000ull; v11 = 771751936; v12 = 11776; v13 = 0x2e00000000000000ull; v14 = 0x2e0000000000ull; v15 = 771751936; v16 = 11776; v17 = 0x2e00000000000000ull; v18 = 0x2e0000000000ull; v19 = 771751936; v20 = 11776; v21 = 0x2e00000000000000ull; v22 = 0x2e0000000000ull; v23 = 771751936; v24 = 11776; v25 = 0x2e00000000000000ull; v26 = 0x2e0000000000ull; v27 = 771751936; v28 = 11776; v29 = 0x2e00000000000000ull; v30 = 0x2e0000000000ull; v31 = 771751936; v32 = 11776; v33 = 0x2e00000000000000ull; v34 = 0x2e0000000000ull; v35 = 771751936; v36 = 11776; v37 = v102; v38 = v100; v39 = v98; v40 = v96; v41 = v94; v42 = v92; v43 = v90; v44 = v88; v45 = v87; v46 = v89; v47 = v91; v48 = v93; v49 = v95; v50 = v97; v51 = v99; v52 = v101; v53 = 46; v54 = 3014656; v55 = 0x2e00000000ull; v56 = 0x2e000000000000ull; v57 = 46; v58 = 3014656; v59 = 0x2e00000000ull; v60 = 0x2e000000000000ull; v61 = 46; v62 = 3014656; v63 = 0x2e00000000ull; v64 = 0x2e000000000000ull; v65 = 46; v66 = 3014656; v67 = 0x2e00000000ull; v68 = 0x2e000000000000ull; v69 = 46; v70 = 3014656; v71 = 0x2e00000000ull; v72 = 0x2e000000000000ull; v73 = 46; v74 = 3014656; v75 = 0x2e00000000ull; v76 = 0x2e000000000000ull; v77 = 46; v78 = 3014656; v79 = 0x2e00000000ull; v80 = 0x2e000000000000ull; v81 = 46; v82 = 3014656; v83 = 0x2e00000000ull; goto L0; }
-	u8 v103 = ld8(v4+16);
-	if (v5 == 17) { v7 = 771751936; v8 = 11776; v9 = 0x2e00000000000000ull; v10 = 0x2e0000000000ull; v11 = 771751936; v12 = 11776; v13 = 0x2e00000000000000ull; v14 = 0x2e0000000000ull; v15 = 771751936; v16 = 11776; v17 = 0x2e00000000000000ull; v18 = 0x2e0000000000ull; v19 = 771751936; v20 = 11776; v21 = 0x2e00000000000000ull; v22 = 0x2e0000000000ull; v23 = 771751936; v24 = 11776; v25 = 0x2e00000000000000ull; v26 = 0x2e0000000000ull; v27 = 771751936; v28 = 11776; v29 = 0x2e00000000000000ull; v30 = 0x2e0000000000ull; v31 = 771751936; v32 = 11776; v33 = 0x2e00000000000000ull; v34 = 0x2e0000000000ull; v35 = 771751936; v36 = 11776; v37 = v102; v38 = v100; v39 = v98; v40 = v96; v41 = v94; v42 = v92; v43 = v90; v44 = v88; v45 = v87; v46 = v89; v47 = v91; v48 = v93; v49 = v95; v50 = v97; v51 = v99; v52 = v101; v53 = v103; v54 = 3014656; v55 = 0x2e00000000ull; v56 = 0x2e000000000000ull; v57 = 46; v58 = 3014656; v59 = 0x2e00000000ull; v60 = 0x2e000000000000ull; v61 = 46; v62 = 3014656; v63 = 0x2e00000000ull; v64 = 0x2e000000000000ull; v65 = 46; v66 = 3014656; v67 = 0x2e00000000ull; v68 = 0x2e000000000000ull; v69 = 46; v70 = 3014656; v71 = 0x2e00000000ull; v72 = 0x2e000000000000ull; v73 = 46; v74 = 3014656; v75 = 0x2e00000000ull; v76 = 0x2e000000000000ull; v77 = 46; v78 = 3014656; v79 = 0x2e00000000ull; v80 = 0x2e000000000000ull; v81 = 46; v82 = 3014656; v83 = 0x2e00000000ull; goto L0; }
-	u64 v104 = (u64)ld8(v4+17) << 8;
-	if (v5 <= 18) { v7 = 771751936; v8 = 11776; v9 = 0x2e00000000000000ull; v10 = 0x2e0000000000ull; v11 = 771751936; v12 = 11776; v13 = 0x2e00000000000000ull; v14 = 0x2e0000000000ull; v15 = 771751936; v16 = 11776; v17 = 0x2e00000000000000ull; v18 = 0x2e0000000000ull; v19 = 771751936; v20 = 11776; v21 = 0x2e00000000000000ull; v22 = 0x2e0000000000ull; v23 = 771751936; v24 = 11776; v25 = 0x2e00000000000000ull; v26 = 0x2e0000000000ull; v27 = 771751936; v28 = 11776; v29 = 0x2e00000000000000ull; v30 = 0x2e0000000000ull; v31 = 771751936; v32 = 11776; v33 = 0x2e00000000000000ull; v34 = 0x2e0000000000ull; v35 = 771751936; v36 = v104; v37 = v102; v38 = v100; v39 = v98; v40 = v96; v41 = v94; v42 = v92; v43 = v90; v44 = v88; v45 = v87; v46 = v89; v47 = v91; v48 = v93; v49 = v95; v50 = v97; v51 = v99; v52 = v101; v53 = v103; v54 = 3014656; v55 = 0x2e00000000ull; v56 = 0x2e000000000000ull; v57 = 46; v58 = 3014656; v59 = 0x2e00000000ull; v60 = 0x2e000000000000ull; v61 = 46; v62 = 3014656; v63 = 0x2e00000000ull; v64 = 0x2e000000000000ull; v65 = 46; v66 = 3014656; v67 = 0x2e00000000ull; v68 = 0x2e000000000000ull; v69 = 46; v70 = 3014656; v71 = 0x2e00000000ull; v72 = 0x2e000000000000ull; v73 = 46; v74 = 3014656; v75 = 0x2e00000000ull; v76 = 0x2e000000000000ull; v77 = 46; v78 = 3014656; v79 = 0x2e00000000ull; v80 = 0x2e000000000000ull; v81 = 46; v82 = 3014656; v83 = 0x2e00000000ull; goto L0; }
-	u64 v105 = (u64)ld8(v4+18) << 16;
-	if (v5 == 19) { v7 = 771751936; v8 = 11776; v9 = 0x2e00000000000000ull; v10 = 0x2e0000000000ull; v11 = 771751936; v12 = 11776; v13 = 0x2e00000000000000ull; v14 = 0x2e0000000000ull; v15 = 771751936; v16 = 11776; v17 = 0x2e00000000000000ull; v18 = 0x2e0000000000ull; v19 = 771751936; v20 = 11776; v21 = 0x2e00000000000000ull; v22 = 0x2e0000000000ull; v23 = 771751936; v24 = 11776; v25 = 0x2e00000000000000ull; v26 = 0x2e0000000000ull; v27 = 771751936; v28 = 11776; v29 = 0x2e00000000000000ull; v30 = 0x2e0000000000ull; v31 = 771751936; v32 = 11776; v33 = 0x2e00000000000000ull; v34 = 0x2e0000000000ull; v35 = 771751936; v36 = v104; v37 = v102; v38 = v100; v39 = v98; v40 = v96; v41 = v94; v42 = v92; v43 = v90; v44 = v88; v45 = v87; v46 = v89; v47 = v91; v48 = v93; v49 = v95; v50 = v97; v51 = v99; v52 = v101; v53 = v103; v54 = v105; v55 = 0x2e00000000ull; v56 = 0x2e000000000000ull; v57 = 46; v58 = 3014656; v59 = 0x2e00000000ull; v60 = 0x2e000000000000ull; v61 = 46; v62 = 3014656; v63 = 0x2e00000000ull; v64 = 0x2e000000000000ull; v65 = 46; v66 = 3014656; v67 = 0x2e00000000ull; v68 = 0x2e000000000000ull; v69 = 46; v70 = 3014656; v71 = 0x2e00000000ull; v72 = 0x2e000000000000ull; v73 = 46; v74 = 3014656; v75 = 0x2e00000000ull; v76 = 0x2e000000000000ull; v77 = 46; v78 = 3014656; v79 = 0x2e00000000ull; v80 = 0x2e000000000000ull; v81 = 46; v82 = 3014656; v83 = 0x2e00000000ull; goto L0; }
-	u64 v106 = (u64)ld8(v4+19) << 24;
-	if (v5 <= 20) { v7 = 771751936; v8 = 11776; v9 = 0x2e00000000000000ull; v10 = 0x2e0000000000ull; v11 = 771751936; v12 = 11776; v13 = 0x2e00000000000000ull; v14 = 0x2e0000000000ull; v15 = 771751936; v16 = 11776; v17 = 0x2e00000000000000ull; v18 = 0x2e0000000000ull; v19 = 771751936; v20 = 11776; v21 = 0x2e00000000000000ull; v22 = 0x2e0000000000ull; v23 = 771751936; v24 = 11776; v25 = 0x2e00000000000000ull; v26 = 0x2e0000000000ull; v27 = 771751936; v28 = 11776; v29 = 0x2e00000000000000ull; v30 = 0x2e0000000000ull; v31 = 771751936; v32 = 11776; v33 = 0x2e00000000000000ull; v34 = 0x2e0000000000ull; v35 = v106; v36 = v104; v37 = v102; v38 = v100; v39 = v98; v40 = v96; v41 = v94; v42 = v92; v43 = v90; v44 = v88; v45 = v87; v46 = v89; v47 = v91; v48 = v93; v49 = v95; v50 = v97; v51 = v99; v52 = v101; v53 = v103; v54 = v105; v55 = 0x2e00000000ull; v56 = 0x2e000000000000ull; v57 = 46; v58 = 3014656; v59 = 0x2e00000000ull; v60 = 0x2e000000000000ull; v61 = 46; v62 = 3014656; v63 = 0x2e00000000ull; v64 = 0x2e000000000000ull; v65 = 46; v66 = 3014656; v67 = 0x2e00000000ull; v68 = 0x2e000000000000ull; v69 = 46; v70 = 3014656; v71 = 0x2e00000000ull; v72 = 0x2e000000000000ull; v73 = 46; v74 = 3014656; v75 = 0x2e00000000ull; v76 = 0x2e000000000000ull; v77 = 46; v78 = 3014656; v79 = 0x2e00000000ull; v80 = 0x2e000000000000ull; v81 = 46; v82 = 3014656; v83 = 0x2e00000000ull; goto L0; }
-	u64 v107 = (u64)ld8(v4+20) << 32;
-	if (v5 == 21) { v7 = 771751936; v8 = 11776; v9 = 0x2e00000000000000ull; v10 = 0x2e0000000000ull; v11 = 771751936; v12 = 11776; v13 = 0x2e00000000000000ull; v14 = 0x2e0000000000ull; v15 = 771751936; v16 = 11776; v17 = 0x2e00000000000000ull; v18 = 0x2e0000000000ull; v19 = 771751936; v20 = 11776; v21 = 0x2e00000000000000ull; v22 = 0x2e0000000000ull; v23 = 771751936; v24 = 11776; v25 = 0x2e00000000000000ull; v26 = 0x2e0000000000ull; v27 = 771751936; v28 = 11776; v29 = 0x2e00000000000000ull; v30 = 0x2e0000000000ull; v31 = 771751936; v32 = 11776; v33 = 0x2e00000000000000ull; v34 = 0x2e0000000000ull; v35 = v106; v36 = v104; v37 = v102; v38 = v100; v39 = v98; v40 = v96; v41 = v94; v42 = v92; v43 = v90; v44 = v88; v45 = v87; v46 = v89; v47 = v91; v48 = v93; v49 = v95; v50 = v97; v51 = v99; v52 = v101; v53 = v103; v54 = v105; v55 = v107; v56 = 0x2e000000000000ull; v57 = 46; v58 = 3014656; v59 = 0x2e00000000ull; v60 = 0x2e000000000000ull; v61 = 46; v62 = 3014656; v63 = 0x2e00000000ull; v64 = 0x2e000000000000ull; v65 = 46; v66 = 3014656; v67 = 0x2e00000000ull; v68 = 0x2e000000000000ull; v69 = 46; v70 = 3014656; v71 = 0x2e00000000ull; v72 = 0x2e000000000000ull; v73 = 46; v74 = 3014656; v75 = 0x2e00000000ull; v76 = 0x2e000000000000ull; v77 = 46; v78 = 3014656; v79 = 0x2e00000000ull; v80 = 0x2e000000000000ull; v81 = 46; v82 = 3014656; v83 = 0x2e00000000ull; goto L0; }
-	u64 v108 = (u64)ld8(v4+21) << 40;
-	if (v5 <= 22) { v7 = 771751936; v8 = 11776; v9 = 0x2e00000000000000ull; v10 = 0x2e0000000000ull; v11 = 771751936; v12 = 11776; v13 = 0x2e00000000000000ull; v14 = 0x2e0000000000ull; v15 = 771751936; v16 = 11776; v17 = 0x2e00000000000000ull; v18 = 0x2e0000000000ull; v19 = 771751936; v20 = 11776; v21 = 0x2e00000000000000ull; v22 = 0x2e0000000000ull; v23 = 771751936; v24 = 11776; v25 = 0x2e00000000000000ull; v26 = 0x2e0000000000ull; v27 = 771751936; v28 = 11776; v29 = 0x2e00000000000000ull; v30 = 0x2e0000000000ull; v31 = 771751936; v32 = 11776; v33 = 0x2e00000000000000ull; v34 = v108; v35 = v106; v36 = v104; v37 = v102; v38 = v100; v39 = v98; v40 = v96; v41 = v94; v42 = v92; v43 = v90; v44 = v88; v45 = v87; v46 = v89; v47 = v91; v48 = v93; v49 = v95; v50 = v97; v51 = v99; v52 = v101; v53 = v103; v54 = v105; v55 = v107; v56 = 0x2e000000000000ull; v57 = 46; v58 = 3014656; v59 = 0x2e00000000ull; v60 = 0x2e000000000000ull; v61 = 46; v62 = 3014656; v63 = 0x2e00000000ull; v64 = 0x2e000000000000ull; v65 = 46; v66 = 3014656; v67 = 0x2e00000000ull; v68 = 0x2e000000000000ull; v69 = 46; v70 = 3014656; v71 = 0x2e00000000ull; v72 = 0x2e000000000000ull; v73 = 46; v74 = 3014656; v75 = 0x2e00000000ull; v76 = 0x2e000000000000ull; v77 = 46; v78 = 3014656; v79 = 0x2e00000000ull; v80 = 0x2e000000000000ull; v81 = 46; v82 = 3014656; v83 = 0x2e00000000ull; goto L0; }
-	u64 v109 = (u64)ld8(v4+22) << 48;
-	if (v5 == 23) { v7 = 771751936; v8 = 11776; v9 = 0x2e00000000000000ull; v10 = 0x2e0000000000ull; v11 = 771751936; v12 = 11776; v13 = 0x2e00000000000000ull; v14 = 0x2e0000000000ull; v15 = 771751936; v16 = 11776; v17 = 0x2e00000000000000ull; v18 = 0x2e0000000000ull; v19 = 771751936; v20 = 11776; v21 = 0x2e00000000000000ull; v22 = 0x2e0000000000ull; v23 = 771751936; v24 = 11776; v25 = 0x2e00000000000000ull; v26 = 0x2e0000000000ull; v27 = 771751936; v28 = 11776; v29 = 0x2e00000000000000ull; v30 = 0x2e0000000000ull; v31 = 771751936; v32 = 11776; v33 = 0x2e00000000000000ull; v34 = v108; v35 = v106; v36 = v104; v37 = v102; v38 = v100; v39 = v98; v40 = v96; v41 = v94; v42 = v92; v43 = v90; v44 = v88; v45 = v87; v46 = v89; v47 = v91; v48 = v93; v49 = v95; v50 = v97; v51 = v99; v52 = v101; v53 = v103; v54 = v105; v55 = v107; v56 = v109; v57 = 46; v58 = 3014656; v59 = 0x2e00000000ull; v60 = 0x2e000000000000ull; v61 = 46; v62 = 3014656; v63 = 0x2e00000000ull; v64 = 0x2e000000000000ull; v65 = 46; v66 = 3014656; v67 = 0x2e00000000ull; v68 = 0x2e000000000000ull; v69 = 46; v70 = 3014656; v71 = 0x2e00000000ull; v72 = 0x2e000000000000ull; v73 = 46; v74 = 3014656; v75 = 0x2e00000000ull; v76 = 0x2e000000000000ull; v77 = 46; v78 = 3014656; v79 = 0x2e00000000ull; v80 = 0x2e000000000000ull; v81 = 46; v82 = 3014656; v83 = 0x2e00000000ull; goto L0; }
-	u64 v110 = (u64)ld8(v4+23) << 56;
-	if (v5 <= 24) { v7 = 771751936; v8 = 11776; v9 = 0x2e00000000000000ull; v10 = 0x2e0000000000ull; v11 = 771751936; v12 = 11776; v13 = 0x2e00000000000000ull; v14 = 0x2e0000000000ull; v15 = 771751936; v16 = 11776; v17 = 0x2e00000000000000ull; v18 = 0x2e0000000000ull; v19 = 771751936; v20 = 11776; v21 = 0x2e00000000000000ull; v22 = 0x2e0000000000ull; v23 = 771751936; v24 = 11776; v25 = 0x2e00000000000000ull; v26 = 0x2e0000000000ull; v27 = 771751936; v28 = 11776; v29 = 0x2e00000000000000ull; v30 = 0x2e0000000000ull; v31 = 771751936; v32 = 11776; v33 = v110; v34 = v108; v35 = v106; v36 = v104; v37 = v102; v38 = v100; v39 = v98; v40 = v96; v41 = v94; v42 = v92; v43 = v90; v44 = v88; v45 = v87; v46 = v89; v47 = v91; v48 = v93; v49 = v95; v50 = v97; v51 = v99; v52 = v101; v53 = v103; v54 = v105; v55 = v107; v56 = v109; v57 = 46; v58 = 3014656; v59 = 0x2e00000000ull; v60 = 0x2e000000000000ull; v61 = 46; v62 = 3014656; v63 = 0x2e00000000ull; v64 = 0x2e000000000000ull; v65 = 46; v66 = 3014656; v67 = 0x2e00000000ull; v68 = 0x2e000000000000ull; v69 = 46; v70 = 3014656; v71 = 0x2e00000000ull; v72 = 0x2e000000000000ull; v73 = 46; v74 = 3014656; v75 = 0x2e00000000ull; v76 = 0x2e000000000000ull; v77 = 46; v78 = 3014656; v79 = 0x2e00000000ull; v80 = 0x2e000000000000ull; v81 = 46; v82 = 3014656; v83 = 0x2e00000000ull; goto L0; }
-	u8 v111 = ld8(v4+24);
-	if (v5 == 25) { v7 = 771751936; v8 = 11776; v9 = 0x2e00000000000000ull; v10 = 0x2e0000000000ull; v11 = 771751936; v12 = 11776; v13 = 0x2e00000000000000ull; v14 = 0x2e0000000000ull; v15 = 771751936; v16 = 11776; v17 = 0x2e00000000000000ull; v18 = 0x2e0000000000ull; v19 = 771751936; v20 = 11776; v21 = 0x2e00000000000000ull; v22 = 0x2e0000000000ull; v23 = 771751936; v24 = 11776; v25 = 0x2e00000000000000ull; v26 = 0x2e0000000000ull; v27 = 771751936; v28 = 11776; v29 = 0x2e00000000000000ull; v30 = 0x2e0000000000ull; v31 = 771751936; v32 = 11776; v33 = v110; v34 = v108; v35 = v106; v36 = v104; v37 = v102; v38 = v100; v39 = v98; v40 = v96; v41 = v94; v42 = v92; v43 = v90; v44 = v88; v45 = v87; v46 = v89; v47 = v91; v48 = v93; v49 = v95; v50 = v97; v51 = v99; v52 = v101; v53 = v103; v54 = v105; v55 = v107; v56 = v109; v57 = v111; v58 = 3014656; v59 = 0x2e00000000ull; v60 = 0x2e000000000000ull; v61 = 46; v62 = 3014656; v63 = 0x2e00000000ull; v64 = 0x2e000000000000ull; v65 = 46; v66 = 3014656; v67 = 0x2e00000000ull; v68 = 0x2e000000000000ull; v69 = 46; v70 = 3014656; v71 = 0x2e00000000ull; v72 = 0x2e000000000000ull; v73 = 46; v74 = 3014656; v75 = 0x2e00000000ull; v76 = 0x2e000000000000ull; v77 = 46; v78 = 3014656; v79 = 0x2e00000000ull; v80 = 0x2e000000000000ull; v81 = 46; v82 = 3014656; v83 = 0x2e00000000ull; goto L0; }
-	u64 v112 = (u64)ld8(v4+25) << 8;
-	if (v5 <= 26) { v7 = 771751936; v8 = 11776; v9 = 0x2e00000000000000ull; v10 = 0x2e0000000000ull; v11 = 771751936; v12 = 11776; v13 = 0x2e00000000000000ull; v14 = 0x2e0000000000ull; v15 = 771751936; v16 = 11776; v17 = 0x2e00000000000000ull; v18 = 0x2e0000000000ull; v19 = 771751936; v20 = 11776; v21 = 0x2e00000000000000ull; v22 = 0x2e0000000000ull; v23 = 771751936; v24 = 11776; v25 = 0x2e00000000000000ull; v26 = 0x2e0000000000ull; v27 = 771751936; v28 = 11776; v29 = 0x2e00000000000000ull; v30 = 0x2e0000000000ull; v31 = 771751936; v32 = v112; v33 = v110; v34 = v108; v35 = v106; v36 = v104; v37 = v102; v38 = v100; v39 = v98; v40 = v96; v41 = v94; v42 = v92; v43 = v90; v44 = v88; v45 = v87; v46 = v89; v47 = v91; v48 = v93; v49 = v95; v50 = v97; v51 = v99; v52 = v101; v53 = v103; v54 = v105; v55 = v107; v56 = v109; v57 = v111; v58 = 3014656; v59 = 0x2e00000000ull; v60 = 0x2e000000000000ull; v61 = 46; v62 = 3014656; v63 = 0x2e00000000ull; v64 = 0x2e000000000000ull; v65 = 46; v66 = 3014656; v67 = 0x2e00000000ull; v68 = 0x2e000000000000ull; v69 = 46; v70 = 3014656; v71 = 0x2e00000000ull; v72 = 0x2e000000000000ull; v73 = 46; v74 = 3014656; v75 = 0x2e00000000ull; v76 = 0x2e000000000000ull; v77 = 46; v78 = 3014656; v79 = 0x2e00000000ull; v80 = 0x2e000000000000ull; v81 = 46; v82 = 3014656; v83 = 0x2e00000000ull; goto L0; }
-	u64 v113 = (u64)ld8(v4+26) << 16;
-	if (v5 == 27) { v7 = 771751936; v8 = 11776; v9 = 0x2e00000000000000ull; v10 = 0x2e0000000000ull; v11 = 771751936; v12 = 11776; v13 = 0x2e00000000000000ull; v14 = 0x2e0000000000ull; v15 = 771751936; v16 = 11776; v17 = 0x2e00000000000000ull; v18 = 0x2e0000000000ull; v19 = 771751936; v20 = 11776; v21 = 0x2e00000000000000ull; v22 = 0x2e0000000000ull; v23 = 771751936; v24 = 11776; v25 = 0x2e00000000000000ull; v26 = 0x2e0000000000ull; v27 = 771751936; v28 = 11776; v29 = 0x2e00000000000000ull; v30 = 0x2e0000000000ull; v31 = 771751936; v32 = v112; v33 = v110; v34 = v108; v35 = v106; v36 = v104; v37 = v102; v38 = v100; v39 = v98; v40 = v96; v41 = v94; v42 = v92; v43 = v90; v44 = v88; v45 = v87; v46 = v89; v47 = v91; v48 = v93; v49 = v95; v50 = v97; v51 = v99; v52 = v101; v53 = v103; v54 = v105; v55 = v107; v56 = v109; v57 = v111; v58 = v113; v59 = 0x2e00000000ull; v60 = 0x2e000000000000ull; v61 = 46; v62 = 3014656; v63 = 0x2e00000000ull; v64 = 0x2e000000000000ull; v65 = 46; v66 = 3014656; v67 = 0x2e00000000ull; v68 = 0x2e000000000000ull; v69 = 46; v70 = 3014656; v71 = 0x2e00000000ull; v72 = 0x2e000000000000ull; v73 = 46; v74 = 3014656; v75 = 0x2e00000000ull; v76 = 0x2e000000000000ull; v77 = 46; v78 = 3014656; v79 = 0x2e00000000ull; v80 = 0x2e000000000000ull; v81 = 46; v82 = 3014656; v83 = 0x2e00000000ull; goto L0; }
-	u64 v114 = (u64)ld8(v4+27) << 24;
-	if (v5 <= 28) { v7 = 771751936; v8 = 11776; v9 = 0x2e00000000000000ull; v10 = 0x2e0000000000ull; v11 = 771751936; v12 = 11776; v13 = 0x2e00000000000000ull; v14 = 0x2e0000000000ull; v15 = 771751936; v16 = 11776; v17 = 0x2e00000000000000ull; v18 = 0x2e0000000000ull; v19 = 771751936; v20 = 11776; v21 = 0x2e00000000000000ull; v22 = 0x2e0000000000ull; v23 = 771751936; v24 = 11776; v25 = 0x2e00000000000000ull; v26 = 0x2e0000000000ull; v27 = 771751936; v28 = 11776; v29 = 0x2e00000000000000ull; v30 = 0x2e0000000000ull; v31 = v114; v32 = v112; v33 = v110; v34 = v108; v35 = v106; v36 = v104; v37 = v102; v38 = v100; v39 = v98; v40 = v96; v41 = v94; v42 = v92; v43 = v90; v44 = v88; v45 = v87; v46 = v89; v47 = v91; v48 = v93; v49 = v95; v50 = v97; v51 = v99; v52 = v101; v53 = v103; v54 = v105; v55 = v107; v56 = v109; v57 = v111; v58 = v113; v59 = 0x2e00000000ull; v60 = 0x2e000000000000ull; v61 = 46; v62 = 3014656; v63 = 0x2e00000000ull; v64 = 0x2e000000000000ull; v65 = 46; v66 = 3014656; v67 = 0x2e00000000ull; v68 = 0x2e000000000000ull; v69 = 46; v70 = 3014656; v71 = 0x2e00000000ull; v72 = 0x2e000000000000ull; v73 = 46; v74 = 3014656; v75 = 0x2e00000000ull; v76 = 0x2e000000000000ull; v77 = 46; v78 = 3014656; v79 = 0x2e00000000ull; v80 = 0x2e000000000000ull; v81 = 46; v82 = 3014656; v83 = 0x2e00000000ull; goto L0; }
-	u64 v115 = (u64)ld8(v4+28) << 32;
-	if (v5 == 29) { v7 = 771751936; v8 = 11776; v9 = 0x2e00000000000000ull; v10 = 0x2e0000000000ull; v11 = 771751936; v12 = 11776; v13 = 0x2e00000000000000ull; v14 = 0x2e0000000000ull; v15 = 771751936; v16 = 11776; v17 = 0x2e00000000000000ull; v18 = 0x2e0000000000ull; v19 = 771751936; v20 = 11776; v21 = 0x2e00000000000000ull; v22 = 0x2e0000000000ull; v23 = 771751936; v24 = 11776; v25 = 0x2e00000000000000ull; v26 = 0x2e0000000000ull; v27 = 771751936; v28 = 11776; v29 = 0x2e00000000000000ull; v30 = 0x2e0000000000ull; v31 = v114; v32 = v112; v33 = v110; v34 = v108; v35 = v106; v36 = v104; v37 = v102; v38 = v100; v39 = v98; v40 = v96; v41 = v94; v42 = v92; v43 = v90; v44 = v88; v45 = v87; v46 = v89; v47 = v91; v48 = v93; v49 = v95; v50 = v97; v51 = v99; v52 = v101; v53 = v103; v54 = v105; v55 = v107; v56 = v109; v57 = v111; v58 = v113; v59 = v115; v60 = 0x2e000000000000ull; v61 = 46; v62 = 3014656; v63 = 0x2e00000000ull; v64 = 0x2e000000000000ull; v65 = 46; v66 = 3014656; v67 = 0x2e00000000ull; v68 = 0x2e000000000000ull; v69 = 46; v70 = 3014656; v71 = 0x2e00000000ull; v72 = 0x2e000000000000ull; v73 = 46; v74 = 3014656; v75 = 0x2e00000000ull; v76 = 0x2e000000000000ull; v77 = 46; v78 = 3014656; v79 = 0x2e00000000ull; v80 = 0x2e000000000000ull; v81 = 46; v82 = 3014656; v83 = 0x2e00000000ull; goto L0; }
-	u64 v116 = (u64)ld8(v4+29) << 40;
-	if (v5 <= 30) { v7 = 771751936; v8 = 11776; v9 = 0x2e00000000000000ull; v10 = 0x2e0000000000ull; v11 = 771751936; v12 = 11776; v13 = 0x2e00000000000000ull; v14 = 0x2e0000000000ull; v15 = 771751936; v16 = 11776; v17 = 0x2e00000000000000ull; v18 = 0x2e0000000000ull; v19 = 771751936; v20 = 11776; v21 = 0x2e00000000000000ull; v22 = 0x2e0000000000ull; v23 = 771751936; v24 = 11776; v25 = 0x2e00000000000000ull; v26 = 0x2e0000000000ull; v27 = 771751936; v28 = 11776; v29 = 0x2e00000000000000ull; v30 = v116; v31 = v114; v32 = v112; v33 = v110; v34 = v108; v35 = v106; v36 = v104; v37 = v102; v38 = v100; v39 = v98; v40 = v96; v41 = v94; v42 = v92; v43 = v90; v44 = v88; v45 = v87; v46 = v89; v47 = v91; v48 = v93; v49 = v95; v50 = v97; v51 = v99; v52 = v101; v53 = v103; v54 = v105; v55 = v107; v56 = v109; v57 = v111; v58 = v113; v59 = v115; v60 = 0x2e000000000000ull; v61 = 46; v62 = 3014656; v63 = 0x2e00000000ull; v64 = 0x2e000000000000ull; v65 = 46; v66 = 3014656; v67 = 0x2e00000000ull; v68 = 0x2e000000000000ull; v69 = 46; v70 = 3014656; v71 = 0x2e00000000ull; v72 = 0x2e000000000000ull; v73 = 46; v74 = 3014656; v75 = 0x2e00000000ull; v76 = 0x2e000000000000ull; v77 = 46; v78 = 3014656; v79 = 0x2e00000000ull; v80 = 0x2e000000000000ull; v81 = 46; v82 = 3014656; v83 = 0x2e00000000ull; goto L0; }
-	u64 v117 = (u64)ld8(v4+30) << 48;
-	if (v5 == 31) { v7 = 771751936; v8 = 11776; v9 = 0x2e00000000000000ull; v10 = 0x2e0000000000ull; v11 = 771751936; v12 = 11776; v13 = 0x2e00000000000000ull; v14 = 0x2e0000000000ull; v15 = 771751936; v16 = 11776; v17 = 0x2e00000000000000ull; v18 = 0x2e0000000000ull; v19 = 771751936; v20 = 11776; v21 = 0x2e00000000000000ull; v22 = 0x2e0000000000ull; v23 = 771751936; v24 = 11776; v25 = 0x2e00000000000000ull; v26 = 0x2e0000000000ull; v27 = 771751936; v28 = 11776; v29 = 0x2e00000000000000ull; v30 = v116; v31 = v114; v32 = v112; v33 = v110; v34 = v108; v35 = v106; v36 = v104; v37 = v102; v38 = v100; v39 = v98; v40 = v96; v41 = v94; v42 = v92; v43 = v90; v44 = v88; v45 = v87; v46 = v89; v47 = v91; v48 = v93; v49 = v95; v50 = v97; v51 = v99; v52 = v101; v53 = v103; v54 = v105; v55 = v107; v56 = v109; v57 = v111; v58 = v113; v59 = v115; v60 = v117; v61 = 46; v62 = 3014656; v63 = 0x2e00000000ull; v64 = 0x2e000000000000ull; v65 = 46; v66 = 3014656; v67 = 0x2e00000000ull; v68 = 0x2e000000000000ull; v69 = 46; v70 = 3014656; v71 = 0x2e00000000ull; v72 = 0x2e000000000000ull; v73 = 46; v74 = 3014656; v75 = 0x2e00000000ull; v76 = 0x2e000000000000ull; v77 = 46; v78 = 3014656; v79 = 0x2e00000000ull; v80 = 0x2e000000000000ull; v81 = 46; v82 = 3014656; v83 = 0x2e00000000ull; goto L0; }
-	u64 v118 = (u64)ld8(v4+31) << 56;
-	if (v5 <= 32) { v7 = 771751936; v8 = 11776; v9 = 0x2e00000000000000ull; v10 = 0x2e0000000000ull; v11 = 771751936; v12 = 11776; v13 = 0x2e00000000000000ull; v14 = 0x2e0000000000ull; v15 = 771751936; v16 = 11776; v17 = 0x2e00000000000000ull; v18 = 0x2e0000000000ull; v19 = 771751936; v20 = 11776; v21 = 0x2e00000000000000ull; v22 = 0x2e0000000000ull; v23 = 771751936; v24 = 11776; v25 = 0x2e00000000000000ull; v26 = 0x2e0000000000ull; v27 = 771751936; v28 = 11776; v29 = v118; v30 = v116; v31 = v114; v32 = v112; v33 = v110; v34 = v108; v35 = v106; v36 = v104; v37 = v102; v38 = v100; v39 = v98; v40 = v96; v41 = v94; v42 = v92; v43 = v90; v44 = v88; v45 = v87; v46 = v89; v47 = v91; v48 = v93; v49 = v95; v50 = v97; v51 = v99; v52 = v101; v53 = v103; v54 = v105; v55 = v107; v56 = v109; v57 = v111; v58 = v113; v59 = v115; v60 = v117; v61 = 46; v62 = 3014656; v63 = 0x2e00000000ull; v64 = 0x2e000000000000ull; v65 = 46; v66 = 3014656; v67 = 0x2e00000000ull; v68 = 0x2e000000000000ull; v69 = 46; v70 = 3014656; v71 = 0x2e00000000ull; v72 = 0x2e000000000000ull; v73 = 46; v74 = 3014656; v75 = 0x2e00000000ull; v76 = 0x2e000000000000ull; v77 = 46; v78 = 3014656; v79 = 0x2e00000000ull; v80 = 0x2e000000000000ull; v81 = 46; v82 = 3014656; v83 = 0x2e00000000ull; goto L0; }
-	u8 v119 = ld8(v4+32);
-	if (v5 == 33) { v7 = 771751936; v8 = 11776; v9 = 0x2e00000000000000ull; v10 = 0x2e0000000000ull; v11 = 771751936; v12 = 11776; v13 = 0x2e00000000000000ull; v14 = 0x2e0000000000ull; v15 = 771751936; v16 = 11776; v17 = 0x2e00000000000000ull; v18 = 0x2e0000000000ull; v19 = 771751936; v20 = 11776; v21 = 0x2e00000000000000ull; v22 = 0x2e0000000000ull; v23 = 771751936; v24 = 11776; v25 = 0x2e00000000000000ull; v26 = 0x2e0000000000ull; v27 = 771751936; v28 = 11776; v29 = v118; v30 = v116; v31 = v114; v32 = v112; v33 = v110; v34 = v108; v35 = v106; v36 = v104; v37 = v102; v38 = v100; v39 = v98; v40 = v96; v41 = v94; v42 = v92; v43 = v90; v44 = v88; v45 = v87; v46 = v89; v47 = v91; v48 = v93; v49 = v95; v50 = v97; v51 = v99; v52 = v101; v53 = v103; v54 = v105; v55 = v107; v56 = v109; v57 = v111; v58 = v113; v59 = v115; v60 = v117; v61 = v119; v62 = 3014656; v63 = 0x2e00000000ull; v64 = 0x2e000000000000ull; v65 = 46; v66 = 3014656; v67 = 0x2e00000000ull; v68 = 0x2e000000000000ull; v69 = 46; v70 = 3014656; v71 = 0x2e00000000ull; v72 = 0x2e000000000000ull; v73 = 46; v74 = 3014656; v75 = 0x2e00000000ull; v76 = 0x2e000000000000ull; v77 = 46; v78 = 3014656; v79 = 0x2e00000000ull; v80 = 0x2e000000000000ull; v81 = 46; v82 = 3014656; v83 = 0x2e00000000ull; goto L0; }
-	u64 v120 = (u64)ld8(v4+33) << 8;
-	if (v5 <= 34) { v7 = 771751936; v8 = 11776; v9 = 0x2e00000000000000ull; v10 = 0x2e0000000000ull; v11 = 771751936; v12 = 11776; v13 = 0x2e00000000000000ull; v14 = 0x2e0000000000ull; v15 = 771751936; v16 = 11776; v17 = 0x2e00000000000000ull; v18 = 0x2e0000000000ull; v19 = 771751936; v20 = 11776; v21 = 0x2e00000000000000ull; v22 = 0x2e0000000000ull; v23 = 771751936; v24 = 11776; v25 = 0x2e00000000000000ull; v26 = 0x2e0000000000ull; v27 = 771751936; v28 = v120; v29 = v118; v30 = v116; v31 = v114; v32 = v112; v33 = v110; v34 = v108; v35 = v106; v36 = v104; v37 = v102; v38 = v100; v39 = v98; v40 = v96; v41 = v94; v42 = v92; v43 = v90; v44 = v88; v45 = v87; v46 = v89; v47 = v91; v48 = v93; v49 = v95; v50 = v97; v51 = v99; v52 = v101; v53 = v103; v54 = v105; v55 = v107; v56 = v109; v57 = v111; v58 = v113; v59 = v115; v60 = v117; v61 = v119; v62 = 3014656; v63 = 0x2e00000000ull; v64 = 0x2e000000000000ull; v65 = 46; v66 = 3014656; v67 = 0x2e00000000ull; v68 = 0x2e000000000000ull; v69 = 46; v70 = 3014656; v71 = 0x2e00000000ull; v72 = 0x2e000000000000ull; v73 = 46; v74 = 3014656; v75 = 0x2e00000000ull; v76 = 0x2e000000000000ull; v77 = 46; v78 = 3014656; v79 = 0x2e00000000ull; v80 = 0x2e000000000000ull; v81 = 46; v82 = 3014656; v83 = 0x2e00000000ull; goto L0; }
-	u64 v121 = (u64)ld8(v4+34) << 16;
-	if (v5 == 35) { v7 = 771751936; v8 = 11776; v9 = 0x2e00000000000000ull; v10 = 0x2e0000000000ull; v11 = 771751936; v12 = 11776; v13 = 0x2e00000000000000ull; v14 = 0x2e0000000000ull; v15 = 771751936; v16 = 11776; v17 = 0x2e00000000000000ull; v18 = 0x2e0000000000ull; v19 = 771751936; v20 = 11776; v21 = 0x2e00000000000000ull; v22 = 0x2e0000000000ull; v23 = 771751936; v24 = 11776; v25 = 0x2e00000000000000ull; v26 = 0x2e0000000000ull; v27 = 771751936; v28 = v120; v29 = v118; v30 = v116; v31 = v114; v32 = v112; v33 = v110; v34 = v108; v35 = v106; v36 = v104; v37 = v102; v38 = v100; v39 = v98; v40 = v96; v41 = v94; v42 = v92; v43 = v90; v44 = v88; v45 = v87; v46 = v89; v47 = v91; v48 = v93; v49 = v95; v50 = v97; v51 = v99; v52 = v101; v53 = v103; v54 = v105; v55 = v107; v56 = v109; v57 = v111; v58 = v113; v59 = v115; v60 = v117; v61 = v119; v62 = v121; v63 = 0x2e00000000ull; v64 = 0x2e000000000000ull; v65 = 46; v66 = 3014656; v67 = 0x2e00000000ull; v68 = 0x2e000000000000ull; v69 = 46; v70 = 3014656; v71 = 0x2e00000000ull; v72 = 0x2e000000000000ull; v73 = 46; v74 = 3014656; v75 = 0x2e00000000ull; v76 = 0x2e000000000000ull; v77 = 46; v78 = 3014656; v79 = 0x2e00000000ull; v80 = 0x2e000000000000ull; v81 = 46; v82 = 3014656; v83 = 0x2e00000000ull; goto L0; }
-	u64 v122 = (u64)ld8(v4+35) << 24;
-	if (v5 <= 36) { v7 = 771751936; v8 = 11776; v9 = 0x2e00000000000000ull; v10 = 0x2e0000000000ull; v11 = 771751936; v12 = 11776; v13 = 0x2e00000000000000ull; v14 = 0x2e0000000000ull; v15 = 771751936; v16 = 11776; v17 = 0x2e00000000000000ull; v18 = 0x2e0000000000ull; v19 = 771751936; v20 = 11776; v21 = 0x2e00000000000000ull; v22 = 0x2e0000000000ull; v23 = 771751936; v24 = 11776; v25 = 0x2e00000000000000ull; v26 = 0x2e0000000000ull; v27 = v122; v28 = v120; v29 = v118; v30 = v116; v31 = v114; v32 = v112; v33 = v110; v34 = v108; v35 = v106; v36 = v104; v37 = v102; v38 = v100; v39 = v98; v40 = v96; v41 = v94; v42 = v92; v43 = v90; v44 = v88; v45 = v87; v46 = v89; v47 = v91; v48 = v93; v49 = v95; v50 = v97; v51 = v99; v52 = v101; v53 = v103; v54 = v105; v55 = v107; v56 = v109; v57 = v111; v58 = v113; v59 = v115; v60 = v117; v61 = v119; v62 = v121; v63 = 0x2e00000000ull; v64 = 0x2e000000000000ull; v65 = 46; v66 = 3014656; v67 = 0x2e00000000ull; v68 = 0x2e000000000000ull; v69 = 46; v70 = 3014656; v71 = 0x2e00000000ull; v72 = 0x2e000000000000ull; v73 = 46; v74 = 3014656; v75 = 0x2e00000000ull; v76 = 0x2e000000000000ull; v77 = 46; v78 = 3014656; v79 = 0x2e00000000ull; v80 = 0x2e000000000000ull; v81 = 46; v82 = 3014656; v83 = 0x2e00000000ull; goto L0; }
-	u64 v123 = (u64)ld8(v4+36) << 32;
-	if (v5 == 37) { v7 = 771751936; v8 = 11776; v9 = 0x2e00000000000000ull; v10 = 0x2e0000000000ull; v11 = 771751936; v12 = 11776; v13 = 0x2e00000000000000ull; v14 = 0x2e0000000000ull; v15 = 771751936; v16 = 11776; v17 = 0x2e00000000000000ull; v18 = 0x2e0000000000ull; v19 = 771751936; v20 = 11776; v21 = 0x2e00000000000000ull; v22 = 0x2e0000000000ull; v23 = 771751936; v24 = 11776; v25 = 0x2e00000000000000ull; v26 = 0x2e0000000000ull; v27 = v122; v28 = v120; v29 = v118; v30 = v116; v31 = v114; v32 = v112; v33 = v110; v34 = v108; v35 = v106; v36 = v104; v37 = v102; v38 = v100; v39 = v98; v40 = v96; v41 = v94; v42 = v92; v43 = v90; v44 = v88; v45 = v87; v46 = v89; v47 = v91; v48 = v93; v49 = v95; v50 = v97; v51 = v99; v52 = v101; v53 = v103; v54 = v105; v55 = v107; v56 = v109; v57 = v111; v58 = v113; v59 = v115; v60 = v117; v61 = v119; v62 = v121; v63 = v123; v64 = 0x2e000000000000ull; v65 = 46; v66 = 3014656; v67 = 0x2e00000000ull; v68 = 0x2e000000000000ull; v69 = 46; v70 = 3014656; v71 = 0x2e00000000ull; v72 = 0x2e000000000000ull; v73 = 46; v74 = 3014656; v75 = 0x2e00000000ull; v76 = 0x2e000000000000ull; v77 = 46; v78 = 3014656; v79 = 0x2e00000000ull; v80 = 0x2e000000000000ull; v81 = 46; v82 = 3014656; v83 = 0x2e00000000ull; goto L0; }
-	u64 v124 = (u64)ld8(v4+37) << 40;
-	if (v5 <= 38) { v7 = 771751936; v8 = 11776; v9 = 0x2e00000000000000ull; v10 = 0x2e0000000000ull; v11 = 771751936; v12 = 11776; v13 = 0x2e00000000000000ull; v14 = 0x2e0000000000ull; v15 = 771751936; v16 = 11776; v17 = 0x2e00000000000000ull; v18 = 0x2e0000000000ull; v19 = 771751936; v20 = 11776; v21 = 0x2e00000000000000ull; v22 = 0x2e0000000000ull; v23 = 771751936; v24 = 11776; v25 = 0x2e00000000000000ull; v26 = v124; v27 = v122; v28 = v120; v29 = v118; v30 = v116; v31 = v114; v32 = v112; v33 = v110; v34 = v108; v35 = v106; v36 = v104; v37 = v102; v38 = v100; v39 = v98; v40 = v96; v41 = v94; v42 = v92; v43 = v90; v44 = v88; v45 = v87; v46 = v89; v47 = v91; v48 = v93; v49 = v95; v50 = v97; v51 = v99; v52 = v101; v53 = v103; v54 = v105; v55 = v107; v56 = v109; v57 = v111; v58 = v113; v59 = v115; v60 = v117; v61 = v119; v62 = v121; v63 = v123; v64 = 0x2e000000000000ull; v65 = 46; v66 = 3014656; v67 = 0x2e00000000ull; v68 = 0x2e000000000000ull; v69 = 46; v70 = 3014656; v71 = 0x2e00000000ull; v72 = 0x2e000000000000ull; v73 = 46; v74 = 3014656; v75 = 0x2e00000000ull; v76 = 0x2e000000000000ull; v77 = 46; v78 = 3014656; v79 = 0x2e00000000ull; v80 = 0x2e000000000000ull; v81 = 46; v82 = 3014656; v83 = 0x2e00000000ull; goto L0; }
-	u64 v125 = (u64)ld8(v4+38) << 48;
-	if (v5 == 39) { v7 = 771751936; v8 = 11776; v9 = 0x2e00000000000000ull; v10 = 0x2e0000000000ull; v11 = 771751936; v12 = 11776; v13 = 0x2e00000000000000ull; v14 = 0x2e0000000000ull; v15 = 771751936; v16 = 11776; v17 = 0x2e00000000000000ull; v18 = 0x2e0000000000ull; v19 = 771751936; v20 = 11776; v21 = 0x2e00000000000000ull; v22 = 0x2e0000000000ull; v23 = 771751936; v24 = 11776; v25 = 0x2e00000000000000ull; v26 = v124; v27 = v122; v28 = v120; v29 = v118; v30 = v116; v31 = v114; v32 = v112; v33 = v110; v34 = v108; v35 = v106; v36 = v104; v37 = v102; v38 = v100; v39 = v98; v40 = v96; v41 = v94; v42 = v92; v43 = v90; v44 = v88; v45 = v87; v46 = v89; v47 = v91; v48 = v93; v49 = v95; v50 = v97; v51 = v99; v52 = v101; v53 = v103; v54 = v105; v55 = v107; v56 = v109; v57 = v111; v58 = v113; v59 = v115; v60 = v117; v61 = v119; v62 = v121; v63 = v123; v64 = v125; v65 = 46; v66 = 3014656; v67 = 0x2e00000000ull; v68 = 0x2e000000000000ull; v69 = 46; v70 = 3014656; v71 = 0x2e00000000ull; v72 = 0x2e000000000000ull; v73 = 46; v74 = 3014656; v75 = 0x2e00000000ull; v76 = 0x2e000000000000ull; v77 = 46; v78 = 3014656; v79 = 0x2e00000000ull; v80 = 0x2e000000000000ull; v81 = 46; v82 = 3014656; v83 = 0x2e00000000ull; goto L0; }
-	u64 v126 = (u64)ld8(v4+39) << 56;
-	if (v5 <= 40) { v7 = 771751936; v8 = 11776; v9 = 0x2e00000000000000ull; v10 = 0x2e0000000000ull; v11 = 771751936; v12 = 11776; v13 = 0x2e00000000000000ull; v14 = 0x2e0000000000ull; v15 = 771751936; v16 = 11776; v17 = 0x2e00000000000000ull; v18 = 0x2e0000000000ull; v19 = 771751936; v20 = 11776; v21 = 0x2e00000000000000ull; v22 = 0x2e0000000000ull; v23 = 771751936; v24 = 11776; v25 = v126; v26 = v124; v27 = v122; v28 = v120; v29 = v118; v30 = v116; v31 = v114; v32 = v112; v33 = v110; v34 = v108; v35 = v106; v36 = v104; v37 = v102; v38 = v100; v39 = v98; v40 = v96; v41 = v94; v42 = v92; v43 = v90; v44 = v88; v45 = v87; v46 = v89; v47 = v91; v48 = v93; v49 = v95; v50 = v97; v51 = v99; v52 = v101; v53 = v103; v54 = v105; v55 = v107; v56 = v109; v57 = v111; v58 = v113; v59 = v115; v60 = v117; v61 = v119; v62 = v121; v63 = v123; v64 = v125; v65 = 46; v66 = 3014656; v67 = 0x2e00000000ull; v68 = 0x2e000000000000ull; v69 = 46; v70 = 3014656; v71 = 0x2e00000000ull; v72 = 0x2e000000000000ull; v73 = 46; v74 = 3014656; v75 = 0x2e00000000ull; v76 = 0x2e000000000000ull; v77 = 46; v78 = 3014656; v79 = 0x2e00000000ull; v80 = 0x2e000000000000ull; v81 = 46; v82 = 3014656; v83 = 0x2e00000000ull; goto L0; }
-	u8 v127 = ld8(v4+40);
-	if (v5 == 41) { v7 = 771751936; v8 = 11776; v9 = 0x2e00000000000000ull; v10 = 0x2e0000000000ull; v11 = 771751936; v12 = 11776; v13 = 0x2e00000000000000ull; v14 = 0x2e0000000000ull; v15 = 771751936; v16 = 11776; v17 = 0x2e00000000000000ull; v18 = 0x2e0000000000ull; v19 = 771751936; v20 = 11776; v21 = 0x2e00000000000000ull; v22 = 0x2e0000000000ull; v23 = 771751936; v24 = 11776; v25 = v126; v26 = v124; v27 = v122; v28 = v120; v29 = v118; v30 = v116; v31 = v114; v32 = v112; v33 = v110; v34 = v108; v35 = v106; v36 = v104; v37 = v102; v38 = v100; v39 = v98; v40 = v96; v41 = v94; v42 = v92; v43 = v90; v44 = v88; v45 = v87; v46 = v89; v47 = v91; v48 = v93; v49 = v95; v50 = v97; v51 = v99; v52 = v101; v53 = v103; v54 = v105; v55 = v107; v56 = v109; v57 = v111; v58 = v113; v59 = v115; v60 = v117; v61 = v119; v62 = v121; v63 = v123; v64 = v125; v65 = v127; v66 = 3014656; v67 = 0x2e00000000ull; v68 = 0x2e000000000000ull; v69 = 46; v70 = 3014656; v71 = 0x2e00000000ull; v72 = 0x2e000000000000ull; v73 = 46; v74 = 3014656; v75 = 0x2e00000000ull; v76 = 0x2e000000000000ull; v77 = 46; v78 = 3014656; v79 = 0x2e00000000ull; v80 = 0x2e000000000000ull; v81 = 46; v82 = 3014656; v83 = 0x2e00000000ull; goto L0; }
-	u64 v128 = (u64)ld8(v4+41) << 8;
-	if (v5 <= 42) { v7 = 771751936; v8 = 11776; v9 = 0x2e00000000000000ull; v10 = 0x2e0000000000ull; v11 = 771751936; v12 = 11776; v13 = 0x2e00000000000000ull; v14 = 0x2e0000000000ull; v15 = 771751936; v16 = 11776; v17 = 0x2e00000000000000ull; v18 = 0x2e0000000000ull; v19 = 771751936; v20 = 11776; v21 = 0x2e00000000000000ull; v22 = 0x2e0000000000ull; v23 = 771751936; v24 = v128; v25 = v126; v26 = v124; v27 = v122; v28 = v120; v29 = v118; v30 = v116; v31 = v114; v32 = v112; v33 = v110; v34 = v108; v35 = v106; v36 = v104; v37 = v102; v38 = v100; v39 = v98; v40 = v96; v41 = v94; v42 = v92; v43 = v90; v44 = v88; v45 = v87; v46 = v89; v47 = v91; v48 = v93; v49 = v95; v50 = v97; v51 = v99; v52 = v101; v53 = v103; v54 = v105; v55 = v107; v56 = v109; v57 = v111; v58 = v113; v59 = v115; v60 = v117; v61 = v119; v62 = v121; v63 = v123; v64 = v125; v65 = v127; v66 = 3014656; v67 = 0x2e00000000ull; v68 = 0x2e000000000000ull; v69 = 46; v70 = 3014656; v71 = 0x2e00000000ull; v72 = 0x2e000000000000ull; v73 = 46; v74 = 3014656; v75 = 0x2e00000000ull; v76 = 0x2e000000000000ull; v77 = 46; v78 = 3014656; v79 = 0x2e00000000ull; v80 = 0x2e000000000000ull; v81 = 46; v82 = 3014656; v83 = 0x2e00000000ull; goto L0; }
-	u64 v129 = (u64)ld8(v4+42) << 16;
-	if (v5 == 43) { v7 = 771751936; v8 = 11776; v9 = 0x2e00000000000000ull; v10 = 0x2e0000000000ull; v11 = 771751936; v12 = 11776; v13 = 0x2e00000000000000ull; v14 = 0x2e0000000000ull; v15 = 771751936; v16 = 11776; v17 = 0x2e00000000000000ull; v18 = 0x2e0000000000ull; v19 = 771751936; v20 = 11776; v21 = 0x2e00000000000000ull; v22 = 0x2e0000000000ull; v23 = 771751936; v24 = v128; v25 = v126; v26 = v124; v27 = v122; v28 = v120; v29 = v118; v30 = v116; v31 = v114; v32 = v112; v33 = v110; v34 = v108; v35 = v106; v36 = v104; v37 = v102; v38 = v100; v39 = v98; v40 = v96; v41 = v94; v42 = v92; v43 = v90; v44 = v88; v45 = v87; v46 = v89; v47 = v91; v48 = v93; v49 = v95; v50 = v97; v51 = v99; v52 = v101; v53 = v103; v54 = v105; v55 = v107; v56 = v109; v57 = v111; v58 = v113; v59 = v115; v60 = v117; v61 = v119; v62 = v121; v63 = v123; v64 = v125; v65 = v127; v66 = v129; v67 = 0x2e00000000ull; v68 = 0x2e000000000000ull; v69 = 46; v70 = 3014656; v71 = 0x2e00000000ull; v72 = 0x2e000000000000ull; v73 = 46; v74 = 3014656; v75 = 0x2e00000000ull; v76 = 0x2e000000000000ull; v77 = 46; v78 = 3014656; v79 = 0x2e00000000ull; v80 = 0x2e000000000000ull; v81 = 46; v82 = 3014656; v83 = 0x2e00000000ull; goto L0; }
-	u64 v130 = (u64)ld8(v4+43) << 24;
-	if (v5 <= 44) { v7 = 771751936; v8 = 11776; v9 = 0x2e00000000000000ull; v10 = 0x2e0000000000ull; v11 = 771751936; v12 = 11776; v13 = 0x2e00000000000000ull; v14 = 0x2e0000000000ull; v15 = 771751936; v16 = 11776; v17 = 0x2e00000000000000ull; v18 = 0x2e0000000000ull; v19 = 771751936; v20 = 11776; v21 = 0x2e00000000000000ull; v22 = 0x2e0000000000ull; v23 = v130; v24 = v128; v25 = v126; v26 = v124; v27 = v122; v28 = v120; v29 = v118; v30 = v116; v31 = v114; v32 = v112; v33 = v110; v34 = v108; v35 = v106; v36 = v104; v37 = v102; v38 = v100; v39 = v98; v40 = v96; v41 = v94; v42 = v92; v43 = v90; v44 = v88; v45 = v87; v46 = v89; v47 = v91; v48 = v93; v49 = v95; v50 = v97; v51 = v99; v52 = v101; v53 = v103; v54 = v105; v55 = v107; v56 = v109; v57 = v111; v58 = v113; v59 = v115; v60 = v117; v61 = v119; v62 = v121; v63 = v123; v64 = v125; v65 = v127; v66 = v129; v67 = 0x2e00000000ull; v68 = 0x2e000000000000ull; v69 = 46; v70 = 3014656; v71 = 0x2e00000000ull; v72 = 0x2e000000000000ull; v73 = 46; v74 = 3014656; v75 = 0x2e00000000ull; v76 = 0x2e000000000000ull; v77 = 46; v78 = 3014656; v79 = 0x2e00000000ull; v80 = 0x2e000000000000ull; v81 = 46; v82 = 3014656; v83 = 0x2e00000000ull; goto L0; }
-	u64 v131 = (u64)ld8(v4+44) << 32;
-	if (v5 == 45) { v7 = 771751936; v8 = 11776; v9 = 0x2e00000000000000ull; v10 = 0x2e0000000000ull; v11 = 771751936; v12 = 11776; v13 = 0x2e00000000000000ull; v14 = 0x2e0000000000ull; v15 = 771751936; v16 = 11776; v17 = 0x2e00000000000000ull; v18 = 0x2e0000000000ull; v19 = 771751936; v20 = 11776; v21 = 0x2e00000000000000ull; v22 = 0x2e0000000000ull; v23 = v130; v24 = v128; v25 = v126; v26 = v124; v27 = v122; v28 = v120; v29 = v118; v30 = v116; v31 = v114; v32 = v112; v33 = v110; v34 = v108; v35 = v106; v36 = v104; v37 = v102; v38 = v100; v39 = v98; v40 = v96; v41 = v94; v42 = v92; v43 = v90; v44 = v88; v45 = v87; v46 = v89; v47 = v91; v48 = v93; v49 = v95; v50 = v97; v51 = v99; v52 = v101; v53 = v103; v54 = v105; v55 = v107; v56 = v109; v57 = v111; v58 = v113; v59 = v115; v60 = v117; v61 = v119; v62 = v121; v63 = v123; v64 = v125; v65 = v127; v66 = v129; v67 = v131; v68 = 0x2e000000000000ull; v69 = 46; v70 = 3014656; v71 = 0x2e00000000ull; v72 = 0x2e000000000000ull; v73 = 46; v74 = 3014656; v75 = 0x2e00000000ull; v76 = 0x2e000000000000ull; v77 = 46; v78 = 3014656; v79 = 0x2e00000000ull; v80 = 0x2e000000000000ull; v81 = 46; v82 = 3014656; v83 = 0x2e00000000ull; goto L0; }
-	u64 v132 = (u64)ld8(v4+45) << 40;
-	if (v5 <= 46) { v7 = 771751936; v8 = 11776; v9 = 0x2e00000000000000ull; v10 = 0x2e0000000000ull; v11 = 771751936; v12 = 11776; v13 = 0x2e00000000000000ull; v14 = 0x2e0000000000ull; v15 = 771751936; v16 = 11776; v17 = 0x2e00000000000000ull; v18 = 0x2e0000000000ull; v19 = 771751936; v20 = 11776; v21 = 0x2e00000000000000ull; v22 = v132; v23 = v130; v24 = v128; v25 = v126; v26 = v124; v27 = v122; v28 = v120; v29 = v118; v30 = v116; v31 = v114; v32 = v112; v33 = v110; v34 = v108; v35 = v106; v36 = v104; v37 = v102; v38 = v100; v39 = v98; v40 = v96; v41 = v94; v42 = v92; v43 = v90; v44 = v88; v45 = v87; v46 = v89; v47 = v91; v48 = v93; v49 = v95; v50 = v97; v51 = v99; v52 = v101; v53 = v103; v54 = v105; v55 = v107; v56 = v109; v57 = v111; v58 = v113; v59 = v115; v60 = v117; v61 = v119; v62 = v121; v63 = v123; v64 = v125; v65 = v127; v66 = v129; v67 = v131; v68 = 0x2e000000000000ull; v69 = 46; v70 = 3014656; v71 = 0x2e00000000ull; v72 = 0x2e000000000000ull; v73 = 46; v74 = 3014656; v75 = 0x2e00000000ull; v76 = 0x2e000000000000ull; v77 = 46; v78 = 3014656; v79 = 0x2e00000000ull; v80 = 0x2e000000000000ull; v81 = 46; v82 = 3014656; v83 = 0x2e00000000ull; goto L0; }
-	u64 v133 = (u64)ld8(v4+46) << 48;
-	if (v5 == 47) { v7 = 771751936; v8 = 11776; v9 = 0x2e00000000000000ull; v10 = 0x2e0000000000ull; v11 = 771751936; v12 = 11776; v13 = 0x2e00000000000000ull; v14 = 0x2e0000000000ull; v15 = 771751936; v16 = 11776; v17 = 0x2e00000000000000ull; v18 = 0x2e0000000000ull; v19 = 771751936; v20 = 11776; v21 = 0x2e00000000000000ull; v22 = v132; v23 = v130; v24 = v128; v25 = v126; v26 = v124; v27 = v122; v28 = v120; v29 = v118; v30 = v116; v31 = v114; v32 = v112; v33 = v110; v34 = v108; v35 = v106; v36 = v104; v37 = v102; v38 = v100; v39 = v98; v40 = v96; v41 = v94; v42 = v92; v43 = v90; v44 = v88; v45 = v87; v46 = v89; v47 = v91; v48 = v93; v49 = v95; v50 = v97; v51 = v99; v52 = v101; v53 = v103; v54 = v105; v55 = v107; v56 = v109; v57 = v111; v58 = v113; v59 = v115; v60 = v117; v61 = v119; v62 = v121; v63 = v123; v64 = v125; v65 = v127; v66 = v129; v67 = v131; v68 = v133; v69 = 46; v70 = 3014656; v71 = 0x2e00000000ull; v72 = 0x2e000000000000ull; v73 = 46; v74 = 3014656; v75 = 0x2e00000000ull; v76 = 0x2e000000000000ull; v77 = 46; v78 = 3014656; v79 = 0x2e00000000ull; v80 = 0x2e000000000000ull; v81 = 46; v82 = 3014656; v83 = 0x2e00000000ull; goto L0; }
-	u64 v134 = (u64)ld8(v4+47) << 56;
-	if (v5 <= 48) { v7 = 771751936; v8 = 11776; v9 = 0x2e00000000000000ull; v10 = 0x2e0000000000ull; v11 = 771751936; v12 = 11776; v13 = 0x2e00000000000000ull; v14 = 0x2e0000000000ull; v15 = 771751936; v16 = 11776; v17 = 0x2e00000000000000ull; v18 = 0x2e0000000000ull; v19 = 771751936; v20 = 11776; v21 = v134; v22 = v132; v23 = v130; v24 = v128; v25 = v126; v26 = v124; v27 = v122; v28 = v120; v29 = v118; v30 = v116; v31 = v114; v32 = v112; v33 = v110; v34 = v108; v35 = v106; v36 = v104; v37 = v102; v38 = v100; v39 = v98; v40 = v96; v41 = v94; v42 = v92; v43 = v90; v44 = v88; v45 = v87; v46 = v89; v47 = v91; v48 = v93; v49 = v95; v50 = v97; v51 = v99; v52 = v101; v53 = v103; v54 = v105; v55 = v107; v56 = v109; v57 = v111; v58 = v113; v59 = v115; v60 = v117; v61 = v119; v62 = v121; v63 = v123; v64 = v125; v65 = v127; v66 = v129; v67 = v131; v68 = v133; v69 = 46; v70 = 3014656; v71 = 0x2e00000000ull; v72 = 0x2e000000000000ull; v73 = 46; v74 = 3014656; v75 = 0x2e00000000ull; v76 = 0x2e000000000000ull; v77 = 46; v78 = 3014656; v79 = 0x2e00000000ull; v80 = 0x2e000000000000ull; v81 = 46; v82 = 3014656; v83 = 0x2e00000000ull; goto L0; }
-	u8 v135 = ld8(v4+48);
-	if (v5 == 49) { v7 = 771751936; v8 = 11776; v9 = 0x2e00000000000000ull; v10 = 0x2e0000000000ull; v11 = 771751936; v12 = 11776; v13 = 0x2e00000000000000ull; v14 = 0x2e0000000000ull; v15 = 771751936; v16 = 11776; v17 = 0x2e00000000000000ull; v18 = 0x2e0000000000ull; v19 = 771751936; v20 = 11776; v21 = v134; v22 = v132; v23 = v130; v24 = v128; v25 = v126; v26 = v124; v27 = v122; v28 = v120; v29 = v118; v30 = v116; v31 = v114; v32 = v112; v33 = v110; v34 = v108; v35 = v106; v36 = v104; v37 = v102; v38 = v100; v39 = v98; v40 = v96; v41 = v94; v42 = v92; v43 = v90; v44 = v88; v45 = v87; v46 = v89; v47 = v91; v48 = v93; v49 = v95; v50 = v97; v51 = v99; v52 = v101; v53 = v103; v54 = v105; v55 = v107; v56 = v109; v57 = v111; v58 = v113; v59 = v115; v60 = v117; v61 = v119; v62 = v121; v63 = v123; v64 = v125; v65 = v127; v66 = v129; v67 = v131; v68 = v133; v69 = v135; v70 = 3014656; v71 = 0x2e00000000ull; v72 = 0x2e000000000000ull; v73 = 46; v74 = 3014656; v75 = 0x2e00000000ull; v76 = 0x2e000000000000ull; v77 = 46; v78 = 3014656; v79 = 0x2e00000000ull; v80 = 0x2e000000000000ull; v81 = 46; v82 = 3014656; v83 = 0x2e00000000ull; goto L0; }
-	u64 v136 = (u64)ld8(v4+49) << 8;
-	if (v5 <= 50) { v7 = 771751936; v8 = 11776; v9 = 0x2e00000000000000ull; v10 = 0x2e0000000000ull; v11 = 771751936; v12 = 11776; v13 = 0x2e00000000000000ull; v14 = 0x2e0000000000ull; v15 = 771751936; v16 = 11776; v17 = 0x2e00000000000000ull; v18 = 0x2e0000000000ull; v19 = 771751936; v20 = v136; v21 = v134; v22 = v132; v23 = v130; v24 = v128; v25 = v126; v26 = v124; v27 = v122; v28 = v120; v29 = v118; v30 = v116; v31 = v114; v32 = v112; v33 = v110; v34 = v108; v35 = v106; v36 = v104; v37 = v102; v38 = v100; v39 = v98; v40 = v96; v41 = v94; v42 = v92; v43 = v90; v44 = v88; v45 = v87; v46 = v89; v47 = v91; v48 = v93; v49 = v95; v50 = v97; v51 = v99; v52 = v101; v53 = v103; v54 = v105; v55 = v107; v56 = v109; v57 = v111; v58 = v113; v59 = v115; v60 = v117; v61 = v119; v62 = v121; v63 = v123; v64 = v125; v65 = v127; v66 = v129; v67 = v131; v68 = v133; v69 = v135; v70 = 3014656; v71 = 0x2e00000000ull; v72 = 0x2e000000000000ull; v73 = 46; v74 = 3014656; v75 = 0x2e00000000ull; v76 = 0x2e000000000000ull; v77 = 46; v78 = 3014656; v79 = 0x2e00000000ull; v80 = 0x2e000000000000ull; v81 = 46; v82 = 3014656; v83 = 0x2e00000000ull; goto L0; }
-	u64 v137 = (u64)ld8(v4+50) << 16;
-	if (v5 == 51) { v7 = 771751936; v8 = 11776; v9 = 0x2e00000000000000ull; v10 = 0x2e0000000000ull; v11 = 771751936; v12 = 11776; v13 = 0x2e00000000000000ull; v14 = 0x2e0000000000ull; v15 = 771751936; v16 = 11776; v17 = 0x2e00000000000000ull; v18 = 0x2e0000000000ull; v19 = 771751936; v20 = v136; v21 = v134; v22 = v132; v23 = v130; v24 = v128; v25 = v126; v26 = v124; v27 = v122; v28 = v120; v29 = v118; v30 = v116; v31 = v114; v32 = v112; v33 = v110; v34 = v108; v35 = v106; v36 = v104; v37 = v102; v38 = v100; v39 = v98; v40 = v96; v41 = v94; v42 = v92; v43 = v90; v44 = v88; v45 = v87; v46 = v89; v47 = v91; v48 = v93; v49 = v95; v50 = v97; v51 = v99; v52 = v101; v53 = v103; v54 = v105; v55 = v107; v56 = v109; v57 = v111; v58 = v113; v59 = v115; v60 = v117; v61 = v119; v62 = v121; v63 = v123; v64 = v125; v65 = v127; v66 = v129; v67 = v131; v68 = v133; v69 = v135; v70 = v137; v71 = 0x2e00000000ull; v72 = 0x2e000000000000ull; v73 = 46; v74 = 3014656; v75 = 0x2e00000000ull; v76 = 0x2e000000000000ull; v77 = 46; v78 = 3014656; v79 = 0x2e00000000ull; v80 = 0x2e000000000000ull; v81 = 46; v82 = 3014656; v83 = 0x2e00000000ull; goto L0; }
-	u64 v138 = (u64)ld8(v4+51) << 24;
-	if (v5 <= 52) { v7 = 771751936; v8 = 11776; v9 = 0x2e00000000000000ull; v10 = 0x2e0000000000ull; v11 = 771751936; v12 = 11776; v13 = 0x2e00000000000000ull; v14 = 0x2e0000000000ull; v15 = 771751936; v16 = 11776; v17 = 0x2e00000000000000ull; v18 = 0x2e0000000000ull; v19 = v138; v20 = v136; v21 = v134; v22 = v132; v23 = v130; v24 = v128; v25 = v126; v26 = v124; v27 = v122; v28 = v120; v29 = v118; v30 = v116; v31 = v114; v32 = v112; v33 = v110; v34 = v108; v35 = v106; v36 = v104; v37 = v102; v38 = v100; v39 = v98; v40 = v96; v41 = v94; v42 = v92; v43 = v90; v44 = v88; v45 = v87; v46 = v89; v47 = v91; v48 = v93; v49 = v95; v50 = v97; v51 = v99; v52 = v101; v53 = v103; v54 = v105; v55 = v107; v56 = v109; v57 = v111; v58 = v113; v59 = v115; v60 = v117; v61 = v119; v62 = v121; v63 = v123; v64 = v125; v65 = v127; v66 = v129; v67 = v131; v68 = v133; v69 = v135; v70 = v137; v71 = 0x2e00000000ull; v72 = 0x2e000000000000ull; v73 = 46; v74 = 3014656; v75 = 0x2e00000000ull; v76 = 0x2e000000000000ull; v77 = 46; v78 = 3014656; v79 = 0x2e00000000ull; v80 = 0x2e000000000000ull; v81 = 46; v82 = 3014656; v83 = 0x2e00000000ull; goto L0; }
-	u64 v139 = (u64)ld8(v4+52) << 32;
-	if (v5 == 53) { v7 = 771751936; v8 = 11776; v9 = 0x2e00000000000000ull; v10 = 0x2e0000000000ull; v11 = 771751936; v12 = 11776; v13 = 0x2e00000000000000ull; v14 = 0x2e0000000000ull; v15 = 771751936; v16 = 11776; v17 = 0x2e00000000000000ull; v18 = 0x2e0000000000ull; v19 = v138; v20 = v136; v21 = v134; v22 = v132; v23 = v130; v24 = v128; v25 = v126; v26 = v124; v27 = v122; v28 = v120; v29 = v118; v30 = v116; v31 = v114; v32 = v112; v33 = v110; v34 = v108; v35 = v106; v36 = v104; v37 = v102; v38 = v100; v39 = v98; v40 = v96; v41 = v94; v42 = v92; v43 = v90; v44 = v88; v45 = v87; v46 = v89; v47 = v91; v48 = v93; v49 = v95; v50 = v97; v51 = v99; v52 = v101; v53 = v103; v54 = v105; v55 = v107; v56 = v109; v57 = v111; v58 = v113; v59 = v115; v60 = v117; v61 = v119; v62 = v121; v63 = v123; v64 = v125; v65 = v127; v66 = v129; v67 = v131; v68 = v133; v69 = v135; v70 = v137; v71 = v139; v72 = 0x2e000000000000ull; v73 = 46; v74 = 3014656; v75 = 0x2e00000000ull; v76 = 0x2e000000000000ull; v77 = 46; v78 = 3014656; v79 = 0x2e00000000ull; v80 = 0x2e000000000000ull; v81 = 46; v82 = 3014656; v83 = 0x2e00000000ull; goto L0; }
-	u64 v140 = (u64)ld8(v4+53) << 40;
-	if (v5 <= 54) { v7 = 771751936; v8 = 11776; v9 = 0x2e00000000000000ull; v10 = 0x2e0000000000ull; v11 = 771751936; v12 = 11776; v13 = 0x2e00000000000000ull; v14 = 0x2e0000000000ull; v15 = 771751936; v16 = 11776; v17 = 0x2e00000000000000ull; v18 = v140; v19 = v138; v20 = v136; v21 = v134; v22 = v132; v23 = v130; v24 = v128; v25 = v126; v26 = v124; v27 = v122; v28 = v120; v29 = v118; v30 = v116; v31 = v114; v32 = v112; v33 = v110; v34 = v108; v35 = v106; v36 = v104; v37 = v102; v38 = v100; v39 = v98; v40 = v96; v41 = v94; v42 = v92; v43 = v90; v44 = v88; v45 = v87; v46 = v89; v47 = v91; v48 = v93; v49 = v95; v50 = v97; v51 = v99; v52 = v101; v53 = v103; v54 = v105; v55 = v107; v56 = v109; v57 = v111; v58 = v113; v59 = v115; v60 = v117; v61 = v119; v62 = v121; v63 = v123; v64 = v125; v65 = v127; v66 = v129; v67 = v131; v68 = v133; v69 = v135; v70 = v137; v71 = v139; v72 = 0x2e000000000000ull; v73 = 46; v74 = 3014656; v75 = 0x2e00000000ull; v76 = 0x2e000000000000ull; v77 = 46; v78 = 3014656; v79 = 0x2e00000000ull; v80 = 0x2e000000000000ull; v81 = 46; v82 = 3014656; v83 = 0x2e00000000ull; goto L0; }
-	u64 v141 = (u64)ld8(v4+54) << 48;
-	if (v5 == 55) { v7 = 771751936; v8 = 11776; v9 = 0x2e00000000000000ull; v10 = 0x2e0000000000ull; v11 = 771751936; v12 = 11776; v13 = 0x2e00000000000000ull; v14 = 0x2e0000000000ull; v15 = 771751936; v16 = 11776; v17 = 0x2e00000000000000ull; v18 = v140; v19 = v138; v20 = v136; v21 = v134; v22 = v132; v23 = v130; v24 = v128; v25 = v126; v26 = v124; v27 = v122; v28 = v120; v29 = v118; v30 = v116; v31 = v114; v32 = v112; v33 = v110; v34 = v108; v35 = v106; v36 = v104; v37 = v102; v38 = v100; v39 = v98; v40 = v96; v41 = v94; v42 = v92; v43 = v90; v44 = v88; v45 = v87; v46 = v89; v47 = v91; v48 = v93; v49 = v95; v50 = v97; v51 = v99; v52 = v101; v53 = v103; v54 = v105; v55 = v107; v56 = v109; v57 = v111; v58 = v113; v59 = v115; v60 = v117; v61 = v119; v62 = v121; v63 = v123; v64 = v125; v65 = v127; v66 = v129; v67 = v131; v68 = v133; v69 = v135; v70 = v137; v71 = v139; v72 = v141; v73 = 46; v74 = 3014656; v75 = 0x2e00000000ull; v76 = 0x2e000000000000ull; v77 = 46; v78 = 3014656; v79 = 0x2e00000000ull; v80 = 0x2e000000000000ull; v81 = 46; v82 = 3014656; v83 = 0x2e00000000ull; goto L0; }
-	u64 v142 = (u64)ld8(v4+55) << 56;
-	if (v5 <= 56) { v7 = 771751936; v8 = 11776; v9 = 0x2e00000000000000ull; v10 = 0x2e0000000000ull; v11 = 771751936; v12 = 11776; v13 = 0x2e00000000000000ull; v14 = 0x2e0000000000ull; v15 = 771751936; v16 = 11776; v17 = v142; v18 = v140; v19 = v138; v20 = v136; v21 = v134; v22 = v132; v23 = v130; v24 = v128; v25 = v126; v26 = v124; v27 = v122; v28 = v120; v29 = v118; v30 = v116; v31 = v114; v32 = v112; v33 = v110; v34 = v108; v35 = v106; v36 = v104; v37 = v102; v38 = v100; v39 = v98; v40 = v96; v41 = v94; v42 = v92; v43 = v90; v44 = v88; v45 = v87; v46 = v89; v47 = v91; v48 = v93; v49 = v95; v50 = v97; v51 = v99; v52 = v101; v53 = v103; v54 = v105; v55 = v107; v56 = v109; v57 = v111; v58 = v113; v59 = v115; v60 = v117; v61 = v119; v62 = v121; v63 = v123; v64 = v125; v65 = v127; v66 = v129; v67 = v131; v68 = v133; v69 = v135; v70 = v137; v71 = v139; v72 = v141; v73 = 46; v74 = 3014656; v75 = 0x2e00000000ull; v76 = 0x2e000000000000ull; v77 = 46; v78 = 3014656; v79 = 0x2e00000000ull; v80 = 0x2e000000000000ull; v81 = 46; v82 = 3014656; v83 = 0x2e00000000ull; goto L0; }
-	u8 v143 = ld8(v4+56);
-	if (v5 == 57) { v7 = 771751936; v8 = 11776; v9 = 0x2e00000000000000ull; v10 = 0x2e0000000000ull; v11 = 771751936; v12 = 11776; v13 = 0x2e00000000000000ull; v14 = 0x2e0000000000ull; v15 = 771751936; v16 = 11776; v17 = v142; v18 = v140; v19 = v138; v20 = v136; v21 = v134; v22 = v132; v23 = v130; v24 = v128; v25 = v126; v26 = v124; v27 = v122; v28 = v120; v29 = v118; v30 = v116; v31 = v114; v32 = v112; v33 = v110; v34 = v108; v35 = v106; v36 = v104; v37 = v102; v38 = v100; v39 = v98; v40 = v96; v41 = v94; v42 = v92; v43 = v90; v44 = v88; v45 = v87; v46 = v89; v47 = v91; v48 = v93; v49 = v95; v50 = v97; v51 = v99; v52 = v101; v53 = v103; v54 = v105; v55 = v107; v56 = v109; v57 = v111; v58 = v113; v59 = v115; v60 = v117; v61 = v119; v62 = v121; v63 = v123; v64 = v125; v65 = v127; v66 = v129; v67 = v131; v68 = v133; v69 = v135; v70 = v137; v71 = v139; v72 = v141; v73 = v143; v74 = 3014656; v75 = 0x2e00000000ull; v76 = 0x2e000000000000ull; v77 = 46; v78 = 3014656; v79 = 0x2e00000000ull; v80 = 0x2e000000000000ull; v81 = 46; v82 = 3014656; v83 = 0x2e00000000ull; goto L0; }
-	u64 v144 = (u64)ld8(v4+57) << 8;
-	if (v5 <= 58) { v7 = 771751936; v8 = 11776; v9 = 0x2e00000000000000ull; v10 = 0x2e0000000000ull; v11 = 771751936; v12 = 11776; v13 = 0x2e00000000000000ull; v14 = 0x2e0000000000ull; v15 = 771751936; v16 = v144; v17 = v142; v18 = v140; v19 = v138; v20 = v136; v21 = v134; v22 = v132; v23 = v130; v24 = v128; v25 = v126; v26 = v124; v27 = v122; v28 = v120; v29 = v118; v30 = v116; v31 = v114; v32 = v112; v33 = v110; v34 = v108; v35 = v106; v36 = v104; v37 = v102; v38 = v100; v39 = v98; v40 = v96; v41 = v94; v42 = v92; v43 = v90; v44 = v88; v45 = v87; v46 = v89; v47 = v91; v48 = v93; v49 = v95; v50 = v97; v51 = v99; v52 = v101; v53 = v103; v54 = v105; v55 = v107; v56 = v109; v57 = v111; v58 = v113; v59 = v115; v60 = v117; v61 = v119; v62 = v121; v63 = v123; v64 = v125; v65 = v127; v66 = v129; v67 = v131; v68 = v133; v69 = v135; v70 = v137; v71 = v139; v72 = v141; v73 = v143; v74 = 3014656; v75 = 0x2e00000000ull; v76 = 0x2e000000000000ull; v77 = 46; v78 = 3014656; v79 = 0x2e00000000ull; v80 = 0x2e000000000000ull; v81 = 46; v82 = 3014656; v83 = 0x2e00000000ull; goto L0; }
-	u64 v145 = (u64)ld8(v4+58) << 16;
-	if (v5 == 59) { v7 = 771751936; v8 = 11776; v9 = 0x2e00000000000000ull; v10 = 0x2e0000000000ull; v11 = 771751936; v12 = 11776; v13 = 0x2e00000000000000ull; v14 = 0x2e0000000000ull; v15 = 771751936; v16 = v144; v17 = v142; v18 = v140; v19 = v138; v20 = v136; v21 = v134; v22 = v132; v23 = v130; v24 = v128; v25 = v126; v26 = v124; v27 = v122; v28 = v120; v29 = v118; v30 = v116; v31 = v114; v32 = v112; v33 = v110; v34 = v108; v35 = v106; v36 = v104; v37 = v102; v38 = v100; v39 = v98; v40 = v96; v41 = v94; v42 = v92; v43 = v90; v44 = v88; v45 = v87; v46 = v89; v47 = v91; v48 = v93; v49 = v95; v50 = v97; v51 = v99; v52 = v101; v53 = v103; v54 = v105; v55 = v107; v56 = v109; v57 = v111; v58 = v113; v59 = v115; v60 = v117; v61 = v119; v62 = v121; v63 = v123; v64 = v125; v65 = v127; v66 = v129; v67 = v131; v68 = v133; v69 = v135; v70 = v137; v71 = v139; v72 = v141; v73 = v143; v74 = v145; v75 = 0x2e00000000ull; v76 = 0x2e000000000000ull; v77 = 46; v78 = 3014656; v79 = 0x2e00000000ull; v80 = 0x2e000000000000ull; v81 = 46; v82 = 3014656; v83 = 0x2e00000000ull; goto L0; }
-	u64 v146 = (u64)ld8(v4+59) << 24;
-	if (v5 <= 60) { v7 = 771751936; v8 = 11776; v9 = 0x2e00000000000000ull; v10 = 0x2e0000000000ull; v11 = 771751936; v12 = 11776; v13 = 0x2e00000000000000ull; v14 = 0x2e0000000000ull; v15 = v146; v16 = v144; v17 = v142; v18 = v140; v19 = v138; v20 = v136; v21 = v134; v22 = v132; v23 = v130; v24 = v128; v25 = v126; v26 = v124; v27 = v122; v28 = v120; v29 = v118; v30 = v116; v31 = v114; v32 = v112; v33 = v110; v34 = v108; v35 = v106; v36 = v104; v37 = v102; v38 = v100; v39 = v98; v40 = v96; v41 = v94; v42 = v92; v43 = v90; v44 = v88; v45 = v87; v46 = v89; v47 = v91; v48 = v93; v49 = v95; v50 = v97; v51 = v99; v52 = v101; v53 = v103; v54 = v105; v55 = v107; v56 = v109; v57 = v111; v58 = v113; v59 = v115; v60 = v117; v61 = v119; v62 = v121; v63 = v123; v64 = v125; v65 = v127; v66 = v129; v67 = v131; v68 = v133; v69 = v135; v70 = v137; v71 = v139; v72 = v141; v73 = v143; v74 = v145; v75 = 0x2e00000000ull; v76 = 0x2e000000000000ull; v77 = 46; v78 = 3014656; v79 = 0x2e00000000ull; v80 = 0x2e000000000000ull; v81 = 46; v82 = 3014656; v83 = 0x2e00000000ull; goto L0; }
-	u64 v147 = (u64)ld8(v4+60) << 32;
-	if (v5 == 61) { v7 = 771751936; v8 = 11776; v9 = 0x2e00000000000000ull; v10 = 0x2e0000000000ull; v11 = 771751936; v12 = 11776; v13 = 0x2e00000000000000ull; v14 = 0x2e0000000000ull; v15 = v146; v16 = v144; v17 = v142; v18 = v140; v19 = v138; v20 = v136; v21 = v134; v22 = v132; v23 = v130; v24 = v128; v25 = v126; v26 = v124; v27 = v122; v28 = v120; v29 = v118; v30 = v116; v31 = v114; v32 = v112; v33 = v110; v34 = v108; v35 = v106; v36 = v104; v37 = v102; v38 = v100; v39 = v98; v40 = v96; v41 = v94; v42 = v92; v43 = v90; v44 = v88; v45 = v87; v46 = v89; v47 = v91; v48 = v93; v49 = v95; v50 = v97; v51 = v99; v52 = v101; v53 = v103; v54 = v105; v55 = v107; v56 = v109; v57 = v111; v58 = v113; v59 = v115; v60 = v117; v61 = v119; v62 = v121; v63 = v123; v64 = v125; v65 = v127; v66 = v129; v67 = v131; v68 = v133; v69 = v135; v70 = v137; v71 = v139; v72 = v141; v73 = v143; v74 = v145; v75 = v147; v76 = 0x2e000000000000ull; v77 = 46; v78 = 3014656; v79 = 0x2e00000000ull; v80 = 0x2e000000000000ull; v81 = 46; v82 = 3014656; v83 = 0x2e00000000ull; goto L0; }
-	u64 v148 = (u64)ld8(v4+61) << 40;
-	if (v5 <= 62) { v7 = 771751936; v8 = 11776; v9 = 0x2e00000000000000ull; v10 = 0x2e0000000000ull; v11 = 771751936; v12 = 11776; v13 = 0x2e00000000000000ull; v14 = v148; v15 = v146; v16 = v144; v17 = v142; v18 = v140; v19 = v138; v20 = v136; v21 = v134; v22 = v132; v23 = v130; v24 = v128; v25 = v126; v26 = v124; v27 = v122; v28 = v120; v29 = v118; v30 = v116; v31 = v114; v32 = v112; v33 = v110; v34 = v108; v35 = v106; v36 = v104; v37 = v102; v38 = v100; v39 = v98; v40 = v96; v41 = v94; v42 = v92; v43 = v90; v44 = v88; v45 = v87; v46 = v89; v47 = v91; v48 = v93; v49 = v95; v50 = v97; v51 = v99; v52 = v101; v53 = v103; v54 = v105; v55 = v107; v56 = v109; v57 = v111; v58 = v113; v59 = v115; v60 = v117; v61 = v119; v62 = v121; v63 = v123; v64 = v125; v65 = v127; v66 = v129; v67 = v131; v68 = v133; v69 = v135; v70 = v137; v71 = v139; v72 = v141; v73 = v143; v74 = v145; v75 = v147; v76 = 0x2e000000000000ull; v77 = 46; v78 = 3014656; v79 = 0x2e00000000ull; v80 = 0x2e000000000000ull; v81 = 46; v82 = 3014656; v83 = 0x2e00000000ull; goto L0; }
-	u64 v149 = (u64)ld8(v4+62) << 48;
-	if (v5 == 63) { v7 = 771751936; v8 = 11776; v9 = 0x2e00000000000000ull; v10 = 0x2e0000000000ull; v11 = 771751936; v12 = 11776; v13 = 0x2e00000000000000ull; v14 = v148; v15 = v146; v16 = v144; v17 = v142; v18 = v140; v19 = v138; v20 = v136; v21 = v134; v22 = v132; v23 = v130; v24 = v128; v25 = v126; v26 = v124; v27 = v122; v28 = v120; v29 = v118; v30 = v116; v31 = v114; v32 = v112; v33 = v110; v34 = v108; v35 = v106; v36 = v104; v37 = v102; v38 = v100; v39 = v98; v40 = v96; v41 = v94; v42 = v92; v43 = v90; v44 = v88; v45 = v87; v46 = v89; v47 = v91; v48 = v93; v49 = v95; v50 = v97; v51 = v99; v52 = v101; v53 = v103; v54 = v105; v55 = v107; v56 = v109; v57 = v111; v58 = v113; v59 = v115; v60 = v117; v61 = v119; v62 = v121; v63 = v123; v64 = v125; v65 = v127; v66 = v129; v67 = v131; v68 = v133; v69 = v135; v70 = v137; v71 = v139; v72 = v141; v73 = v143; v74 = v145; v75 = v147; v76 = v149; v77 = 46; v78 = 3014656; v79 = 0x2e00000000ull; v80 = 0x2e000000000000ull; v81 = 46; v82 = 3014656; v83 = 0x2e00000000ull; goto L0; }
-	u64 v150 = (u64)ld8(v4+63) << 56;
-	if (v5 <= 64) { v7 = 771751936; v8 = 11776; v9 = 0x2e00000000000000ull; v10 = 0x2e0000000000ull; v11 = 771751936; v12 = 11776; v13 = v150; v14 = v148; v15 = v146; v16 = v144; v17 = v142; v18 = v140; v19 = v138; v20 = v136; v21 = v134; v22 = v132; v23 = v130; v24 = v128; v25 = v126; v26 = v124; v27 = v122; v28 = v120; v29 = v118; v30 = v116; v31 = v114; v32 = v112; v33 = v110; v34 = v108; v35 = v106; v36 = v104; v37 = v102; v38 = v100; v39 = v98; v40 = v96; v41 = v94; v42 = v92; v43 = v90; v44 = v88; v45 = v87; v46 = v89; v47 = v91; v48 = v93; v49 = v95; v50 = v97; v51 = v99; v52 = v101; v53 = v103; v54 = v105; v55 = v107; v56 = v109; v57 = v111; v58 = v113; v59 = v115; v60 = v117; v61 = v119; v62 = v121; v63 = v123; v64 = v125; v65 = v127; v66 = v129; v67 = v131; v68 = v133; v69 = v135; v70 = v137; v71 = v139; v72 = v141; v73 = v143; v74 = v145; v75 = v147; v76 = v149; v77 = 46; v78 = 3014656; v79 = 0x2e00000000ull; v80 = 0x2e000000000000ull; v81 = 46; v82 = 3014656; v83 = 0x2e00000000ull; goto L0; }
-	u8 v151 = ld8(v4+64);
-	if (v5 == 65) { v7 = 771751936; v8 = 11776; v9 = 0x2e00000000000000ull; v10 = 0x2e0000000000ull; v11 = 771751936; v12 = 11776; v13 = v150; v14 = v148; v15 = v146; v16 = v144; v17 = v142; v18 = v140; v19 = v138; v20 = v136; v21 = v134; v22 = v132; v23 = v130; v24 = v128; v25 = v126; v26 = v124; v27 = v122; v28 = v120; v29 = v118; v30 = v116; v31 = v114; v32 = v112; v33 = v110; v34 = v108; v35 = v106; v36 = v104; v37 = v102; v38 = v100; v39 = v98; v40 = v96; v41 = v94; v42 = v92; v43 = v90; v44 = v88; v45 = v87; v46 = v89; v47 = v91; v48 = v93; v49 = v95; v50 = v97; v51 = v99; v52 = v101; v53 = v103; v54 = v105; v55 = v107; v56 = v109; v57 = v111; v58 = v113; v59 = v115; v60 = v117; v61 = v119; v62 = v121; v63 = v123; v64 = v125; v65 = v127; v66 = v129; v67 = v131; v68 = v133; v69 = v135; v70 = v137; v71 = v139; v72 = v141; v73 = v143; v74 = v145; v75 = v147; v76 = v149; v77 = v151; v78 = 3014656; v79 = 0x2e00000000ull; v80 = 0x2e000000000000ull; v81 = 46; v82 = 3014656; v83 = 0x2e00000000ull; goto L0; }
-	u64 v152 = (u64)ld8(v4+65) << 8;
-	if (v5 <= 66) { v7 = 771751936; v8 = 11776; v9 = 0x2e00000000000000ull; v10 = 0x2e0000000000ull; v11 = 771751936; v12 = v152; v13 = v150; v14 = v148; v15 = v146; v16 = v144; v17 = v142; v18 = v140; v19 = v138; v20 = v136; v21 = v134; v22 = v132; v23 = v130; v24 = v128; v25 = v126; v26 = v124; v27 = v122; v28 = v120; v29 = v118; v30 = v116; v31 = v114; v32 = v112; v33 = v110; v34 = v108; v35 = v106; v36 = v104; v37 = v102; v38 = v100; v39 = v98; v40 = v96; v41 = v94; v42 = v92; v43 = v90; v44 = v88; v45 = v87; v46 = v89; v47 = v91; v48 = v93; v49 = v95; v50 = v97; v51 = v99; v52 = v101; v53 = v103; v54 = v105; v55 = v107; v56 = v109; v57 = v111; v58 = v113; v59 = v115; v60 = v117; v61 = v119; v62 = v121; v63 = v123; v64 = v125; v65 = v127; v66 = v129; v67 = v131; v68 = v133; v69 = v135; v70 = v137; v71 = v139; v72 = v141; v73 = v143; v74 = v145; v75 = v147; v76 = v149; v77 = v151; v78 = 3014656; v79 = 0x2e00000000ull; v80 = 0x2e000000000000ull; v81 = 46; v82 = 3014656; v83 = 0x2e00000000ull; goto L0; }
-	u64 v153 = (u64)ld8(v4+66) << 16;
-	if (v5 == 67) { v7 = 771751936; v8 = 11776; v9 = 0x2e00000000000000ull; v10 = 0x2e0000000000ull; v11 = 771751936; v12 = v152; v13 = v150; v14 = v148; v15 = v146; v16 = v144; v17 = v142; v18 = v140; v19 = v138; v20 = v136; v21 = v134; v22 = v132; v23 = v130; v24 = v128; v25 = v126; v26 = v124; v27 = v122; v28 = v120; v29 = v118; v30 = v116; v31 = v114; v32 = v112; v33 = v110; v34 = v108; v35 = v106; v36 = v104; v37 = v102; v38 = v100; v39 = v98; v40 = v96; v41 = v94; v42 = v92; v43 = v90; v44 = v88; v45 = v87; v46 = v89; v47 = v91; v48 = v93; v49 = v95; v50 = v97; v51 = v99; v52 = v101; v53 = v103; v54 = v105; v55 = v107; v56 = v109; v57 = v111; v58 = v113; v59 = v115; v60 = v117; v61 = v119; v62 = v121; v63 = v123; v64 = v125; v65 = v127; v66 = v129; v67 = v131; v68 = v133; v69 = v135; v70 = v137; v71 = v139; v72 = v141; v73 = v143; v74 = v145; v75 = v147; v76 = v149; v77 = v151; v78 = v153; v79 = 0x2e00000000ull; v80 = 0x2e000000000000ull; v81 = 46; v82 = 3014656; v83 = 0x2e00000000ull; goto L0; }
-	u64 v154 = (u64)ld8(v4+67) << 24;
-	if (v5 <= 68) { v7 = 771751936; v8 = 11776; v9 = 0x2e00000000000000ull; v10 = 0x2e0000000000ull; v11 = v154; v12 = v152; v13 = v150; v14 = v148; v15 = v146; v16 = v144; v17 = v142; v18 = v140; v19 = v138; v20 = v136; v21 = v134; v22 = v132; v23 = v130; v24 = v128; v25 = v126; v26 = v124; v27 = v122; v28 = v120; v29 = v118; v30 = v116; v31 = v114; v32 = v112; v33 = v110; v34 = v108; v35 = v106; v36 = v104; v37 = v102; v38 = v100; v39 = v98; v40 = v96; v41 = v94; v42 = v92; v43 = v90; v44 = v88; v45 = v87; v46 = v89; v47 = v91; v48 = v93; v49 = v95; v50 = v97; v51 = v99; v52 = v101; v53 = v103; v54 = v105; v55 = v107; v56 = v109; v57 = v111; v58 = v113; v59 = v115; v60 = v117; v61 = v119; v62 = v121; v63 = v123; v64 = v125; v65 = v127; v66 = v129; v67 = v131; v68 = v133; v69 = v135; v70 = v137; v71 = v139; v72 = v141; v73 = v143; v74 = v145; v75 = v147; v76 = v149; v77 = v151; v78 = v153; v79 = 0x2e00000000ull; v80 = 0x2e000000000000ull; v81 = 46; v82 = 3014656; v83 = 0x2e00000000ull; goto L0; }
-	u64 v155 = (u64)ld8(v4+68) << 32;
-	if (v5 == 69) { v7 = 771751936; v8 = 11776; v9 = 0x2e00000000000000ull; v10 = 0x2e0000000000ull; v11 = v154; v12 = v152; v13 = v150; v14 = v148; v15 = v146; v16 = v144; v17 = v142; v18 = v140; v19 = v138; v20 = v136; v21 = v134; v22 = v132; v23 = v130; v24 = v128; v25 = v126; v26 = v124; v27 = v122; v28 = v120; v29 = v118; v30 = v116; v31 = v114; v32 = v112; v33 = v110; v34 = v108; v35 = v106; v36 = v104; v37 = v102; v38 = v100; v39 = v98; v40 = v96; v41 = v94; v42 = v92; v43 = v90; v44 = v88; v45 = v87; v46 = v89; v47 = v91; v48 = v93; v49 = v95; v50 = v97; v51 = v99; v52 = v101; v53 = v103; v54 = v105; v55 = v107; v56 = v109; v57 = v111; v58 = v113; v59 = v115; v60 = v117; v61 = v119; v62 = v121; v63 = v123; v64 = v125; v65 = v127; v66 = v129; v67 = v131; v68 = v133; v69 = v135; v70 = v137; v71 = v139; v72 = v141; v73 = v143; v74 = v145; v75 = v147; v76 = v149; v77 = v151; v78 = v153; v79 = v155; v80 = 0x2e000000000000ull; v81 = 46; v82 = 3014656; v83 = 0x2e00000000ull; goto L0; }
-	u64 v156 = (u64)ld8(v4+69) << 40;
-	if (v5 <= 70) { v7 = 771751936; v8 = 11776; v9 = 0x2e00000000000000ull; v10 = v156; v11 = v154; v12 = v152; v13 = v150; v14 = v148; v15 = v146; v16 = v144; v17 = v142; v18 = v140; v19 = v138; v20 = v136; v21 = v134; v22 = v132; v23 = v130; v24 = v128; v25 = v126; v26 = v124; v27 = v122; v28 = v120; v29 = v118; v30 = v116; v31 = v114; v32 = v112; v33 = v110; v34 = v108; v35 = v106; v36 = v104; v37 = v102; v38 = v100; v39 = v98; v40 = v96; v41 = v94; v42 = v92; v43 = v90; v44 = v88; v45 = v87; v46 = v89; v47 = v91; v48 = v93; v49 = v95; v50 = v97; v51 = v99; v52 = v101; v53 = v103; v54 = v105; v55 = v107; v56 = v109; v57 = v111; v58 = v113; v59 = v115; v60 = v117; v61 = v119; v62 = v121; v63 = v123; v64 = v125; v65 = v127; v66 = v129; v67 = v131; v68 = v133; v69 = v135; v70 = v137; v71 = v139; v72 = v141; v73 = v143; v74 = v145; v75 = v147; v76 = v149; v77 = v151; v78 = v153; v79 = v155; v80 = 0x2e000000000000ull; v81 = 46; v82 = 3014656; v83 = 0x2e00000000ull; goto L0; }
-	u64 v157 = (u64)ld8(v4+70) << 48;
-	if (v5 == 71) { v7 = 771751936; v8 = 11776; v9 = 0x2e00000000000000ull; v10 = v156; v11 = v154; v12 = v152; v13 = v150; v14 = v148; v15 = v146; v16 = v144; v17 = v142; v18 = v140; v19 = v138; v20 = v136; v21 = v134; v22 = v132; v23 = v130; v24 = v128; v25 = v126; v26 = v124; v27 = v122; v28 = v120; v29 = v118; v30 = v116; v31 = v114; v32 = v112; v33 = v110; v34 = v108; v35 = v106; v36 = v104; v37 = v102; v38 = v100; v39 = v98; v40 = v96; v41 = v94; v42 = v92; v43 = v90; v44 = v88; v45 = v87; v46 = v89; v47 = v91; v48 = v93; v49 = v95; v50 = v97; v51 = v99; v52 = v101; v53 = v103; v54 = v105; v55 = v107; v56 = v109; v57 = v111; v58 = v113; v59 = v115; v60 = v117; v61 = v119; v62 = v121; v63 = v123; v64 = v125; v65 = v127; v66 = v129; v67 = v131; v68 = v133; v69 = v135; v70 = v137; v71 = v139; v72 = v141; v73 = v143; v74 = v145; v75 = v147; v76 = v149; v77 = v151; v78 = v153; v79 = v155; v80 = v157; v81 = 46; v82 = 3014656; v83 = 0x2e00000000ull; goto L0; }
-	u64 v158 = (u64)ld8(v4+71) << 56;
-	if (v5 <= 72) { v7 = 771751936; v8 = 11776; v9 = v158; v10 = v156; v11 = v154; v12 = v152; v13 = v150; v14 = v148; v15 = v146; v16 = v144; v17 = v142; v18 = v140; v19 = v138; v20 = v136; v21 = v134; v22 = v132; v23 = v130; v24 = v128; v25 = v126; v26 = v124; v27 = v122; v28 = v120; v29 = v118; v30 = v116; v31 = v114; v32 = v112; v33 = v110; v34 = v108; v35 = v106; v36 = v104; v37 = v102; v38 = v100; v39 = v98; v40 = v96; v41 = v94; v42 = v92; v43 = v90; v44 = v88; v45 = v87; v46 = v89; v47 = v91; v48 = v93; v49 = v95; v50 = v97; v51 = v99; v52 = v101; v53 = v103; v54 = v105; v55 = v107; v56 = v109; v57 = v111; v58 = v113; v59 = v115; v60 = v117; v61 = v119; v62 = v121; v63 = v123; v64 = v125; v65 = v127; v66 = v129; v67 = v131; v68 = v133; v69 = v135; v70 = v137; v71 = v139; v72 = v141; v73 = v143; v74 = v145; v75 = v147; v76 = v149; v77 = v151; v78 = v153; v79 = v155; v80 = v157; v81 = 46; v82 = 3014656; v83 = 0x2e00000000ull; goto L0; }
-	u8 v159 = ld8(v4+72);
-	if (v5 == 73) { v7 = 771751936; v8 = 11776; v9 = v158; v10 = v156; v11 = v154; v12 = v152; v13 = v150; v14 = v148; v15 = v146; v16 = v144; v17 = v142; v18 = v140; v19 = v138; v20 = v136; v21 = v134; v22 = v132; v23 = v130; v24 = v128; v25 = v126; v26 = v124; v27 = v122; v28 = v120; v29 = v118; v30 = v116; v31 = v114; v32 = v112; v33 = v110; v34 = v108; v35 = v106; v36 = v104; v37 = v102; v38 = v100; v39 = v98; v40 = v96; v41 = v94; v42 = v92; v43 = v90; v44 = v88; v45 = v87; v46 = v89; v47 = v91; v48 = v93; v49 = v95; v50 = v97; v51 = v99; v52 = v101; v53 = v103; v54 = v105; v55 = v107; v56 = v109; v57 = v111; v58 = v113; v59 = v115; v60 = v117; v61 = v119; v62 = v121; v63 = v123; v64 = v125; v65 = v127; v66 = v129; v67 = v131; v68 = v133; v69 = v135; v70 = v137; v71 = v139; v72 = v141; v73 = v143; v74 = v145; v75 = v147; v76 = v149; v77 = v151; v78 = v153; v79 = v155; v80 = v157; v81 = v159; v82 = 3014656; v83 = 0x2e00000000ull; goto L0; }
-	u64 v160 = (u64)ld8(v4+73) << 8;
-	if (v5 <= 74) { v7 = 771751936; v8 = v160; v9 = v158; v10 = v156; v11 = v154; v12 = v152; v13 = v150; v14 = v148; v15 = v146; v16 = v144; v17 = v142; v18 = v140; v19 = v138; v20 = v136; v21 = v134; v22 = v132; v23 = v130; v24 = v128; v25 = v126; v26 = v124; v27 = v122; v28 = v120; v29 = v118; v30 = v116; v31 = v114; v32 = v112; v33 = v110; v34 = v108; v35 = v106; v36 = v104; v37 = v102; v38 = v100; v39 = v98; v40 = v96; v41 = v94; v42 = v92; v43 = v90; v44 = v88; v45 = v87; v46 = v89; v47 = v91; v48 = v93; v49 = v95; v50 = v97; v51 = v99; v52 = v101; v53 = v103; v54 = v105; v55 = v107; v56 = v109; v57 = v111; v58 = v113; v59 = v115; v60 = v117; v61 = v119; v62 = v121; v63 = v123; v64 = v125; v65 = v127; v66 = v129; v67 = v131; v68 = v133; v69 = v135; v70 = v137; v71 = v139; v72 = v141; v73 = v143; v74 = v145; v75 = v147; v76 = v149; v77 = v151; v78 = v153; v79 = v155; v80 = v157; v81 = v159; v82 = 3014656; v83 = 0x2e00000000ull; goto L0; }
-	u64 v161 = (u64)ld8(v4+74) << 16;
-	if (v5 == 75) { v7 = 771751936; v8 = v160; v9 = v158; v10 = v156; v11 = v154; v12 = v152; v13 = v150; v14 = v148; v15 = v146; v16 = v144; v17 = v142; v18 = v140; v19 = v138; v20 = v136; v21 = v134; v22 = v132; v23 = v130; v24 = v128; v25 = v126; v26 = v124; v27 = v122; v28 = v120; v29 = v118; v30 = v116; v31 = v114; v32 = v112; v33 = v110; v34 = v108; v35 = v106; v36 = v104; v37 = v102; v38 = v100; v39 = v98; v40 = v96; v41 = v94; v42 = v92; v43 = v90; v44 = v88; v45 = v87; v46 = v89; v47 = v91; v48 = v93; v49 = v95; v50 = v97; v51 = v99; v52 = v101; v53 = v103; v54 = v105; v55 = v107; v56 = v109; v57 = v111; v58 = v113; v59 = v115; v60 = v117; v61 = v119; v62 = v121; v63 = v123; v64 = v125; v65 = v127; v66 = v129; v67 = v131; v68 = v133; v69 = v135; v70 = v137; v71 = v139; v72 = v141; v73 = v143; v74 = v145; v75 = v147; v76 = v149; v77 = v151; v78 = v153; v79 = v155; v80 = v157; v81 = v159; v82 = v161; v83 = 0x2e00000000ull; goto L0; }
-	u64 v162 = (u64)ld8(v4+75) << 24;
-	if (v5 <= 76) { v7 = v162; v8 = v160; v9 = v158; v10 = v156; v11 = v154; v12 = v152; v13 = v150; v14 = v148; v15 = v146; v16 = v144; v17 = v142; v18 = v140; v19 = v138; v20 = v136; v21 = v134; v22 = v132; v23 = v130; v24 = v128; v25 = v126; v26 = v124; v27 = v122; v28 = v120; v29 = v118; v30 = v116; v31 = v114; v32 = v112; v33 = v110; v34 = v108; v35 = v106; v36 = v104; v37 = v102; v38 = v100; v39 = v98; v40 = v96; v41 = v94; v42 = v92; v43 = v90; v44 = v88; v45 = v87; v46 = v89; v47 = v91; v48 = v93; v49 = v95; v50 = v97; v51 = v99; v52 = v101; v53 = v103; v54 = v105; v55 = v107; v56 = v109; v57 = v111; v58 = v113; v59 = v115; v60 = v117; v61 = v119; v62 = v121; v63 = v123; v64 = v125; v65 = v127; v66 = v129; v67 = v131; v68 = v133; v69 = v135; v70 = v137; v71 = v139; v72 = v141; v73 = v143; v74 = v145; v75 = v147; v76 = v149; v77 = v151; v78 = v153; v79 = v155; v80 = v157; v81 = v159; v82 = v161; v83 = 0x2e00000000ull; goto L0; }
-	v7 = v162; v8 = v160; v9 = v158; v10 = v156; v11 = v154; v12 = v152; v13 = v150; v14 = v148; v15 = v146; v16 = v144; v17 = v142; v18 = v140; v19 = v138; v20 = v136; v21 = v134; v22 = v132; v23 = v130; v24 = v128; v25 = v126; v26 = v124; v27 = v122; v28 = v120; v29 = v118; v30 = v116; v31 = v114; v32 = v112; v33 = v110; v34 = v108; v35 = v106; v36 = v104; v37 = v102; v38 = v100; v39 = v98; v40 = v96; v41 = v94; v42 = v92; v43 = v90; v44 = v88; v45 = v87; v46 = v89; v47 = v91; v48 = v93; v49 = v95; v50 = v97; v51 = v99; v52 = v101; v53 = v103; v54 = v105; v55 = v107; v56 = v109; v57 = v111; v58 = v113; v59 = v115; v60 = v117; v61 = v119; v62 = v121; v63 = v123; v64 = v125; v65 = v127; v66 = v129; v67 = v131; v68 = v133; v69 = v135; v70 = v137; v71 = v139; v72 = v141; v73 = v143; v74 = v145; v75 = v147; v76 = v149; v77 = v151; v78 = v153; v79 = v155; v80 = v157; v81 = v159; v82 = v161; v83 = (u64)ld8(v4+76) << 32;
+static void capcopy_run_uninterrupted_UninterruptedRead_read_f128(ptr v1, ptr v2, u64 v3) {
+	u64 v4, v5, v6, v7, v8, v9, v10, v11, v12, v13, v14, v15, v16;
+	_Alignas(1) u8 v17[41];
+	_Alignas(8) u8 v18[88];
+	v4 = 0;
 L0:;
-	if (v5 <= 77) { v84 = 0x2e000000000000ull; v85 = 0x2e0000000000ull; v86 = 0x2e00000000000000ull; goto L1; }
-	u64 v163 = (u64)ld8(v4+77) << 40;
-	if (v5 == 78) { v84 = 0x2e000000000000ull; v85 = v163; v86 = 0x2e00000000000000ull; goto L1; }
-	u64 v164 = (u64)ld8(v4+78) << 48;
-	if (v5 <= 79) { v84 = v164; v85 = v163; v86 = 0x2e00000000000000ull; goto L1; }
-	v84 = v164; v85 = v163; v86 = (u64)ld8(v4+79) << 56;
-L1:;
-	st8(v1, v2);
-	st8(v1+1, v3);
-	st8(v1+2, (u8)v6);
-	st8(v1+3, 0);
-	su32(v1+4, 0);
-	su64(v1+8, v44 | (u64)v45 | v46 | v43 | v47 | v42 | v48 | v41);
-	su64(v1+16, v40 | (u64)v49 | v50 | v39 | v51 | v38 | v52 | v37);
-	su64(v1+24, v36 | (u64)v53 | v54 | v35 | v55 | v34 | v56 | v33);
-	su64(v1+32, v32 | (u64)v57 | v58 | v31 | v59 | v30 | v60 | v29);
-	su64(v1+40, v28 | (u64)v61 | v62 | v27 | v63 | v26 | v64 | v25);
-	su64(v1+48, v24 | (u64)v65 | v66 | v23 | v67 | v22 | v68 | v21);
-	su64(v1+56, v20 | (u64)v69 | v70 | v19 | v71 | v18 | v72 | v17);
-	su64(v1+64, v16 | (u64)v73 | v74 | v15 | v75 | v14 | v76 | v13);
-	su64(v1+72, v12 | (u64)v77 | v78 | v11 | v79 | v10 | v80 | v9);
-	su64(v1+80, v8 | (u64)v81 | v82 | v7 | v83 | v85 | v84 | v86);
+	u64 v19 = os_read(0, v2, v3);
+	if ((s64)v19 >= 0) goto L2;
+	u32 v20 = os_errno();
+	std_io_io_error_Error_from_raw_os_error(v18, v20);
+	u64 v21 = ld64(v18), v22 = ld64(v18+8), v23 = ld64(v18+16), v24 = ld64(v18+24), v25 = ld64(v18+32);
+	u64 v26 = ld64(v18+40), v27 = ld64(v18+48), v28 = ld64(v18+56), v29 = ld64(v18+64);
+	u64 v30 = ld64(v18+72), v31 = ld64(v18+80), v32 = v21 >> 8;
+	st8(v17, 0);
+	st8(v17+1, 1);
+	st8(v17+2, 2);
+	st8(v17+3, 3);
+	st8(v17+4, 4);
+	st8(v17+5, 5);
+	st8(v17+6, 6);
+	st8(v17+7, 7);
+	st8(v17+8, 8);
+	st8(v17+9, 9);
+	st8(v17+10, 10);
+	st8(v17+11, 11);
+	st8(v17+12, 12);
+	st8(v17+13, 13);
+	st8(v17+14, 14);
+	st8(v17+15, 15);
+	st8(v17+16, 16);
+	st8(v17+17, 17);
+	st8(v17+18, 18);
+	st8(v17+19, 19);
+	st8(v17+20, 20);
+	st8(v17+21, 21);
+	st8(v17+22, 22);
+	st8(v17+23, 23);
+	st8(v17+24, 24);
+	st8(v17+25, 25);
+	st8(v17+26, 26);
+	st8(v17+27, 27);
+	st8(v17+28, 28);
+	st8(v17+29, 29);
+	st8(v17+30, 30);
+	st8(v17+31, 31);
+	st8(v17+32, 32);
+	st8(v17+33, 33);
+	st8(v17+34, 34);
+	st8(v17+35, 35);
+	st8(v17+36, 36);
+	st8(v17+37, 37);
+	st8(v17+38, 38);
+	st8(v17+39, 39);
+	st8(v17+40, 40);
+	if ((u8)v32 >= 41) goto L1;
+	if (ld8(at(v17, v32 & 63)) != 35) { M0: v6 = v21; v7 = v22; v8 = v23; v9 = v24; v10 = v25; v11 = v26; v12 = v27; v13 = v28; v14 = v29; v15 = v30; v16 = v31; v5 = 1; goto L3; }
+	u64 v33 = v4 + 1;
+	if (v33 == ~0ull) { v6 = 1644035; v7 = 0x6165722068636165ull; v8 = 0x6e69207361772064ull; v9 = 0x6574707572726574ull; v10 = 0x2e2e2e2e2e2e2e64ull; v11 = 0x2e2e2e2e2e2e2e2eull; v12 = 0x2e2e2e2e2e2e2e2eull; v13 = 0x2e2e2e2e2e2e2e2eull; v14 = 0x2e2e2e2e2e2e2e2eull; v15 = 0x2e2e2e2e2e2e2e2eull; v16 = 0x2e2e2e2e2e2e2e2eull; v5 = 1; goto L3; }
+	v4 = v33; goto L0;
+L1:
+	goto M0;
+L2:
+	v6 = v19 < v3 ? v19 : v3; v5 = v7 = v8 = v9 = v10 = v11 = v12 = v13 = v14 = v15 = v16 = 0;
+L3:
+	su64(v1, v5);
+	su64(v1+8, v6);
+	su64(v1+16, v7);
+	su64(v1+24, v8);
+	su64(v1+32, v9);
+	su64(v1+40, v10);
+	su64(v1+48, v11);
+	su64(v1+56, v12);
+	su64(v1+64, v13);
+	su64(v1+72, v14);
+	su64(v1+80, v15);
+	su64(v1+88, v16);
+	return;
+}
+static void std_io_buffered_BufReaderRead_read_e988(ptr v1, ptr v2, ptr v3, u64 v4) {
+	u64 v5, v6, v7;
+	_Alignas(8) u8 v8[96], v9[80], v10[96] = {0}, v11[80];
+	u64 v12 = ld64(v2+8), v13 = ld64(v2+24), v14 = ld64(v2+32);
+	if (!((v12 > v4) | (v14 != v13))) goto L5;
+	if (v13 < v14) { v5 = v14; v6 = v13; goto L0; }
+	clear(v2+24, 16);
+	ptr v15 = ldp(v2);
+	clear(v8, 96);
+	capcopy_run_uninterrupted_UninterruptedRead_read_f128(v8, v15, v12);
+	u64 v16 = ld64(v8+8);
+	u8 v17 = ld8(v8);
+	copy(v9, v8+16, 80);
+	if (v17) goto L4;
+	st64(v2+32, v16);
+	v5 = v16; v6 = ld64(v2+24);
+L0:;
+	ptr v18 = at(ldp(v2), v6);
+	u64 v19 = v5 - v6, v20 = v4 < v19 ? v4 : v19;
+	if ((u64)v3 - (u64)v18 >= v20) goto L2;
+	v7 = 0;
+L1:
+	st8(at(v3, v7), ld8(at(v18, v7)));
+	u64 v21 = v7 + 1;
+	if (v21 == v20) goto L3;
+	v7 = v21; goto L1;
+L2:
+	move(v3, v18, v20);
+L3:;
+	u64 v22 = ld64(v2+24), v23 = ld64(v2+32) - v22;
+	st64(v2+24, (v20 < v23 ? v20 : v23) + v22);
+	st64(v10+8, v20);
+	clear(v10+16, 80);
+	su64(v1, 0);
+	copy(v1+8, v10+8, 88);
+	goto L6;
+L4:
+	copy(v11, v9, 80);
+	copy(v10+16, v11, 80);
+	st64(v10+8, v16);
+	su64(v1, 1);
+	copy(v1+8, v10+8, 88);
+	goto L6;
+L5:
+	clear(v2+24, 16);
+	capcopy_run_uninterrupted_UninterruptedRead_read_f128(v10, v3, v4);
+	su64(v1, (u64)ld8(v10));
+	copy(v1+8, v10+8, 88);
+L6:
 	return;
 }
 static t_8_32 pcap_core_link_DataLinkFromU32_from(u32 v1) {
 	u8 v2;
 	u32 v3;
 	switch (v1) {
-	case 0: v2 = 0; v3 = v1; goto L107;
+	case 0: v3 = v1; v2 = 0; goto L107;
 	case 1: goto L0;
 	case 3: goto L1;
 	case 6: goto L2;
@@ -4480,428 +726,478 @@ static t_8_32 pcap_core_link_DataLinkFromU32_from(u32 v1) {
 	case 268: goto L105;
 	default: goto L106;
 	}
-L0:;
+L0:
 	v2 = 1; v3 = 0; goto L107;
-L1:;
+L1:
 	v2 = 2; v3 = 0; goto L107;
-L2:;
+L2:
 	v2 = 3; v3 = 0; goto L107;
-L3:;
+L3:
 	v2 = 4; v3 = 0; goto L107;
-L4:;
+L4:
 	v2 = 5; v3 = 0; goto L107;
-L5:;
+L5:
 	v2 = 6; v3 = 0; goto L107;
-L6:;
+L6:
 	v2 = 7; v3 = 0; goto L107;
-L7:;
+L7:
 	v2 = 8; v3 = 0; goto L107;
-L8:;
+L8:
 	v2 = 9; v3 = 0; goto L107;
-L9:;
+L9:
 	v2 = 10; v3 = 0; goto L107;
-L10:;
+L10:
 	v2 = 11; v3 = 0; goto L107;
-L11:;
+L11:
 	v2 = 12; v3 = 0; goto L107;
-L12:;
+L12:
 	v2 = 13; v3 = 0; goto L107;
-L13:;
+L13:
 	v2 = 14; v3 = 0; goto L107;
-L14:;
+L14:
 	v2 = 15; v3 = 0; goto L107;
-L15:;
+L15:
 	v2 = 16; v3 = 0; goto L107;
-L16:;
+L16:
 	v2 = 17; v3 = 0; goto L107;
-L17:;
+L17:
 	v2 = 18; v3 = 0; goto L107;
-L18:;
+L18:
 	v2 = 19; v3 = 0; goto L107;
-L19:;
+L19:
 	v2 = 20; v3 = 0; goto L107;
-L20:;
+L20:
 	v2 = 21; v3 = 0; goto L107;
-L21:;
+L21:
 	v2 = 22; v3 = 0; goto L107;
-L22:;
+L22:
 	v2 = 23; v3 = 0; goto L107;
-L23:;
+L23:
 	v2 = 24; v3 = 0; goto L107;
-L24:;
+L24:
 	v2 = 25; v3 = 0; goto L107;
-L25:;
+L25:
 	v2 = 26; v3 = 0; goto L107;
-L26:;
+L26:
 	v2 = 27; v3 = 0; goto L107;
-L27:;
+L27:
 	v2 = 28; v3 = 0; goto L107;
-L28:;
+L28:
 	v2 = 29; v3 = 0; goto L107;
-L29:;
+L29:
 	v2 = 30; v3 = 0; goto L107;
-L30:;
+L30:
 	v2 = 31; v3 = 0; goto L107;
-L31:;
+L31:
 	v2 = 32; v3 = 0; goto L107;
-L32:;
+L32:
 	v2 = 33; v3 = 0; goto L107;
-L33:;
+L33:
 	v2 = 34; v3 = 0; goto L107;
-L34:;
+L34:
 	v2 = 35; v3 = 0; goto L107;
-L35:;
+L35:
 	v2 = 36; v3 = 0; goto L107;
-L36:;
+L36:
 	v2 = 37; v3 = 0; goto L107;
-L37:;
+L37:
 	v2 = 38; v3 = 0; goto L107;
-L38:;
+L38:
 	v2 = 39; v3 = 0; goto L107;
-L39:;
+L39:
 	v2 = 40; v3 = 0; goto L107;
-L40:;
+L40:
 	v2 = 41; v3 = 0; goto L107;
-L41:;
+L41:
 	v2 = 42; v3 = 0; goto L107;
-L42:;
+L42:
 	v2 = 43; v3 = 0; goto L107;
-L43:;
+L43:
 	v2 = 44; v3 = 0; goto L107;
-L44:;
+L44:
 	v2 = 45; v3 = 0; goto L107;
-L45:;
+L45:
 	v2 = 46; v3 = 0; goto L107;
-L46:;
+L46:
 	v2 = 47; v3 = 0; goto L107;
-L47:;
+L47:
 	v2 = 48; v3 = 0; goto L107;
-L48:;
+L48:
 	v2 = 49; v3 = 0; goto L107;
-L49:;
+L49:
 	v2 = 50; v3 = 0; goto L107;
-L50:;
+L50:
 	v2 = 51; v3 = 0; goto L107;
-L51:;
+L51:
 	v2 = 52; v3 = 0; goto L107;
-L52:;
+L52:
 	v2 = 53; v3 = 0; goto L107;
-L53:;
+L53:
 	v2 = 54; v3 = 0; goto L107;
-L54:;
+L54:
 	v2 = 55; v3 = 0; goto L107;
-L55:;
+L55:
 	v2 = 56; v3 = 0; goto L107;
-L56:;
+L56:
 	v2 = 57; v3 = 0; goto L107;
-L57:;
+L57:
 	v2 = 58; v3 = 0; goto L107;
-L58:;
+L58:
 	v2 = 59; v3 = 0; goto L107;
-L59:;
+L59:
 	v2 = 60; v3 = 0; goto L107;
-L60:;
+L60:
 	v2 = 61; v3 = 0; goto L107;
-L61:;
+L61:
 	v2 = 62; v3 = 0; goto L107;
-L62:;
+L62:
 	v2 = 63; v3 = 0; goto L107;
-L63:;
+L63:
 	v2 = 64; v3 = 0; goto L107;
-L64:;
+L64:
 	v2 = 65; v3 = 0; goto L107;
-L65:;
+L65:
 	v2 = 66; v3 = 0; goto L107;
-L66:;
+L66:
 	v2 = 67; v3 = 0; goto L107;
-L67:;
+L67:
 	v2 = 68; v3 = 0; goto L107;
-L68:;
+L68:
 	v2 = 69; v3 = 0; goto L107;
-L69:;
+L69:
 	v2 = 70; v3 = 0; goto L107;
-L70:;
+L70:
 	v2 = 71; v3 = 0; goto L107;
-L71:;
+L71:
 	v2 = 72; v3 = 0; goto L107;
-L72:;
+L72:
 	v2 = 73; v3 = 0; goto L107;
-L73:;
+L73:
 	v2 = 74; v3 = 0; goto L107;
-L74:;
+L74:
 	v2 = 75; v3 = 0; goto L107;
-L75:;
+L75:
 	v2 = 76; v3 = 0; goto L107;
-L76:;
+L76:
 	v2 = 77; v3 = 0; goto L107;
-L77:;
+L77:
 	v2 = 78; v3 = 0; goto L107;
-L78:;
+L78:
 	v2 = 79; v3 = 0; goto L107;
-L79:;
+L79:
 	v2 = 80; v3 = 0; goto L107;
-L80:;
+L80:
 	v2 = 81; v3 = 0; goto L107;
-L81:;
+L81:
 	v2 = 82; v3 = 0; goto L107;
-L82:;
+L82:
 	v2 = 83; v3 = 0; goto L107;
-L83:;
+L83:
 	v2 = 84; v3 = 0; goto L107;
-L84:;
+L84:
 	v2 = 85; v3 = 0; goto L107;
-L85:;
+L85:
 	v2 = 86; v3 = 0; goto L107;
-L86:;
+L86:
 	v2 = 87; v3 = 0; goto L107;
-L87:;
+L87:
 	v2 = 88; v3 = 0; goto L107;
-L88:;
+L88:
 	v2 = 89; v3 = 0; goto L107;
-L89:;
+L89:
 	v2 = 90; v3 = 0; goto L107;
-L90:;
+L90:
 	v2 = 91; v3 = 0; goto L107;
-L91:;
+L91:
 	v2 = 92; v3 = 0; goto L107;
-L92:;
+L92:
 	v2 = 93; v3 = 0; goto L107;
-L93:;
+L93:
 	v2 = 94; v3 = 0; goto L107;
-L94:;
+L94:
 	v2 = 95; v3 = 0; goto L107;
-L95:;
+L95:
 	v2 = 96; v3 = 0; goto L107;
-L96:;
+L96:
 	v2 = 97; v3 = 0; goto L107;
-L97:;
+L97:
 	v2 = 98; v3 = 0; goto L107;
-L98:;
+L98:
 	v2 = 99; v3 = 0; goto L107;
-L99:;
+L99:
 	v2 = 100; v3 = 0; goto L107;
-L100:;
+L100:
 	v2 = 101; v3 = 0; goto L107;
-L101:;
+L101:
 	v2 = 102; v3 = 0; goto L107;
-L102:;
+L102:
 	v2 = 103; v3 = 0; goto L107;
-L103:;
+L103:
 	v2 = 104; v3 = 0; goto L107;
-L104:;
+L104:
 	v2 = 105; v3 = 0; goto L107;
-L105:;
+L105:
 	v2 = 106; v3 = 0; goto L107;
-L106:;
+L106:
 	v2 = 107; v3 = v1;
-L107:;
+L107:
 	return (t_8_32){v2, v3};
 }
-static __attribute__((noinline, cold)) u8 std_alloc_vec_Vec_grow_amortized_56a3(ptr v1, u64 v2) {
-	t_64_64 v3;
-	u8 v4;
-	u64 v5 = ld64(v1+8);
-	if (v2 > ~v5) { v4 = 0; goto L2; }
-	u64 v6 = ld64(v1+16);
-	u64 v7 = v5 + v2;
-	u64 v8 = v7 > 8 ? v7 : 8;
-	u64 v9 = v6 << 1;
-	u64 v10 = v8 > v9 ? v8 : v9;
-	u64 v11 = v6 < 0x4000000000000000ull ? v10 : v8;
-	if ((s64)v11 <= -1) { v4 = 0; goto L2; }
-	if (v6 != 0) goto L0;
-	t_64_64 v12 = allocate(v10, 1);
-	if (v12.f0 & 1) { v3 = v12; goto L1; }
-	v4 = 0; goto L2;
-L0:;
-	t_64_64 v13 = reallocate(ldp(v1), v5, v11, 1);
-	if (!(v13.f0 & 1)) { v4 = 0; goto L2; }
-	v3 = v13;
+static void pcap_classic_pcap_header_read_header_67f8(ptr v1, ptr v2, ptr v3) {
+	u64 v4, v13, v14, v15, v16;
+	u32 v5, v8, v9, v10, v11, v12;
+	u16 v6, v7;
+	_Alignas(8) u8 v17[96], v18[48], v20[48];
+	_Alignas(4) u8 v19[24] = {0};
+	v4 = 0;
+L0:
+	clear(v17, 96);
+	std_io_buffered_BufReaderRead_read_e988(v17, v2, at(v19, v4), 24ull - v4);
+	u64 v21 = ld64(v17+8), v22 = ld64(v17+16), v23 = ld64(v17+24), v24 = ld64(v17+32);
+	u32 v25 = ld32(v17+40), v26 = ld32(v17+44);
+	u8 v27 = ld8(v17);
+	copy(v18, v17+48, 48);
+	if (v27) goto L6;
+	if (v21) goto L1;
+	fill(v20, 46, 48);
+	v11 = 774778414; v12 = 774778414; v13 = 1451267; v14 = 0x6572747320656874ull; v15 = 0x6465646e65206d61ull; v16 = 0x2e2e796c72616520ull; goto L7;
 L1:;
-	stp(v1, (ptr)v3.f1);
-	st64(v1+16, v11);
-	v4 = 1;
-L2:;
-	return v4;
-}
-static __attribute__((noinline, cold)) void std_io_buffered_BufWriter_write_cold_9d90(ptr v1, ptr v2, ptr v3, u64 v4) {
-	u64 v5, v6, v7, v8, v9, v10, v11, v12, v13, v14, v15, v16, v17, v18, v19, v20;
-	_Alignas(8) u8 v21[96], v23[88], v24[96];
-	_Alignas(1) u8 v22[41];
-	clear(v24, 96);
-	u64 v25 = ld64(v2+16);
-	if (v25 <= v4) goto L6;
-	clear(v21, 96);
-	u64 v26 = ld64(v2+8);
-	if ((v25 - v26) >= v4) { v5 = v25; v6 = v26; goto L2; }
-	std_io_buffered_BufWriter_flush_buf_9d90(v21, v2);
-	if (ld8(v21) != 0) goto L1;
-	u64 v27 = ld64(v2+16);
-	u64 v28 = ld64(v2+8);
-	if (v4 <= (v27 - v28)) { v5 = v27; v6 = v28; goto L2; }
-	u8 v29 = std_alloc_vec_Vec_grow_amortized_56a3(v2, v4);
-	if (!v29) goto L0;
-	v5 = ld64(v2+16); v6 = ld64(v2+8); goto L2;
-L0:;
-	__builtin_trap();
-	__builtin_trap();
-L1:;
-	u64 v30 = ld64(v21+8);
-	u64 v31 = ld64(v21+16);
-	u64 v32 = ld64(v21+24);
-	u64 v33 = ld64(v21+32);
-	u64 v34 = ld64(v21+40);
-	u64 v35 = ld64(v21+48);
-	u64 v36 = ld64(v21+56);
-	u64 v37 = ld64(v21+64);
-	u64 v38 = ld64(v21+72);
-	u64 v39 = ld64(v21+80);
-	u64 v40 = ld64(v21+88);
-	su64(v1, 1);
-	su64(v1+8, v30);
-	su64(v1+16, v31);
-	su64(v1+24, v32);
-	su64(v1+32, v33);
-	su64(v1+40, v34);
-	su64(v1+48, v35);
-	su64(v1+56, v36);
-	su64(v1+64, v37);
-	su64(v1+72, v38);
-	su64(v1+80, v39);
-	su64(v1+88, v40);
-	goto L12;
-L2:;
-	u64 v41 = v6 + v4;
-	ptr v42 = ldp(v2);
-	clear(v2+8, 16);
-	ptr v43 = at(v42, v6);
-	if (((u64)v43 - (u64)v3) >= v4) goto L4;
-	v7 = 0;
-L3:;
-	st8(at(v43, v7), ld8(at(v3, v7)));
-	u64 v44 = v7 + 1;
-	if (v44 == v4) goto L5;
-	v7 = v44; goto L3;
+	u64 v28 = v21 + v4;
+	if (v28 < 24) { v4 = v28; goto L0; }
+	u32 v29 = (u32)__builtin_bswap32(ld32(v19));
+	switch (v29) {
+	case 2712812621u: case 2712847316u: goto L2;
+	case 1295823521: case 3569595041u: goto L3;
+	default: goto L5;
+	}
+L2:
+	v5 = (u32)__builtin_bswap32(ld32(v19+20)); v6 = (u16)__builtin_bswap16(ld16(v19+4)); v7 = (u16)__builtin_bswap16(ld16(v19+6)); v8 = (u32)__builtin_bswap32(ld32(v19+8)); v9 = (u32)__builtin_bswap32(ld32(v19+12)); v10 = (u32)__builtin_bswap32(ld32(v19+16)); goto L4;
+L3:
+	v5 = ld32(v19+20); v6 = ld16(v19+4); v7 = ld16(v19+6); v8 = ld32(v19+8); v9 = ld32(v19+12); v10 = ld32(v19+16);
 L4:;
-	move(v43, v3, v4);
-L5:;
-	stp(v2, v42);
-	st64(v2+8, v41);
-	st64(v2+16, v5);
-	su64(v1, 0);
-	su64(v1+8, v4);
-	clear(v1+16, 80);
-	goto L12;
-L6:;
-	std_io_buffered_BufWriter_flush_buf_9d90(v24, v2);
-	if (ld8(v24) != 0) goto L11;
-	v8 = 0;
-L7:;
-	u64 v45 = os_write(1, v3, v4);
-	if ((s64)v45 >= 0) goto L9;
-	u32 v46 = os_errno();
-	std_io_io_error_Error_from_raw_os_error(v23, v46);
-	u64 v47 = ld64(v23);
-	u64 v48 = ld64(v23+8);
-	u64 v49 = ld64(v23+16);
-	u64 v50 = ld64(v23+24);
-	u64 v51 = ld64(v23+32);
-	u64 v52 = ld64(v23+40);
-	u64 v53 = ld64(v23+48);
-	u64 v54 = ld64(v23+56);
-	u64 v55 = ld64(v23+64);
-	u64 v56 = ld64(v23+72);
-	u64 v57 = ld64(v23+80);
-	u64 v58 = v47 >> 8;
-	st8(v22, 0);
-	st8(v22+1, 1);
-	st8(v22+2, 2);
-	st8(v22+3, 3);
-	st8(v22+4, 4);
-	st8(v22+5, 5);
-	st8(v22+6, 6);
-	st8(v22+7, 7);
-	st8(v22+8, 8);
-	st8(v22+9, 9);
-	st8(v22+10, 10);
-	st8(v22+11, 11);
-	st8(v22+12, 12);
-	st8(v22+13, 13);
-	st8(v22+14, 14);
-	st8(v22+15, 15);
-	st8(v22+16, 16);
-	st8(v22+17, 17);
-	st8(v22+18, 18);
-	st8(v22+19, 19);
-	st8(v22+20, 20);
-	st8(v22+21, 21);
-	st8(v22+22, 22);
-	st8(v22+23, 23);
-	st8(v22+24, 24);
-	st8(v22+25, 25);
-	st8(v22+26, 26);
-	st8(v22+27, 27);
-	st8(v22+28, 28);
-	st8(v22+29, 29);
-	st8(v22+30, 30);
-	st8(v22+31, 31);
-	st8(v22+32, 32);
-	st8(v22+33, 33);
-	st8(v22+34, 34);
-	st8(v22+35, 35);
-	st8(v22+36, 36);
-	st8(v22+37, 37);
-	st8(v22+38, 38);
-	st8(v22+39, 39);
-	st8(v22+40, 40);
-	if ((u8)v58 >= 41) goto L8;
-	if (ld8(at(v22, v58 & 63)) != 35) { v9 = 1; v10 = v47; v11 = v48; v12 = v49; v13 = v50; v14 = v51; v15 = v52; v16 = v53; v17 = v54; v18 = v55; v19 = v56; v20 = v57; goto L10; }
-	u64 v59 = v8 + 1;
-	if (v59 == ~0ull) { v9 = 1; v10 = 1709571; v11 = 0x6972772068636165ull; v12 = 0x6920736177206574ull; v13 = 0x747075727265746eull; v14 = 0x2e2e2e2e2e2e6465ull; v15 = 0x2e2e2e2e2e2e2e2eull; v16 = 0x2e2e2e2e2e2e2e2eull; v17 = 0x2e2e2e2e2e2e2e2eull; v18 = 0x2e2e2e2e2e2e2e2eull; v19 = 0x2e2e2e2e2e2e2e2eull; v20 = 0x2e2e2e2e2e2e2e2eull; goto L10; }
-	v8 = v59; goto L7;
-L8:;
-	v9 = 1; v10 = v47; v11 = v48; v12 = v49; v13 = v50; v14 = v51; v15 = v52; v16 = v53; v17 = v54; v18 = v55; v19 = v56; v20 = v57; goto L10;
-L9:;
-	v9 = 0; v10 = v45 < v4 ? v45 : v4; v11 = 0; v12 = 0; v13 = 0; v14 = 0; v15 = 0; v16 = 0; v17 = 0; v18 = 0; v19 = 0; v20 = 0;
-L10:;
-	su64(v1, v9);
-	su64(v1+8, v10);
-	su64(v1+16, v11);
-	su64(v1+24, v12);
-	su64(v1+32, v13);
-	su64(v1+40, v14);
-	su64(v1+48, v15);
-	su64(v1+56, v16);
-	su64(v1+64, v17);
-	su64(v1+72, v18);
-	su64(v1+80, v19);
-	su64(v1+88, v20);
-	goto L12;
-L11:;
-	u64 v60 = ld64(v24+8);
-	u64 v61 = ld64(v24+16);
-	u64 v62 = ld64(v24+24);
-	u64 v63 = ld64(v24+32);
-	u64 v64 = ld64(v24+40);
-	u64 v65 = ld64(v24+48);
-	u64 v66 = ld64(v24+56);
-	u64 v67 = ld64(v24+64);
-	u64 v68 = ld64(v24+72);
-	u64 v69 = ld64(v24+80);
-	u64 v70 = ld64(v24+88);
-	su64(v1, 1);
-	su64(v1+8, v60);
-	su64(v1+16, v61);
-	su64(v1+24, v62);
-	su64(v1+32, v63);
-	su64(v1+40, v64);
-	su64(v1+48, v65);
-	su64(v1+56, v66);
-	su64(v1+64, v67);
-	su64(v1+72, v68);
-	su64(v1+80, v69);
-	su64(v1+88, v70);
-L12:;
+	t_8_32 v30 = pcap_core_link_DataLinkFromU32_from(v5);
+	su32(v1, 0);
+	su32(v1+4, v29);
+	st8(v1+8, (u8)v6);
+	st_bytes(v1+9, (u32)(((((u64)v7 << 48) | ((u64)v6 << 32)) >> 40) & 16777215), 3);
+	su32(v1+12, v8);
+	su32(v1+16, v9);
+	su32(v1+20, v10);
+	su32(v1+24, (u32)v30.f0);
+	su32(v1+28, v30.f1);
+	clear(v1+32, 72);
+	goto L8;
+L5:
+	su32(v1, 1);
+	su32(v1+4, 0);
+	st8(v1+8, 2);
+	st_bytes(v1+9, 0, 3);
+	su32(v1+12, 0);
+	su32(v1+16, (u64)(ptr)static_10);
+	su32(v1+20, (u32)((u64)(ptr)static_10 >> 32));
+	su32(v1+24, 29);
+	clear(v1+28, 76);
+	goto L8;
+L6:
+	st8(v3, 1);
+	copy(v20, v18, 48);
+	v11 = v26; v12 = v25; v13 = v21; v14 = v22; v15 = v23; v16 = v24;
+L7:
+	su32(v1, 1);
+	su32(v1+4, 0);
+	st8(v1+8, 1);
+	st_bytes(v1+9, 0, 3);
+	su32(v1+12, 0);
+	su64(v1+16, v13);
+	su64(v1+24, v14);
+	su64(v1+32, v15);
+	su64(v1+40, v16);
+	su32(v1+48, v12);
+	su32(v1+52, v11);
+	copy(v1+56, v20, 48);
+L8:
+	return;
+}
+static void std_io_io_error_Error_from_bytes(ptr v1, u8 v2, u8 v3, ptr v4, u64 v5, u64 v6) {
+	u64 v7, v8, v9, v10, v11, v12, v13, v14, v15, v16, v17, v18, v19, v20, v21, v22, v23, v24, v25, v26, v27, v28, v29, v30, v31, v32, v33, v34, v35, v36, v37, v38, v39, v40, v41, v42, v43, v44, v46, v47, v48, v50, v51, v52, v54, v55, v56, v58, v59, v60, v62, v63, v64, v66, v67, v68, v70, v71, v72, v74, v75, v76, v78, v79, v80, v82, v83, v84, v85, v86;
+	u8 v45, v49, v53, v57, v61, v65, v69, v73, v77, v81;
+	if (!v5) { v7 = 771751936; v8 = 11776; v9 = 0x2e00000000000000ull; v10 = 0x2e0000000000ull; v11 = 771751936; v12 = 11776; v13 = 0x2e00000000000000ull; v14 = 0x2e0000000000ull; v15 = 771751936; v16 = 11776; v17 = 0x2e00000000000000ull; v18 = 0x2e0000000000ull; v19 = 771751936; v20 = 11776; v21 = 0x2e00000000000000ull; v22 = 0x2e0000000000ull; v23 = 771751936; v24 = 11776; v25 = 0x2e00000000000000ull; v26 = 0x2e0000000000ull; v27 = 771751936; v28 = 11776; v29 = 0x2e00000000000000ull; v30 = 0x2e0000000000ull; v31 = 771751936; v32 = 11776; v33 = 0x2e00000000000000ull; v34 = 0x2e0000000000ull; v35 = 771751936; v36 = 11776; v37 = 0x2e00000000000000ull; v38 = 0x2e0000000000ull; v39 = 771751936; v40 = 11776; v41 = 0x2e00000000000000ull; v42 = 0x2e0000000000ull; v43 = 771751936; v44 = 11776; v46 = 3014656; v47 = 0x2e00000000ull; v48 = 0x2e000000000000ull; v50 = 3014656; v51 = 0x2e00000000ull; v52 = 0x2e000000000000ull; v54 = 3014656; v55 = 0x2e00000000ull; v56 = 0x2e000000000000ull; v58 = 3014656; v59 = 0x2e00000000ull; v60 = 0x2e000000000000ull; v62 = 3014656; v63 = 0x2e00000000ull; v64 = 0x2e000000000000ull; v66 = 3014656; v67 = 0x2e00000000ull; v68 = 0x2e000000000000ull; v70 = 3014656; v71 = 0x2e00000000ull; v72 = 0x2e000000000000ull; v74 = 3014656; v75 = 0x2e00000000ull; v76 = 0x2e000000000000ull; v78 = 3014656; v79 = 0x2e00000000ull; v80 = 0x2e000000000000ull; v82 = 3014656; v83 = 0x2e00000000ull; v45 = v49 = v53 = v57 = v61 = v65 = v69 = v73 = v77 = v81 = 46; goto L0; }
+	u8 v87 = ld8(v4);
+	if (v5 == 1) { v7 = 771751936; v8 = 11776; v9 = 0x2e00000000000000ull; v10 = 0x2e0000000000ull; v11 = 771751936; v12 = 11776; v13 = 0x2e00000000000000ull; v14 = 0x2e0000000000ull; v15 = 771751936; v16 = 11776; v17 = 0x2e00000000000000ull; v18 = 0x2e0000000000ull; v19 = 771751936; v20 = 11776; v21 = 0x2e00000000000000ull; v22 = 0x2e0000000000ull; v23 = 771751936; v24 = 11776; v25 = 0x2e00000000000000ull; v26 = 0x2e0000000000ull; v27 = 771751936; v28 = 11776; v29 = 0x2e00000000000000ull; v30 = 0x2e0000000000ull; v31 = 771751936; v32 = 11776; v33 = 0x2e00000000000000ull; v34 = 0x2e0000000000ull; v35 = 771751936; v36 = 11776; v37 = 0x2e00000000000000ull; v38 = 0x2e0000000000ull; v39 = 771751936; v40 = 11776; v41 = 0x2e00000000000000ull; v42 = 0x2e0000000000ull; v43 = 771751936; v44 = 11776; v45 = v87; v46 = 3014656; v47 = 0x2e00000000ull; v48 = 0x2e000000000000ull; v50 = 3014656; v51 = 0x2e00000000ull; v52 = 0x2e000000000000ull; v54 = 3014656; v55 = 0x2e00000000ull; v56 = 0x2e000000000000ull; v58 = 3014656; v59 = 0x2e00000000ull; v60 = 0x2e000000000000ull; v62 = 3014656; v63 = 0x2e00000000ull; v64 = 0x2e000000000000ull; v66 = 3014656; v67 = 0x2e00000000ull; v68 = 0x2e000000000000ull; v70 = 3014656; v71 = 0x2e00000000ull; v72 = 0x2e000000000000ull; v74 = 3014656; v75 = 0x2e00000000ull; v76 = 0x2e000000000000ull; v78 = 3014656; v79 = 0x2e00000000ull; v80 = 0x2e000000000000ull; v82 = 3014656; v83 = 0x2e00000000ull; v49 = v53 = v57 = v61 = v65 = v69 = v73 = v77 = v81 = 46; goto L0; }
+	u64 v88 = (u64)ld8(v4+1) << 8;
+	if (v5 <= 2) { v7 = 771751936; v8 = 11776; v9 = 0x2e00000000000000ull; v10 = 0x2e0000000000ull; v11 = 771751936; v12 = 11776; v13 = 0x2e00000000000000ull; v14 = 0x2e0000000000ull; v15 = 771751936; v16 = 11776; v17 = 0x2e00000000000000ull; v18 = 0x2e0000000000ull; v19 = 771751936; v20 = 11776; v21 = 0x2e00000000000000ull; v22 = 0x2e0000000000ull; v23 = 771751936; v24 = 11776; v25 = 0x2e00000000000000ull; v26 = 0x2e0000000000ull; v27 = 771751936; v28 = 11776; v29 = 0x2e00000000000000ull; v30 = 0x2e0000000000ull; v31 = 771751936; v32 = 11776; v33 = 0x2e00000000000000ull; v34 = 0x2e0000000000ull; v35 = 771751936; v36 = 11776; v37 = 0x2e00000000000000ull; v38 = 0x2e0000000000ull; v39 = 771751936; v40 = 11776; v41 = 0x2e00000000000000ull; v42 = 0x2e0000000000ull; v43 = 771751936; v44 = v88; v45 = v87; v46 = 3014656; v47 = 0x2e00000000ull; v48 = 0x2e000000000000ull; v50 = 3014656; v51 = 0x2e00000000ull; v52 = 0x2e000000000000ull; v54 = 3014656; v55 = 0x2e00000000ull; v56 = 0x2e000000000000ull; v58 = 3014656; v59 = 0x2e00000000ull; v60 = 0x2e000000000000ull; v62 = 3014656; v63 = 0x2e00000000ull; v64 = 0x2e000000000000ull; v66 = 3014656; v67 = 0x2e00000000ull; v68 = 0x2e000000000000ull; v70 = 3014656; v71 = 0x2e00000000ull; v72 = 0x2e000000000000ull; v74 = 3014656; v75 = 0x2e00000000ull; v76 = 0x2e000000000000ull; v78 = 3014656; v79 = 0x2e00000000ull; v80 = 0x2e000000000000ull; v82 = 3014656; v83 = 0x2e00000000ull; v49 = v53 = v57 = v61 = v65 = v69 = v73 = v77 = v81 = 46; goto L0; }
+	u64 v89 = (u64)ld8(v4+2) << 16;
+	if (v5 == 3) { v7 = 771751936; v8 = 11776; v9 = 0x2e00000000000000ull; v10 = 0x2e0000000000ull; v11 = 771751936; v12 = 11776; v13 = 0x2e00000000000000ull; v14 = 0x2e0000000000ull; v15 = 771751936; v16 = 11776; v17 = 0x2e00000000000000ull; v18 = 0x2e0000000000ull; v19 = 771751936; v20 = 11776; v21 = 0x2e00000000000000ull; v22 = 0x2e0000000000ull; v23 = 771751936; v24 = 11776; v25 = 0x2e00000000000000ull; v26 = 0x2e0000000000ull; v27 = 771751936; v28 = 11776; v29 = 0x2e00000000000000ull; v30 = 0x2e0000000000ull; v31 = 771751936; v32 = 11776; v33 = 0x2e00000000000000ull; v34 = 0x2e0000000000ull; v35 = 771751936; v36 = 11776; v37 = 0x2e00000000000000ull; v38 = 0x2e0000000000ull; v39 = 771751936; v40 = 11776; v41 = 0x2e00000000000000ull; v42 = 0x2e0000000000ull; v43 = 771751936; v44 = v88; v45 = v87; v46 = v89; v47 = 0x2e00000000ull; v48 = 0x2e000000000000ull; v50 = 3014656; v51 = 0x2e00000000ull; v52 = 0x2e000000000000ull; v54 = 3014656; v55 = 0x2e00000000ull; v56 = 0x2e000000000000ull; v58 = 3014656; v59 = 0x2e00000000ull; v60 = 0x2e000000000000ull; v62 = 3014656; v63 = 0x2e00000000ull; v64 = 0x2e000000000000ull; v66 = 3014656; v67 = 0x2e00000000ull; v68 = 0x2e000000000000ull; v70 = 3014656; v71 = 0x2e00000000ull; v72 = 0x2e000000000000ull; v74 = 3014656; v75 = 0x2e00000000ull; v76 = 0x2e000000000000ull; v78 = 3014656; v79 = 0x2e00000000ull; v80 = 0x2e000000000000ull; v82 = 3014656; v83 = 0x2e00000000ull; v49 = v53 = v57 = v61 = v65 = v69 = v73 = v77 = v81 = 46; goto L0; }
+	u64 v90 = (u64)ld8(v4+3) << 24;
+	if (v5 <= 4) { v7 = 771751936; v8 = 11776; v9 = 0x2e00000000000000ull; v10 = 0x2e0000000000ull; v11 = 771751936; v12 = 11776; v13 = 0x2e00000000000000ull; v14 = 0x2e0000000000ull; v15 = 771751936; v16 = 11776; v17 = 0x2e00000000000000ull; v18 = 0x2e0000000000ull; v19 = 771751936; v20 = 11776; v21 = 0x2e00000000000000ull; v22 = 0x2e0000000000ull; v23 = 771751936; v24 = 11776; v25 = 0x2e00000000000000ull; v26 = 0x2e0000000000ull; v27 = 771751936; v28 = 11776; v29 = 0x2e00000000000000ull; v30 = 0x2e0000000000ull; v31 = 771751936; v32 = 11776; v33 = 0x2e00000000000000ull; v34 = 0x2e0000000000ull; v35 = 771751936; v36 = 11776; v37 = 0x2e00000000000000ull; v38 = 0x2e0000000000ull; v39 = 771751936; v40 = 11776; v41 = 0x2e00000000000000ull; v42 = 0x2e0000000000ull; v43 = v90; v44 = v88; v45 = v87; v46 = v89; v47 = 0x2e00000000ull; v48 = 0x2e000000000000ull; v50 = 3014656; v51 = 0x2e00000000ull; v52 = 0x2e000000000000ull; v54 = 3014656; v55 = 0x2e00000000ull; v56 = 0x2e000000000000ull; v58 = 3014656; v59 = 0x2e00000000ull; v60 = 0x2e000000000000ull; v62 = 3014656; v63 = 0x2e00000000ull; v64 = 0x2e000000000000ull; v66 = 3014656; v67 = 0x2e00000000ull; v68 = 0x2e000000000000ull; v70 = 3014656; v71 = 0x2e00000000ull; v72 = 0x2e000000000000ull; v74 = 3014656; v75 = 0x2e00000000ull; v76 = 0x2e000000000000ull; v78 = 3014656; v79 = 0x2e00000000ull; v80 = 0x2e000000000000ull; v82 = 3014656; v83 = 0x2e00000000ull; v49 = v53 = v57 = v61 = v65 = v69 = v73 = v77 = v81 = 46; goto L0; }
+	u64 v91 = (u64)ld8(v4+4) << 32;
+	if (v5 == 5) { v7 = 771751936; v8 = 11776; v9 = 0x2e00000000000000ull; v10 = 0x2e0000000000ull; v11 = 771751936; v12 = 11776; v13 = 0x2e00000000000000ull; v14 = 0x2e0000000000ull; v15 = 771751936; v16 = 11776; v17 = 0x2e00000000000000ull; v18 = 0x2e0000000000ull; v19 = 771751936; v20 = 11776; v21 = 0x2e00000000000000ull; v22 = 0x2e0000000000ull; v23 = 771751936; v24 = 11776; v25 = 0x2e00000000000000ull; v26 = 0x2e0000000000ull; v27 = 771751936; v28 = 11776; v29 = 0x2e00000000000000ull; v30 = 0x2e0000000000ull; v31 = 771751936; v32 = 11776; v33 = 0x2e00000000000000ull; v34 = 0x2e0000000000ull; v35 = 771751936; v36 = 11776; v37 = 0x2e00000000000000ull; v38 = 0x2e0000000000ull; v39 = 771751936; v40 = 11776; v41 = 0x2e00000000000000ull; v42 = 0x2e0000000000ull; v43 = v90; v44 = v88; v45 = v87; v46 = v89; v47 = v91; v48 = 0x2e000000000000ull; v50 = 3014656; v51 = 0x2e00000000ull; v52 = 0x2e000000000000ull; v54 = 3014656; v55 = 0x2e00000000ull; v56 = 0x2e000000000000ull; v58 = 3014656; v59 = 0x2e00000000ull; v60 = 0x2e000000000000ull; v62 = 3014656; v63 = 0x2e00000000ull; v64 = 0x2e000000000000ull; v66 = 3014656; v67 = 0x2e00000000ull; v68 = 0x2e000000000000ull; v70 = 3014656; v71 = 0x2e00000000ull; v72 = 0x2e000000000000ull; v74 = 3014656; v75 = 0x2e00000000ull; v76 = 0x2e000000000000ull; v78 = 3014656; v79 = 0x2e00000000ull; v80 = 0x2e000000000000ull; v82 = 3014656; v83 = 0x2e00000000ull; v49 = v53 = v57 = v61 = v65 = v69 = v73 = v77 = v81 = 46; goto L0; }
+	u64 v92 = (u64)ld8(v4+5) << 40;
+	if (v5 <= 6) { v7 = 771751936; v8 = 11776; v9 = 0x2e00000000000000ull; v10 = 0x2e0000000000ull; v11 = 771751936; v12 = 11776; v13 = 0x2e00000000000000ull; v14 = 0x2e0000000000ull; v15 = 771751936; v16 = 11776; v17 = 0x2e00000000000000ull; v18 = 0x2e0000000000ull; v19 = 771751936; v20 = 11776; v21 = 0x2e00000000000000ull; v22 = 0x2e0000000000ull; v23 = 771751936; v24 = 11776; v25 = 0x2e00000000000000ull; v26 = 0x2e0000000000ull; v27 = 771751936; v28 = 11776; v29 = 0x2e00000000000000ull; v30 = 0x2e0000000000ull; v31 = 771751936; v32 = 11776; v33 = 0x2e00000000000000ull; v34 = 0x2e0000000000ull; v35 = 771751936; v36 = 11776; v37 = 0x2e00000000000000ull; v38 = 0x2e0000000000ull; v39 = 771751936; v40 = 11776; v41 = 0x2e00000000000000ull; v42 = v92; v43 = v90; v44 = v88; v45 = v87; v46 = v89; v47 = v91; v48 = 0x2e000000000000ull; v50 = 3014656; v51 = 0x2e00000000ull; v52 = 0x2e000000000000ull; v54 = 3014656; v55 = 0x2e00000000ull; v56 = 0x2e000000000000ull; v58 = 3014656; v59 = 0x2e00000000ull; v60 = 0x2e000000000000ull; v62 = 3014656; v63 = 0x2e00000000ull; v64 = 0x2e000000000000ull; v66 = 3014656; v67 = 0x2e00000000ull; v68 = 0x2e000000000000ull; v70 = 3014656; v71 = 0x2e00000000ull; v72 = 0x2e000000000000ull; v74 = 3014656; v75 = 0x2e00000000ull; v76 = 0x2e000000000000ull; v78 = 3014656; v79 = 0x2e00000000ull; v80 = 0x2e000000000000ull; v82 = 3014656; v83 = 0x2e00000000ull; v49 = v53 = v57 = v61 = v65 = v69 = v73 = v77 = v81 = 46; goto L0; }
+	u64 v93 = (u64)ld8(v4+6) << 48;
+	if (v5 == 7) { v7 = 771751936; v8 = 11776; v9 = 0x2e00000000000000ull; v10 = 0x2e0000000000ull; v11 = 771751936; v12 = 11776; v13 = 0x2e00000000000000ull; v14 = 0x2e0000000000ull; v15 = 771751936; v16 = 11776; v17 = 0x2e00000000000000ull; v18 = 0x2e0000000000ull; v19 = 771751936; v20 = 11776; v21 = 0x2e00000000000000ull; v22 = 0x2e0000000000ull; v23 = 771751936; v24 = 11776; v25 = 0x2e00000000000000ull; v26 = 0x2e0000000000ull; v27 = 771751936; v28 = 11776; v29 = 0x2e00000000000000ull; v30 = 0x2e0000000000ull; v31 = 771751936; v32 = 11776; v33 = 0x2e00000000000000ull; v34 = 0x2e0000000000ull; v35 = 771751936; v36 = 11776; v37 = 0x2e00000000000000ull; v38 = 0x2e0000000000ull; v39 = 771751936; v40 = 11776; v41 = 0x2e00000000000000ull; v42 = v92; v43 = v90; v44 = v88; v45 = v87; v46 = v89; v47 = v91; v48 = v93; v50 = 3014656; v51 = 0x2e00000000ull; v52 = 0x2e000000000000ull; v54 = 3014656; v55 = 0x2e00000000ull; v56 = 0x2e000000000000ull; v58 = 3014656; v59 = 0x2e00000000ull; v60 = 0x2e000000000000ull; v62 = 3014656; v63 = 0x2e00000000ull; v64 = 0x2e000000000000ull; v66 = 3014656; v67 = 0x2e00000000ull; v68 = 0x2e000000000000ull; v70 = 3014656; v71 = 0x2e00000000ull; v72 = 0x2e000000000000ull; v74 = 3014656; v75 = 0x2e00000000ull; v76 = 0x2e000000000000ull; v78 = 3014656; v79 = 0x2e00000000ull; v80 = 0x2e000000000000ull; v82 = 3014656; v83 = 0x2e00000000ull; v49 = v53 = v57 = v61 = v65 = v69 = v73 = v77 = v81 = 46; goto L0; }
+	u64 v94 = (u64)ld8(v4+7) << 56;
+	if (v5 <= 8) { v7 = 771751936; v8 = 11776; v9 = 0x2e00000000000000ull; v10 = 0x2e0000000000ull; v11 = 771751936; v12 = 11776; v13 = 0x2e00000000000000ull; v14 = 0x2e0000000000ull; v15 = 771751936; v16 = 11776; v17 = 0x2e00000000000000ull; v18 = 0x2e0000000000ull; v19 = 771751936; v20 = 11776; v21 = 0x2e00000000000000ull; v22 = 0x2e0000000000ull; v23 = 771751936; v24 = 11776; v25 = 0x2e00000000000000ull; v26 = 0x2e0000000000ull; v27 = 771751936; v28 = 11776; v29 = 0x2e00000000000000ull; v30 = 0x2e0000000000ull; v31 = 771751936; v32 = 11776; v33 = 0x2e00000000000000ull; v34 = 0x2e0000000000ull; v35 = 771751936; v36 = 11776; v37 = 0x2e00000000000000ull; v38 = 0x2e0000000000ull; v39 = 771751936; v40 = 11776; v41 = v94; v42 = v92; v43 = v90; v44 = v88; v45 = v87; v46 = v89; v47 = v91; v48 = v93; v50 = 3014656; v51 = 0x2e00000000ull; v52 = 0x2e000000000000ull; v54 = 3014656; v55 = 0x2e00000000ull; v56 = 0x2e000000000000ull; v58 = 3014656; v59 = 0x2e00000000ull; v60 = 0x2e000000000000ull; v62 = 3014656; v63 = 0x2e00000000ull; v64 = 0x2e000000000000ull; v66 = 3014656; v67 = 0x2e00000000ull; v68 = 0x2e000000000000ull; v70 = 3014656; v71 = 0x2e00000000ull; v72 = 0x2e000000000000ull; v74 = 3014656; v75 = 0x2e00000000ull; v76 = 0x2e000000000000ull; v78 = 3014656; v79 = 0x2e00000000ull; v80 = 0x2e000000000000ull; v82 = 3014656; v83 = 0x2e00000000ull; v49 = v53 = v57 = v61 = v65 = v69 = v73 = v77 = v81 = 46; goto L0; }
+	u8 v95 = ld8(v4+8);
+	if (v5 == 9) { v7 = 771751936; v8 = 11776; v9 = 0x2e00000000000000ull; v10 = 0x2e0000000000ull; v11 = 771751936; v12 = 11776; v13 = 0x2e00000000000000ull; v14 = 0x2e0000000000ull; v15 = 771751936; v16 = 11776; v17 = 0x2e00000000000000ull; v18 = 0x2e0000000000ull; v19 = 771751936; v20 = 11776; v21 = 0x2e00000000000000ull; v22 = 0x2e0000000000ull; v23 = 771751936; v24 = 11776; v25 = 0x2e00000000000000ull; v26 = 0x2e0000000000ull; v27 = 771751936; v28 = 11776; v29 = 0x2e00000000000000ull; v30 = 0x2e0000000000ull; v31 = 771751936; v32 = 11776; v33 = 0x2e00000000000000ull; v34 = 0x2e0000000000ull; v35 = 771751936; v36 = 11776; v37 = 0x2e00000000000000ull; v38 = 0x2e0000000000ull; v39 = 771751936; v40 = 11776; v41 = v94; v42 = v92; v43 = v90; v44 = v88; v45 = v87; v46 = v89; v47 = v91; v48 = v93; v49 = v95; v50 = 3014656; v51 = 0x2e00000000ull; v52 = 0x2e000000000000ull; v54 = 3014656; v55 = 0x2e00000000ull; v56 = 0x2e000000000000ull; v58 = 3014656; v59 = 0x2e00000000ull; v60 = 0x2e000000000000ull; v62 = 3014656; v63 = 0x2e00000000ull; v64 = 0x2e000000000000ull; v66 = 3014656; v67 = 0x2e00000000ull; v68 = 0x2e000000000000ull; v70 = 3014656; v71 = 0x2e00000000ull; v72 = 0x2e000000000000ull; v74 = 3014656; v75 = 0x2e00000000ull; v76 = 0x2e000000000000ull; v78 = 3014656; v79 = 0x2e00000000ull; v80 = 0x2e000000000000ull; v82 = 3014656; v83 = 0x2e00000000ull; v53 = v57 = v61 = v65 = v69 = v73 = v77 = v81 = 46; goto L0; }
+	u64 v96 = (u64)ld8(v4+9) << 8;
+	if (v5 <= 10) { v7 = 771751936; v8 = 11776; v9 = 0x2e00000000000000ull; v10 = 0x2e0000000000ull; v11 = 771751936; v12 = 11776; v13 = 0x2e00000000000000ull; v14 = 0x2e0000000000ull; v15 = 771751936; v16 = 11776; v17 = 0x2e00000000000000ull; v18 = 0x2e0000000000ull; v19 = 771751936; v20 = 11776; v21 = 0x2e00000000000000ull; v22 = 0x2e0000000000ull; v23 = 771751936; v24 = 11776; v25 = 0x2e00000000000000ull; v26 = 0x2e0000000000ull; v27 = 771751936; v28 = 11776; v29 = 0x2e00000000000000ull; v30 = 0x2e0000000000ull; v31 = 771751936; v32 = 11776; v33 = 0x2e00000000000000ull; v34 = 0x2e0000000000ull; v35 = 771751936; v36 = 11776; v37 = 0x2e00000000000000ull; v38 = 0x2e0000000000ull; v39 = 771751936; v40 = v96; v41 = v94; v42 = v92; v43 = v90; v44 = v88; v45 = v87; v46 = v89; v47 = v91; v48 = v93; v49 = v95; v50 = 3014656; v51 = 0x2e00000000ull; v52 = 0x2e000000000000ull; v54 = 3014656; v55 = 0x2e00000000ull; v56 = 0x2e000000000000ull; v58 = 3014656; v59 = 0x2e00000000ull; v60 = 0x2e000000000000ull; v62 = 3014656; v63 = 0x2e00000000ull; v64 = 0x2e000000000000ull; v66 = 3014656; v67 = 0x2e00000000ull; v68 = 0x2e000000000000ull; v70 = 3014656; v71 = 0x2e00000000ull; v72 = 0x2e000000000000ull; v74 = 3014656; v75 = 0x2e00000000ull; v76 = 0x2e000000000000ull; v78 = 3014656; v79 = 0x2e00000000ull; v80 = 0x2e000000000000ull; v82 = 3014656; v83 = 0x2e00000000ull; v53 = v57 = v61 = v65 = v69 = v73 = v77 = v81 = 46; goto L0; }
+	u64 v97 = (u64)ld8(v4+10) << 16;
+	if (v5 == 11) { v7 = 771751936; v8 = 11776; v9 = 0x2e00000000000000ull; v10 = 0x2e0000000000ull; v11 = 771751936; v12 = 11776; v13 = 0x2e00000000000000ull; v14 = 0x2e0000000000ull; v15 = 771751936; v16 = 11776; v17 = 0x2e00000000000000ull; v18 = 0x2e0000000000ull; v19 = 771751936; v20 = 11776; v21 = 0x2e00000000000000ull; v22 = 0x2e0000000000ull; v23 = 771751936; v24 = 11776; v25 = 0x2e00000000000000ull; v26 = 0x2e0000000000ull; v27 = 771751936; v28 = 11776; v29 = 0x2e00000000000000ull; v30 = 0x2e0000000000ull; v31 = 771751936; v32 = 11776; v33 = 0x2e00000000000000ull; v34 = 0x2e0000000000ull; v35 = 771751936; v36 = 11776; v37 = 0x2e00000000000000ull; v38 = 0x2e0000000000ull; v39 = 771751936; v40 = v96; v41 = v94; v42 = v92; v43 = v90; v44 = v88; v45 = v87; v46 = v89; v47 = v91; v48 = v93; v49 = v95; v50 = v97; v51 = 0x2e00000000ull; v52 = 0x2e000000000000ull; v54 = 3014656; v55 = 0x2e00000000ull; v56 = 0x2e000000000000ull; v58 = 3014656; v59 = 0x2e00000000ull; v60 = 0x2e000000000000ull; v62 = 3014656; v63 = 0x2e00000000ull; v64 = 0x2e000000000000ull; v66 = 3014656; v67 = 0x2e00000000ull; v68 = 0x2e000000000000ull; v70 = 3014656; v71 = 0x2e00000000ull; v72 = 0x2e000000000000ull; v74 = 3014656; v75 = 0x2e00000000ull; v76 = 0x2e000000000000ull; v78 = 3014656; v79 = 0x2e00000000ull; v80 = 0x2e000000000000ull; v82 = 3014656; v83 = 0x2e00000000ull; v53 = v57 = v61 = v65 = v69 = v73 = v77 = v81 = 46; goto L0; }
+	u64 v98 = (u64)ld8(v4+11) << 24;
+	if (v5 <= 12) { v7 = 771751936; v8 = 11776; v9 = 0x2e00000000000000ull; v10 = 0x2e0000000000ull; v11 = 771751936; v12 = 11776; v13 = 0x2e00000000000000ull; v14 = 0x2e0000000000ull; v15 = 771751936; v16 = 11776; v17 = 0x2e00000000000000ull; v18 = 0x2e0000000000ull; v19 = 771751936; v20 = 11776; v21 = 0x2e00000000000000ull; v22 = 0x2e0000000000ull; v23 = 771751936; v24 = 11776; v25 = 0x2e00000000000000ull; v26 = 0x2e0000000000ull; v27 = 771751936; v28 = 11776; v29 = 0x2e00000000000000ull; v30 = 0x2e0000000000ull; v31 = 771751936; v32 = 11776; v33 = 0x2e00000000000000ull; v34 = 0x2e0000000000ull; v35 = 771751936; v36 = 11776; v37 = 0x2e00000000000000ull; v38 = 0x2e0000000000ull; v39 = v98; v40 = v96; v41 = v94; v42 = v92; v43 = v90; v44 = v88; v45 = v87; v46 = v89; v47 = v91; v48 = v93; v49 = v95; v50 = v97; v51 = 0x2e00000000ull; v52 = 0x2e000000000000ull; v54 = 3014656; v55 = 0x2e00000000ull; v56 = 0x2e000000000000ull; v58 = 3014656; v59 = 0x2e00000000ull; v60 = 0x2e000000000000ull; v62 = 3014656; v63 = 0x2e00000000ull; v64 = 0x2e000000000000ull; v66 = 3014656; v67 = 0x2e00000000ull; v68 = 0x2e000000000000ull; v70 = 3014656; v71 = 0x2e00000000ull; v72 = 0x2e000000000000ull; v74 = 3014656; v75 = 0x2e00000000ull; v76 = 0x2e000000000000ull; v78 = 3014656; v79 = 0x2e00000000ull; v80 = 0x2e000000000000ull; v82 = 3014656; v83 = 0x2e00000000ull; v53 = v57 = v61 = v65 = v69 = v73 = v77 = v81 = 46; goto L0; }
+	u64 v99 = (u64)ld8(v4+12) << 32;
+	if (v5 == 13) { v7 = 771751936; v8 = 11776; v9 = 0x2e00000000000000ull; v10 = 0x2e0000000000ull; v11 = 771751936; v12 = 11776; v13 = 0x2e00000000000000ull; v14 = 0x2e0000000000ull; v15 = 771751936; v16 = 11776; v17 = 0x2e00000000000000ull; v18 = 0x2e0000000000ull; v19 = 771751936; v20 = 11776; v21 = 0x2e00000000000000ull; v22 = 0x2e0000000000ull; v23 = 771751936; v24 = 11776; v25 = 0x2e00000000000000ull; v26 = 0x2e0000000000ull; v27 = 771751936; v28 = 11776; v29 = 0x2e00000000000000ull; v30 = 0x2e0000000000ull; v31 = 771751936; v32 = 11776; v33 = 0x2e00000000000000ull; v34 = 0x2e0000000000ull; v35 = 771751936; v36 = 11776; v37 = 0x2e00000000000000ull; v38 = 0x2e0000000000ull; v39 = v98; v40 = v96; v41 = v94; v42 = v92; v43 = v90; v44 = v88; v45 = v87; v46 = v89; v47 = v91; v48 = v93; v49 = v95; v50 = v97; v51 = v99; v52 = 0x2e000000000000ull; v54 = 3014656; v55 = 0x2e00000000ull; v56 = 0x2e000000000000ull; v58 = 3014656; v59 = 0x2e00000000ull; v60 = 0x2e000000000000ull; v62 = 3014656; v63 = 0x2e00000000ull; v64 = 0x2e000000000000ull; v66 = 3014656; v67 = 0x2e00000000ull; v68 = 0x2e000000000000ull; v70 = 3014656; v71 = 0x2e00000000ull; v72 = 0x2e000000000000ull; v74 = 3014656; v75 = 0x2e00000000ull; v76 = 0x2e000000000000ull; v78 = 3014656; v79 = 0x2e00000000ull; v80 = 0x2e000000000000ull; v82 = 3014656; v83 = 0x2e00000000ull; v53 = v57 = v61 = v65 = v69 = v73 = v77 = v81 = 46; goto L0; }
+	u64 v100 = (u64)ld8(v4+13) << 40;
+	if (v5 <= 14) { v7 = 771751936; v8 = 11776; v9 = 0x2e00000000000000ull; v10 = 0x2e0000000000ull; v11 = 771751936; v12 = 11776; v13 = 0x2e00000000000000ull; v14 = 0x2e0000000000ull; v15 = 771751936; v16 = 11776; v17 = 0x2e00000000000000ull; v18 = 0x2e0000000000ull; v19 = 771751936; v20 = 11776; v21 = 0x2e00000000000000ull; v22 = 0x2e0000000000ull; v23 = 771751936; v24 = 11776; v25 = 0x2e00000000000000ull; v26 = 0x2e0000000000ull; v27 = 771751936; v28 = 11776; v29 = 0x2e00000000000000ull; v30 = 0x2e0000000000ull; v31 = 771751936; v32 = 11776; v33 = 0x2e00000000000000ull; v34 = 0x2e0000000000ull; v35 = 771751936; v36 = 11776; v37 = 0x2e00000000000000ull; v38 = v100; v39 = v98; v40 = v96; v41 = v94; v42 = v92; v43 = v90; v44 = v88; v45 = v87; v46 = v89; v47 = v91; v48 = v93; v49 = v95; v50 = v97; v51 = v99; v52 = 0x2e000000000000ull; v54 = 3014656; v55 = 0x2e00000000ull; v56 = 0x2e000000000000ull; v58 = 3014656; v59 = 0x2e00000000ull; v60 = 0x2e000000000000ull; v62 = 3014656; v63 = 0x2e00000000ull; v64 = 0x2e000000000000ull; v66 = 3014656; v67 = 0x2e00000000ull; v68 = 0x2e000000000000ull; v70 = 3014656; v71 = 0x2e00000000ull; v72 = 0x2e000000000000ull; v74 = 3014656; v75 = 0x2e00000000ull; v76 = 0x2e000000000000ull; v78 = 3014656; v79 = 0x2e00000000ull; v80 = 0x2e000000000000ull; v82 = 3014656; v83 = 0x2e00000000ull; v53 = v57 = v61 = v65 = v69 = v73 = v77 = v81 = 46; goto L0; }
+	u64 v101 = (u64)ld8(v4+14) << 48;
+	if (v5 == 15) { v7 = 771751936; v8 = 11776; v9 = 0x2e00000000000000ull; v10 = 0x2e0000000000ull; v11 = 771751936; v12 = 11776; v13 = 0x2e00000000000000ull; v14 = 0x2e0000000000ull; v15 = 771751936; v16 = 11776; v17 = 0x2e00000000000000ull; v18 = 0x2e0000000000ull; v19 = 771751936; v20 = 11776; v21 = 0x2e00000000000000ull; v22 = 0x2e0000000000ull; v23 = 771751936; v24 = 11776; v25 = 0x2e00000000000000ull; v26 = 0x2e0000000000ull; v27 = 771751936; v28 = 11776; v29 = 0x2e00000000000000ull; v30 = 0x2e0000000000ull; v31 = 771751936; v32 = 11776; v33 = 0x2e00000000000000ull; v34 = 0x2e0000000000ull; v35 = 771751936; v36 = 11776; v37 = 0x2e00000000000000ull; v38 = v100; v39 = v98; v40 = v96; v41 = v94; v42 = v92; v43 = v90; v44 = v88; v45 = v87; v46 = v89; v47 = v91; v48 = v93; v49 = v95; v50 = v97; v51 = v99; v52 = v101; v54 = 3014656; v55 = 0x2e00000000ull; v56 = 0x2e000000000000ull; v58 = 3014656; v59 = 0x2e00000000ull; v60 = 0x2e000000000000ull; v62 = 3014656; v63 = 0x2e00000000ull; v64 = 0x2e000000000000ull; v66 = 3014656; v67 = 0x2e00000000ull; v68 = 0x2e000000000000ull; v70 = 3014656; v71 = 0x2e00000000ull; v72 = 0x2e000000000000ull; v74 = 3014656; v75 = 0x2e00000000ull; v76 = 0x2e000000000000ull; v78 = 3014656; v79 = 0x2e00000000ull; v80 = 0x2e000000000000ull; v82 = 3014656; v83 = 0x2e00000000ull; v53 = v57 = v61 = v65 = v69 = v73 = v77 = v81 = 46; goto L0; }
+	u64 v102 = (u64)ld8(v4+15) << 56;
+	if (v5 <= 16) { v7 = 771751936; v8 = 11776; v9 = 0x2e00000000000000ull; v10 = 0x2e0000000000ull; v11 = 771751936; v12 = 11776; v13 = 0x2e00000000000000ull; v14 = 0x2e0000000000ull; v15 = 771751936; v16 = 11776; v17 = 0x2e00000000000000ull; v18 = 0x2e0000000000ull; v19 = 771751936; v20 = 11776; v21 = 0x2e00000000000000ull; v22 = 0x2e0000000000ull; v23 = 771751936; v24 = 11776; v25 = 0x2e00000000000000ull; v26 = 0x2e0000000000ull; v27 = 771751936; v28 = 11776; v29 = 0x2e00000000000000ull; v30 = 0x2e0000000000ull; v31 = 771751936; v32 = 11776; v33 = 0x2e00000000000000ull; v34 = 0x2e0000000000ull; v35 = 771751936; v36 = 11776; v37 = v102; v38 = v100; v39 = v98; v40 = v96; v41 = v94; v42 = v92; v43 = v90; v44 = v88; v45 = v87; v46 = v89; v47 = v91; v48 = v93; v49 = v95; v50 = v97; v51 = v99; v52 = v101; v54 = 3014656; v55 = 0x2e00000000ull; v56 = 0x2e000000000000ull; v58 = 3014656; v59 = 0x2e00000000ull; v60 = 0x2e000000000000ull; v62 = 3014656; v63 = 0x2e00000000ull; v64 = 0x2e000000000000ull; v66 = 3014656; v67 = 0x2e00000000ull; v68 = 0x2e000000000000ull; v70 = 3014656; v71 = 0x2e00000000ull; v72 = 0x2e000000000000ull; v74 = 3014656; v75 = 0x2e00000000ull; v76 = 0x2e000000000000ull; v78 = 3014656; v79 = 0x2e00000000ull; v80 = 0x2e000000000000ull; v82 = 3014656; v83 = 0x2e00000000ull; v53 = v57 = v61 = v65 = v69 = v73 = v77 = v81 = 46; goto L0; }
+	u8 v103 = ld8(v4+16);
+	if (v5 == 17) { v7 = 771751936; v8 = 11776; v9 = 0x2e00000000000000ull; v10 = 0x2e0000000000ull; v11 = 771751936; v12 = 11776; v13 = 0x2e00000000000000ull; v14 = 0x2e0000000000ull; v15 = 771751936; v16 = 11776; v17 = 0x2e00000000000000ull; v18 = 0x2e0000000000ull; v19 = 771751936; v20 = 11776; v21 = 0x2e00000000000000ull; v22 = 0x2e0000000000ull; v23 = 771751936; v24 = 11776; v25 = 0x2e00000000000000ull; v26 = 0x2e0000000000ull; v27 = 771751936; v28 = 11776; v29 = 0x2e00000000000000ull; v30 = 0x2e0000000000ull; v31 = 771751936; v32 = 11776; v33 = 0x2e00000000000000ull; v34 = 0x2e0000000000ull; v35 = 771751936; v36 = 11776; v37 = v102; v38 = v100; v39 = v98; v40 = v96; v41 = v94; v42 = v92; v43 = v90; v44 = v88; v45 = v87; v46 = v89; v47 = v91; v48 = v93; v49 = v95; v50 = v97; v51 = v99; v52 = v101; v53 = v103; v54 = 3014656; v55 = 0x2e00000000ull; v56 = 0x2e000000000000ull; v58 = 3014656; v59 = 0x2e00000000ull; v60 = 0x2e000000000000ull; v62 = 3014656; v63 = 0x2e00000000ull; v64 = 0x2e000000000000ull; v66 = 3014656; v67 = 0x2e00000000ull; v68 = 0x2e000000000000ull; v70 = 3014656; v71 = 0x2e00000000ull; v72 = 0x2e000000000000ull; v74 = 3014656; v75 = 0x2e00000000ull; v76 = 0x2e000000000000ull; v78 = 3014656; v79 = 0x2e00000000ull; v80 = 0x2e000000000000ull; v82 = 3014656; v83 = 0x2e00000000ull; v57 = v61 = v65 = v69 = v73 = v77 = v81 = 46; goto L0; }
+	u64 v104 = (u64)ld8(v4+17) << 8;
+	if (v5 <= 18) { v7 = 771751936; v8 = 11776; v9 = 0x2e00000000000000ull; v10 = 0x2e0000000000ull; v11 = 771751936; v12 = 11776; v13 = 0x2e00000000000000ull; v14 = 0x2e0000000000ull; v15 = 771751936; v16 = 11776; v17 = 0x2e00000000000000ull; v18 = 0x2e0000000000ull; v19 = 771751936; v20 = 11776; v21 = 0x2e00000000000000ull; v22 = 0x2e0000000000ull; v23 = 771751936; v24 = 11776; v25 = 0x2e00000000000000ull; v26 = 0x2e0000000000ull; v27 = 771751936; v28 = 11776; v29 = 0x2e00000000000000ull; v30 = 0x2e0000000000ull; v31 = 771751936; v32 = 11776; v33 = 0x2e00000000000000ull; v34 = 0x2e0000000000ull; v35 = 771751936; v36 = v104; v37 = v102; v38 = v100; v39 = v98; v40 = v96; v41 = v94; v42 = v92; v43 = v90; v44 = v88; v45 = v87; v46 = v89; v47 = v91; v48 = v93; v49 = v95; v50 = v97; v51 = v99; v52 = v101; v53 = v103; v54 = 3014656; v55 = 0x2e00000000ull; v56 = 0x2e000000000000ull; v58 = 3014656; v59 = 0x2e00000000ull; v60 = 0x2e000000000000ull; v62 = 3014656; v63 = 0x2e00000000ull; v64 = 0x2e000000000000ull; v66 = 3014656; v67 = 0x2e00000000ull; v68 = 0x2e000000000000ull; v70 = 3014656; v71 = 0x2e00000000ull; v72 = 0x2e000000000000ull; v74 = 3014656; v75 = 0x2e00000000ull; v76 = 0x2e000000000000ull; v78 = 3014656; v79 = 0x2e00000000ull; v80 = 0x2e000000000000ull; v82 = 3014656; v83 = 0x2e00000000ull; v57 = v61 = v65 = v69 = v73 = v77 = v81 = 46; goto L0; }
+	u64 v105 = (u64)ld8(v4+18) << 16;
+	if (v5 == 19) { v7 = 771751936; v8 = 11776; v9 = 0x2e00000000000000ull; v10 = 0x2e0000000000ull; v11 = 771751936; v12 = 11776; v13 = 0x2e00000000000000ull; v14 = 0x2e0000000000ull; v15 = 771751936; v16 = 11776; v17 = 0x2e00000000000000ull; v18 = 0x2e0000000000ull; v19 = 771751936; v20 = 11776; v21 = 0x2e00000000000000ull; v22 = 0x2e0000000000ull; v23 = 771751936; v24 = 11776; v25 = 0x2e00000000000000ull; v26 = 0x2e0000000000ull; v27 = 771751936; v28 = 11776; v29 = 0x2e00000000000000ull; v30 = 0x2e0000000000ull; v31 = 771751936; v32 = 11776; v33 = 0x2e00000000000000ull; v34 = 0x2e0000000000ull; v35 = 771751936; v36 = v104; v37 = v102; v38 = v100; v39 = v98; v40 = v96; v41 = v94; v42 = v92; v43 = v90; v44 = v88; v45 = v87; v46 = v89; v47 = v91; v48 = v93; v49 = v95; v50 = v97; v51 = v99; v52 = v101; v53 = v103; v54 = v105; v55 = 0x2e00000000ull; v56 = 0x2e000000000000ull; v58 = 3014656; v59 = 0x2e00000000ull; v60 = 0x2e000000000000ull; v62 = 3014656; v63 = 0x2e00000000ull; v64 = 0x2e000000000000ull; v66 = 3014656; v67 = 0x2e00000000ull; v68 = 0x2e000000000000ull; v70 = 3014656; v71 = 0x2e00000000ull; v72 = 0x2e000000000000ull; v74 = 3014656; v75 = 0x2e00000000ull; v76 = 0x2e000000000000ull; v78 = 3014656; v79 = 0x2e00000000ull; v80 = 0x2e000000000000ull; v82 = 3014656; v83 = 0x2e00000000ull; v57 = v61 = v65 = v69 = v73 = v77 = v81 = 46; goto L0; }
+	u64 v106 = (u64)ld8(v4+19) << 24;
+	if (v5 <= 20) { v7 = 771751936; v8 = 11776; v9 = 0x2e00000000000000ull; v10 = 0x2e0000000000ull; v11 = 771751936; v12 = 11776; v13 = 0x2e00000000000000ull; v14 = 0x2e0000000000ull; v15 = 771751936; v16 = 11776; v17 = 0x2e00000000000000ull; v18 = 0x2e0000000000ull; v19 = 771751936; v20 = 11776; v21 = 0x2e00000000000000ull; v22 = 0x2e0000000000ull; v23 = 771751936; v24 = 11776; v25 = 0x2e00000000000000ull; v26 = 0x2e0000000000ull; v27 = 771751936; v28 = 11776; v29 = 0x2e00000000000000ull; v30 = 0x2e0000000000ull; v31 = 771751936; v32 = 11776; v33 = 0x2e00000000000000ull; v34 = 0x2e0000000000ull; v35 = v106; v36 = v104; v37 = v102; v38 = v100; v39 = v98; v40 = v96; v41 = v94; v42 = v92; v43 = v90; v44 = v88; v45 = v87; v46 = v89; v47 = v91; v48 = v93; v49 = v95; v50 = v97; v51 = v99; v52 = v101; v53 = v103; v54 = v105; v55 = 0x2e00000000ull; v56 = 0x2e000000000000ull; v58 = 3014656; v59 = 0x2e00000000ull; v60 = 0x2e000000000000ull; v62 = 3014656; v63 = 0x2e00000000ull; v64 = 0x2e000000000000ull; v66 = 3014656; v67 = 0x2e00000000ull; v68 = 0x2e000000000000ull; v70 = 3014656; v71 = 0x2e00000000ull; v72 = 0x2e000000000000ull; v74 = 3014656; v75 = 0x2e00000000ull; v76 = 0x2e000000000000ull; v78 = 3014656; v79 = 0x2e00000000ull; v80 = 0x2e000000000000ull; v82 = 3014656; v83 = 0x2e00000000ull; v57 = v61 = v65 = v69 = v73 = v77 = v81 = 46; goto L0; }
+	u64 v107 = (u64)ld8(v4+20) << 32;
+	if (v5 == 21) { v7 = 771751936; v8 = 11776; v9 = 0x2e00000000000000ull; v10 = 0x2e0000000000ull; v11 = 771751936; v12 = 11776; v13 = 0x2e00000000000000ull; v14 = 0x2e0000000000ull; v15 = 771751936; v16 = 11776; v17 = 0x2e00000000000000ull; v18 = 0x2e0000000000ull; v19 = 771751936; v20 = 11776; v21 = 0x2e00000000000000ull; v22 = 0x2e0000000000ull; v23 = 771751936; v24 = 11776; v25 = 0x2e00000000000000ull; v26 = 0x2e0000000000ull; v27 = 771751936; v28 = 11776; v29 = 0x2e00000000000000ull; v30 = 0x2e0000000000ull; v31 = 771751936; v32 = 11776; v33 = 0x2e00000000000000ull; v34 = 0x2e0000000000ull; v35 = v106; v36 = v104; v37 = v102; v38 = v100; v39 = v98; v40 = v96; v41 = v94; v42 = v92; v43 = v90; v44 = v88; v45 = v87; v46 = v89; v47 = v91; v48 = v93; v49 = v95; v50 = v97; v51 = v99; v52 = v101; v53 = v103; v54 = v105; v55 = v107; v56 = 0x2e000000000000ull; v58 = 3014656; v59 = 0x2e00000000ull; v60 = 0x2e000000000000ull; v62 = 3014656; v63 = 0x2e00000000ull; v64 = 0x2e000000000000ull; v66 = 3014656; v67 = 0x2e00000000ull; v68 = 0x2e000000000000ull; v70 = 3014656; v71 = 0x2e00000000ull; v72 = 0x2e000000000000ull; v74 = 3014656; v75 = 0x2e00000000ull; v76 = 0x2e000000000000ull; v78 = 3014656; v79 = 0x2e00000000ull; v80 = 0x2e000000000000ull; v82 = 3014656; v83 = 0x2e00000000ull; v57 = v61 = v65 = v69 = v73 = v77 = v81 = 46; goto L0; }
+	u64 v108 = (u64)ld8(v4+21) << 40;
+	if (v5 <= 22) { v7 = 771751936; v8 = 11776; v9 = 0x2e00000000000000ull; v10 = 0x2e0000000000ull; v11 = 771751936; v12 = 11776; v13 = 0x2e00000000000000ull; v14 = 0x2e0000000000ull; v15 = 771751936; v16 = 11776; v17 = 0x2e00000000000000ull; v18 = 0x2e0000000000ull; v19 = 771751936; v20 = 11776; v21 = 0x2e00000000000000ull; v22 = 0x2e0000000000ull; v23 = 771751936; v24 = 11776; v25 = 0x2e00000000000000ull; v26 = 0x2e0000000000ull; v27 = 771751936; v28 = 11776; v29 = 0x2e00000000000000ull; v30 = 0x2e0000000000ull; v31 = 771751936; v32 = 11776; v33 = 0x2e00000000000000ull; v34 = v108; v35 = v106; v36 = v104; v37 = v102; v38 = v100; v39 = v98; v40 = v96; v41 = v94; v42 = v92; v43 = v90; v44 = v88; v45 = v87; v46 = v89; v47 = v91; v48 = v93; v49 = v95; v50 = v97; v51 = v99; v52 = v101; v53 = v103; v54 = v105; v55 = v107; v56 = 0x2e000000000000ull; v58 = 3014656; v59 = 0x2e00000000ull; v60 = 0x2e000000000000ull; v62 = 3014656; v63 = 0x2e00000000ull; v64 = 0x2e000000000000ull; v66 = 3014656; v67 = 0x2e00000000ull; v68 = 0x2e000000000000ull; v70 = 3014656; v71 = 0x2e00000000ull; v72 = 0x2e000000000000ull; v74 = 3014656; v75 = 0x2e00000000ull; v76 = 0x2e000000000000ull; v78 = 3014656; v79 = 0x2e00000000ull; v80 = 0x2e000000000000ull; v82 = 3014656; v83 = 0x2e00000000ull; v57 = v61 = v65 = v69 = v73 = v77 = v81 = 46; goto L0; }
+	u64 v109 = (u64)ld8(v4+22) << 48;
+	if (v5 == 23) { v7 = 771751936; v8 = 11776; v9 = 0x2e00000000000000ull; v10 = 0x2e0000000000ull; v11 = 771751936; v12 = 11776; v13 = 0x2e00000000000000ull; v14 = 0x2e0000000000ull; v15 = 771751936; v16 = 11776; v17 = 0x2e00000000000000ull; v18 = 0x2e0000000000ull; v19 = 771751936; v20 = 11776; v21 = 0x2e00000000000000ull; v22 = 0x2e0000000000ull; v23 = 771751936; v24 = 11776; v25 = 0x2e00000000000000ull; v26 = 0x2e0000000000ull; v27 = 771751936; v28 = 11776; v29 = 0x2e00000000000000ull; v30 = 0x2e0000000000ull; v31 = 771751936; v32 = 11776; v33 = 0x2e00000000000000ull; v34 = v108; v35 = v106; v36 = v104; v37 = v102; v38 = v100; v39 = v98; v40 = v96; v41 = v94; v42 = v92; v43 = v90; v44 = v88; v45 = v87; v46 = v89; v47 = v91; v48 = v93; v49 = v95; v50 = v97; v51 = v99; v52 = v101; v53 = v103; v54 = v105; v55 = v107; v56 = v109; v58 = 3014656; v59 = 0x2e00000000ull; v60 = 0x2e000000000000ull; v62 = 3014656; v63 = 0x2e00000000ull; v64 = 0x2e000000000000ull; v66 = 3014656; v67 = 0x2e00000000ull; v68 = 0x2e000000000000ull; v70 = 3014656; v71 = 0x2e00000000ull; v72 = 0x2e000000000000ull; v74 = 3014656; v75 = 0x2e00000000ull; v76 = 0x2e000000000000ull; v78 = 3014656; v79 = 0x2e00000000ull; v80 = 0x2e000000000000ull; v82 = 3014656; v83 = 0x2e00000000ull; v57 = v61 = v65 = v69 = v73 = v77 = v81 = 46; goto L0; }
+	u64 v110 = (u64)ld8(v4+23) << 56;
+	if (v5 <= 24) { v7 = 771751936; v8 = 11776; v9 = 0x2e00000000000000ull; v10 = 0x2e0000000000ull; v11 = 771751936; v12 = 11776; v13 = 0x2e00000000000000ull; v14 = 0x2e0000000000ull; v15 = 771751936; v16 = 11776; v17 = 0x2e00000000000000ull; v18 = 0x2e0000000000ull; v19 = 771751936; v20 = 11776; v21 = 0x2e00000000000000ull; v22 = 0x2e0000000000ull; v23 = 771751936; v24 = 11776; v25 = 0x2e00000000000000ull; v26 = 0x2e0000000000ull; v27 = 771751936; v28 = 11776; v29 = 0x2e00000000000000ull; v30 = 0x2e0000000000ull; v31 = 771751936; v32 = 11776; v33 = v110; v34 = v108; v35 = v106; v36 = v104; v37 = v102; v38 = v100; v39 = v98; v40 = v96; v41 = v94; v42 = v92; v43 = v90; v44 = v88; v45 = v87; v46 = v89; v47 = v91; v48 = v93; v49 = v95; v50 = v97; v51 = v99; v52 = v101; v53 = v103; v54 = v105; v55 = v107; v56 = v109; v58 = 3014656; v59 = 0x2e00000000ull; v60 = 0x2e000000000000ull; v62 = 3014656; v63 = 0x2e00000000ull; v64 = 0x2e000000000000ull; v66 = 3014656; v67 = 0x2e00000000ull; v68 = 0x2e000000000000ull; v70 = 3014656; v71 = 0x2e00000000ull; v72 = 0x2e000000000000ull; v74 = 3014656; v75 = 0x2e00000000ull; v76 = 0x2e000000000000ull; v78 = 3014656; v79 = 0x2e00000000ull; v80 = 0x2e000000000000ull; v82 = 3014656; v83 = 0x2e00000000ull; v57 = v61 = v65 = v69 = v73 = v77 = v81 = 46; goto L0; }
+	u8 v111 = ld8(v4+24);
+	if (v5 == 25) { v7 = 771751936; v8 = 11776; v9 = 0x2e00000000000000ull; v10 = 0x2e0000000000ull; v11 = 771751936; v12 = 11776; v13 = 0x2e00000000000000ull; v14 = 0x2e0000000000ull; v15 = 771751936; v16 = 11776; v17 = 0x2e00000000000000ull; v18 = 0x2e0000000000ull; v19 = 771751936; v20 = 11776; v21 = 0x2e00000000000000ull; v22 = 0x2e0000000000ull; v23 = 771751936; v24 = 11776; v25 = 0x2e00000000000000ull; v26 = 0x2e0000000000ull; v27 = 771751936; v28 = 11776; v29 = 0x2e00000000000000ull; v30 = 0x2e0000000000ull; v31 = 771751936; v32 = 11776; v33 = v110; v34 = v108; v35 = v106; v36 = v104; v37 = v102; v38 = v100; v39 = v98; v40 = v96; v41 = v94; v42 = v92; v43 = v90; v44 = v88; v45 = v87; v46 = v89; v47 = v91; v48 = v93; v49 = v95; v50 = v97; v51 = v99; v52 = v101; v53 = v103; v54 = v105; v55 = v107; v56 = v109; v57 = v111; v58 = 3014656; v59 = 0x2e00000000ull; v60 = 0x2e000000000000ull; v62 = 3014656; v63 = 0x2e00000000ull; v64 = 0x2e000000000000ull; v66 = 3014656; v67 = 0x2e00000000ull; v68 = 0x2e000000000000ull; v70 = 3014656; v71 = 0x2e00000000ull; v72 = 0x2e000000000000ull; v74 = 3014656; v75 = 0x2e00000000ull; v76 = 0x2e000000000000ull; v78 = 3014656; v79 = 0x2e00000000ull; v80 = 0x2e000000000000ull; v82 = 3014656; v83 = 0x2e00000000ull; v61 = v65 = v69 = v73 = v77 = v81 = 46; goto L0; }
+	u64 v112 = (u64)ld8(v4+25) << 8;
+	if (v5 <= 26) { v7 = 771751936; v8 = 11776; v9 = 0x2e00000000000000ull; v10 = 0x2e0000000000ull; v11 = 771751936; v12 = 11776; v13 = 0x2e00000000000000ull; v14 = 0x2e0000000000ull; v15 = 771751936; v16 = 11776; v17 = 0x2e00000000000000ull; v18 = 0x2e0000000000ull; v19 = 771751936; v20 = 11776; v21 = 0x2e00000000000000ull; v22 = 0x2e0000000000ull; v23 = 771751936; v24 = 11776; v25 = 0x2e00000000000000ull; v26 = 0x2e0000000000ull; v27 = 771751936; v28 = 11776; v29 = 0x2e00000000000000ull; v30 = 0x2e0000000000ull; v31 = 771751936; v32 = v112; v33 = v110; v34 = v108; v35 = v106; v36 = v104; v37 = v102; v38 = v100; v39 = v98; v40 = v96; v41 = v94; v42 = v92; v43 = v90; v44 = v88; v45 = v87; v46 = v89; v47 = v91; v48 = v93; v49 = v95; v50 = v97; v51 = v99; v52 = v101; v53 = v103; v54 = v105; v55 = v107; v56 = v109; v57 = v111; v58 = 3014656; v59 = 0x2e00000000ull; v60 = 0x2e000000000000ull; v62 = 3014656; v63 = 0x2e00000000ull; v64 = 0x2e000000000000ull; v66 = 3014656; v67 = 0x2e00000000ull; v68 = 0x2e000000000000ull; v70 = 3014656; v71 = 0x2e00000000ull; v72 = 0x2e000000000000ull; v74 = 3014656; v75 = 0x2e00000000ull; v76 = 0x2e000000000000ull; v78 = 3014656; v79 = 0x2e00000000ull; v80 = 0x2e000000000000ull; v82 = 3014656; v83 = 0x2e00000000ull; v61 = v65 = v69 = v73 = v77 = v81 = 46; goto L0; }
+	u64 v113 = (u64)ld8(v4+26) << 16;
+	if (v5 == 27) { v7 = 771751936; v8 = 11776; v9 = 0x2e00000000000000ull; v10 = 0x2e0000000000ull; v11 = 771751936; v12 = 11776; v13 = 0x2e00000000000000ull; v14 = 0x2e0000000000ull; v15 = 771751936; v16 = 11776; v17 = 0x2e00000000000000ull; v18 = 0x2e0000000000ull; v19 = 771751936; v20 = 11776; v21 = 0x2e00000000000000ull; v22 = 0x2e0000000000ull; v23 = 771751936; v24 = 11776; v25 = 0x2e00000000000000ull; v26 = 0x2e0000000000ull; v27 = 771751936; v28 = 11776; v29 = 0x2e00000000000000ull; v30 = 0x2e0000000000ull; v31 = 771751936; v32 = v112; v33 = v110; v34 = v108; v35 = v106; v36 = v104; v37 = v102; v38 = v100; v39 = v98; v40 = v96; v41 = v94; v42 = v92; v43 = v90; v44 = v88; v45 = v87; v46 = v89; v47 = v91; v48 = v93; v49 = v95; v50 = v97; v51 = v99; v52 = v101; v53 = v103; v54 = v105; v55 = v107; v56 = v109; v57 = v111; v58 = v113; v59 = 0x2e00000000ull; v60 = 0x2e000000000000ull; v62 = 3014656; v63 = 0x2e00000000ull; v64 = 0x2e000000000000ull; v66 = 3014656; v67 = 0x2e00000000ull; v68 = 0x2e000000000000ull; v70 = 3014656; v71 = 0x2e00000000ull; v72 = 0x2e000000000000ull; v74 = 3014656; v75 = 0x2e00000000ull; v76 = 0x2e000000000000ull; v78 = 3014656; v79 = 0x2e00000000ull; v80 = 0x2e000000000000ull; v82 = 3014656; v83 = 0x2e00000000ull; v61 = v65 = v69 = v73 = v77 = v81 = 46; goto L0; }
+	u64 v114 = (u64)ld8(v4+27) << 24;
+	if (v5 <= 28) { v7 = 771751936; v8 = 11776; v9 = 0x2e00000000000000ull; v10 = 0x2e0000000000ull; v11 = 771751936; v12 = 11776; v13 = 0x2e00000000000000ull; v14 = 0x2e0000000000ull; v15 = 771751936; v16 = 11776; v17 = 0x2e00000000000000ull; v18 = 0x2e0000000000ull; v19 = 771751936; v20 = 11776; v21 = 0x2e00000000000000ull; v22 = 0x2e0000000000ull; v23 = 771751936; v24 = 11776; v25 = 0x2e00000000000000ull; v26 = 0x2e0000000000ull; v27 = 771751936; v28 = 11776; v29 = 0x2e00000000000000ull; v30 = 0x2e0000000000ull; v31 = v114; v32 = v112; v33 = v110; v34 = v108; v35 = v106; v36 = v104; v37 = v102; v38 = v100; v39 = v98; v40 = v96; v41 = v94; v42 = v92; v43 = v90; v44 = v88; v45 = v87; v46 = v89; v47 = v91; v48 = v93; v49 = v95; v50 = v97; v51 = v99; v52 = v101; v53 = v103; v54 = v105; v55 = v107; v56 = v109; v57 = v111; v58 = v113; v59 = 0x2e00000000ull; v60 = 0x2e000000000000ull; v62 = 3014656; v63 = 0x2e00000000ull; v64 = 0x2e000000000000ull; v66 = 3014656; v67 = 0x2e00000000ull; v68 = 0x2e000000000000ull; v70 = 3014656; v71 = 0x2e00000000ull; v72 = 0x2e000000000000ull; v74 = 3014656; v75 = 0x2e00000000ull; v76 = 0x2e000000000000ull; v78 = 3014656; v79 = 0x2e00000000ull; v80 = 0x2e000000000000ull; v82 = 3014656; v83 = 0x2e00000000ull; v61 = v65 = v69 = v73 = v77 = v81 = 46; goto L0; }
+	u64 v115 = (u64)ld8(v4+28) << 32;
+	if (v5 == 29) { v7 = 771751936; v8 = 11776; v9 = 0x2e00000000000000ull; v10 = 0x2e0000000000ull; v11 = 771751936; v12 = 11776; v13 = 0x2e00000000000000ull; v14 = 0x2e0000000000ull; v15 = 771751936; v16 = 11776; v17 = 0x2e00000000000000ull; v18 = 0x2e0000000000ull; v19 = 771751936; v20 = 11776; v21 = 0x2e00000000000000ull; v22 = 0x2e0000000000ull; v23 = 771751936; v24 = 11776; v25 = 0x2e00000000000000ull; v26 = 0x2e0000000000ull; v27 = 771751936; v28 = 11776; v29 = 0x2e00000000000000ull; v30 = 0x2e0000000000ull; v31 = v114; v32 = v112; v33 = v110; v34 = v108; v35 = v106; v36 = v104; v37 = v102; v38 = v100; v39 = v98; v40 = v96; v41 = v94; v42 = v92; v43 = v90; v44 = v88; v45 = v87; v46 = v89; v47 = v91; v48 = v93; v49 = v95; v50 = v97; v51 = v99; v52 = v101; v53 = v103; v54 = v105; v55 = v107; v56 = v109; v57 = v111; v58 = v113; v59 = v115; v60 = 0x2e000000000000ull; v62 = 3014656; v63 = 0x2e00000000ull; v64 = 0x2e000000000000ull; v66 = 3014656; v67 = 0x2e00000000ull; v68 = 0x2e000000000000ull; v70 = 3014656; v71 = 0x2e00000000ull; v72 = 0x2e000000000000ull; v74 = 3014656; v75 = 0x2e00000000ull; v76 = 0x2e000000000000ull; v78 = 3014656; v79 = 0x2e00000000ull; v80 = 0x2e000000000000ull; v82 = 3014656; v83 = 0x2e00000000ull; v61 = v65 = v69 = v73 = v77 = v81 = 46; goto L0; }
+	u64 v116 = (u64)ld8(v4+29) << 40;
+	if (v5 <= 30) { v7 = 771751936; v8 = 11776; v9 = 0x2e00000000000000ull; v10 = 0x2e0000000000ull; v11 = 771751936; v12 = 11776; v13 = 0x2e00000000000000ull; v14 = 0x2e0000000000ull; v15 = 771751936; v16 = 11776; v17 = 0x2e00000000000000ull; v18 = 0x2e0000000000ull; v19 = 771751936; v20 = 11776; v21 = 0x2e00000000000000ull; v22 = 0x2e0000000000ull; v23 = 771751936; v24 = 11776; v25 = 0x2e00000000000000ull; v26 = 0x2e0000000000ull; v27 = 771751936; v28 = 11776; v29 = 0x2e00000000000000ull; v30 = v116; v31 = v114; v32 = v112; v33 = v110; v34 = v108; v35 = v106; v36 = v104; v37 = v102; v38 = v100; v39 = v98; v40 = v96; v41 = v94; v42 = v92; v43 = v90; v44 = v88; v45 = v87; v46 = v89; v47 = v91; v48 = v93; v49 = v95; v50 = v97; v51 = v99; v52 = v101; v53 = v103; v54 = v105; v55 = v107; v56 = v109; v57 = v111; v58 = v113; v59 = v115; v60 = 0x2e000000000000ull; v62 = 3014656; v63 = 0x2e00000000ull; v64 = 0x2e000000000000ull; v66 = 3014656; v67 = 0x2e00000000ull; v68 = 0x2e000000000000ull; v70 = 3014656; v71 = 0x2e00000000ull; v72 = 0x2e000000000000ull; v74 = 3014656; v75 = 0x2e00000000ull; v76 = 0x2e000000000000ull; v78 = 3014656; v79 = 0x2e00000000ull; v80 = 0x2e000000000000ull; v82 = 3014656; v83 = 0x2e00000000ull; v61 = v65 = v69 = v73 = v77 = v81 = 46; goto L0; }
+	u64 v117 = (u64)ld8(v4+30) << 48;
+	if (v5 == 31) { v7 = 771751936; v8 = 11776; v9 = 0x2e00000000000000ull; v10 = 0x2e0000000000ull; v11 = 771751936; v12 = 11776; v13 = 0x2e00000000000000ull; v14 = 0x2e0000000000ull; v15 = 771751936; v16 = 11776; v17 = 0x2e00000000000000ull; v18 = 0x2e0000000000ull; v19 = 771751936; v20 = 11776; v21 = 0x2e00000000000000ull; v22 = 0x2e0000000000ull; v23 = 771751936; v24 = 11776; v25 = 0x2e00000000000000ull; v26 = 0x2e0000000000ull; v27 = 771751936; v28 = 11776; v29 = 0x2e00000000000000ull; v30 = v116; v31 = v114; v32 = v112; v33 = v110; v34 = v108; v35 = v106; v36 = v104; v37 = v102; v38 = v100; v39 = v98; v40 = v96; v41 = v94; v42 = v92; v43 = v90; v44 = v88; v45 = v87; v46 = v89; v47 = v91; v48 = v93; v49 = v95; v50 = v97; v51 = v99; v52 = v101; v53 = v103; v54 = v105; v55 = v107; v56 = v109; v57 = v111; v58 = v113; v59 = v115; v60 = v117; v62 = 3014656; v63 = 0x2e00000000ull; v64 = 0x2e000000000000ull; v66 = 3014656; v67 = 0x2e00000000ull; v68 = 0x2e000000000000ull; v70 = 3014656; v71 = 0x2e00000000ull; v72 = 0x2e000000000000ull; v74 = 3014656; v75 = 0x2e00000000ull; v76 = 0x2e000000000000ull; v78 = 3014656; v79 = 0x2e00000000ull; v80 = 0x2e000000000000ull; v82 = 3014656; v83 = 0x2e00000000ull; v61 = v65 = v69 = v73 = v77 = v81 = 46; goto L0; }
+	u64 v118 = (u64)ld8(v4+31) << 56;
+	if (v5 <= 32) { v7 = 771751936; v8 = 11776; v9 = 0x2e00000000000000ull; v10 = 0x2e0000000000ull; v11 = 771751936; v12 = 11776; v13 = 0x2e00000000000000ull; v14 = 0x2e0000000000ull; v15 = 771751936; v16 = 11776; v17 = 0x2e00000000000000ull; v18 = 0x2e0000000000ull; v19 = 771751936; v20 = 11776; v21 = 0x2e00000000000000ull; v22 = 0x2e0000000000ull; v23 = 771751936; v24 = 11776; v25 = 0x2e00000000000000ull; v26 = 0x2e0000000000ull; v27 = 771751936; v28 = 11776; v29 = v118; v30 = v116; v31 = v114; v32 = v112; v33 = v110; v34 = v108; v35 = v106; v36 = v104; v37 = v102; v38 = v100; v39 = v98; v40 = v96; v41 = v94; v42 = v92; v43 = v90; v44 = v88; v45 = v87; v46 = v89; v47 = v91; v48 = v93; v49 = v95; v50 = v97; v51 = v99; v52 = v101; v53 = v103; v54 = v105; v55 = v107; v56 = v109; v57 = v111; v58 = v113; v59 = v115; v60 = v117; v62 = 3014656; v63 = 0x2e00000000ull; v64 = 0x2e000000000000ull; v66 = 3014656; v67 = 0x2e00000000ull; v68 = 0x2e000000000000ull; v70 = 3014656; v71 = 0x2e00000000ull; v72 = 0x2e000000000000ull; v74 = 3014656; v75 = 0x2e00000000ull; v76 = 0x2e000000000000ull; v78 = 3014656; v79 = 0x2e00000000ull; v80 = 0x2e000000000000ull; v82 = 3014656; v83 = 0x2e00000000ull; v61 = v65 = v69 = v73 = v77 = v81 = 46; goto L0; }
+	u8 v119 = ld8(v4+32);
+	if (v5 == 33) { v7 = 771751936; v8 = 11776; v9 = 0x2e00000000000000ull; v10 = 0x2e0000000000ull; v11 = 771751936; v12 = 11776; v13 = 0x2e00000000000000ull; v14 = 0x2e0000000000ull; v15 = 771751936; v16 = 11776; v17 = 0x2e00000000000000ull; v18 = 0x2e0000000000ull; v19 = 771751936; v20 = 11776; v21 = 0x2e00000000000000ull; v22 = 0x2e0000000000ull; v23 = 771751936; v24 = 11776; v25 = 0x2e00000000000000ull; v26 = 0x2e0000000000ull; v27 = 771751936; v28 = 11776; v29 = v118; v30 = v116; v31 = v114; v32 = v112; v33 = v110; v34 = v108; v35 = v106; v36 = v104; v37 = v102; v38 = v100; v39 = v98; v40 = v96; v41 = v94; v42 = v92; v43 = v90; v44 = v88; v45 = v87; v46 = v89; v47 = v91; v48 = v93; v49 = v95; v50 = v97; v51 = v99; v52 = v101; v53 = v103; v54 = v105; v55 = v107; v56 = v109; v57 = v111; v58 = v113; v59 = v115; v60 = v117; v61 = v119; v62 = 3014656; v63 = 0x2e00000000ull; v64 = 0x2e000000000000ull; v66 = 3014656; v67 = 0x2e00000000ull; v68 = 0x2e000000000000ull; v70 = 3014656; v71 = 0x2e00000000ull; v72 = 0x2e000000000000ull; v74 = 3014656; v75 = 0x2e00000000ull; v76 = 0x2e000000000000ull; v78 = 3014656; v79 = 0x2e00000000ull; v80 = 0x2e000000000000ull; v82 = 3014656; v83 = 0x2e00000000ull; v65 = v69 = v73 = v77 = v81 = 46; goto L0; }
+	u64 v120 = (u64)ld8(v4+33) << 8;
+	if (v5 <= 34) { v7 = 771751936; v8 = 11776; v9 = 0x2e00000000000000ull; v10 = 0x2e0000000000ull; v11 = 771751936; v12 = 11776; v13 = 0x2e00000000000000ull; v14 = 0x2e0000000000ull; v15 = 771751936; v16 = 11776; v17 = 0x2e00000000000000ull; v18 = 0x2e0000000000ull; v19 = 771751936; v20 = 11776; v21 = 0x2e00000000000000ull; v22 = 0x2e0000000000ull; v23 = 771751936; v24 = 11776; v25 = 0x2e00000000000000ull; v26 = 0x2e0000000000ull; v27 = 771751936; v28 = v120; v29 = v118; v30 = v116; v31 = v114; v32 = v112; v33 = v110; v34 = v108; v35 = v106; v36 = v104; v37 = v102; v38 = v100; v39 = v98; v40 = v96; v41 = v94; v42 = v92; v43 = v90; v44 = v88; v45 = v87; v46 = v89; v47 = v91; v48 = v93; v49 = v95; v50 = v97; v51 = v99; v52 = v101; v53 = v103; v54 = v105; v55 = v107; v56 = v109; v57 = v111; v58 = v113; v59 = v115; v60 = v117; v61 = v119; v62 = 3014656; v63 = 0x2e00000000ull; v64 = 0x2e000000000000ull; v66 = 3014656; v67 = 0x2e00000000ull; v68 = 0x2e000000000000ull; v70 = 3014656; v71 = 0x2e00000000ull; v72 = 0x2e000000000000ull; v74 = 3014656; v75 = 0x2e00000000ull; v76 = 0x2e000000000000ull; v78 = 3014656; v79 = 0x2e00000000ull; v80 = 0x2e000000000000ull; v82 = 3014656; v83 = 0x2e00000000ull; v65 = v69 = v73 = v77 = v81 = 46; goto L0; }
+	u64 v121 = (u64)ld8(v4+34) << 16;
+	if (v5 == 35) { v7 = 771751936; v8 = 11776; v9 = 0x2e00000000000000ull; v10 = 0x2e0000000000ull; v11 = 771751936; v12 = 11776; v13 = 0x2e00000000000000ull; v14 = 0x2e0000000000ull; v15 = 771751936; v16 = 11776; v17 = 0x2e00000000000000ull; v18 = 0x2e0000000000ull; v19 = 771751936; v20 = 11776; v21 = 0x2e00000000000000ull; v22 = 0x2e0000000000ull; v23 = 771751936; v24 = 11776; v25 = 0x2e00000000000000ull; v26 = 0x2e0000000000ull; v27 = 771751936; v28 = v120; v29 = v118; v30 = v116; v31 = v114; v32 = v112; v33 = v110; v34 = v108; v35 = v106; v36 = v104; v37 = v102; v38 = v100; v39 = v98; v40 = v96; v41 = v94; v42 = v92; v43 = v90; v44 = v88; v45 = v87; v46 = v89; v47 = v91; v48 = v93; v49 = v95; v50 = v97; v51 = v99; v52 = v101; v53 = v103; v54 = v105; v55 = v107; v56 = v109; v57 = v111; v58 = v113; v59 = v115; v60 = v117; v61 = v119; v62 = v121; v63 = 0x2e00000000ull; v64 = 0x2e000000000000ull; v66 = 3014656; v67 = 0x2e00000000ull; v68 = 0x2e000000000000ull; v70 = 3014656; v71 = 0x2e00000000ull; v72 = 0x2e000000000000ull; v74 = 3014656; v75 = 0x2e00000000ull; v76 = 0x2e000000000000ull; v78 = 3014656; v79 = 0x2e00000000ull; v80 = 0x2e000000000000ull; v82 = 3014656; v83 = 0x2e00000000ull; v65 = v69 = v73 = v77 = v81 = 46; goto L0; }
+	u64 v122 = (u64)ld8(v4+35) << 24;
+	if (v5 <= 36) { v7 = 771751936; v8 = 11776; v9 = 0x2e00000000000000ull; v10 = 0x2e0000000000ull; v11 = 771751936; v12 = 11776; v13 = 0x2e00000000000000ull; v14 = 0x2e0000000000ull; v15 = 771751936; v16 = 11776; v17 = 0x2e00000000000000ull; v18 = 0x2e0000000000ull; v19 = 771751936; v20 = 11776; v21 = 0x2e00000000000000ull; v22 = 0x2e0000000000ull; v23 = 771751936; v24 = 11776; v25 = 0x2e00000000000000ull; v26 = 0x2e0000000000ull; v27 = v122; v28 = v120; v29 = v118; v30 = v116; v31 = v114; v32 = v112; v33 = v110; v34 = v108; v35 = v106; v36 = v104; v37 = v102; v38 = v100; v39 = v98; v40 = v96; v41 = v94; v42 = v92; v43 = v90; v44 = v88; v45 = v87; v46 = v89; v47 = v91; v48 = v93; v49 = v95; v50 = v97; v51 = v99; v52 = v101; v53 = v103; v54 = v105; v55 = v107; v56 = v109; v57 = v111; v58 = v113; v59 = v115; v60 = v117; v61 = v119; v62 = v121; v63 = 0x2e00000000ull; v64 = 0x2e000000000000ull; v66 = 3014656; v67 = 0x2e00000000ull; v68 = 0x2e000000000000ull; v70 = 3014656; v71 = 0x2e00000000ull; v72 = 0x2e000000000000ull; v74 = 3014656; v75 = 0x2e00000000ull; v76 = 0x2e000000000000ull; v78 = 3014656; v79 = 0x2e00000000ull; v80 = 0x2e000000000000ull; v82 = 3014656; v83 = 0x2e00000000ull; v65 = v69 = v73 = v77 = v81 = 46; goto L0; }
+	u64 v123 = (u64)ld8(v4+36) << 32;
+	if (v5 == 37) { v7 = 771751936; v8 = 11776; v9 = 0x2e00000000000000ull; v10 = 0x2e0000000000ull; v11 = 771751936; v12 = 11776; v13 = 0x2e00000000000000ull; v14 = 0x2e0000000000ull; v15 = 771751936; v16 = 11776; v17 = 0x2e00000000000000ull; v18 = 0x2e0000000000ull; v19 = 771751936; v20 = 11776; v21 = 0x2e00000000000000ull; v22 = 0x2e0000000000ull; v23 = 771751936; v24 = 11776; v25 = 0x2e00000000000000ull; v26 = 0x2e0000000000ull; v27 = v122; v28 = v120; v29 = v118; v30 = v116; v31 = v114; v32 = v112; v33 = v110; v34 = v108; v35 = v106; v36 = v104; v37 = v102; v38 = v100; v39 = v98; v40 = v96; v41 = v94; v42 = v92; v43 = v90; v44 = v88; v45 = v87; v46 = v89; v47 = v91; v48 = v93; v49 = v95; v50 = v97; v51 = v99; v52 = v101; v53 = v103; v54 = v105; v55 = v107; v56 = v109; v57 = v111; v58 = v113; v59 = v115; v60 = v117; v61 = v119; v62 = v121; v63 = v123; v64 = 0x2e000000000000ull; v66 = 3014656; v67 = 0x2e00000000ull; v68 = 0x2e000000000000ull; v70 = 3014656; v71 = 0x2e00000000ull; v72 = 0x2e000000000000ull; v74 = 3014656; v75 = 0x2e00000000ull; v76 = 0x2e000000000000ull; v78 = 3014656; v79 = 0x2e00000000ull; v80 = 0x2e000000000000ull; v82 = 3014656; v83 = 0x2e00000000ull; v65 = v69 = v73 = v77 = v81 = 46; goto L0; }
+	u64 v124 = (u64)ld8(v4+37) << 40;
+	if (v5 <= 38) { v7 = 771751936; v8 = 11776; v9 = 0x2e00000000000000ull; v10 = 0x2e0000000000ull; v11 = 771751936; v12 = 11776; v13 = 0x2e00000000000000ull; v14 = 0x2e0000000000ull; v15 = 771751936; v16 = 11776; v17 = 0x2e00000000000000ull; v18 = 0x2e0000000000ull; v19 = 771751936; v20 = 11776; v21 = 0x2e00000000000000ull; v22 = 0x2e0000000000ull; v23 = 771751936; v24 = 11776; v25 = 0x2e00000000000000ull; v26 = v124; v27 = v122; v28 = v120; v29 = v118; v30 = v116; v31 = v114; v32 = v112; v33 = v110; v34 = v108; v35 = v106; v36 = v104; v37 = v102; v38 = v100; v39 = v98; v40 = v96; v41 = v94; v42 = v92; v43 = v90; v44 = v88; v45 = v87; v46 = v89; v47 = v91; v48 = v93; v49 = v95; v50 = v97; v51 = v99; v52 = v101; v53 = v103; v54 = v105; v55 = v107; v56 = v109; v57 = v111; v58 = v113; v59 = v115; v60 = v117; v61 = v119; v62 = v121; v63 = v123; v64 = 0x2e000000000000ull; v66 = 3014656; v67 = 0x2e00000000ull; v68 = 0x2e000000000000ull; v70 = 3014656; v71 = 0x2e00000000ull; v72 = 0x2e000000000000ull; v74 = 3014656; v75 = 0x2e00000000ull; v76 = 0x2e000000000000ull; v78 = 3014656; v79 = 0x2e00000000ull; v80 = 0x2e000000000000ull; v82 = 3014656; v83 = 0x2e00000000ull; v65 = v69 = v73 = v77 = v81 = 46; goto L0; }
+	u64 v125 = (u64)ld8(v4+38) << 48;
+	if (v5 == 39) { v7 = 771751936; v8 = 11776; v9 = 0x2e00000000000000ull; v10 = 0x2e0000000000ull; v11 = 771751936; v12 = 11776; v13 = 0x2e00000000000000ull; v14 = 0x2e0000000000ull; v15 = 771751936; v16 = 11776; v17 = 0x2e00000000000000ull; v18 = 0x2e0000000000ull; v19 = 771751936; v20 = 11776; v21 = 0x2e00000000000000ull; v22 = 0x2e0000000000ull; v23 = 771751936; v24 = 11776; v25 = 0x2e00000000000000ull; v26 = v124; v27 = v122; v28 = v120; v29 = v118; v30 = v116; v31 = v114; v32 = v112; v33 = v110; v34 = v108; v35 = v106; v36 = v104; v37 = v102; v38 = v100; v39 = v98; v40 = v96; v41 = v94; v42 = v92; v43 = v90; v44 = v88; v45 = v87; v46 = v89; v47 = v91; v48 = v93; v49 = v95; v50 = v97; v51 = v99; v52 = v101; v53 = v103; v54 = v105; v55 = v107; v56 = v109; v57 = v111; v58 = v113; v59 = v115; v60 = v117; v61 = v119; v62 = v121; v63 = v123; v64 = v125; v66 = 3014656; v67 = 0x2e00000000ull; v68 = 0x2e000000000000ull; v70 = 3014656; v71 = 0x2e00000000ull; v72 = 0x2e000000000000ull; v74 = 3014656; v75 = 0x2e00000000ull; v76 = 0x2e000000000000ull; v78 = 3014656; v79 = 0x2e00000000ull; v80 = 0x2e000000000000ull; v82 = 3014656; v83 = 0x2e00000000ull; v65 = v69 = v73 = v77 = v81 = 46; goto L0; }
+	u64 v126 = (u64)ld8(v4+39) << 56;
+	if (v5 <= 40) { v7 = 771751936; v8 = 11776; v9 = 0x2e00000000000000ull; v10 = 0x2e0000000000ull; v11 = 771751936; v12 = 11776; v13 = 0x2e00000000000000ull; v14 = 0x2e0000000000ull; v15 = 771751936; v16 = 11776; v17 = 0x2e00000000000000ull; v18 = 0x2e0000000000ull; v19 = 771751936; v20 = 11776; v21 = 0x2e00000000000000ull; v22 = 0x2e0000000000ull; v23 = 771751936; v24 = 11776; v25 = v126; v26 = v124; v27 = v122; v28 = v120; v29 = v118; v30 = v116; v31 = v114; v32 = v112; v33 = v110; v34 = v108; v35 = v106; v36 = v104; v37 = v102; v38 = v100; v39 = v98; v40 = v96; v41 = v94; v42 = v92; v43 = v90; v44 = v88; v45 = v87; v46 = v89; v47 = v91; v48 = v93; v49 = v95; v50 = v97; v51 = v99; v52 = v101; v53 = v103; v54 = v105; v55 = v107; v56 = v109; v57 = v111; v58 = v113; v59 = v115; v60 = v117; v61 = v119; v62 = v121; v63 = v123; v64 = v125; v66 = 3014656; v67 = 0x2e00000000ull; v68 = 0x2e000000000000ull; v70 = 3014656; v71 = 0x2e00000000ull; v72 = 0x2e000000000000ull; v74 = 3014656; v75 = 0x2e00000000ull; v76 = 0x2e000000000000ull; v78 = 3014656; v79 = 0x2e00000000ull; v80 = 0x2e000000000000ull; v82 = 3014656; v83 = 0x2e00000000ull; v65 = v69 = v73 = v77 = v81 = 46; goto L0; }
+	u8 v127 = ld8(v4+40);
+	if (v5 == 41) { v7 = 771751936; v8 = 11776; v9 = 0x2e00000000000000ull; v10 = 0x2e0000000000ull; v11 = 771751936; v12 = 11776; v13 = 0x2e00000000000000ull; v14 = 0x2e0000000000ull; v15 = 771751936; v16 = 11776; v17 = 0x2e00000000000000ull; v18 = 0x2e0000000000ull; v19 = 771751936; v20 = 11776; v21 = 0x2e00000000000000ull; v22 = 0x2e0000000000ull; v23 = 771751936; v24 = 11776; v25 = v126; v26 = v124; v27 = v122; v28 = v120; v29 = v118; v30 = v116; v31 = v114; v32 = v112; v33 = v110; v34 = v108; v35 = v106; v36 = v104; v37 = v102; v38 = v100; v39 = v98; v40 = v96; v41 = v94; v42 = v92; v43 = v90; v44 = v88; v45 = v87; v46 = v89; v47 = v91; v48 = v93; v49 = v95; v50 = v97; v51 = v99; v52 = v101; v53 = v103; v54 = v105; v55 = v107; v56 = v109; v57 = v111; v58 = v113; v59 = v115; v60 = v117; v61 = v119; v62 = v121; v63 = v123; v64 = v125; v65 = v127; v66 = 3014656; v67 = 0x2e00000000ull; v68 = 0x2e000000000000ull; v70 = 3014656; v71 = 0x2e00000000ull; v72 = 0x2e000000000000ull; v74 = 3014656; v75 = 0x2e00000000ull; v76 = 0x2e000000000000ull; v78 = 3014656; v79 = 0x2e00000000ull; v80 = 0x2e000000000000ull; v82 = 3014656; v83 = 0x2e00000000ull; v69 = v73 = v77 = v81 = 46; goto L0; }
+	u64 v128 = (u64)ld8(v4+41) << 8;
+	if (v5 <= 42) { v7 = 771751936; v8 = 11776; v9 = 0x2e00000000000000ull; v10 = 0x2e0000000000ull; v11 = 771751936; v12 = 11776; v13 = 0x2e00000000000000ull; v14 = 0x2e0000000000ull; v15 = 771751936; v16 = 11776; v17 = 0x2e00000000000000ull; v18 = 0x2e0000000000ull; v19 = 771751936; v20 = 11776; v21 = 0x2e00000000000000ull; v22 = 0x2e0000000000ull; v23 = 771751936; v24 = v128; v25 = v126; v26 = v124; v27 = v122; v28 = v120; v29 = v118; v30 = v116; v31 = v114; v32 = v112; v33 = v110; v34 = v108; v35 = v106; v36 = v104; v37 = v102; v38 = v100; v39 = v98; v40 = v96; v41 = v94; v42 = v92; v43 = v90; v44 = v88; v45 = v87; v46 = v89; v47 = v91; v48 = v93; v49 = v95; v50 = v97; v51 = v99; v52 = v101; v53 = v103; v54 = v105; v55 = v107; v56 = v109; v57 = v111; v58 = v113; v59 = v115; v60 = v117; v61 = v119; v62 = v121; v63 = v123; v64 = v125; v65 = v127; v66 = 3014656; v67 = 0x2e00000000ull; v68 = 0x2e000000000000ull; v70 = 3014656; v71 = 0x2e00000000ull; v72 = 0x2e000000000000ull; v74 = 3014656; v75 = 0x2e00000000ull; v76 = 0x2e000000000000ull; v78 = 3014656; v79 = 0x2e00000000ull; v80 = 0x2e000000000000ull; v82 = 3014656; v83 = 0x2e00000000ull; v69 = v73 = v77 = v81 = 46; goto L0; }
+	u64 v129 = (u64)ld8(v4+42) << 16;
+	if (v5 == 43) { v7 = 771751936; v8 = 11776; v9 = 0x2e00000000000000ull; v10 = 0x2e0000000000ull; v11 = 771751936; v12 = 11776; v13 = 0x2e00000000000000ull; v14 = 0x2e0000000000ull; v15 = 771751936; v16 = 11776; v17 = 0x2e00000000000000ull; v18 = 0x2e0000000000ull; v19 = 771751936; v20 = 11776; v21 = 0x2e00000000000000ull; v22 = 0x2e0000000000ull; v23 = 771751936; v24 = v128; v25 = v126; v26 = v124; v27 = v122; v28 = v120; v29 = v118; v30 = v116; v31 = v114; v32 = v112; v33 = v110; v34 = v108; v35 = v106; v36 = v104; v37 = v102; v38 = v100; v39 = v98; v40 = v96; v41 = v94; v42 = v92; v43 = v90; v44 = v88; v45 = v87; v46 = v89; v47 = v91; v48 = v93; v49 = v95; v50 = v97; v51 = v99; v52 = v101; v53 = v103; v54 = v105; v55 = v107; v56 = v109; v57 = v111; v58 = v113; v59 = v115; v60 = v117; v61 = v119; v62 = v121; v63 = v123; v64 = v125; v65 = v127; v66 = v129; v67 = 0x2e00000000ull; v68 = 0x2e000000000000ull; v70 = 3014656; v71 = 0x2e00000000ull; v72 = 0x2e000000000000ull; v74 = 3014656; v75 = 0x2e00000000ull; v76 = 0x2e000000000000ull; v78 = 3014656; v79 = 0x2e00000000ull; v80 = 0x2e000000000000ull; v82 = 3014656; v83 = 0x2e00000000ull; v69 = v73 = v77 = v81 = 46; goto L0; }
+	u64 v130 = (u64)ld8(v4+43) << 24;
+	if (v5 <= 44) { v7 = 771751936; v8 = 11776; v9 = 0x2e00000000000000ull; v10 = 0x2e0000000000ull; v11 = 771751936; v12 = 11776; v13 = 0x2e00000000000000ull; v14 = 0x2e0000000000ull; v15 = 771751936; v16 = 11776; v17 = 0x2e00000000000000ull; v18 = 0x2e0000000000ull; v19 = 771751936; v20 = 11776; v21 = 0x2e00000000000000ull; v22 = 0x2e0000000000ull; v23 = v130; v24 = v128; v25 = v126; v26 = v124; v27 = v122; v28 = v120; v29 = v118; v30 = v116; v31 = v114; v32 = v112; v33 = v110; v34 = v108; v35 = v106; v36 = v104; v37 = v102; v38 = v100; v39 = v98; v40 = v96; v41 = v94; v42 = v92; v43 = v90; v44 = v88; v45 = v87; v46 = v89; v47 = v91; v48 = v93; v49 = v95; v50 = v97; v51 = v99; v52 = v101; v53 = v103; v54 = v105; v55 = v107; v56 = v109; v57 = v111; v58 = v113; v59 = v115; v60 = v117; v61 = v119; v62 = v121; v63 = v123; v64 = v125; v65 = v127; v66 = v129; v67 = 0x2e00000000ull; v68 = 0x2e000000000000ull; v70 = 3014656; v71 = 0x2e00000000ull; v72 = 0x2e000000000000ull; v74 = 3014656; v75 = 0x2e00000000ull; v76 = 0x2e000000000000ull; v78 = 3014656; v79 = 0x2e00000000ull; v80 = 0x2e000000000000ull; v82 = 3014656; v83 = 0x2e00000000ull; v69 = v73 = v77 = v81 = 46; goto L0; }
+	u64 v131 = (u64)ld8(v4+44) << 32;
+	if (v5 == 45) { v7 = 771751936; v8 = 11776; v9 = 0x2e00000000000000ull; v10 = 0x2e0000000000ull; v11 = 771751936; v12 = 11776; v13 = 0x2e00000000000000ull; v14 = 0x2e0000000000ull; v15 = 771751936; v16 = 11776; v17 = 0x2e00000000000000ull; v18 = 0x2e0000000000ull; v19 = 771751936; v20 = 11776; v21 = 0x2e00000000000000ull; v22 = 0x2e0000000000ull; v23 = v130; v24 = v128; v25 = v126; v26 = v124; v27 = v122; v28 = v120; v29 = v118; v30 = v116; v31 = v114; v32 = v112; v33 = v110; v34 = v108; v35 = v106; v36 = v104; v37 = v102; v38 = v100; v39 = v98; v40 = v96; v41 = v94; v42 = v92; v43 = v90; v44 = v88; v45 = v87; v46 = v89; v47 = v91; v48 = v93; v49 = v95; v50 = v97; v51 = v99; v52 = v101; v53 = v103; v54 = v105; v55 = v107; v56 = v109; v57 = v111; v58 = v113; v59 = v115; v60 = v117; v61 = v119; v62 = v121; v63 = v123; v64 = v125; v65 = v127; v66 = v129; v67 = v131; v68 = 0x2e000000000000ull; v70 = 3014656; v71 = 0x2e00000000ull; v72 = 0x2e000000000000ull; v74 = 3014656; v75 = 0x2e00000000ull; v76 = 0x2e000000000000ull; v78 = 3014656; v79 = 0x2e00000000ull; v80 = 0x2e000000000000ull; v82 = 3014656; v83 = 0x2e00000000ull; v69 = v73 = v77 = v81 = 46; goto L0; }
+	u64 v132 = (u64)ld8(v4+45) << 40;
+	if (v5 <= 46) { v7 = 771751936; v8 = 11776; v9 = 0x2e00000000000000ull; v10 = 0x2e0000000000ull; v11 = 771751936; v12 = 11776; v13 = 0x2e00000000000000ull; v14 = 0x2e0000000000ull; v15 = 771751936; v16 = 11776; v17 = 0x2e00000000000000ull; v18 = 0x2e0000000000ull; v19 = 771751936; v20 = 11776; v21 = 0x2e00000000000000ull; v22 = v132; v23 = v130; v24 = v128; v25 = v126; v26 = v124; v27 = v122; v28 = v120; v29 = v118; v30 = v116; v31 = v114; v32 = v112; v33 = v110; v34 = v108; v35 = v106; v36 = v104; v37 = v102; v38 = v100; v39 = v98; v40 = v96; v41 = v94; v42 = v92; v43 = v90; v44 = v88; v45 = v87; v46 = v89; v47 = v91; v48 = v93; v49 = v95; v50 = v97; v51 = v99; v52 = v101; v53 = v103; v54 = v105; v55 = v107; v56 = v109; v57 = v111; v58 = v113; v59 = v115; v60 = v117; v61 = v119; v62 = v121; v63 = v123; v64 = v125; v65 = v127; v66 = v129; v67 = v131; v68 = 0x2e000000000000ull; v70 = 3014656; v71 = 0x2e00000000ull; v72 = 0x2e000000000000ull; v74 = 3014656; v75 = 0x2e00000000ull; v76 = 0x2e000000000000ull; v78 = 3014656; v79 = 0x2e00000000ull; v80 = 0x2e000000000000ull; v82 = 3014656; v83 = 0x2e00000000ull; v69 = v73 = v77 = v81 = 46; goto L0; }
+	u64 v133 = (u64)ld8(v4+46) << 48;
+	if (v5 == 47) { v7 = 771751936; v8 = 11776; v9 = 0x2e00000000000000ull; v10 = 0x2e0000000000ull; v11 = 771751936; v12 = 11776; v13 = 0x2e00000000000000ull; v14 = 0x2e0000000000ull; v15 = 771751936; v16 = 11776; v17 = 0x2e00000000000000ull; v18 = 0x2e0000000000ull; v19 = 771751936; v20 = 11776; v21 = 0x2e00000000000000ull; v22 = v132; v23 = v130; v24 = v128; v25 = v126; v26 = v124; v27 = v122; v28 = v120; v29 = v118; v30 = v116; v31 = v114; v32 = v112; v33 = v110; v34 = v108; v35 = v106; v36 = v104; v37 = v102; v38 = v100; v39 = v98; v40 = v96; v41 = v94; v42 = v92; v43 = v90; v44 = v88; v45 = v87; v46 = v89; v47 = v91; v48 = v93; v49 = v95; v50 = v97; v51 = v99; v52 = v101; v53 = v103; v54 = v105; v55 = v107; v56 = v109; v57 = v111; v58 = v113; v59 = v115; v60 = v117; v61 = v119; v62 = v121; v63 = v123; v64 = v125; v65 = v127; v66 = v129; v67 = v131; v68 = v133; v70 = 3014656; v71 = 0x2e00000000ull; v72 = 0x2e000000000000ull; v74 = 3014656; v75 = 0x2e00000000ull; v76 = 0x2e000000000000ull; v78 = 3014656; v79 = 0x2e00000000ull; v80 = 0x2e000000000000ull; v82 = 3014656; v83 = 0x2e00000000ull; v69 = v73 = v77 = v81 = 46; goto L0; }
+	u64 v134 = (u64)ld8(v4+47) << 56;
+	if (v5 <= 48) { v7 = 771751936; v8 = 11776; v9 = 0x2e00000000000000ull; v10 = 0x2e0000000000ull; v11 = 771751936; v12 = 11776; v13 = 0x2e00000000000000ull; v14 = 0x2e0000000000ull; v15 = 771751936; v16 = 11776; v17 = 0x2e00000000000000ull; v18 = 0x2e0000000000ull; v19 = 771751936; v20 = 11776; v21 = v134; v22 = v132; v23 = v130; v24 = v128; v25 = v126; v26 = v124; v27 = v122; v28 = v120; v29 = v118; v30 = v116; v31 = v114; v32 = v112; v33 = v110; v34 = v108; v35 = v106; v36 = v104; v37 = v102; v38 = v100; v39 = v98; v40 = v96; v41 = v94; v42 = v92; v43 = v90; v44 = v88; v45 = v87; v46 = v89; v47 = v91; v48 = v93; v49 = v95; v50 = v97; v51 = v99; v52 = v101; v53 = v103; v54 = v105; v55 = v107; v56 = v109; v57 = v111; v58 = v113; v59 = v115; v60 = v117; v61 = v119; v62 = v121; v63 = v123; v64 = v125; v65 = v127; v66 = v129; v67 = v131; v68 = v133; v70 = 3014656; v71 = 0x2e00000000ull; v72 = 0x2e000000000000ull; v74 = 3014656; v75 = 0x2e00000000ull; v76 = 0x2e000000000000ull; v78 = 3014656; v79 = 0x2e00000000ull; v80 = 0x2e000000000000ull; v82 = 3014656; v83 = 0x2e00000000ull; v69 = v73 = v77 = v81 = 46; goto L0; }
+	u8 v135 = ld8(v4+48);
+	if (v5 == 49) { v7 = 771751936; v8 = 11776; v9 = 0x2e00000000000000ull; v10 = 0x2e0000000000ull; v11 = 771751936; v12 = 11776; v13 = 0x2e00000000000000ull; v14 = 0x2e0000000000ull; v15 = 771751936; v16 = 11776; v17 = 0x2e00000000000000ull; v18 = 0x2e0000000000ull; v19 = 771751936; v20 = 11776; v21 = v134; v22 = v132; v23 = v130; v24 = v128; v25 = v126; v26 = v124; v27 = v122; v28 = v120; v29 = v118; v30 = v116; v31 = v114; v32 = v112; v33 = v110; v34 = v108; v35 = v106; v36 = v104; v37 = v102; v38 = v100; v39 = v98; v40 = v96; v41 = v94; v42 = v92; v43 = v90; v44 = v88; v45 = v87; v46 = v89; v47 = v91; v48 = v93; v49 = v95; v50 = v97; v51 = v99; v52 = v101; v53 = v103; v54 = v105; v55 = v107; v56 = v109; v57 = v111; v58 = v113; v59 = v115; v60 = v117; v61 = v119; v62 = v121; v63 = v123; v64 = v125; v65 = v127; v66 = v129; v67 = v131; v68 = v133; v69 = v135; v70 = 3014656; v71 = 0x2e00000000ull; v72 = 0x2e000000000000ull; v74 = 3014656; v75 = 0x2e00000000ull; v76 = 0x2e000000000000ull; v78 = 3014656; v79 = 0x2e00000000ull; v80 = 0x2e000000000000ull; v82 = 3014656; v83 = 0x2e00000000ull; v73 = v77 = v81 = 46; goto L0; }
+	u64 v136 = (u64)ld8(v4+49) << 8;
+	if (v5 <= 50) { v7 = 771751936; v8 = 11776; v9 = 0x2e00000000000000ull; v10 = 0x2e0000000000ull; v11 = 771751936; v12 = 11776; v13 = 0x2e00000000000000ull; v14 = 0x2e0000000000ull; v15 = 771751936; v16 = 11776; v17 = 0x2e00000000000000ull; v18 = 0x2e0000000000ull; v19 = 771751936; v20 = v136; v21 = v134; v22 = v132; v23 = v130; v24 = v128; v25 = v126; v26 = v124; v27 = v122; v28 = v120; v29 = v118; v30 = v116; v31 = v114; v32 = v112; v33 = v110; v34 = v108; v35 = v106; v36 = v104; v37 = v102; v38 = v100; v39 = v98; v40 = v96; v41 = v94; v42 = v92; v43 = v90; v44 = v88; v45 = v87; v46 = v89; v47 = v91; v48 = v93; v49 = v95; v50 = v97; v51 = v99; v52 = v101; v53 = v103; v54 = v105; v55 = v107; v56 = v109; v57 = v111; v58 = v113; v59 = v115; v60 = v117; v61 = v119; v62 = v121; v63 = v123; v64 = v125; v65 = v127; v66 = v129; v67 = v131; v68 = v133; v69 = v135; v70 = 3014656; v71 = 0x2e00000000ull; v72 = 0x2e000000000000ull; v74 = 3014656; v75 = 0x2e00000000ull; v76 = 0x2e000000000000ull; v78 = 3014656; v79 = 0x2e00000000ull; v80 = 0x2e000000000000ull; v82 = 3014656; v83 = 0x2e00000000ull; v73 = v77 = v81 = 46; goto L0; }
+	u64 v137 = (u64)ld8(v4+50) << 16;
+	if (v5 == 51) { v7 = 771751936; v8 = 11776; v9 = 0x2e00000000000000ull; v10 = 0x2e0000000000ull; v11 = 771751936; v12 = 11776; v13 = 0x2e00000000000000ull; v14 = 0x2e0000000000ull; v15 = 771751936; v16 = 11776; v17 = 0x2e00000000000000ull; v18 = 0x2e0000000000ull; v19 = 771751936; v20 = v136; v21 = v134; v22 = v132; v23 = v130; v24 = v128; v25 = v126; v26 = v124; v27 = v122; v28 = v120; v29 = v118; v30 = v116; v31 = v114; v32 = v112; v33 = v110; v34 = v108; v35 = v106; v36 = v104; v37 = v102; v38 = v100; v39 = v98; v40 = v96; v41 = v94; v42 = v92; v43 = v90; v44 = v88; v45 = v87; v46 = v89; v47 = v91; v48 = v93; v49 = v95; v50 = v97; v51 = v99; v52 = v101; v53 = v103; v54 = v105; v55 = v107; v56 = v109; v57 = v111; v58 = v113; v59 = v115; v60 = v117; v61 = v119; v62 = v121; v63 = v123; v64 = v125; v65 = v127; v66 = v129; v67 = v131; v68 = v133; v69 = v135; v70 = v137; v71 = 0x2e00000000ull; v72 = 0x2e000000000000ull; v74 = 3014656; v75 = 0x2e00000000ull; v76 = 0x2e000000000000ull; v78 = 3014656; v79 = 0x2e00000000ull; v80 = 0x2e000000000000ull; v82 = 3014656; v83 = 0x2e00000000ull; v73 = v77 = v81 = 46; goto L0; }
+	u64 v138 = (u64)ld8(v4+51) << 24;
+	if (v5 <= 52) { v7 = 771751936; v8 = 11776; v9 = 0x2e00000000000000ull; v10 = 0x2e0000000000ull; v11 = 771751936; v12 = 11776; v13 = 0x2e00000000000000ull; v14 = 0x2e0000000000ull; v15 = 771751936; v16 = 11776; v17 = 0x2e00000000000000ull; v18 = 0x2e0000000000ull; v19 = v138; v20 = v136; v21 = v134; v22 = v132; v23 = v130; v24 = v128; v25 = v126; v26 = v124; v27 = v122; v28 = v120; v29 = v118; v30 = v116; v31 = v114; v32 = v112; v33 = v110; v34 = v108; v35 = v106; v36 = v104; v37 = v102; v38 = v100; v39 = v98; v40 = v96; v41 = v94; v42 = v92; v43 = v90; v44 = v88; v45 = v87; v46 = v89; v47 = v91; v48 = v93; v49 = v95; v50 = v97; v51 = v99; v52 = v101; v53 = v103; v54 = v105; v55 = v107; v56 = v109; v57 = v111; v58 = v113; v59 = v115; v60 = v117; v61 = v119; v62 = v121; v63 = v123; v64 = v125; v65 = v127; v66 = v129; v67 = v131; v68 = v133; v69 = v135; v70 = v137; v71 = 0x2e00000000ull; v72 = 0x2e000000000000ull; v74 = 3014656; v75 = 0x2e00000000ull; v76 = 0x2e000000000000ull; v78 = 3014656; v79 = 0x2e00000000ull; v80 = 0x2e000000000000ull; v82 = 3014656; v83 = 0x2e00000000ull; v73 = v77 = v81 = 46; goto L0; }
+	u64 v139 = (u64)ld8(v4+52) << 32;
+	if (v5 == 53) { v7 = 771751936; v8 = 11776; v9 = 0x2e00000000000000ull; v10 = 0x2e0000000000ull; v11 = 771751936; v12 = 11776; v13 = 0x2e00000000000000ull; v14 = 0x2e0000000000ull; v15 = 771751936; v16 = 11776; v17 = 0x2e00000000000000ull; v18 = 0x2e0000000000ull; v19 = v138; v20 = v136; v21 = v134; v22 = v132; v23 = v130; v24 = v128; v25 = v126; v26 = v124; v27 = v122; v28 = v120; v29 = v118; v30 = v116; v31 = v114; v32 = v112; v33 = v110; v34 = v108; v35 = v106; v36 = v104; v37 = v102; v38 = v100; v39 = v98; v40 = v96; v41 = v94; v42 = v92; v43 = v90; v44 = v88; v45 = v87; v46 = v89; v47 = v91; v48 = v93; v49 = v95; v50 = v97; v51 = v99; v52 = v101; v53 = v103; v54 = v105; v55 = v107; v56 = v109; v57 = v111; v58 = v113; v59 = v115; v60 = v117; v61 = v119; v62 = v121; v63 = v123; v64 = v125; v65 = v127; v66 = v129; v67 = v131; v68 = v133; v69 = v135; v70 = v137; v71 = v139; v72 = 0x2e000000000000ull; v74 = 3014656; v75 = 0x2e00000000ull; v76 = 0x2e000000000000ull; v78 = 3014656; v79 = 0x2e00000000ull; v80 = 0x2e000000000000ull; v82 = 3014656; v83 = 0x2e00000000ull; v73 = v77 = v81 = 46; goto L0; }
+	u64 v140 = (u64)ld8(v4+53) << 40;
+	if (v5 <= 54) { v7 = 771751936; v8 = 11776; v9 = 0x2e00000000000000ull; v10 = 0x2e0000000000ull; v11 = 771751936; v12 = 11776; v13 = 0x2e00000000000000ull; v14 = 0x2e0000000000ull; v15 = 771751936; v16 = 11776; v17 = 0x2e00000000000000ull; v18 = v140; v19 = v138; v20 = v136; v21 = v134; v22 = v132; v23 = v130; v24 = v128; v25 = v126; v26 = v124; v27 = v122; v28 = v120; v29 = v118; v30 = v116; v31 = v114; v32 = v112; v33 = v110; v34 = v108; v35 = v106; v36 = v104; v37 = v102; v38 = v100; v39 = v98; v40 = v96; v41 = v94; v42 = v92; v43 = v90; v44 = v88; v45 = v87; v46 = v89; v47 = v91; v48 = v93; v49 = v95; v50 = v97; v51 = v99; v52 = v101; v53 = v103; v54 = v105; v55 = v107; v56 = v109; v57 = v111; v58 = v113; v59 = v115; v60 = v117; v61 = v119; v62 = v121; v63 = v123; v64 = v125; v65 = v127; v66 = v129; v67 = v131; v68 = v133; v69 = v135; v70 = v137; v71 = v139; v72 = 0x2e000000000000ull; v74 = 3014656; v75 = 0x2e00000000ull; v76 = 0x2e000000000000ull; v78 = 3014656; v79 = 0x2e00000000ull; v80 = 0x2e000000000000ull; v82 = 3014656; v83 = 0x2e00000000ull; v73 = v77 = v81 = 46; goto L0; }
+	u64 v141 = (u64)ld8(v4+54) << 48;
+	if (v5 == 55) { v7 = 771751936; v8 = 11776; v9 = 0x2e00000000000000ull; v10 = 0x2e0000000000ull; v11 = 771751936; v12 = 11776; v13 = 0x2e00000000000000ull; v14 = 0x2e0000000000ull; v15 = 771751936; v16 = 11776; v17 = 0x2e00000000000000ull; v18 = v140; v19 = v138; v20 = v136; v21 = v134; v22 = v132; v23 = v130; v24 = v128; v25 = v126; v26 = v124; v27 = v122; v28 = v120; v29 = v118; v30 = v116; v31 = v114; v32 = v112; v33 = v110; v34 = v108; v35 = v106; v36 = v104; v37 = v102; v38 = v100; v39 = v98; v40 = v96; v41 = v94; v42 = v92; v43 = v90; v44 = v88; v45 = v87; v46 = v89; v47 = v91; v48 = v93; v49 = v95; v50 = v97; v51 = v99; v52 = v101; v53 = v103; v54 = v105; v55 = v107; v56 = v109; v57 = v111; v58 = v113; v59 = v115; v60 = v117; v61 = v119; v62 = v121; v63 = v123; v64 = v125; v65 = v127; v66 = v129; v67 = v131; v68 = v133; v69 = v135; v70 = v137; v71 = v139; v72 = v141; v74 = 3014656; v75 = 0x2e00000000ull; v76 = 0x2e000000000000ull; v78 = 3014656; v79 = 0x2e00000000ull; v80 = 0x2e000000000000ull; v82 = 3014656; v83 = 0x2e00000000ull; v73 = v77 = v81 = 46; goto L0; }
+	u64 v142 = (u64)ld8(v4+55) << 56;
+	if (v5 <= 56) { v7 = 771751936; v8 = 11776; v9 = 0x2e00000000000000ull; v10 = 0x2e0000000000ull; v11 = 771751936; v12 = 11776; v13 = 0x2e00000000000000ull; v14 = 0x2e0000000000ull; v15 = 771751936; v16 = 11776; v17 = v142; v18 = v140; v19 = v138; v20 = v136; v21 = v134; v22 = v132; v23 = v130; v24 = v128; v25 = v126; v26 = v124; v27 = v122; v28 = v120; v29 = v118; v30 = v116; v31 = v114; v32 = v112; v33 = v110; v34 = v108; v35 = v106; v36 = v104; v37 = v102; v38 = v100; v39 = v98; v40 = v96; v41 = v94; v42 = v92; v43 = v90; v44 = v88; v45 = v87; v46 = v89; v47 = v91; v48 = v93; v49 = v95; v50 = v97; v51 = v99; v52 = v101; v53 = v103; v54 = v105; v55 = v107; v56 = v109; v57 = v111; v58 = v113; v59 = v115; v60 = v117; v61 = v119; v62 = v121; v63 = v123; v64 = v125; v65 = v127; v66 = v129; v67 = v131; v68 = v133; v69 = v135; v70 = v137; v71 = v139; v72 = v141; v74 = 3014656; v75 = 0x2e00000000ull; v76 = 0x2e000000000000ull; v78 = 3014656; v79 = 0x2e00000000ull; v80 = 0x2e000000000000ull; v82 = 3014656; v83 = 0x2e00000000ull; v73 = v77 = v81 = 46; goto L0; }
+	u8 v143 = ld8(v4+56);
+	if (v5 == 57) { v7 = 771751936; v8 = 11776; v9 = 0x2e00000000000000ull; v10 = 0x2e0000000000ull; v11 = 771751936; v12 = 11776; v13 = 0x2e00000000000000ull; v14 = 0x2e0000000000ull; v15 = 771751936; v16 = 11776; v17 = v142; v18 = v140; v19 = v138; v20 = v136; v21 = v134; v22 = v132; v23 = v130; v24 = v128; v25 = v126; v26 = v124; v27 = v122; v28 = v120; v29 = v118; v30 = v116; v31 = v114; v32 = v112; v33 = v110; v34 = v108; v35 = v106; v36 = v104; v37 = v102; v38 = v100; v39 = v98; v40 = v96; v41 = v94; v42 = v92; v43 = v90; v44 = v88; v45 = v87; v46 = v89; v47 = v91; v48 = v93; v49 = v95; v50 = v97; v51 = v99; v52 = v101; v53 = v103; v54 = v105; v55 = v107; v56 = v109; v57 = v111; v58 = v113; v59 = v115; v60 = v117; v61 = v119; v62 = v121; v63 = v123; v64 = v125; v65 = v127; v66 = v129; v67 = v131; v68 = v133; v69 = v135; v70 = v137; v71 = v139; v72 = v141; v73 = v143; v74 = 3014656; v75 = 0x2e00000000ull; v76 = 0x2e000000000000ull; v78 = 3014656; v79 = 0x2e00000000ull; v80 = 0x2e000000000000ull; v82 = 3014656; v83 = 0x2e00000000ull; v77 = v81 = 46; goto L0; }
+	u64 v144 = (u64)ld8(v4+57) << 8;
+	if (v5 <= 58) { v7 = 771751936; v8 = 11776; v9 = 0x2e00000000000000ull; v10 = 0x2e0000000000ull; v11 = 771751936; v12 = 11776; v13 = 0x2e00000000000000ull; v14 = 0x2e0000000000ull; v15 = 771751936; v16 = v144; v17 = v142; v18 = v140; v19 = v138; v20 = v136; v21 = v134; v22 = v132; v23 = v130; v24 = v128; v25 = v126; v26 = v124; v27 = v122; v28 = v120; v29 = v118; v30 = v116; v31 = v114; v32 = v112; v33 = v110; v34 = v108; v35 = v106; v36 = v104; v37 = v102; v38 = v100; v39 = v98; v40 = v96; v41 = v94; v42 = v92; v43 = v90; v44 = v88; v45 = v87; v46 = v89; v47 = v91; v48 = v93; v49 = v95; v50 = v97; v51 = v99; v52 = v101; v53 = v103; v54 = v105; v55 = v107; v56 = v109; v57 = v111; v58 = v113; v59 = v115; v60 = v117; v61 = v119; v62 = v121; v63 = v123; v64 = v125; v65 = v127; v66 = v129; v67 = v131; v68 = v133; v69 = v135; v70 = v137; v71 = v139; v72 = v141; v73 = v143; v74 = 3014656; v75 = 0x2e00000000ull; v76 = 0x2e000000000000ull; v78 = 3014656; v79 = 0x2e00000000ull; v80 = 0x2e000000000000ull; v82 = 3014656; v83 = 0x2e00000000ull; v77 = v81 = 46; goto L0; }
+	u64 v145 = (u64)ld8(v4+58) << 16;
+	if (v5 == 59) { v7 = 771751936; v8 = 11776; v9 = 0x2e00000000000000ull; v10 = 0x2e0000000000ull; v11 = 771751936; v12 = 11776; v13 = 0x2e00000000000000ull; v14 = 0x2e0000000000ull; v15 = 771751936; v16 = v144; v17 = v142; v18 = v140; v19 = v138; v20 = v136; v21 = v134; v22 = v132; v23 = v130; v24 = v128; v25 = v126; v26 = v124; v27 = v122; v28 = v120; v29 = v118; v30 = v116; v31 = v114; v32 = v112; v33 = v110; v34 = v108; v35 = v106; v36 = v104; v37 = v102; v38 = v100; v39 = v98; v40 = v96; v41 = v94; v42 = v92; v43 = v90; v44 = v88; v45 = v87; v46 = v89; v47 = v91; v48 = v93; v49 = v95; v50 = v97; v51 = v99; v52 = v101; v53 = v103; v54 = v105; v55 = v107; v56 = v109; v57 = v111; v58 = v113; v59 = v115; v60 = v117; v61 = v119; v62 = v121; v63 = v123; v64 = v125; v65 = v127; v66 = v129; v67 = v131; v68 = v133; v69 = v135; v70 = v137; v71 = v139; v72 = v141; v73 = v143; v74 = v145; v75 = 0x2e00000000ull; v76 = 0x2e000000000000ull; v78 = 3014656; v79 = 0x2e00000000ull; v80 = 0x2e000000000000ull; v82 = 3014656; v83 = 0x2e00000000ull; v77 = v81 = 46; goto L0; }
+	u64 v146 = (u64)ld8(v4+59) << 24;
+	if (v5 <= 60) { v7 = 771751936; v8 = 11776; v9 = 0x2e00000000000000ull; v10 = 0x2e0000000000ull; v11 = 771751936; v12 = 11776; v13 = 0x2e00000000000000ull; v14 = 0x2e0000000000ull; v15 = v146; v16 = v144; v17 = v142; v18 = v140; v19 = v138; v20 = v136; v21 = v134; v22 = v132; v23 = v130; v24 = v128; v25 = v126; v26 = v124; v27 = v122; v28 = v120; v29 = v118; v30 = v116; v31 = v114; v32 = v112; v33 = v110; v34 = v108; v35 = v106; v36 = v104; v37 = v102; v38 = v100; v39 = v98; v40 = v96; v41 = v94; v42 = v92; v43 = v90; v44 = v88; v45 = v87; v46 = v89; v47 = v91; v48 = v93; v49 = v95; v50 = v97; v51 = v99; v52 = v101; v53 = v103; v54 = v105; v55 = v107; v56 = v109; v57 = v111; v58 = v113; v59 = v115; v60 = v117; v61 = v119; v62 = v121; v63 = v123; v64 = v125; v65 = v127; v66 = v129; v67 = v131; v68 = v133; v69 = v135; v70 = v137; v71 = v139; v72 = v141; v73 = v143; v74 = v145; v75 = 0x2e00000000ull; v76 = 0x2e000000000000ull; v78 = 3014656; v79 = 0x2e00000000ull; v80 = 0x2e000000000000ull; v82 = 3014656; v83 = 0x2e00000000ull; v77 = v81 = 46; goto L0; }
+	u64 v147 = (u64)ld8(v4+60) << 32;
+	if (v5 == 61) { v7 = 771751936; v8 = 11776; v9 = 0x2e00000000000000ull; v10 = 0x2e0000000000ull; v11 = 771751936; v12 = 11776; v13 = 0x2e00000000000000ull; v14 = 0x2e0000000000ull; v15 = v146; v16 = v144; v17 = v142; v18 = v140; v19 = v138; v20 = v136; v21 = v134; v22 = v132; v23 = v130; v24 = v128; v25 = v126; v26 = v124; v27 = v122; v28 = v120; v29 = v118; v30 = v116; v31 = v114; v32 = v112; v33 = v110; v34 = v108; v35 = v106; v36 = v104; v37 = v102; v38 = v100; v39 = v98; v40 = v96; v41 = v94; v42 = v92; v43 = v90; v44 = v88; v45 = v87; v46 = v89; v47 = v91; v48 = v93; v49 = v95; v50 = v97; v51 = v99; v52 = v101; v53 = v103; v54 = v105; v55 = v107; v56 = v109; v57 = v111; v58 = v113; v59 = v115; v60 = v117; v61 = v119; v62 = v121; v63 = v123; v64 = v125; v65 = v127; v66 = v129; v67 = v131; v68 = v133; v69 = v135; v70 = v137; v71 = v139; v72 = v141; v73 = v143; v74 = v145; v75 = v147; v76 = 0x2e000000000000ull; v78 = 3014656; v79 = 0x2e00000000ull; v80 = 0x2e000000000000ull; v82 = 3014656; v83 = 0x2e00000000ull; v77 = v81 = 46; goto L0; }
+	u64 v148 = (u64)ld8(v4+61) << 40;
+	if (v5 <= 62) { v7 = 771751936; v8 = 11776; v9 = 0x2e00000000000000ull; v10 = 0x2e0000000000ull; v11 = 771751936; v12 = 11776; v13 = 0x2e00000000000000ull; v14 = v148; v15 = v146; v16 = v144; v17 = v142; v18 = v140; v19 = v138; v20 = v136; v21 = v134; v22 = v132; v23 = v130; v24 = v128; v25 = v126; v26 = v124; v27 = v122; v28 = v120; v29 = v118; v30 = v116; v31 = v114; v32 = v112; v33 = v110; v34 = v108; v35 = v106; v36 = v104; v37 = v102; v38 = v100; v39 = v98; v40 = v96; v41 = v94; v42 = v92; v43 = v90; v44 = v88; v45 = v87; v46 = v89; v47 = v91; v48 = v93; v49 = v95; v50 = v97; v51 = v99; v52 = v101; v53 = v103; v54 = v105; v55 = v107; v56 = v109; v57 = v111; v58 = v113; v59 = v115; v60 = v117; v61 = v119; v62 = v121; v63 = v123; v64 = v125; v65 = v127; v66 = v129; v67 = v131; v68 = v133; v69 = v135; v70 = v137; v71 = v139; v72 = v141; v73 = v143; v74 = v145; v75 = v147; v76 = 0x2e000000000000ull; v78 = 3014656; v79 = 0x2e00000000ull; v80 = 0x2e000000000000ull; v82 = 3014656; v83 = 0x2e00000000ull; v77 = v81 = 46; goto L0; }
+	u64 v149 = (u64)ld8(v4+62) << 48;
+	if (v5 == 63) { v7 = 771751936; v8 = 11776; v9 = 0x2e00000000000000ull; v10 = 0x2e0000000000ull; v11 = 771751936; v12 = 11776; v13 = 0x2e00000000000000ull; v14 = v148; v15 = v146; v16 = v144; v17 = v142; v18 = v140; v19 = v138; v20 = v136; v21 = v134; v22 = v132; v23 = v130; v24 = v128; v25 = v126; v26 = v124; v27 = v122; v28 = v120; v29 = v118; v30 = v116; v31 = v114; v32 = v112; v33 = v110; v34 = v108; v35 = v106; v36 = v104; v37 = v102; v38 = v100; v39 = v98; v40 = v96; v41 = v94; v42 = v92; v43 = v90; v44 = v88; v45 = v87; v46 = v89; v47 = v91; v48 = v93; v49 = v95; v50 = v97; v51 = v99; v52 = v101; v53 = v103; v54 = v105; v55 = v107; v56 = v109; v57 = v111; v58 = v113; v59 = v115; v60 = v117; v61 = v119; v62 = v121; v63 = v123; v64 = v125; v65 = v127; v66 = v129; v67 = v131; v68 = v133; v69 = v135; v70 = v137; v71 = v139; v72 = v141; v73 = v143; v74 = v145; v75 = v147; v76 = v149; v78 = 3014656; v79 = 0x2e00000000ull; v80 = 0x2e000000000000ull; v82 = 3014656; v83 = 0x2e00000000ull; v77 = v81 = 46; goto L0; }
+	u64 v150 = (u64)ld8(v4+63) << 56;
+	if (v5 <= 64) { v7 = 771751936; v8 = 11776; v9 = 0x2e00000000000000ull; v10 = 0x2e0000000000ull; v11 = 771751936; v12 = 11776; v13 = v150; v14 = v148; v15 = v146; v16 = v144; v17 = v142; v18 = v140; v19 = v138; v20 = v136; v21 = v134; v22 = v132; v23 = v130; v24 = v128; v25 = v126; v26 = v124; v27 = v122; v28 = v120; v29 = v118; v30 = v116; v31 = v114; v32 = v112; v33 = v110; v34 = v108; v35 = v106; v36 = v104; v37 = v102; v38 = v100; v39 = v98; v40 = v96; v41 = v94; v42 = v92; v43 = v90; v44 = v88; v45 = v87; v46 = v89; v47 = v91; v48 = v93; v49 = v95; v50 = v97; v51 = v99; v52 = v101; v53 = v103; v54 = v105; v55 = v107; v56 = v109; v57 = v111; v58 = v113; v59 = v115; v60 = v117; v61 = v119; v62 = v121; v63 = v123; v64 = v125; v65 = v127; v66 = v129; v67 = v131; v68 = v133; v69 = v135; v70 = v137; v71 = v139; v72 = v141; v73 = v143; v74 = v145; v75 = v147; v76 = v149; v78 = 3014656; v79 = 0x2e00000000ull; v80 = 0x2e000000000000ull; v82 = 3014656; v83 = 0x2e00000000ull; v77 = v81 = 46; goto L0; }
+	u8 v151 = ld8(v4+64);
+	if (v5 == 65) { v7 = 771751936; v8 = 11776; v9 = 0x2e00000000000000ull; v10 = 0x2e0000000000ull; v11 = 771751936; v12 = 11776; v13 = v150; v14 = v148; v15 = v146; v16 = v144; v17 = v142; v18 = v140; v19 = v138; v20 = v136; v21 = v134; v22 = v132; v23 = v130; v24 = v128; v25 = v126; v26 = v124; v27 = v122; v28 = v120; v29 = v118; v30 = v116; v31 = v114; v32 = v112; v33 = v110; v34 = v108; v35 = v106; v36 = v104; v37 = v102; v38 = v100; v39 = v98; v40 = v96; v41 = v94; v42 = v92; v43 = v90; v44 = v88; v45 = v87; v46 = v89; v47 = v91; v48 = v93; v49 = v95; v50 = v97; v51 = v99; v52 = v101; v53 = v103; v54 = v105; v55 = v107; v56 = v109; v57 = v111; v58 = v113; v59 = v115; v60 = v117; v61 = v119; v62 = v121; v63 = v123; v64 = v125; v65 = v127; v66 = v129; v67 = v131; v68 = v133; v69 = v135; v70 = v137; v71 = v139; v72 = v141; v73 = v143; v74 = v145; v75 = v147; v76 = v149; v77 = v151; v78 = 3014656; v79 = 0x2e00000000ull; v80 = 0x2e000000000000ull; v82 = 3014656; v83 = 0x2e00000000ull; v81 = 46; goto L0; }
+	u64 v152 = (u64)ld8(v4+65) << 8;
+	if (v5 <= 66) { v7 = 771751936; v8 = 11776; v9 = 0x2e00000000000000ull; v10 = 0x2e0000000000ull; v11 = 771751936; v12 = v152; v13 = v150; v14 = v148; v15 = v146; v16 = v144; v17 = v142; v18 = v140; v19 = v138; v20 = v136; v21 = v134; v22 = v132; v23 = v130; v24 = v128; v25 = v126; v26 = v124; v27 = v122; v28 = v120; v29 = v118; v30 = v116; v31 = v114; v32 = v112; v33 = v110; v34 = v108; v35 = v106; v36 = v104; v37 = v102; v38 = v100; v39 = v98; v40 = v96; v41 = v94; v42 = v92; v43 = v90; v44 = v88; v45 = v87; v46 = v89; v47 = v91; v48 = v93; v49 = v95; v50 = v97; v51 = v99; v52 = v101; v53 = v103; v54 = v105; v55 = v107; v56 = v109; v57 = v111; v58 = v113; v59 = v115; v60 = v117; v61 = v119; v62 = v121; v63 = v123; v64 = v125; v65 = v127; v66 = v129; v67 = v131; v68 = v133; v69 = v135; v70 = v137; v71 = v139; v72 = v141; v73 = v143; v74 = v145; v75 = v147; v76 = v149; v77 = v151; v78 = 3014656; v79 = 0x2e00000000ull; v80 = 0x2e000000000000ull; v82 = 3014656; v83 = 0x2e00000000ull; v81 = 46; goto L0; }
+	u64 v153 = (u64)ld8(v4+66) << 16;
+	if (v5 == 67) { v7 = 771751936; v8 = 11776; v9 = 0x2e00000000000000ull; v10 = 0x2e0000000000ull; v11 = 771751936; v12 = v152; v13 = v150; v14 = v148; v15 = v146; v16 = v144; v17 = v142; v18 = v140; v19 = v138; v20 = v136; v21 = v134; v22 = v132; v23 = v130; v24 = v128; v25 = v126; v26 = v124; v27 = v122; v28 = v120; v29 = v118; v30 = v116; v31 = v114; v32 = v112; v33 = v110; v34 = v108; v35 = v106; v36 = v104; v37 = v102; v38 = v100; v39 = v98; v40 = v96; v41 = v94; v42 = v92; v43 = v90; v44 = v88; v45 = v87; v46 = v89; v47 = v91; v48 = v93; v49 = v95; v50 = v97; v51 = v99; v52 = v101; v53 = v103; v54 = v105; v55 = v107; v56 = v109; v57 = v111; v58 = v113; v59 = v115; v60 = v117; v61 = v119; v62 = v121; v63 = v123; v64 = v125; v65 = v127; v66 = v129; v67 = v131; v68 = v133; v69 = v135; v70 = v137; v71 = v139; v72 = v141; v73 = v143; v74 = v145; v75 = v147; v76 = v149; v77 = v151; v78 = v153; v79 = 0x2e00000000ull; v80 = 0x2e000000000000ull; v82 = 3014656; v83 = 0x2e00000000ull; v81 = 46; goto L0; }
+	u64 v154 = (u64)ld8(v4+67) << 24;
+	if (v5 <= 68) { v7 = 771751936; v8 = 11776; v9 = 0x2e00000000000000ull; v10 = 0x2e0000000000ull; v11 = v154; v12 = v152; v13 = v150; v14 = v148; v15 = v146; v16 = v144; v17 = v142; v18 = v140; v19 = v138; v20 = v136; v21 = v134; v22 = v132; v23 = v130; v24 = v128; v25 = v126; v26 = v124; v27 = v122; v28 = v120; v29 = v118; v30 = v116; v31 = v114; v32 = v112; v33 = v110; v34 = v108; v35 = v106; v36 = v104; v37 = v102; v38 = v100; v39 = v98; v40 = v96; v41 = v94; v42 = v92; v43 = v90; v44 = v88; v45 = v87; v46 = v89; v47 = v91; v48 = v93; v49 = v95; v50 = v97; v51 = v99; v52 = v101; v53 = v103; v54 = v105; v55 = v107; v56 = v109; v57 = v111; v58 = v113; v59 = v115; v60 = v117; v61 = v119; v62 = v121; v63 = v123; v64 = v125; v65 = v127; v66 = v129; v67 = v131; v68 = v133; v69 = v135; v70 = v137; v71 = v139; v72 = v141; v73 = v143; v74 = v145; v75 = v147; v76 = v149; v77 = v151; v78 = v153; v79 = 0x2e00000000ull; v80 = 0x2e000000000000ull; v82 = 3014656; v83 = 0x2e00000000ull; v81 = 46; goto L0; }
+	u64 v155 = (u64)ld8(v4+68) << 32;
+	if (v5 == 69) { v7 = 771751936; v8 = 11776; v9 = 0x2e00000000000000ull; v10 = 0x2e0000000000ull; v11 = v154; v12 = v152; v13 = v150; v14 = v148; v15 = v146; v16 = v144; v17 = v142; v18 = v140; v19 = v138; v20 = v136; v21 = v134; v22 = v132; v23 = v130; v24 = v128; v25 = v126; v26 = v124; v27 = v122; v28 = v120; v29 = v118; v30 = v116; v31 = v114; v32 = v112; v33 = v110; v34 = v108; v35 = v106; v36 = v104; v37 = v102; v38 = v100; v39 = v98; v40 = v96; v41 = v94; v42 = v92; v43 = v90; v44 = v88; v45 = v87; v46 = v89; v47 = v91; v48 = v93; v49 = v95; v50 = v97; v51 = v99; v52 = v101; v53 = v103; v54 = v105; v55 = v107; v56 = v109; v57 = v111; v58 = v113; v59 = v115; v60 = v117; v61 = v119; v62 = v121; v63 = v123; v64 = v125; v65 = v127; v66 = v129; v67 = v131; v68 = v133; v69 = v135; v70 = v137; v71 = v139; v72 = v141; v73 = v143; v74 = v145; v75 = v147; v76 = v149; v77 = v151; v78 = v153; v79 = v155; v80 = 0x2e000000000000ull; v82 = 3014656; v83 = 0x2e00000000ull; v81 = 46; goto L0; }
+	u64 v156 = (u64)ld8(v4+69) << 40;
+	if (v5 <= 70) { v7 = 771751936; v8 = 11776; v9 = 0x2e00000000000000ull; v10 = v156; v11 = v154; v12 = v152; v13 = v150; v14 = v148; v15 = v146; v16 = v144; v17 = v142; v18 = v140; v19 = v138; v20 = v136; v21 = v134; v22 = v132; v23 = v130; v24 = v128; v25 = v126; v26 = v124; v27 = v122; v28 = v120; v29 = v118; v30 = v116; v31 = v114; v32 = v112; v33 = v110; v34 = v108; v35 = v106; v36 = v104; v37 = v102; v38 = v100; v39 = v98; v40 = v96; v41 = v94; v42 = v92; v43 = v90; v44 = v88; v45 = v87; v46 = v89; v47 = v91; v48 = v93; v49 = v95; v50 = v97; v51 = v99; v52 = v101; v53 = v103; v54 = v105; v55 = v107; v56 = v109; v57 = v111; v58 = v113; v59 = v115; v60 = v117; v61 = v119; v62 = v121; v63 = v123; v64 = v125; v65 = v127; v66 = v129; v67 = v131; v68 = v133; v69 = v135; v70 = v137; v71 = v139; v72 = v141; v73 = v143; v74 = v145; v75 = v147; v76 = v149; v77 = v151; v78 = v153; v79 = v155; v80 = 0x2e000000000000ull; v82 = 3014656; v83 = 0x2e00000000ull; v81 = 46; goto L0; }
+	u64 v157 = (u64)ld8(v4+70) << 48;
+	if (v5 == 71) { v7 = 771751936; v8 = 11776; v9 = 0x2e00000000000000ull; v10 = v156; v11 = v154; v12 = v152; v13 = v150; v14 = v148; v15 = v146; v16 = v144; v17 = v142; v18 = v140; v19 = v138; v20 = v136; v21 = v134; v22 = v132; v23 = v130; v24 = v128; v25 = v126; v26 = v124; v27 = v122; v28 = v120; v29 = v118; v30 = v116; v31 = v114; v32 = v112; v33 = v110; v34 = v108; v35 = v106; v36 = v104; v37 = v102; v38 = v100; v39 = v98; v40 = v96; v41 = v94; v42 = v92; v43 = v90; v44 = v88; v45 = v87; v46 = v89; v47 = v91; v48 = v93; v49 = v95; v50 = v97; v51 = v99; v52 = v101; v53 = v103; v54 = v105; v55 = v107; v56 = v109; v57 = v111; v58 = v113; v59 = v115; v60 = v117; v61 = v119; v62 = v121; v63 = v123; v64 = v125; v65 = v127; v66 = v129; v67 = v131; v68 = v133; v69 = v135; v70 = v137; v71 = v139; v72 = v141; v73 = v143; v74 = v145; v75 = v147; v76 = v149; v77 = v151; v78 = v153; v79 = v155; v80 = v157; v82 = 3014656; v83 = 0x2e00000000ull; v81 = 46; goto L0; }
+	u64 v158 = (u64)ld8(v4+71) << 56;
+	if (v5 <= 72) { v7 = 771751936; v8 = 11776; v9 = v158; v10 = v156; v11 = v154; v12 = v152; v13 = v150; v14 = v148; v15 = v146; v16 = v144; v17 = v142; v18 = v140; v19 = v138; v20 = v136; v21 = v134; v22 = v132; v23 = v130; v24 = v128; v25 = v126; v26 = v124; v27 = v122; v28 = v120; v29 = v118; v30 = v116; v31 = v114; v32 = v112; v33 = v110; v34 = v108; v35 = v106; v36 = v104; v37 = v102; v38 = v100; v39 = v98; v40 = v96; v41 = v94; v42 = v92; v43 = v90; v44 = v88; v45 = v87; v46 = v89; v47 = v91; v48 = v93; v49 = v95; v50 = v97; v51 = v99; v52 = v101; v53 = v103; v54 = v105; v55 = v107; v56 = v109; v57 = v111; v58 = v113; v59 = v115; v60 = v117; v61 = v119; v62 = v121; v63 = v123; v64 = v125; v65 = v127; v66 = v129; v67 = v131; v68 = v133; v69 = v135; v70 = v137; v71 = v139; v72 = v141; v73 = v143; v74 = v145; v75 = v147; v76 = v149; v77 = v151; v78 = v153; v79 = v155; v80 = v157; v82 = 3014656; v83 = 0x2e00000000ull; v81 = 46; goto L0; }
+	u8 v159 = ld8(v4+72);
+	if (v5 == 73) { v7 = 771751936; v8 = 11776; v9 = v158; v10 = v156; v11 = v154; v12 = v152; v13 = v150; v14 = v148; v15 = v146; v16 = v144; v17 = v142; v18 = v140; v19 = v138; v20 = v136; v21 = v134; v22 = v132; v23 = v130; v24 = v128; v25 = v126; v26 = v124; v27 = v122; v28 = v120; v29 = v118; v30 = v116; v31 = v114; v32 = v112; v33 = v110; v34 = v108; v35 = v106; v36 = v104; v37 = v102; v38 = v100; v39 = v98; v40 = v96; v41 = v94; v42 = v92; v43 = v90; v44 = v88; v45 = v87; v46 = v89; v47 = v91; v48 = v93; v49 = v95; v50 = v97; v51 = v99; v52 = v101; v53 = v103; v54 = v105; v55 = v107; v56 = v109; v57 = v111; v58 = v113; v59 = v115; v60 = v117; v61 = v119; v62 = v121; v63 = v123; v64 = v125; v65 = v127; v66 = v129; v67 = v131; v68 = v133; v69 = v135; v70 = v137; v71 = v139; v72 = v141; v73 = v143; v74 = v145; v75 = v147; v76 = v149; v77 = v151; v78 = v153; v79 = v155; v80 = v157; v81 = v159; v82 = 3014656; v83 = 0x2e00000000ull; goto L0; }
+	u64 v160 = (u64)ld8(v4+73) << 8;
+	if (v5 <= 74) { v7 = 771751936; v8 = v160; v9 = v158; v10 = v156; v11 = v154; v12 = v152; v13 = v150; v14 = v148; v15 = v146; v16 = v144; v17 = v142; v18 = v140; v19 = v138; v20 = v136; v21 = v134; v22 = v132; v23 = v130; v24 = v128; v25 = v126; v26 = v124; v27 = v122; v28 = v120; v29 = v118; v30 = v116; v31 = v114; v32 = v112; v33 = v110; v34 = v108; v35 = v106; v36 = v104; v37 = v102; v38 = v100; v39 = v98; v40 = v96; v41 = v94; v42 = v92; v43 = v90; v44 = v88; v45 = v87; v46 = v89; v47 = v91; v48 = v93; v49 = v95; v50 = v97; v51 = v99; v52 = v101; v53 = v103; v54 = v105; v55 = v107; v56 = v109; v57 = v111; v58 = v113; v59 = v115; v60 = v117; v61 = v119; v62 = v121; v63 = v123; v64 = v125; v65 = v127; v66 = v129; v67 = v131; v68 = v133; v69 = v135; v70 = v137; v71 = v139; v72 = v141; v73 = v143; v74 = v145; v75 = v147; v76 = v149; v77 = v151; v78 = v153; v79 = v155; v80 = v157; v81 = v159; v82 = 3014656; v83 = 0x2e00000000ull; goto L0; }
+	u64 v161 = (u64)ld8(v4+74) << 16;
+	if (v5 == 75) { v7 = 771751936; v8 = v160; v9 = v158; v10 = v156; v11 = v154; v12 = v152; v13 = v150; v14 = v148; v15 = v146; v16 = v144; v17 = v142; v18 = v140; v19 = v138; v20 = v136; v21 = v134; v22 = v132; v23 = v130; v24 = v128; v25 = v126; v26 = v124; v27 = v122; v28 = v120; v29 = v118; v30 = v116; v31 = v114; v32 = v112; v33 = v110; v34 = v108; v35 = v106; v36 = v104; v37 = v102; v38 = v100; v39 = v98; v40 = v96; v41 = v94; v42 = v92; v43 = v90; v44 = v88; v45 = v87; v46 = v89; v47 = v91; v48 = v93; v49 = v95; v50 = v97; v51 = v99; v52 = v101; v53 = v103; v54 = v105; v55 = v107; v56 = v109; v57 = v111; v58 = v113; v59 = v115; v60 = v117; v61 = v119; v62 = v121; v63 = v123; v64 = v125; v65 = v127; v66 = v129; v67 = v131; v68 = v133; v69 = v135; v70 = v137; v71 = v139; v72 = v141; v73 = v143; v74 = v145; v75 = v147; v76 = v149; v77 = v151; v78 = v153; v79 = v155; v80 = v157; v81 = v159; v82 = v161; v83 = 0x2e00000000ull; goto L0; }
+	u64 v162 = (u64)ld8(v4+75) << 24;
+	if (v5 <= 76) { v7 = v162; v8 = v160; v9 = v158; v10 = v156; v11 = v154; v12 = v152; v13 = v150; v14 = v148; v15 = v146; v16 = v144; v17 = v142; v18 = v140; v19 = v138; v20 = v136; v21 = v134; v22 = v132; v23 = v130; v24 = v128; v25 = v126; v26 = v124; v27 = v122; v28 = v120; v29 = v118; v30 = v116; v31 = v114; v32 = v112; v33 = v110; v34 = v108; v35 = v106; v36 = v104; v37 = v102; v38 = v100; v39 = v98; v40 = v96; v41 = v94; v42 = v92; v43 = v90; v44 = v88; v45 = v87; v46 = v89; v47 = v91; v48 = v93; v49 = v95; v50 = v97; v51 = v99; v52 = v101; v53 = v103; v54 = v105; v55 = v107; v56 = v109; v57 = v111; v58 = v113; v59 = v115; v60 = v117; v61 = v119; v62 = v121; v63 = v123; v64 = v125; v65 = v127; v66 = v129; v67 = v131; v68 = v133; v69 = v135; v70 = v137; v71 = v139; v72 = v141; v73 = v143; v74 = v145; v75 = v147; v76 = v149; v77 = v151; v78 = v153; v79 = v155; v80 = v157; v81 = v159; v82 = v161; v83 = 0x2e00000000ull; goto L0; }
+	v7 = v162; v8 = v160; v9 = v158; v10 = v156; v11 = v154; v12 = v152; v13 = v150; v14 = v148; v15 = v146; v16 = v144; v17 = v142; v18 = v140; v19 = v138; v20 = v136; v21 = v134; v22 = v132; v23 = v130; v24 = v128; v25 = v126; v26 = v124; v27 = v122; v28 = v120; v29 = v118; v30 = v116; v31 = v114; v32 = v112; v33 = v110; v34 = v108; v35 = v106; v36 = v104; v37 = v102; v38 = v100; v39 = v98; v40 = v96; v41 = v94; v42 = v92; v43 = v90; v44 = v88; v45 = v87; v46 = v89; v47 = v91; v48 = v93; v49 = v95; v50 = v97; v51 = v99; v52 = v101; v53 = v103; v54 = v105; v55 = v107; v56 = v109; v57 = v111; v58 = v113; v59 = v115; v60 = v117; v61 = v119; v62 = v121; v63 = v123; v64 = v125; v65 = v127; v66 = v129; v67 = v131; v68 = v133; v69 = v135; v70 = v137; v71 = v139; v72 = v141; v73 = v143; v74 = v145; v75 = v147; v76 = v149; v77 = v151; v78 = v153; v79 = v155; v80 = v157; v81 = v159; v82 = v161; v83 = (u64)ld8(v4+76) << 32;
+L0:
+	if (v5 <= 77) { v84 = 0x2e000000000000ull; v85 = 0x2e0000000000ull; v86 = 0x2e00000000000000ull; goto L1; }
+	u64 v163 = (u64)ld8(v4+77) << 40;
+	if (v5 == 78) { v84 = 0x2e000000000000ull; v85 = v163; v86 = 0x2e00000000000000ull; goto L1; }
+	u64 v164 = (u64)ld8(v4+78) << 48;
+	if (v5 <= 79) { v84 = v164; v85 = v163; v86 = 0x2e00000000000000ull; goto L1; }
+	v84 = v164; v85 = v163; v86 = (u64)ld8(v4+79) << 56;
+L1:
+	st8(v1, v2);
+	st8(v1+1, v3);
+	st8(v1+2, (u8)v6);
+	st8(v1+3, 0);
+	su32(v1+4, 0);
+	su64(v1+8, v44 | (u64)v45 | v46 | v43 | v47 | v42 | v48 | v41);
+	su64(v1+16, v40 | (u64)v49 | v50 | v39 | v51 | v38 | v52 | v37);
+	su64(v1+24, v36 | (u64)v53 | v54 | v35 | v55 | v34 | v56 | v33);
+	su64(v1+32, v32 | (u64)v57 | v58 | v31 | v59 | v30 | v60 | v29);
+	su64(v1+40, v28 | (u64)v61 | v62 | v27 | v63 | v26 | v64 | v25);
+	su64(v1+48, v24 | (u64)v65 | v66 | v23 | v67 | v22 | v68 | v21);
+	su64(v1+56, v20 | (u64)v69 | v70 | v19 | v71 | v18 | v72 | v17);
+	su64(v1+64, v16 | (u64)v73 | v74 | v15 | v75 | v14 | v76 | v13);
+	su64(v1+72, v12 | (u64)v77 | v78 | v11 | v79 | v10 | v80 | v9);
+	su64(v1+80, v8 | (u64)v81 | v82 | v7 | v83 | v85 | v84 | v86);
 	return;
 }
 static void std_io_buffered_BufWriter_flush_buf_9d90(ptr v1, ptr v2) {
@@ -4911,16 +1207,16 @@ static void std_io_buffered_BufWriter_flush_buf_9d90(ptr v1, ptr v2) {
 	_Alignas(8) u8 v46[88], v47[88], v48[88];
 	ptr v50 = ldp(v2);
 	u64 v51 = ld64(v2+8);
-	if (v51 == 0) { v30 = 0; v31 = 0; v32 = 0; v33 = 0; v34 = 0; v35 = 0; v36 = 0; v37 = 0; v38 = 0; v39 = 0; v40 = 0; v41 = 0; v42 = 0; goto L10; }
+	if (!v51) { v30 = v31 = v32 = v33 = v34 = v35 = v36 = v37 = v38 = v39 = v40 = v41 = v42 = 0; goto L10; }
 	v3 = 0;
 L0:;
 	ptr v52 = at(v50, v3);
 	u64 v53 = v51 - v3;
 	v4 = ~0ull;
-L1:;
-	if (v4 != 0) goto L2;
+L1:
+	if (v4) goto L2;
 	std_io_io_error_Error_from_bytes(v48, 2, 22, (ptr)static_54, 43, 43);
-	v30 = v3; v31 = 1; v32 = ld64(v48); v33 = ld64(v48+8); v34 = ld64(v48+16); v35 = ld64(v48+24); v36 = ld64(v48+32); v37 = ld64(v48+40); v38 = ld64(v48+48); v39 = ld64(v48+56); v40 = ld64(v48+64); v41 = ld64(v48+72); v42 = ld64(v48+80); goto L10;
+	v30 = v3; v32 = ld64(v48); v33 = ld64(v48+8); v34 = ld64(v48+16); v35 = ld64(v48+24); v36 = ld64(v48+32); v37 = ld64(v48+40); v38 = ld64(v48+48); v39 = ld64(v48+56); v40 = ld64(v48+64); v41 = ld64(v48+72); v42 = ld64(v48+80); v31 = 1; goto L10;
 L2:;
 	u64 v54 = v4 - 1;
 	v5 = 0;
@@ -4929,18 +1225,9 @@ L3:;
 	if ((s64)v55 >= 0) goto L8;
 	u32 v56 = os_errno();
 	std_io_io_error_Error_from_raw_os_error(v46, v56);
-	u64 v57 = ld64(v46);
-	u64 v58 = ld64(v46+8);
-	u64 v59 = ld64(v46+16);
-	u64 v60 = ld64(v46+24);
-	u64 v61 = ld64(v46+32);
-	u64 v62 = ld64(v46+40);
-	u64 v63 = ld64(v46+48);
-	u64 v64 = ld64(v46+56);
-	u64 v65 = ld64(v46+64);
-	u64 v66 = ld64(v46+72);
-	u64 v67 = ld64(v46+80);
-	u64 v68 = v57 >> 8;
+	u64 v57 = ld64(v46), v58 = ld64(v46+8), v59 = ld64(v46+16), v60 = ld64(v46+24), v61 = ld64(v46+32);
+	u64 v62 = ld64(v46+40), v63 = ld64(v46+48), v64 = ld64(v46+56), v65 = ld64(v46+64);
+	u64 v66 = ld64(v46+72), v67 = ld64(v46+80), v68 = v57 >> 8;
 	st8(v45, 0);
 	st8(v45+1, 1);
 	st8(v45+2, 2);
@@ -4990,9 +1277,9 @@ L3:;
 L4:;
 	u64 v70 = v6 >> 8;
 	v17 = (u8)v70 < 41; v18 = v70; v19 = v6; v20 = v7; v21 = v8; v22 = v9; v23 = v10; v24 = v11; v25 = v12; v26 = v13; v27 = v14; v28 = v15; v29 = v16; goto L6;
-L5:;
-	v17 = 0; v18 = v68; v19 = v57; v20 = v58; v21 = v59; v22 = v60; v23 = v61; v24 = v62; v25 = v63; v26 = v64; v27 = v65; v28 = v66; v29 = v67;
-L6:;
+L5:
+	v18 = v68; v19 = v57; v20 = v58; v21 = v59; v22 = v60; v23 = v61; v24 = v62; v25 = v63; v26 = v64; v27 = v65; v28 = v66; v29 = v67; v17 = 0;
+L6:
 	st8(v49, 0);
 	st8(v49+1, 1);
 	st8(v49+2, 2);
@@ -5036,18 +1323,18 @@ L6:;
 	st8(v49+40, 40);
 	if (!v17) goto L7;
 	if (ld8(at(v49, v18 & 63)) == 35) { v4 = v54; goto L1; }
-	v30 = v3; v31 = 1; v32 = v19; v33 = v20; v34 = v21; v35 = v22; v36 = v23; v37 = v24; v38 = v25; v39 = v26; v40 = v27; v41 = v28; v42 = v29; goto L10;
-L7:;
-	v30 = v3; v31 = 1; v32 = v19; v33 = v20; v34 = v21; v35 = v22; v36 = v23; v37 = v24; v38 = v25; v39 = v26; v40 = v27; v41 = v28; v42 = v29; goto L10;
+	M3: v30 = v3; v32 = v19; v33 = v20; v34 = v21; v35 = v22; v36 = v23; v37 = v24; v38 = v25; v39 = v26; v40 = v27; v41 = v28; v42 = v29; v31 = 1; goto L10;
+L7:
+	goto M3;
 L8:;
 	u64 v71 = v55 < v53 ? v55 : v53;
-	if (v71 != 0) goto L9;
+	if (v71) goto L9;
 	std_io_io_error_Error_from_bytes(v47, 2, 23, (ptr)static_53, 33, 33);
-	v30 = v3; v31 = 1; v32 = ld64(v47); v33 = ld64(v47+8); v34 = ld64(v47+16); v35 = ld64(v47+24); v36 = ld64(v47+32); v37 = ld64(v47+40); v38 = ld64(v47+48); v39 = ld64(v47+56); v40 = ld64(v47+64); v41 = ld64(v47+72); v42 = ld64(v47+80); goto L10;
+	v30 = v3; v32 = ld64(v47); v33 = ld64(v47+8); v34 = ld64(v47+16); v35 = ld64(v47+24); v36 = ld64(v47+32); v37 = ld64(v47+40); v38 = ld64(v47+48); v39 = ld64(v47+56); v40 = ld64(v47+64); v41 = ld64(v47+72); v42 = ld64(v47+80); v31 = 1; goto L10;
 L9:;
 	u64 v72 = v71 + v3;
 	if (v72 < v51) { v3 = v72; goto L0; }
-	v30 = v72; v31 = 0; v32 = 0; v33 = 0; v34 = 0; v35 = 0; v36 = 0; v37 = 0; v38 = 0; v39 = 0; v40 = 0; v41 = 0; v42 = 0;
+	v30 = v72; v31 = v32 = v33 = v34 = v35 = v36 = v37 = v38 = v39 = v40 = v41 = v42 = 0;
 L10:;
 	u64 v73 = ld64(v2+8);
 	ptr v74 = ldp(v2);
@@ -5055,15 +1342,15 @@ L10:;
 	if (v73 == v30) { v44 = v30; goto L12; }
 	ptr v76 = at(v74, v30);
 	v43 = 0;
-L11:;
+L11:
 	st8(at(v74, v43), ld8(at(v76, v43)));
 	u64 v77 = v43 + 1;
 	if (v77 != v75) { v43 = v77; goto L11; }
 	v44 = ld64(v2+8);
-L12:;
+L12:
 	if (v44 <= v75) goto L13;
 	st64(v2+8, v75);
-L13:;
+L13:
 	st8(v1, v31);
 	su64(v1+8, v32);
 	su64(v1+16, v33);
@@ -5077,6 +1364,5927 @@ L13:;
 	su64(v1+80, v41);
 	su64(v1+88, v42);
 	return;
+}
+static APART RARE u8 std_alloc_vec_Vec_grow_amortized_56a3(ptr v1, u64 v2) {
+	t_64_64 v3;
+	u8 v4;
+	u64 v5 = ld64(v1+8);
+	if (v2 > ~v5) { v4 = 0; goto L2; }
+	u64 v6 = ld64(v1+16), v7 = v5 + v2, v8 = v7 > 8 ? v7 : 8, v9 = v6 << 1, v10 = v8 > v9 ? v8 : v9;
+	u64 v11 = v6 < 0x4000000000000000ull ? v10 : v8;
+	if ((s64)v11 <= -1) { v4 = 0; goto L2; }
+	if (v6) goto L0;
+	t_64_64 v12 = allocate(v10, 1);
+	if (v12.f0 & 1) { v3 = v12; goto L1; }
+	v4 = 0; goto L2;
+L0:;
+	t_64_64 v13 = reallocate(ldp(v1), v5, v11, 1);
+	if (!(v13.f0 & 1)) { v4 = 0; goto L2; }
+	v3 = v13;
+L1:
+	stp(v1, (ptr)v3.f1);
+	st64(v1+16, v11);
+	v4 = 1;
+L2:
+	return v4;
+}
+static APART RARE void std_io_buffered_BufWriter_write_cold_9d90(ptr v1, ptr v2, ptr v3, u64 v4) {
+	u64 v5, v6, v7, v8, v9, v10, v11, v12, v13, v14, v15, v16, v17, v18, v19, v20;
+	_Alignas(8) u8 v21[96], v23[88], v24[96] = {0};
+	_Alignas(1) u8 v22[41];
+	u64 v25 = ld64(v2+16);
+	if (v25 <= v4) goto L6;
+	clear(v21, 96);
+	u64 v26 = ld64(v2+8);
+	if (v25 - v26 >= v4) { v5 = v25; v6 = v26; goto L2; }
+	std_io_buffered_BufWriter_flush_buf_9d90(v21, v2);
+	if (ld8(v21)) goto L1;
+	u64 v27 = ld64(v2+16), v28 = ld64(v2+8);
+	if (v4 <= v27 - v28) { v5 = v27; v6 = v28; goto L2; }
+	u8 v29 = std_alloc_vec_Vec_grow_amortized_56a3(v2, v4);
+	if (!v29) goto L0;
+	v5 = ld64(v2+16); v6 = ld64(v2+8); goto L2;
+L0:
+	__builtin_trap();
+	__builtin_trap();
+L1:;
+	u64 v30 = ld64(v21+8), v31 = ld64(v21+16), v32 = ld64(v21+24), v33 = ld64(v21+32);
+	u64 v34 = ld64(v21+40), v35 = ld64(v21+48), v36 = ld64(v21+56), v37 = ld64(v21+64);
+	u64 v38 = ld64(v21+72), v39 = ld64(v21+80), v40 = ld64(v21+88);
+	su64(v1, 1);
+	su64(v1+8, v30);
+	su64(v1+16, v31);
+	su64(v1+24, v32);
+	su64(v1+32, v33);
+	su64(v1+40, v34);
+	su64(v1+48, v35);
+	su64(v1+56, v36);
+	su64(v1+64, v37);
+	su64(v1+72, v38);
+	su64(v1+80, v39);
+	su64(v1+88, v40);
+	goto L12;
+L2:;
+	u64 v41 = v6 + v4;
+	ptr v42 = ldp(v2);
+	clear(v2+8, 16);
+	ptr v43 = at(v42, v6);
+	if ((u64)v43 - (u64)v3 >= v4) goto L4;
+	v7 = 0;
+L3:
+	st8(at(v43, v7), ld8(at(v3, v7)));
+	u64 v44 = v7 + 1;
+	if (v44 == v4) goto L5;
+	v7 = v44; goto L3;
+L4:
+	move(v43, v3, v4);
+L5:
+	stp(v2, v42);
+	st64(v2+8, v41);
+	st64(v2+16, v5);
+	su64(v1, 0);
+	su64(v1+8, v4);
+	clear(v1+16, 80);
+	goto L12;
+L6:
+	std_io_buffered_BufWriter_flush_buf_9d90(v24, v2);
+	if (ld8(v24)) goto L11;
+	v8 = 0;
+L7:;
+	u64 v45 = os_write(1, v3, v4);
+	if ((s64)v45 >= 0) goto L9;
+	u32 v46 = os_errno();
+	std_io_io_error_Error_from_raw_os_error(v23, v46);
+	u64 v47 = ld64(v23), v48 = ld64(v23+8), v49 = ld64(v23+16), v50 = ld64(v23+24), v51 = ld64(v23+32);
+	u64 v52 = ld64(v23+40), v53 = ld64(v23+48), v54 = ld64(v23+56), v55 = ld64(v23+64);
+	u64 v56 = ld64(v23+72), v57 = ld64(v23+80), v58 = v47 >> 8;
+	st8(v22, 0);
+	st8(v22+1, 1);
+	st8(v22+2, 2);
+	st8(v22+3, 3);
+	st8(v22+4, 4);
+	st8(v22+5, 5);
+	st8(v22+6, 6);
+	st8(v22+7, 7);
+	st8(v22+8, 8);
+	st8(v22+9, 9);
+	st8(v22+10, 10);
+	st8(v22+11, 11);
+	st8(v22+12, 12);
+	st8(v22+13, 13);
+	st8(v22+14, 14);
+	st8(v22+15, 15);
+	st8(v22+16, 16);
+	st8(v22+17, 17);
+	st8(v22+18, 18);
+	st8(v22+19, 19);
+	st8(v22+20, 20);
+	st8(v22+21, 21);
+	st8(v22+22, 22);
+	st8(v22+23, 23);
+	st8(v22+24, 24);
+	st8(v22+25, 25);
+	st8(v22+26, 26);
+	st8(v22+27, 27);
+	st8(v22+28, 28);
+	st8(v22+29, 29);
+	st8(v22+30, 30);
+	st8(v22+31, 31);
+	st8(v22+32, 32);
+	st8(v22+33, 33);
+	st8(v22+34, 34);
+	st8(v22+35, 35);
+	st8(v22+36, 36);
+	st8(v22+37, 37);
+	st8(v22+38, 38);
+	st8(v22+39, 39);
+	st8(v22+40, 40);
+	if ((u8)v58 >= 41) goto L8;
+	if (ld8(at(v22, v58 & 63)) != 35) { M3: v10 = v47; v11 = v48; v12 = v49; v13 = v50; v14 = v51; v15 = v52; v16 = v53; v17 = v54; v18 = v55; v19 = v56; v20 = v57; v9 = 1; goto L10; }
+	u64 v59 = v8 + 1;
+	if (v59 == ~0ull) { v10 = 1709571; v11 = 0x6972772068636165ull; v12 = 0x6920736177206574ull; v13 = 0x747075727265746eull; v14 = 0x2e2e2e2e2e2e6465ull; v15 = 0x2e2e2e2e2e2e2e2eull; v16 = 0x2e2e2e2e2e2e2e2eull; v17 = 0x2e2e2e2e2e2e2e2eull; v18 = 0x2e2e2e2e2e2e2e2eull; v19 = 0x2e2e2e2e2e2e2e2eull; v20 = 0x2e2e2e2e2e2e2e2eull; v9 = 1; goto L10; }
+	v8 = v59; goto L7;
+L8:
+	goto M3;
+L9:
+	v10 = v45 < v4 ? v45 : v4; v9 = v11 = v12 = v13 = v14 = v15 = v16 = v17 = v18 = v19 = v20 = 0;
+L10:
+	su64(v1, v9);
+	su64(v1+8, v10);
+	su64(v1+16, v11);
+	su64(v1+24, v12);
+	su64(v1+32, v13);
+	su64(v1+40, v14);
+	su64(v1+48, v15);
+	su64(v1+56, v16);
+	su64(v1+64, v17);
+	su64(v1+72, v18);
+	su64(v1+80, v19);
+	su64(v1+88, v20);
+	goto L12;
+L11:;
+	u64 v60 = ld64(v24+8), v61 = ld64(v24+16), v62 = ld64(v24+24), v63 = ld64(v24+32);
+	u64 v64 = ld64(v24+40), v65 = ld64(v24+48), v66 = ld64(v24+56), v67 = ld64(v24+64);
+	u64 v68 = ld64(v24+72), v69 = ld64(v24+80), v70 = ld64(v24+88);
+	su64(v1, 1);
+	su64(v1+8, v60);
+	su64(v1+16, v61);
+	su64(v1+24, v62);
+	su64(v1+32, v63);
+	su64(v1+40, v64);
+	su64(v1+48, v65);
+	su64(v1+56, v66);
+	su64(v1+64, v67);
+	su64(v1+72, v68);
+	su64(v1+80, v69);
+	su64(v1+88, v70);
+L12:
+	return;
+}
+static void std_alloc_vec_Vec_drop_0f0e(ptr v1) {
+	u64 v2, v3;
+	ptr v4 = lup(v1);
+	u64 v5 = lu64(v1+8), v6 = lu64(v1+16);
+	if (!v5) goto L10;
+	v2 = 0;
+L0:;
+	ptr v7 = at(v4, v2 * 48);
+	u64 v8 = lu64(v7+16), v9 = lu64(v7+24), v10 = lu64(v7+32), v11 = lu64(v7+40);
+	u8 v12 = (u8)lu16(v7+8), v13 = (u8)v8;
+	switch (ld8(v7)) {
+	case 0: goto L1;
+	case 1: goto L2;
+	case 2: goto L3;
+	case 3: goto L4;
+	case 4: goto L5;
+	case 5: goto L6;
+	case 6: goto L7;
+	default: goto L12;
+	}
+L1:
+	if (!v12 || !v10) goto L9;
+	v3 = v8; goto L8;
+L2:
+	if (!v12 || !v10) goto L9;
+	v3 = v8; goto L8;
+L3:
+	if (!v12 || !v10) goto L9;
+	v3 = v8; goto L8;
+L4:
+	if (!v12 || !v10) goto L9;
+	v3 = v8; goto L8;
+L5:
+	if (!v13 || !v11) goto L9;
+	v3 = v9; goto L8;
+L6:
+	if (!v13 || !v11) goto L9;
+	v3 = v9; goto L8;
+L7:
+	if (!v13 || !v11) goto L9;
+	v3 = v9;
+L8:
+	deallocate((ptr)v3);
+L9:;
+	u64 v14 = v2 + 1;
+	if (v14 != v5) { v2 = v14; goto L0; }
+L10:
+	if (!v6) goto L11;
+	deallocate(v4);
+L11:
+	return;
+L12:
+	__builtin_trap();
+}
+static APART RARE u8 std_alloc_vec_Vec_grow_amortized_35f1(ptr v1) {
+	t_64_64 v2;
+	u8 v3;
+	u64 v4 = ld64(v1+8);
+	if (v4 == ~0ull) { v3 = 0; goto L2; }
+	u64 v5 = ld64(v1+16), v6 = (v4 > 3 ? v4 : 3) + 1, v7 = v5 << 1, v8 = v6 > v7 ? v6 : v7;
+	u64 v9 = v5 < 0x4000000000000000ull ? v8 : v6;
+	if (v9 >= 0x2aaaaaaaaaaaaabull) { v3 = 0; goto L2; }
+	if (v5) goto L0;
+	t_64_64 v10 = allocate(v8 * 48, 8);
+	if (v10.f0 & 1) { v2 = v10; goto L1; }
+	v3 = 0; goto L2;
+L0:;
+	t_64_64 v11 = reallocate(ldp(v1), v4 * 48, v9 * 48, 8);
+	if (!(v11.f0 & 1)) { v3 = 0; goto L2; }
+	v2 = v11;
+L1:
+	stp(v1, (ptr)v2.f1);
+	st64(v1+16, v9);
+	v3 = 1;
+L2:
+	return v3;
+}
+static void pcap_blocks_section_header_SectionHeaderBlock_read(ptr v1, ptr v2, u64 v3) {
+	u8 v4, v6, v19, v31, v32, v34, v35, v38, v39, v44, v45, v46, v48, v61, v73, v74, v76, v77, v80, v81, v86, v87, v89, v90, v93, v94, v99, v100;
+	u64 v5, v7, v10, v13, v14, v17, v22, v24, v26, v27, v28, v30, v33, v36, v37, v43, v47, v49, v52, v55, v56, v59, v64, v66, v68, v69, v70, v72, v75, v78, v79, v85, v88, v91, v92, v98;
+	ptr v8, v16, v29, v50, v58, v71;
+	u32 v9, v15, v21, v25, v51, v57, v63, v67;
+	u16 v11, v12, v18, v20, v23, v40, v41, v42, v53, v54, v60, v62, v65, v82, v83, v84, v95, v96, v97;
+	_Alignas(8) u8 v101[1], v102[24], v103[24], v104[24], v105[24], v106[24], v107[24], v108[24], v110[24], v111[24], v112[24], v113[24], v114[24], v115[24], v116[24], v119[16] = {0};
+	_Alignas(2) u8 v109[22], v117[22], v118[6] = {0};
+	if (v3 >= 16) goto L0;
+	su64(v1, 1);
+	st8(v1+8, 3);
+	st8(v1+9, 10);
+	clear(v1+10, 54);
+	goto L73;
+L0:
+	switch ((u32)__builtin_bswap32(lu32(v2))) {
+	case 439041101: goto L1;
+	case 1295788826: goto L36;
+	default: v88 = 1; v89 = 3; v90 = 5; v91 = v92 = v93 = v94 = v95 = v96 = v97 = v98 = v99 = v100 = 0; goto L72;
+	}
+L1:
+	clear(v117, 22);
+	u16 v120 = (u16)__builtin_bswap16(lu16(v2+4)), v121 = (u16)__builtin_bswap16(lu16(v2+6));
+	u64 v122 = v3 - 16, v123 = (u64)__builtin_bswap64(lu64(v2+8));
+	stp(v116, v101);
+	clear(v116+8, 16);
+	u64 v124 = (u64)v101;
+	u8 v125 = (u8)(v124 >> 8), v126 = (u8)v124;
+	if (!v122) { v29 = v2+16; v31 = v126; v32 = v125; v30 = 0; goto L34; }
+	v4 = v126; v6 = v125; v7 = v122; v8 = v2+16; v5 = 0;
+L2:
+	if (v7 < 4) { v23 = 4099; v24 = v25 = 0; goto L31; }
+	u16 v127 = lu16(v8), v128 = (u16)__builtin_bswap16(v127);
+	u64 v129 = v7 - 4;
+	u16 v130 = (u16)__builtin_bswap16(lu16(v8+2));
+	if (!v127) { v29 = v8+4; v30 = v129; v31 = v4; v32 = v6; goto L34; }
+	u64 v131 = (u64)v130, v132 = ((0ull - v131) & 3) + v131;
+	if (v129 < v132) { v23 = 4355; v24 = v25 = 0; goto L31; }
+	ptr v133 = at(v8+4, v132);
+	u64 v134 = v129 - v132;
+	switch (v128) {
+	case 1: goto L3;
+	case 2: goto L5;
+	case 3: goto L7;
+	case 4: goto L9;
+	case 2988: case 19372: goto L11;
+	case 2989: case 19373: goto L14;
+	default: v16 = v8+4; v17 = v131; v18 = v130; v20 = v128; v19 = 6; v21 = v22 = 0; goto L17;
+	}
+L3:
+	clear(v114, 24);
+	core_str_utf8_from_utf8(v114, v8+4, v131);
+	u64 v135 = ld64(v114+8);
+	if (ld8(v114)) goto L4;
+	v16 = (ptr)ld64(v114+16); v22 = v135; v17 = v18 = v19 = v20 = v21 = 0; goto L17;
+L4:
+	v13 = v135; v14 = v135 & 0xffffffff00000000ull; v15 = (u32)ld16(v114+16); v12 = 2; goto L15;
+L5:
+	clear(v113, 24);
+	core_str_utf8_from_utf8(v113, v8+4, v131);
+	u64 v136 = ld64(v113+8);
+	if (ld8(v113)) goto L6;
+	v16 = (ptr)ld64(v113+16); v22 = v136; v17 = v18 = v20 = v21 = 0; v19 = 1; goto L17;
+L6:
+	v13 = v136; v14 = v136 & 0xffffffff00000000ull; v15 = (u32)ld16(v113+16); v12 = 2; goto L15;
+L7:
+	clear(v112, 24);
+	core_str_utf8_from_utf8(v112, v8+4, v131);
+	u64 v137 = ld64(v112+8);
+	if (ld8(v112)) goto L8;
+	v16 = (ptr)ld64(v112+16); v22 = v137; v17 = v18 = v20 = v21 = 0; v19 = 2; goto L17;
+L8:
+	v13 = v137; v14 = v137 & 0xffffffff00000000ull; v15 = (u32)ld16(v112+16); v12 = 2; goto L15;
+L9:
+	clear(v111, 24);
+	core_str_utf8_from_utf8(v111, v8+4, v131);
+	u64 v138 = ld64(v111+8);
+	if (ld8(v111)) goto L10;
+	v16 = (ptr)ld64(v111+16); v22 = v138; v17 = v18 = v20 = v21 = 0; v19 = 3; goto L17;
+L10:
+	v13 = v138; v14 = v138 & 0xffffffff00000000ull; v15 = (u32)ld16(v111+16); v12 = 2; goto L15;
+L11:
+	if (v130 < 4) { v9 = v10 = 0; v11 = 1; goto L13; }
+	u32 v139 = lu32(v8+4);
+	clear(v110, 24);
+	core_str_utf8_from_utf8(v110, v8+8, v131 - 4);
+	u64 v140 = ld64(v110+8);
+	if (ld8(v110)) goto L12;
+	v16 = (ptr)v140; v17 = ld64(v110+16); v20 = v128; v21 = (u32)__builtin_bswap32(v139); v18 = v22 = 0; v19 = 5; goto L17;
+L12:
+	v9 = (u32)ld16(v110+16); v10 = v140; v11 = 2;
+L13:
+	v12 = v11; v13 = v10; v14 = v10 & 0xffffffff00000000ull; v15 = v9; goto L15;
+L14:
+	if (v130 >= 4) goto L16;
+	v12 = 1; v13 = v14 = v15 = 0;
+L15:
+	v23 = v12; v24 = (v13 & 4294967295u) | v14; v25 = v15; goto L31;
+L16:
+	v16 = v8+8; v17 = v131 - 4; v20 = v128; v21 = (u32)__builtin_bswap32(lu32(v8+4)); v18 = v22 = 0; v19 = 4;
+L17:;
+	u64 v141 = (u64)v16, v142 = (u64)v19;
+	if (v5) goto L23;
+	t_64_64 v143 = allocate(384, 8);
+	if (!(v143.f0 & 1)) goto L18;
+	copy(v115, v116, 24);
+	stp(v116, (ptr)v143.f1);
+	st64(v116+16, 8);
+	std_alloc_vec_Vec_drop_0f0e(v115);
+	su64((ptr)v143.f1, v142);
+	su16((ptr)v143.f1+8, v20);
+	su16((ptr)v143.f1+10, v18);
+	su32((ptr)v143.f1+12, v21);
+	su64((ptr)v143.f1+16, v22);
+	su64((ptr)v143.f1+24, v141);
+	su64((ptr)v143.f1+32, v17);
+	su64((ptr)v143.f1+40, 0);
+	v27 = v143.f1; v28 = 1; goto L33;
+L18:;
+	u8 v144 = (u8)v20;
+	switch (v19) {
+	case 0: goto L19;
+	case 1: goto L20;
+	case 2: goto L21;
+	case 3: goto L22;
+	case 4: case 5: case 6: goto L30;
+	default: goto L67;
+	}
+L19:
+	if (!v144 || !v17) goto L30;
+	goto L29;
+L20:
+	if (!v144 || !v17) goto L30;
+	goto L29;
+L21:
+	if (!v144 || !v17) goto L30;
+	goto L29;
+L22:
+	if (!v144 || !v17) goto L30;
+	goto L29;
+L23:
+	if (ld64(v116+16) != v5) { v26 = v5; goto L32; }
+	u8 v145 = std_alloc_vec_Vec_grow_amortized_35f1(v116);
+	if (!v145) goto L24;
+	v26 = ld64(v116+8); goto L32;
+L24:;
+	u8 v146 = (u8)v20;
+	switch (v19) {
+	case 0: goto L25;
+	case 1: goto L26;
+	case 2: goto L27;
+	case 3: goto L28;
+	case 4: case 5: case 6: goto L30;
+	default: goto L67;
+	}
+L25:
+	if (!v146 || !v17) goto L30;
+	goto L29;
+L26:
+	if (!v146 || !v17) goto L30;
+	goto L29;
+L27:
+	if (!v146 || !v17) goto L30;
+	goto L29;
+L28:
+	if (!v146 || !v17) goto L30;
+L29:
+	deallocate((ptr)v22);
+L30:
+	v23 = v24 = v25 = 0;
+L31:
+	std_alloc_vec_Vec_drop_0f0e(v116);
+	clear(v118, 6);
+	clear(v119, 16);
+	v34 = (u8)v23; v35 = (u8)(v23 >> 8); v37 = v24; v38 = (u8)v25; v39 = (u8)(v25 >> 8); v33 = 1; v36 = v40 = v41 = v42 = v43 = v44 = v45 = 0; goto L35;
+L32:;
+	ptr v147 = ldp(v116), v148 = at(v147, v26 * 48);
+	su64(v148, v142);
+	su16(v148+8, v20);
+	su16(v148+10, v18);
+	su32(v148+12, v21);
+	su64(v148+16, v22);
+	su64(v148+24, v141);
+	su64(v148+32, v17);
+	su64(v148+40, 0);
+	v27 = (u64)v147; v28 = v26 + 1;
+L33:;
+	u8 v149 = (u8)v27, v150 = (u8)(v27 >> 8);
+	st64(v116+8, v28);
+	if (v134) { v4 = v149; v5 = v28; v6 = v150; v7 = v134; v8 = v133; goto L2; }
+	v29 = v133; v31 = v149; v32 = v150; v30 = 0;
+L34:
+	copy(v117, v116+2, 22);
+	u64 v151 = (u64)v29;
+	copy(v118, v117, 6);
+	copy(v119, v117+6, 16);
+	v34 = (u8)v151; v35 = (u8)(v151 >> 8); v36 = (v151 >> 16) & 0xffffffffffffull; v37 = v30; v40 = 6699; v41 = v120; v42 = v121; v43 = v123; v44 = v31; v45 = v32; v33 = 0; v38 = 77; v39 = 60;
+L35:
+	v88 = v33; v89 = v34; v90 = v35; v91 = v36; v92 = v37; v93 = v38; v94 = v39; v95 = v40; v96 = v41; v97 = v42; v98 = v43; v99 = v44; v100 = v45; goto L72;
+L36:
+	clear(v109, 22);
+	u16 v152 = lu16(v2+4), v153 = lu16(v2+6);
+	u64 v154 = v3 - 16, v155 = lu64(v2+8);
+	stp(v108, v101);
+	clear(v108+8, 16);
+	u64 v156 = (u64)v101;
+	u8 v157 = (u8)(v156 >> 8), v158 = (u8)v156;
+	if (!v154) { v71 = v2+16; v73 = v158; v74 = v157; v72 = 0; goto L70; }
+	v46 = v158; v48 = v157; v49 = v154; v50 = v2+16; v47 = 0;
+L37:
+	if (v49 < 4) { v65 = 4099; v66 = v67 = 0; goto L66; }
+	u16 v159 = lu16(v50);
+	u64 v160 = v49 - 4;
+	u16 v161 = lu16(v50+2);
+	if (!v159) { v71 = v50+4; v72 = v160; v73 = v46; v74 = v48; goto L70; }
+	u64 v162 = (u64)v161, v163 = ((0ull - v162) & 3) + v162;
+	if (v160 < v163) { v65 = 4355; v66 = v67 = 0; goto L66; }
+	ptr v164 = at(v50+4, v163);
+	u64 v165 = v160 - v163;
+	switch (v159) {
+	case 1: goto L38;
+	case 2: goto L40;
+	case 3: goto L42;
+	case 4: goto L44;
+	case 2988: case 19372: goto L46;
+	case 2989: case 19373: goto L49;
+	default: v58 = v50+4; v59 = v162; v60 = v161; v62 = v159; v61 = 6; v63 = v64 = 0; goto L52;
+	}
+L38:
+	clear(v106, 24);
+	core_str_utf8_from_utf8(v106, v50+4, v162);
+	u64 v166 = ld64(v106+8);
+	if (ld8(v106)) goto L39;
+	v58 = (ptr)ld64(v106+16); v64 = v166; v59 = v60 = v61 = v62 = v63 = 0; goto L52;
+L39:
+	v55 = v166; v56 = v166 & 0xffffffff00000000ull; v57 = (u32)ld16(v106+16); v54 = 2; goto L50;
+L40:
+	clear(v105, 24);
+	core_str_utf8_from_utf8(v105, v50+4, v162);
+	u64 v167 = ld64(v105+8);
+	if (ld8(v105)) goto L41;
+	v58 = (ptr)ld64(v105+16); v64 = v167; v59 = v60 = v62 = v63 = 0; v61 = 1; goto L52;
+L41:
+	v55 = v167; v56 = v167 & 0xffffffff00000000ull; v57 = (u32)ld16(v105+16); v54 = 2; goto L50;
+L42:
+	clear(v104, 24);
+	core_str_utf8_from_utf8(v104, v50+4, v162);
+	u64 v168 = ld64(v104+8);
+	if (ld8(v104)) goto L43;
+	v58 = (ptr)ld64(v104+16); v64 = v168; v59 = v60 = v62 = v63 = 0; v61 = 2; goto L52;
+L43:
+	v55 = v168; v56 = v168 & 0xffffffff00000000ull; v57 = (u32)ld16(v104+16); v54 = 2; goto L50;
+L44:
+	clear(v103, 24);
+	core_str_utf8_from_utf8(v103, v50+4, v162);
+	u64 v169 = ld64(v103+8);
+	if (ld8(v103)) goto L45;
+	v58 = (ptr)ld64(v103+16); v64 = v169; v59 = v60 = v62 = v63 = 0; v61 = 3; goto L52;
+L45:
+	v55 = v169; v56 = v169 & 0xffffffff00000000ull; v57 = (u32)ld16(v103+16); v54 = 2; goto L50;
+L46:
+	if (v161 < 4) { v51 = v52 = 0; v53 = 1; goto L48; }
+	u32 v170 = lu32(v50+4);
+	clear(v102, 24);
+	core_str_utf8_from_utf8(v102, v50+8, v162 - 4);
+	u64 v171 = ld64(v102+8);
+	if (ld8(v102)) goto L47;
+	v58 = (ptr)v171; v59 = ld64(v102+16); v62 = v159; v63 = v170; v60 = v64 = 0; v61 = 5; goto L52;
+L47:
+	v51 = (u32)ld16(v102+16); v52 = v171; v53 = 2;
+L48:
+	v54 = v53; v55 = v52; v56 = v52 & 0xffffffff00000000ull; v57 = v51; goto L50;
+L49:
+	if (v161 >= 4) goto L51;
+	v54 = 1; v55 = v56 = v57 = 0;
+L50:
+	v65 = v54; v66 = (v55 & 4294967295u) | v56; v67 = v57; goto L66;
+L51:
+	v58 = v50+8; v59 = v162 - 4; v62 = v159; v63 = lu32(v50+4); v60 = v64 = 0; v61 = 4;
+L52:;
+	u64 v172 = (u64)v58, v173 = (u64)v61;
+	if (v47) goto L58;
+	t_64_64 v174 = allocate(384, 8);
+	if (!(v174.f0 & 1)) goto L53;
+	copy(v107, v108, 24);
+	stp(v108, (ptr)v174.f1);
+	st64(v108+16, 8);
+	std_alloc_vec_Vec_drop_0f0e(v107);
+	su64((ptr)v174.f1, v173);
+	su16((ptr)v174.f1+8, v62);
+	su16((ptr)v174.f1+10, v60);
+	su32((ptr)v174.f1+12, v63);
+	su64((ptr)v174.f1+16, v64);
+	su64((ptr)v174.f1+24, v172);
+	su64((ptr)v174.f1+32, v59);
+	su64((ptr)v174.f1+40, 0);
+	v69 = v174.f1; v70 = 1; goto L69;
+L53:;
+	u8 v175 = (u8)v62;
+	switch (v61) {
+	case 0: goto L54;
+	case 1: goto L55;
+	case 2: goto L56;
+	case 3: goto L57;
+	case 4: case 5: case 6: goto L65;
+	default: goto L67;
+	}
+L54:
+	if (!v175 || !v59) goto L65;
+	goto L64;
+L55:
+	if (!v175 || !v59) goto L65;
+	goto L64;
+L56:
+	if (!v175 || !v59) goto L65;
+	goto L64;
+L57:
+	if (!v175 || !v59) goto L65;
+	goto L64;
+L58:
+	if (ld64(v108+16) != v47) { v68 = v47; goto L68; }
+	u8 v176 = std_alloc_vec_Vec_grow_amortized_35f1(v108);
+	if (!v176) goto L59;
+	v68 = ld64(v108+8); goto L68;
+L59:;
+	u8 v177 = (u8)v62;
+	switch (v61) {
+	case 0: goto L60;
+	case 1: goto L61;
+	case 2: goto L62;
+	case 3: goto L63;
+	case 4: case 5: case 6: goto L65;
+	default: goto L67;
+	}
+L60:
+	if (!v177 || !v59) goto L65;
+	goto L64;
+L61:
+	if (!v177 || !v59) goto L65;
+	goto L64;
+L62:
+	if (!v177 || !v59) goto L65;
+	goto L64;
+L63:
+	if (!v177 || !v59) goto L65;
+L64:
+	deallocate((ptr)v64);
+L65:
+	v65 = v66 = v67 = 0;
+L66:
+	std_alloc_vec_Vec_drop_0f0e(v108);
+	clear(v118, 6);
+	clear(v119, 16);
+	v76 = (u8)v65; v77 = (u8)(v65 >> 8); v79 = v66; v80 = (u8)v67; v81 = (u8)(v67 >> 8); v75 = 1; v78 = v82 = v83 = v84 = v85 = v86 = v87 = 0; goto L71;
+L67:
+	__builtin_trap();
+L68:;
+	ptr v178 = ldp(v108), v179 = at(v178, v68 * 48);
+	su64(v179, v173);
+	su16(v179+8, v62);
+	su16(v179+10, v60);
+	su32(v179+12, v63);
+	su64(v179+16, v64);
+	su64(v179+24, v172);
+	su64(v179+32, v59);
+	su64(v179+40, 0);
+	v69 = (u64)v178; v70 = v68 + 1;
+L69:;
+	u8 v180 = (u8)v69, v181 = (u8)(v69 >> 8);
+	st64(v108+8, v70);
+	if (v165) { v46 = v180; v47 = v70; v48 = v181; v49 = v165; v50 = v164; goto L37; }
+	v71 = v164; v73 = v180; v74 = v181; v72 = 0;
+L70:
+	copy(v109, v108+2, 22);
+	u64 v182 = (u64)v71;
+	copy(v118, v109, 6);
+	copy(v119, v109+6, 16);
+	v76 = (u8)v182; v77 = (u8)(v182 >> 8); v78 = (v182 >> 16) & 0xffffffffffffull; v79 = v72; v82 = 19772; v83 = v152; v84 = v153; v85 = v155; v86 = v73; v87 = v74; v75 = 0; v80 = 26; v81 = 43;
+L71:
+	v88 = v75; v89 = v76; v90 = v77; v91 = v78; v92 = v79; v93 = v80; v94 = v81; v95 = v82; v96 = v83; v97 = v84; v98 = v85; v99 = v86; v100 = v87;
+L72:
+	su64(v1, v88);
+	st8(v1+8, v89);
+	st8(v1+9, v90);
+	st_bytes(v1+10, v91, 6);
+	su64(v1+16, v92);
+	st8(v1+24, v93);
+	st8(v1+25, v94);
+	su16(v1+26, v95);
+	su16(v1+28, v96);
+	su16(v1+30, v97);
+	su64(v1+32, v98);
+	st8(v1+40, v99);
+	st8(v1+41, v100);
+	copy(v1+42, v118, 6);
+	copy(v1+48, v119, 16);
+L73:
+	return;
+}
+static void ptions_interface_option_InterfaceDescriptionOption_Destruct_drop(ptr v1) {
+	u64 v2;
+	u8 v3 = ld8(v1+8);
+	u64 v4 = lu64(v1+16);
+	u8 v5 = (u8)v4;
+	u64 v6 = lu64(v1+24), v7 = lu64(v1+32), v8 = lu64(v1+40);
+	switch (ld8(v1)) {
+	case 0: goto L0;
+	case 1: goto L1;
+	case 2: goto L2;
+	case 3: goto L3;
+	case 4: goto L4;
+	case 5: goto L5;
+	case 6: case 7: case 8: case 9: case 12: case 13: goto L13;
+	case 10: goto L6;
+	case 11: goto L7;
+	case 14: goto L8;
+	case 15: goto L9;
+	case 16: goto L10;
+	case 17: goto L11;
+	default: goto L14;
+	}
+L0:
+	if (!v3 || !v7) goto L13;
+	v2 = v4; goto L12;
+L1:
+	if (!v3 || !v7) goto L13;
+	v2 = v4; goto L12;
+L2:
+	if (!v3 || !v7) goto L13;
+	v2 = v4; goto L12;
+L3:
+	if (!v3 || !v7) goto L13;
+	v2 = v4; goto L12;
+L4:
+	if (!v3 || !v7) goto L13;
+	v2 = v4; goto L12;
+L5:
+	if (!v3 || !v7) goto L13;
+	v2 = v4; goto L12;
+L6:
+	if (!v3 || !v7) goto L13;
+	v2 = v4; goto L12;
+L7:
+	if (!v3 || !v7) goto L13;
+	v2 = v4; goto L12;
+L8:
+	if (!v3 || !v7) goto L13;
+	v2 = v4; goto L12;
+L9:
+	if (!v5 || !v8) goto L13;
+	v2 = v6; goto L12;
+L10:
+	if (!v5 || !v8) goto L13;
+	v2 = v6; goto L12;
+L11:
+	if (!v5 || !v8) goto L13;
+	v2 = v6;
+L12:
+	deallocate((ptr)v2);
+L13:
+	return;
+L14:
+	__builtin_trap();
+}
+static void blocks_interface_description_InterfaceDescriptionBlock_read_4da0(ptr v1, ptr v2, u64 v3) {
+	u8 v4, v6, v12, v13, v20, v21, v37, v38;
+	u64 v5, v7, v9, v10, v14, v16, v18, v25, v26, v27, v30, v32, v33, v34, v36;
+	ptr v8, v17, v28, v35;
+	u16 v11, v15, v22, v23, v29;
+	u32 v19, v24, v31;
+	_Alignas(8) u8 v39[1], v40[48], v41[48], v42[48], v43[24], v44[24], v45[24], v46[24], v47[24], v48[24], v49[48], v50[24];
+	_Alignas(2) u8 v51[22] = {0};
+	if (v3 >= 8) goto L0;
+	su64(v1, 1);
+	st8(v1+8, 3);
+	st8(v1+9, 11);
+	clear(v1+10, 54);
+	goto L42;
+L0:;
+	u16 v52 = (u16)__builtin_bswap16(lu16(v2)), v53 = (u16)__builtin_bswap16(lu16(v2+2));
+	u64 v54 = v3 - 8;
+	u32 v55 = (u32)__builtin_bswap32(lu32(v2+4));
+	stp(v50, v39);
+	clear(v50+8, 16);
+	u64 v56 = (u64)v39;
+	u8 v57 = (u8)(v56 >> 8), v58 = (u8)v56;
+	if (!v54) { v35 = v2+8; v37 = v58; v38 = v57; v36 = 0; goto L41; }
+	v4 = v58; v6 = v57; v7 = v54; v8 = v2+8; v5 = 0;
+L1:
+	if (v7 < 4) { v15 = 4099; v12 = v13 = v14 = 0; goto L26; }
+	u16 v59 = lu16(v8), v60 = (u16)__builtin_bswap16(v59);
+	u64 v61 = v7 - 4;
+	u16 v62 = lu16(v8+2), v63 = (u16)__builtin_bswap16(v62);
+	if (!v59) { v35 = v8+4; v36 = v61; v37 = v4; v38 = v6; goto L41; }
+	u64 v64 = (u64)v63, v65 = ((0ull - v64) & 3) + v64;
+	if (v61 < v65) { v15 = 4355; v12 = v13 = v14 = 0; goto L26; }
+	ptr v66 = at(v8+4, v65);
+	u64 v67 = v61 - v65;
+	switch (v60) {
+	case 1: goto L2;
+	case 2: goto L4;
+	case 3: goto L6;
+	case 4: goto L8;
+	case 5: goto L9;
+	case 6: goto L10;
+	case 7: goto L11;
+	case 8: goto L12;
+	case 9: goto L13;
+	case 10: goto L14;
+	case 11: goto L15;
+	case 12: goto L16;
+	case 13: goto L18;
+	case 14: goto L19;
+	case 15: goto L20;
+	case 2988: case 19372: goto L22;
+	case 2989: case 19373: goto L25;
+	default: v17 = v8+4; v18 = v64; v22 = v60; v23 = v63; v19 = v21 = v24 = v25 = 0; v20 = 17; goto L31;
+	}
+L2:
+	clear(v48, 24);
+	core_str_utf8_from_utf8(v48, v8+4, v64);
+	u64 v68 = ld64(v48+8);
+	if (ld8(v48)) goto L3;
+	v17 = (ptr)ld64(v48+16); v25 = v68; v18 = v19 = v20 = v21 = v22 = v23 = v24 = 0; goto L31;
+L3:
+	v12 = ld8(v48+17); v13 = ld8(v48+16); v14 = v68; v15 = 2; goto L26;
+L4:
+	clear(v47, 24);
+	core_str_utf8_from_utf8(v47, v8+4, v64);
+	u64 v69 = ld64(v47+8);
+	if (ld8(v47)) goto L5;
+	v17 = (ptr)ld64(v47+16); v25 = v69; v18 = v19 = v21 = v22 = v23 = v24 = 0; v20 = 1; goto L31;
+L5:
+	v12 = ld8(v47+17); v13 = ld8(v47+16); v14 = v69; v15 = 2; goto L26;
+L6:
+	clear(v46, 24);
+	core_str_utf8_from_utf8(v46, v8+4, v64);
+	u64 v70 = ld64(v46+8);
+	if (ld8(v46)) goto L7;
+	v17 = (ptr)ld64(v46+16); v25 = v70; v18 = v19 = v21 = v22 = v23 = v24 = 0; v20 = 2; goto L31;
+L7:
+	v12 = ld8(v46+17); v13 = ld8(v46+16); v14 = v70; v15 = 2; goto L26;
+L8:
+	if (v62 == 2048) { v17 = (ptr)8ull; v25 = (u64)(v8+4); v18 = v19 = v21 = v22 = v23 = v24 = 0; v20 = 3; goto L31; }
+	v15 = 4611; v12 = v13 = v14 = 0; goto L26;
+L9:
+	if (v62 == 4352) { v17 = (ptr)17ull; v25 = (u64)(v8+4); v18 = v19 = v21 = v22 = v23 = v24 = 0; v20 = 4; goto L31; }
+	v15 = 4867; v12 = v13 = v14 = 0; goto L26;
+L10:
+	if (v62 == 1536) { v17 = (ptr)6ull; v25 = (u64)(v8+4); v18 = v19 = v21 = v22 = v23 = v24 = 0; v20 = 5; goto L31; }
+	v15 = 5123; v12 = v13 = v14 = 0; goto L26;
+L11:
+	if (v62 != 2048) { v15 = 5379; v12 = v13 = v14 = 0; goto L26; }
+	u64 v71 = (u64)__builtin_bswap64(lu64(v8+4));
+	v17 = (ptr)0; v22 = (u16)v71; v23 = (u16)(v71 >> 16); v24 = (u32)(v71 >> 32); v18 = v19 = v21 = v25 = 0; v20 = 6; goto L31;
+L12:
+	if (v62 != 2048) { v15 = 5635; v12 = v13 = v14 = 0; goto L26; }
+	u64 v72 = (u64)__builtin_bswap64(lu64(v8+4));
+	v17 = (ptr)0; v22 = (u16)v72; v23 = (u16)(v72 >> 16); v24 = (u32)(v72 >> 32); v18 = v19 = v21 = v25 = 0; v20 = 7; goto L31;
+L13:
+	if (v62 != 256) { v15 = 5891; v12 = v13 = v14 = 0; goto L26; }
+	v17 = (ptr)0; v21 = ld8(v8+4); v18 = v19 = v22 = v23 = v24 = v25 = 0; v20 = 8; goto L31;
+L14:
+	if (v62 != 1024) { v15 = 6147; v12 = v13 = v14 = 0; goto L26; }
+	v17 = (ptr)0; v19 = (u32)__builtin_bswap32(lu32(v8+4)); v18 = v21 = v22 = v23 = v24 = v25 = 0; v20 = 9; goto L31;
+L15:
+	if (!v62) { v15 = 6403; v12 = v13 = v14 = 0; goto L26; }
+	v17 = (ptr)v64; v25 = (u64)(v8+4); v18 = v19 = v21 = v22 = v23 = v24 = 0; v20 = 10; goto L31;
+L16:
+	clear(v45, 24);
+	core_str_utf8_from_utf8(v45, v8+4, v64);
+	u64 v73 = ld64(v45+8);
+	if (ld8(v45)) goto L17;
+	v17 = (ptr)ld64(v45+16); v25 = v73; v18 = v19 = v21 = v22 = v23 = v24 = 0; v20 = 11; goto L31;
+L17:
+	v12 = ld8(v45+17); v13 = ld8(v45+16); v14 = v73; v15 = 2; goto L26;
+L18:
+	if (v62 != 256) { v15 = 6659; v12 = v13 = v14 = 0; goto L26; }
+	v17 = (ptr)0; v21 = ld8(v8+4); v18 = v19 = v22 = v23 = v24 = v25 = 0; v20 = 12; goto L31;
+L19:
+	if (v62 != 2048) { v15 = 6915; v12 = v13 = v14 = 0; goto L26; }
+	u64 v74 = (u64)__builtin_bswap64(lu64(v8+4));
+	v17 = (ptr)0; v22 = (u16)v74; v23 = (u16)(v74 >> 16); v24 = (u32)(v74 >> 32); v18 = v19 = v21 = v25 = 0; v20 = 13; goto L31;
+L20:
+	clear(v44, 24);
+	core_str_utf8_from_utf8(v44, v8+4, v64);
+	u64 v75 = ld64(v44+8);
+	if (ld8(v44)) goto L21;
+	v17 = (ptr)ld64(v44+16); v25 = v75; v18 = v19 = v21 = v22 = v23 = v24 = 0; v20 = 14; goto L31;
+L21:
+	v12 = ld8(v44+17); v13 = ld8(v44+16); v14 = v75; v15 = 2; goto L26;
+L22:
+	if (v63 < 4) { v9 = v10 = 0; v11 = 1; goto L24; }
+	u32 v76 = lu32(v8+4);
+	clear(v43, 24);
+	core_str_utf8_from_utf8(v43, v8+8, v64 - 4);
+	u64 v77 = ld64(v43+8);
+	if (ld8(v43)) goto L23;
+	v17 = (ptr)v77; v18 = ld64(v43+16); v22 = v60; v24 = (u32)__builtin_bswap32(v76); v19 = v21 = v23 = v25 = 0; v20 = 16; goto L31;
+L23:
+	v9 = (u64)ld16(v43+16); v10 = v77; v11 = 2;
+L24:
+	v12 = (u8)(v9 >> 8); v13 = (u8)v9; v14 = v10; v15 = v11; goto L26;
+L25:
+	if (v63 >= 4) goto L30;
+	v12 = v13 = v14 = 0; v15 = 1;
+L26:;
+	ptr v78 = ldp(v50);
+	u64 v79 = ld64(v50+16);
+	if (!v5) goto L28;
+	v16 = 0;
+L27:;
+	ptr v80 = at(v78, v16 * 48);
+	u8 v81 = ld8(v80), v82 = ld8(v80+1);
+	u32 v83 = lu32(v80+4);
+	u64 v84 = lu64(v80+8);
+	st64(v42, 0);
+	st8(v42, v81);
+	st8(v42+1, v82);
+	st32(v42+4, v83);
+	st64(v42+8, v84);
+	copy(v42+16, v80+16, 32);
+	ptions_interface_option_InterfaceDescriptionOption_Destruct_drop(v42);
+	u64 v85 = v16 + 1;
+	if (v85 != v5) { v16 = v85; goto L27; }
+L28:
+	if (!v79) goto L29;
+	deallocate(v78);
+L29:
+	v29 = v15; v30 = v14; v31 = ((u32)v12 << 8) | (u32)v13; goto L38;
+L30:
+	v17 = v8+8; v18 = v64 - 4; v22 = v60; v24 = (u32)__builtin_bswap32(lu32(v8+4)); v19 = v21 = v23 = v25 = 0; v20 = 15;
+L31:;
+	u64 v86 = ((u64)v24 << 32) | ((u64)v23 << 16) | (u64)v22;
+	st64(v49, 0);
+	if (v5) goto L34;
+	t_64_64 v87 = allocate(384, 8);
+	if (!(v87.f0 & 1)) goto L33;
+	ptr v88 = ldp(v50);
+	u64 v89 = ld64(v50+16);
+	stp(v50, (ptr)v87.f1);
+	st64(v50+8, 0);
+	st64(v50+16, 8);
+	if (!v89) goto L32;
+	deallocate(v88);
+L32:
+	st8((ptr)v87.f1, v20);
+	st8((ptr)v87.f1+1, v21);
+	su32((ptr)v87.f1+4, v19);
+	su64((ptr)v87.f1+8, v86);
+	su64((ptr)v87.f1+16, v25);
+	sup((ptr)v87.f1+24, v17);
+	su64((ptr)v87.f1+32, v18);
+	su64((ptr)v87.f1+40, 0);
+	v33 = v87.f1; v34 = 1; goto L40;
+L33:
+	st8(v49, v20);
+	st8(v49+1, v21);
+	st32(v49+4, v19);
+	st64(v49+8, v86);
+	st64(v49+16, v25);
+	stp(v49+24, v17);
+	st64(v49+32, v18);
+	st64(v49+40, 0);
+	ptions_interface_option_InterfaceDescriptionOption_Destruct_drop(v49);
+	v27 = ld64(v50+16); v28 = ldp(v50); goto L37;
+L34:
+	if (ld64(v50+16) != v5) { v32 = v5; goto L39; }
+	u8 v90 = std_alloc_vec_Vec_grow_amortized_35f1(v50);
+	if (!v90) goto L35;
+	v32 = ld64(v50+8); goto L39;
+L35:
+	st64(v41+16, v25);
+	stp(v41+24, v17);
+	st64(v41+32, v18);
+	st64(v41+40, 0);
+	st64(v41, 0);
+	st8(v41, v20);
+	st8(v41+1, v21);
+	st32(v41+4, v19);
+	st64(v41+8, v86);
+	ptions_interface_option_InterfaceDescriptionOption_Destruct_drop(v41);
+	u64 v91 = ld64(v50+8);
+	ptr v92 = ldp(v50);
+	u64 v93 = ld64(v50+16);
+	if (!v91) { v27 = v93; v28 = v92; goto L37; }
+	v26 = 0;
+L36:;
+	ptr v94 = at(v92, v26 * 48);
+	u8 v95 = ld8(v94), v96 = ld8(v94+1);
+	u32 v97 = lu32(v94+4);
+	u64 v98 = lu64(v94+8);
+	st64(v40, 0);
+	st8(v40, v95);
+	st8(v40+1, v96);
+	st32(v40+4, v97);
+	st64(v40+8, v98);
+	copy(v40+16, v94+16, 32);
+	ptions_interface_option_InterfaceDescriptionOption_Destruct_drop(v40);
+	u64 v99 = v26 + 1;
+	if (v99 != v91) { v26 = v99; goto L36; }
+	v27 = v93; v28 = v92;
+L37:
+	if (!v27) { v29 = v30 = v31 = 0; goto L38; }
+	deallocate(v28);
+	v29 = v30 = v31 = 0;
+L38:
+	su64(v1, 1);
+	su16(v1+8, v29);
+	st_bytes(v1+10, 0, 6);
+	su64(v1+16, v30);
+	su32(v1+24, v31);
+	clear(v1+28, 36);
+	goto L42;
+L39:;
+	ptr v100 = ldp(v50), v101 = at(v100, v32 * 48);
+	st8(v101, v20);
+	st8(v101+1, v21);
+	su32(v101+4, v19);
+	su64(v101+8, v86);
+	su64(v101+16, v25);
+	sup(v101+24, v17);
+	su64(v101+32, v18);
+	su64(v101+40, 0);
+	v33 = (u64)v100; v34 = v32 + 1;
+L40:;
+	u8 v102 = (u8)(v33 >> 8);
+	st64(v50+8, v34);
+	if (v67) { v4 = (u8)v33; v5 = v34; v6 = v102; v7 = v67; v8 = v66; goto L1; }
+	v35 = v66; v37 = (u8)v33; v38 = v102; v36 = 0;
+L41:
+	copy(v51, v50+2, 22);
+	t_8_32 v103 = pcap_core_link_DataLinkFromU32_from((u32)v52);
+	su64(v1, 0);
+	su64(v1+8, (u64)v35);
+	su64(v1+16, v36);
+	su32(v1+24, (u32)v103.f0);
+	su32(v1+28, v103.f1);
+	su16(v1+32, v53);
+	su16(v1+34, 0);
+	su32(v1+36, v55);
+	st8(v1+40, v37);
+	st8(v1+41, v38);
+	copy(v1+42, v51, 6);
+	copy(v1+48, v51+6, 16);
+L42:
+	return;
+}
+static void std_alloc_vec_Vec_drop_e82e(ptr v1) {
+	u64 v2, v3;
+	ptr v4 = lup(v1);
+	u64 v5 = lu64(v1+8), v6 = lu64(v1+16);
+	if (!v5) goto L8;
+	v2 = 0;
+L0:;
+	ptr v7 = at(v4, v2 * 48);
+	u64 v8 = lu64(v7+16), v9 = lu64(v7+24), v10 = lu64(v7+32), v11 = lu64(v7+40);
+	u8 v12 = (u8)lu16(v7+8), v13 = (u8)v8;
+	switch (ld8(v7)) {
+	case 0: goto L1;
+	case 1: goto L7;
+	case 2: goto L2;
+	case 3: goto L3;
+	case 4: goto L4;
+	case 5: goto L5;
+	default: goto L10;
+	}
+L1:
+	if (!v12 || !v10) goto L7;
+	v3 = v8; goto L6;
+L2:
+	if (!v12 || !v10) goto L7;
+	v3 = v8; goto L6;
+L3:
+	if (!v13 || !v11) goto L7;
+	v3 = v9; goto L6;
+L4:
+	if (!v13 || !v11) goto L7;
+	v3 = v9; goto L6;
+L5:
+	if (!v13 || !v11) goto L7;
+	v3 = v9;
+L6:
+	deallocate((ptr)v3);
+L7:;
+	u64 v14 = v2 + 1;
+	if (v14 != v5) { v2 = v14; goto L0; }
+L8:
+	if (!v6) goto L9;
+	deallocate(v4);
+L9:
+	return;
+L10:
+	__builtin_trap();
+}
+static APART RARE u8 std_alloc_vec_Vec_grow_amortized_2044(ptr v1) {
+	t_64_64 v2;
+	u8 v3;
+	u64 v4 = ld64(v1+8);
+	if (v4 == ~0ull) { v3 = 0; goto L2; }
+	u64 v5 = ld64(v1+16), v6 = (v4 > 3 ? v4 : 3) + 1, v7 = v5 << 1, v8 = v6 > v7 ? v6 : v7;
+	u64 v9 = v5 < 0x4000000000000000ull ? v8 : v6;
+	if (v9 >= 0x400000000000000ull) { v3 = 0; goto L2; }
+	if (v5) goto L0;
+	t_64_64 v10 = allocate(v8 << 5, 8);
+	if (v10.f0 & 1) { v2 = v10; goto L1; }
+	v3 = 0; goto L2;
+L0:;
+	t_64_64 v11 = reallocate(ldp(v1), v4 << 5, v9 << 5, 8);
+	if (!(v11.f0 & 1)) { v3 = 0; goto L2; }
+	v2 = v11;
+L1:
+	stp(v1, (ptr)v2.f1);
+	st64(v1+16, v9);
+	v3 = 1;
+L2:
+	return v3;
+}
+static APART void pcap_options_names_names_from_slice(ptr v1, ptr v2, u64 v3) {
+	ptr v4, v6, v9;
+	u64 v5, v7, v8, v10, v11, v17, v18;
+	u8 v12, v13, v15, v16;
+	u16 v14;
+	_Alignas(8) u8 v19[1], v20[24], v23[24];
+	_Alignas(2) u8 v21[6], v22[6];
+	stp(v23, v19);
+	clear(v23+8, 16);
+	if (v3) goto L0;
+	u64 v24 = (u64)v19;
+	v11 = ld64(v23+8); v12 = (u8)(v24 >> 8); v13 = (u8)v24; goto L9;
+L0:
+	v4 = v19; v5 = v3; v6 = v2;
+L1:
+	v7 = 0;
+L2:
+	if (ld8(at(v6, v7))) goto L11;
+	clear(v20, 24);
+	core_str_utf8_from_utf8(v20, v6, v7);
+	if (ld8(v20)) goto L10;
+	u8 v25 = ld8(v20+8), v26 = ld8(v20+9);
+	u64 v27 = ld64(v20+16), v28 = (u64)ld_bytes(v20+10, 6) & 0xffffffffffffull, v29 = v5 + ~v7;
+	u64 v30 = ld64(v23+8);
+	if (ld64(v23+16) != v30) { v9 = v4; v10 = v30; goto L8; }
+	u8 v31 = std_alloc_vec_Vec_grow_amortized_2044(v23);
+	if (!v31) goto L3;
+	v9 = ldp(v23); v10 = ld64(v23+8); goto L8;
+L3:;
+	ptr v32 = ldp(v23);
+	u64 v33 = ld64(v23+8), v34 = ld64(v23+16);
+	if (!v33) goto L6;
+	v8 = 0;
+L4:;
+	ptr v35 = at(v32, v8 << 5);
+	if (!ld8(v35) || !lu64(v35+24)) goto L5;
+	deallocate(lup(v35+8));
+L5:;
+	u64 v36 = v8 + 1;
+	if (v36 != v33) { v8 = v36; goto L4; }
+L6:
+	if (!v34) goto L7;
+	deallocate(v32);
+L7:
+	su64(v1, 1);
+	clear(v1+8, 24);
+	goto L17;
+L8:;
+	ptr v37 = at(v9, v10 << 5);
+	su64(v37, 0);
+	st8(v37+8, v25);
+	st8(v37+9, v26);
+	st_bytes(v37+10, v28, 6);
+	su64(v37+16, v27);
+	su64(v37+24, 0);
+	u64 v38 = v10 + 1;
+	st64(v23+8, v38);
+	if (v29) { v4 = v9; v5 = v29; v6 = at(v6, v7)+1; goto L1; }
+	v11 = v38; v12 = ld8(v23+1); v13 = ld8(v23);
+L9:;
+	u8 v39 = ld8(v23+16), v40 = ld8(v23+17);
+	su64(v1, 0);
+	st8(v1+8, v13);
+	st8(v1+9, v12);
+	copy(v1+10, v23+2, 6);
+	su64(v1+16, v11);
+	st8(v1+24, v39);
+	st8(v1+25, v40);
+	copy(v1+26, v23+18, 6);
+	goto L17;
+L10:
+	v15 = ld8(v20+17); v16 = ld8(v20+16); v17 = ld64(v20+8); v14 = 2; goto L12;
+L11:;
+	u64 v41 = v7 + 1;
+	if (v41 != v5) { v7 = v41; goto L2; }
+	v14 = 9475; v15 = v16 = v17 = 0;
+L12:
+	clear(v21, 6);
+	clear(v22, 6);
+	u64 v42 = ld64(v23+8), v43 = ld64(v23+16);
+	if (!v42) goto L15;
+	v18 = 0;
+L13:;
+	ptr v44 = at(v4, v18 << 5);
+	if (!ld8(v44) || !lu64(v44+24)) goto L14;
+	deallocate(lup(v44+8));
+L14:;
+	u64 v45 = v18 + 1;
+	if (v45 != v42) { v18 = v45; goto L13; }
+L15:
+	if (!v43) goto L16;
+	deallocate(v4);
+L16:
+	su64(v1, 1);
+	su16(v1+8, v14);
+	copy(v1+10, v21, 6);
+	su64(v1+16, v17);
+	st8(v1+24, v16);
+	st8(v1+25, v15);
+	copy(v1+26, v22, 6);
+L17:
+	return;
+}
+static void pcap_options_record_Record_from_value(ptr v1, u16 v2, u16 v3, ptr v4, u64 v5) {
+	u16 v6, v9;
+	u64 v7, v8, v10, v11, v12, v16, v17, v18, v21, v22, v23;
+	u8 v13, v14, v19, v20;
+	ptr v15;
+	_Alignas(8) u8 v24[32], v25[32];
+	_Alignas(2) u8 v26[6], v27[6] = {0}, v28[6], v29[6];
+	switch (v2) {
+	case 0: goto L0;
+	case 1: goto L1;
+	case 2: goto L4;
+	default: goto L7;
+	}
+L0:;
+	u8 v30 = v5 != 0;
+	copy(v26, v27, 6);
+	v15 = (ptr)0; v18 = (u64)v30; v19 = v30 ? 3u : 0u; v20 = v30 ? 34u : 0u; v12 = v13 = v14 = v16 = v17 = v21 = v22 = v23 = 0; goto L8;
+L1:
+	clear(v25, 32);
+	if (v5 < 6) { v6 = 8963; v7 = v8 = 0; goto L3; }
+	pcap_options_names_names_from_slice(v25, v4+4, v5 - 4);
+	u64 v31 = ld64(v25+16);
+	if (ld8(v25)) goto L2;
+	u64 v32 = (u64)v4, v33 = ld64(v25+8);
+	u8 v34 = ld8(v25+25), v35 = ld8(v25+24);
+	copy(v28, v25+26, 6);
+	copy(v26, v28, 6);
+	v12 = v31; v13 = v35; v14 = v34; v15 = (ptr)4ull; v17 = v33; v22 = v32; v23 = v32 & 0xffffffffffff0000ull; v16 = v18 = v20 = v21 = 0; v19 = 1; goto L8;
+L2:
+	v6 = ld16(v25+8); v7 = v31; v8 = (u64)ld16(v25+24);
+L3:
+	su64(v1, 1);
+	su16(v1+8, v6);
+	su64(v1+16, v7);
+	su64(v1+24, v8);
+	clear(v1+32, 40);
+	goto L9;
+L4:
+	clear(v24, 32);
+	if (v5 < 18) { v9 = 9219; v10 = v11 = 0; goto L6; }
+	pcap_options_names_names_from_slice(v24, v4+16, v5 - 16);
+	u64 v36 = ld64(v24+16);
+	if (ld8(v24)) goto L5;
+	u64 v37 = (u64)v4, v38 = ld64(v24+8);
+	u8 v39 = ld8(v24+25), v40 = ld8(v24+24);
+	copy(v29, v24+26, 6);
+	copy(v26, v29, 6);
+	v12 = v36; v13 = v40; v14 = v39; v15 = (ptr)16ull; v17 = v38; v22 = v37; v23 = v37 & 0xffffffffffff0000ull; v16 = v18 = v20 = v21 = 0; v19 = 2; goto L8;
+L5:
+	v9 = ld16(v24+8); v10 = v36; v11 = (u64)ld16(v24+24);
+L6:
+	su64(v1, 1);
+	su16(v1+8, v9);
+	su64(v1+16, v10);
+	su64(v1+24, v11);
+	clear(v1+32, 40);
+	goto L9;
+L7:
+	clear(v26, 6);
+	v15 = v4; v16 = v5; v21 = ((u64)v3 << 16) | (u64)v2; v12 = v13 = v14 = v17 = v18 = v20 = v22 = v23 = 0; v19 = 3;
+L8:
+	su64(v1, v18);
+	st8(v1+8, v19);
+	st8(v1+9, v20);
+	su64(v1+16, v21);
+	su64(v1+24, (v22 & 65535) | v23);
+	sup(v1+32, v15);
+	su64(v1+40, v16);
+	su64(v1+48, v17);
+	su64(v1+56, v12);
+	st8(v1+64, v13);
+	st8(v1+65, v14);
+	copy(v1+66, v26, 6);
+L9:
+	return;
+}
+static APART RARE u8 std_alloc_vec_Vec_grow_amortized_8416(ptr v1) {
+	t_64_64 v2;
+	u8 v3;
+	u64 v4 = ld64(v1+8);
+	if (v4 == ~0ull) { v3 = 0; goto L2; }
+	u64 v5 = ld64(v1+16), v6 = (v4 > 3 ? v4 : 3) + 1, v7 = v5 << 1, v8 = v6 > v7 ? v6 : v7;
+	u64 v9 = v5 < 0x4000000000000000ull ? v8 : v6;
+	if (v9 >= 0x200000000000000ull) { v3 = 0; goto L2; }
+	if (v5) goto L0;
+	t_64_64 v10 = allocate(v8 << 6, 8);
+	if (v10.f0 & 1) { v2 = v10; goto L1; }
+	v3 = 0; goto L2;
+L0:;
+	t_64_64 v11 = reallocate(ldp(v1), v4 << 6, v9 << 6, 8);
+	if (!(v11.f0 & 1)) { v3 = 0; goto L2; }
+	v2 = v11;
+L1:
+	stp(v1, (ptr)v2.f1);
+	st64(v1+16, v9);
+	v3 = 1;
+L2:
+	return v3;
+}
+static void pcap_options_pcap_options_record_Record_Destruct_drop(ptr v1) {
+	u64 v2, v3;
+	ptr v4;
+	u8 v5 = ld8(v1+8);
+	u64 v6 = lu64(v1+16), v7 = lu64(v1+32), v8 = lu64(v1+40), v9 = lu64(v1+48), v10 = lu64(v1+56);
+	switch (ld8(v1)) {
+	case 0: goto L12;
+	case 1: goto L0;
+	case 2: goto L5;
+	case 3: goto L10;
+	default: goto L13;
+	}
+L0:
+	if (!v5 || !v7) goto L1;
+	deallocate((ptr)v6);
+L1:
+	if (!v9) goto L4;
+	v2 = 0;
+L2:;
+	ptr v11 = at((ptr)v8, v2 << 5);
+	if (!ld8(v11) || !lu64(v11+24)) goto L3;
+	deallocate(lup(v11+8));
+L3:;
+	u64 v12 = v2 + 1;
+	if (v12 != v9) { v2 = v12; goto L2; }
+L4:
+	if (!v10) goto L12;
+	v4 = (ptr)v8; goto L11;
+L5:
+	if (!v5 || !v7) goto L6;
+	deallocate((ptr)v6);
+L6:
+	if (!v9) goto L9;
+	v3 = 0;
+L7:;
+	ptr v13 = at((ptr)v8, v3 << 5);
+	if (!ld8(v13) || !lu64(v13+24)) goto L8;
+	deallocate(lup(v13+8));
+L8:;
+	u64 v14 = v3 + 1;
+	if (v14 != v9) { v3 = v14; goto L7; }
+L9:
+	if (!v10) goto L12;
+	v4 = (ptr)v8; goto L11;
+L10:
+	if (!(v6 & 255) || !v8) goto L12;
+	v4 = (ptr)lu64(v1+24);
+L11:
+	deallocate(v4);
+L12:
+	return;
+L13:
+	__builtin_trap();
+}
+static APART void pcap_options_records_records_from_slice_4da0(ptr v1, ptr v2, u64 v3) {
+	u64 v4, v7, v8, v10, v11, v12, v13, v16;
+	ptr v5, v6, v9;
+	u8 v14, v15;
+	_Alignas(8) u8 v17[1], v18[64], v19[64], v20[64], v21[72], v22[24], v23[16] = {0};
+	stp(v22, v17);
+	clear(v22+8, 16);
+	clear(v21+8, 64);
+	if (v3 < 4) { M0: v12 = 1; v13 = v14 = v15 = 0; goto L22; }
+	v4 = v3; v5 = v2; v6 = v17;
+L0:;
+	u64 v24 = v4 - 4;
+	u16 v25 = (u16)__builtin_bswap16(lu16(v5+2));
+	u64 v26 = (u64)v25;
+	if (v24 < v26) { v12 = 8451; v13 = v14 = v15 = 0; goto L22; }
+	pcap_options_record_Record_from_value(v21, (u16)__builtin_bswap16(lu16(v5)), v25, v5+4, v26);
+	u16 v27 = ld16(v21+8);
+	u64 v28 = ld64(v21+16);
+	u16 v29 = (u16)v28, v30 = (u16)(v28 >> 16), v31 = ld16(v21+24);
+	u8 v32 = (u8)v31;
+	u16 v33 = v31 >> 8;
+	if (ld8(v21)) goto L21;
+	u64 v34 = (u64)ld_bytes(v21+26, 6) & 0xffffffffffffull, v35 = ld64(v21+32), v36 = ld64(v21+40);
+	u64 v37 = ld64(v21+48), v38 = ((0ull - v26) & 3) + v26;
+	if (v24 >= v38) goto L14;
+	u8 v39 = (u8)v28, v40 = (u8)v27;
+	switch (v40) {
+	case 1: goto L1;
+	case 2: goto L6;
+	case 3: goto L11;
+	case 0: v12 = 9731; v14 = v40; v15 = v40; v13 = 0; goto L22;
+	default: goto L13;
+	}
+L1:
+	if (v39 != 1 || !v36) goto L2;
+	deallocate((ptr)((v34 << 16) | (u64)v31));
+L2:;
+	u64 v41 = ld64(v21+56), v42 = ld64(v21+64);
+	if (!v41) goto L5;
+	v7 = 0;
+L3:;
+	ptr v43 = at((ptr)v37, v7 << 5);
+	if (!ld8(v43) || !lu64(v43+24)) goto L4;
+	deallocate(lup(v43+8));
+L4:;
+	u64 v44 = v7 + 1;
+	if (v44 != v41) { v7 = v44; goto L3; }
+L5:
+	if (!v42) { M3: v12 = 9731; v13 = v14 = v15 = 0; goto L22; }
+	v9 = (ptr)v37; goto L12;
+L6:
+	if (v39 != 1 || !v36) goto L7;
+	deallocate((ptr)((v34 << 16) | (u64)v31));
+L7:;
+	u64 v45 = ld64(v21+56), v46 = ld64(v21+64);
+	if (!v45) goto L10;
+	v8 = 0;
+L8:;
+	ptr v47 = at((ptr)v37, v8 << 5);
+	if (!ld8(v47) || !lu64(v47+24)) goto L9;
+	deallocate(lup(v47+8));
+L9:;
+	u64 v48 = v8 + 1;
+	if (v48 != v45) { v8 = v48; goto L8; }
+L10:
+	if (!v46) goto M3;
+	v9 = (ptr)v37; goto L12;
+L11:
+	if (v32 != 1 || !v37) goto M3;
+	v9 = (ptr)v35;
+L12:
+	deallocate(v9);
+	goto M3;
+L13:
+	__builtin_trap();
+L14:;
+	ptr v49 = at(v5+4, v38);
+	u64 v50 = v24 - v38, v51 = ((v34 << 8) & 0xffffffffffffffull) | (u64)v33;
+	copy(v23, v21+56, 16);
+	if (v27 & 255) goto L15;
+	u8 v52 = ld8(v22);
+	su64(v1, 0);
+	sup(v1+8, v49);
+	su64(v1+16, v50);
+	st8(v1+24, v52);
+	st8(v1+25, (u8)((u64)v6 >> 8));
+	copy(v1+26, v22+2, 22);
+	goto L26;
+L15:;
+	u64 v53 = (u64)(v27 & 255), v54 = ld64(v22+8);
+	if (ld64(v22+16) != v54) { v11 = v54; goto L20; }
+	u8 v55 = std_alloc_vec_Vec_grow_amortized_8416(v22);
+	if (!v55) goto L16;
+	v11 = ld64(v22+8); goto L20;
+L16:
+	st64(v19+8, 0);
+	st64(v19, v53);
+	st16(v19+8, v29);
+	st16(v19+10, v30);
+	st8(v19+16, v32);
+	st_bytes(v19+17, v51, 7);
+	st64(v19+24, v35);
+	st64(v19+32, v36);
+	st64(v19+40, v37);
+	copy(v19+48, v23, 16);
+	pcap_options_pcap_options_record_Record_Destruct_drop(v19);
+	ptr v56 = ldp(v22);
+	u64 v57 = ld64(v22+8), v58 = ld64(v22+16);
+	if (!v57) goto L18;
+	v10 = 0;
+L17:;
+	ptr v59 = at(v56, v10 << 6);
+	u64 v60 = (u64)ld8(v59);
+	u16 v61 = lu16(v59+8), v62 = lu16(v59+10);
+	st64(v18+8, 0);
+	st64(v18, v60);
+	st16(v18+8, v61);
+	st16(v18+10, v62);
+	copy(v18+16, v59+16, 48);
+	pcap_options_pcap_options_record_Record_Destruct_drop(v18);
+	u64 v63 = v10 + 1;
+	if (v63 != v57) { v10 = v63; goto L17; }
+L18:
+	if (!v58) goto L19;
+	deallocate(v56);
+L19:
+	su64(v1, 1);
+	clear(v1+8, 40);
+	goto L26;
+L20:;
+	ptr v64 = ldp(v22), v65 = at(v64, v11 << 6);
+	su64(v65, v53);
+	su16(v65+8, v29);
+	su16(v65+10, v30);
+	st8(v65+16, v32);
+	st_bytes(v65+17, v51, 7);
+	su64(v65+24, v35);
+	su64(v65+32, v36);
+	su64(v65+40, v37);
+	copy(v65+48, v23, 16);
+	st64(v22+8, v11 + 1);
+	clear(v21+8, 64);
+	if (v50 < 4) goto M0;
+	v4 = v50; v5 = v49; v6 = v64; goto L0;
+L21:
+	v12 = (u64)v27; v13 = v28; v14 = v32; v15 = (u8)v33;
+L22:;
+	ptr v66 = ldp(v22);
+	u64 v67 = ld64(v22+8), v68 = ld64(v22+16);
+	if (!v67) goto L24;
+	v16 = 0;
+L23:;
+	ptr v69 = at(v66, v16 << 6);
+	u64 v70 = (u64)ld8(v69);
+	u16 v71 = lu16(v69+8), v72 = lu16(v69+10);
+	st64(v20+8, 0);
+	st64(v20, v70);
+	st16(v20+8, v71);
+	st16(v20+10, v72);
+	copy(v20+16, v69+16, 48);
+	pcap_options_pcap_options_record_Record_Destruct_drop(v20);
+	u64 v73 = v16 + 1;
+	if (v73 != v67) { v16 = v73; goto L23; }
+L24:
+	if (!v68) goto L25;
+	deallocate(v66);
+L25:
+	su64(v1, 1);
+	sup(v1+8, (ptr)v12);
+	su64(v1+16, v13);
+	st8(v1+24, v14);
+	st8(v1+25, v15);
+	clear(v1+26, 22);
+L26:
+	return;
+}
+static void std_alloc_vec_Vec_drop_fe8c(ptr v1) {
+	u64 v2, v3, v4;
+	ptr v5;
+	ptr v6 = lup(v1);
+	u64 v7 = lu64(v1+8), v8 = lu64(v1+16);
+	if (!v7) goto L14;
+	v2 = 0;
+L0:;
+	ptr v9 = at(v6, v2 << 6);
+	u64 v10 = lu64(v9+16), v11 = lu64(v9+24), v12 = lu64(v9+32), v13 = lu64(v9+40), v14 = lu64(v9+48);
+	u64 v15 = lu64(v9+56);
+	u8 v16 = (u8)lu16(v9+8);
+	switch (ld8(v9)) {
+	case 0: goto L13;
+	case 1: goto L1;
+	case 2: goto L6;
+	case 3: goto L11;
+	default: goto L16;
+	}
+L1:
+	if (!v16 || !v12) goto L2;
+	deallocate((ptr)v10);
+L2:
+	if (!v14) goto L5;
+	v3 = 0;
+L3:;
+	ptr v17 = at((ptr)v13, v3 << 5);
+	if (!ld8(v17) || !lu64(v17+24)) goto L4;
+	deallocate(lup(v17+8));
+L4:;
+	u64 v18 = v3 + 1;
+	if (v18 != v14) { v3 = v18; goto L3; }
+L5:
+	if (!v15) goto L13;
+	v5 = (ptr)v13; goto L12;
+L6:
+	if (!v16 || !v12) goto L7;
+	deallocate((ptr)v10);
+L7:
+	if (!v14) goto L10;
+	v4 = 0;
+L8:;
+	ptr v19 = at((ptr)v13, v4 << 5);
+	if (!ld8(v19) || !lu64(v19+24)) goto L9;
+	deallocate(lup(v19+8));
+L9:;
+	u64 v20 = v4 + 1;
+	if (v20 != v14) { v4 = v20; goto L8; }
+L10:
+	if (!v15) goto L13;
+	v5 = (ptr)v13; goto L12;
+L11:
+	if (!(v10 & 255) || !v13) goto L13;
+	v5 = (ptr)v11;
+L12:
+	deallocate(v5);
+L13:;
+	u64 v21 = v2 + 1;
+	if (v21 != v7) { v2 = v21; goto L0; }
+L14:
+	if (!v8) goto L15;
+	deallocate(v6);
+L15:
+	return;
+L16:
+	__builtin_trap();
+}
+static void std_alloc_vec_Vec_drop_15c9(ptr v1) {
+	u64 v2, v3;
+	ptr v4 = lup(v1);
+	u64 v5 = lu64(v1+8), v6 = lu64(v1+16);
+	if (!v5) goto L7;
+	v2 = 0;
+L0:;
+	ptr v7 = at(v4, v2 * 48);
+	u64 v8 = lu64(v7+16), v9 = lu64(v7+24), v10 = lu64(v7+40);
+	u8 v11 = (u8)v8;
+	switch (ld8(v7)) {
+	case 0: goto L1;
+	case 1: case 2: case 3: case 4: case 5: case 6: case 7: goto L6;
+	case 8: goto L2;
+	case 9: goto L3;
+	case 10: goto L4;
+	default: goto L9;
+	}
+L1:
+	if (!(lu64(v7+8) & 255) || !lu64(v7+32)) goto L6;
+	v3 = v8; goto L5;
+L2:
+	if (!v11 || !v10) goto L6;
+	v3 = v9; goto L5;
+L3:
+	if (!v11 || !v10) goto L6;
+	v3 = v9; goto L5;
+L4:
+	if (!v11 || !v10) goto L6;
+	v3 = v9;
+L5:
+	deallocate((ptr)v3);
+L6:;
+	u64 v12 = v2 + 1;
+	if (v12 != v5) { v2 = v12; goto L0; }
+L7:
+	if (!v6) goto L8;
+	deallocate(v4);
+L8:
+	return;
+L9:
+	__builtin_trap();
+}
+static void std_alloc_vec_Vec_drop_4750(ptr v1) {
+	u64 v2, v3;
+	ptr v4 = lup(v1);
+	u64 v5 = lu64(v1+8), v6 = lu64(v1+16);
+	if (!v5) goto L8;
+	v2 = 0;
+L0:;
+	ptr v7 = at(v4, v2 * 48);
+	u64 v8 = lu64(v7+16), v9 = lu64(v7+24), v10 = lu64(v7+32), v11 = lu64(v7+40);
+	u8 v12 = (u8)lu64(v7+8), v13 = (u8)v8;
+	switch (ld8(v7)) {
+	case 0: goto L1;
+	case 1: case 3: goto L7;
+	case 2: goto L2;
+	case 4: goto L3;
+	case 5: goto L4;
+	case 6: goto L5;
+	default: goto L10;
+	}
+L1:
+	if (!v12 || !v10) goto L7;
+	v3 = v8; goto L6;
+L2:
+	if (!v12 || !v10) goto L7;
+	v3 = v8; goto L6;
+L3:
+	if (!v13 || !v11) goto L7;
+	v3 = v9; goto L6;
+L4:
+	if (!v13 || !v11) goto L7;
+	v3 = v9; goto L6;
+L5:
+	if (!v13 || !v11) goto L7;
+	v3 = v9;
+L6:
+	deallocate((ptr)v3);
+L7:;
+	u64 v14 = v2 + 1;
+	if (v14 != v5) { v2 = v14; goto L0; }
+L8:
+	if (!v6) goto L9;
+	deallocate(v4);
+L9:
+	return;
+L10:
+	__builtin_trap();
+}
+static void pcap_options_refusal_PcapErrorFromRefusal_from(ptr v1, ptr v2) {
+	u8 v3, v7;
+	u64 v4, v5, v6, v8;
+	_Alignas(8) u8 v14[72] = {0};
+	u8 v9 = ld8(v2), v10 = ld8(v2+1);
+	u64 v11 = lu64(v2+8);
+	u8 v12 = ld8(v2+16), v13 = ld8(v2+17);
+	switch (v9) {
+	case 0: v7 = v9; v3 = 5; v4 = v5 = v6 = v8 = 0; goto L3;
+	case 1: goto L0;
+	case 2: goto L1;
+	case 3: goto L2;
+	default: goto L4;
+	}
+L0:
+	v5 = 9472; v3 = v4 = 1; v6 = v7 = v8 = 0; goto L3;
+L1:
+	v4 = v11; v5 = v11; v6 = v11 & 0xffffffffffff0000ull; v7 = v12; v8 = (u64)v13 << 8; v3 = 3; goto L3;
+L2:;
+	ptr v15 = ldp(at((ptr)&switch_table_pcap_options_refusal_PcapErrorFromRefusal_from_252, (u64)v10 * 8));
+	u64 v16 = (u64)v15;
+	v4 = v16; v5 = v16; v6 = v16 & 0xffffffffffff0000ull; v7 = ld8(at((ptr)switch_table_pcap_options_refusal_PcapErrorFromRefusal_from, (u64)v10)); v3 = 2; v8 = 0;
+L3:
+	st8(v1, v3);
+	su64(v1+8, (v5 & 65280) | (v4 & 255) | v6);
+	su64(v1+16, v8 | (u64)v7);
+	copy(v1+24, v14, 72);
+	return;
+L4:
+	__builtin_trap();
+}
+static void blocks_interface_description_InterfaceDescriptionBlock_read_7f02(ptr v1, ptr v2, u64 v3) {
+	u8 v4, v6, v12, v13, v20, v21, v37, v38;
+	u64 v5, v7, v9, v10, v14, v16, v18, v25, v26, v27, v30, v32, v33, v34, v36;
+	ptr v8, v17, v28, v35;
+	u16 v11, v15, v22, v23, v29;
+	u32 v19, v24, v31;
+	_Alignas(8) u8 v39[1], v40[48], v41[48], v42[48], v43[24], v44[24], v45[24], v46[24], v47[24], v48[24], v49[48], v50[24];
+	_Alignas(2) u8 v51[22] = {0};
+	if (v3 >= 8) goto L0;
+	su64(v1, 1);
+	st8(v1+8, 3);
+	st8(v1+9, 11);
+	clear(v1+10, 54);
+	goto L42;
+L0:;
+	u16 v52 = lu16(v2), v53 = lu16(v2+2);
+	u64 v54 = v3 - 8;
+	u32 v55 = lu32(v2+4);
+	stp(v50, v39);
+	clear(v50+8, 16);
+	u64 v56 = (u64)v39;
+	u8 v57 = (u8)(v56 >> 8), v58 = (u8)v56;
+	if (!v54) { v35 = v2+8; v37 = v58; v38 = v57; v36 = 0; goto L41; }
+	v4 = v58; v6 = v57; v7 = v54; v8 = v2+8; v5 = 0;
+L1:
+	if (v7 < 4) { v15 = 4099; v12 = v13 = v14 = 0; goto L26; }
+	u16 v59 = lu16(v8);
+	u64 v60 = v7 - 4;
+	u16 v61 = lu16(v8+2);
+	if (!v59) { v35 = v8+4; v36 = v60; v37 = v4; v38 = v6; goto L41; }
+	u64 v62 = (u64)v61, v63 = ((0ull - v62) & 3) + v62;
+	if (v60 < v63) { v15 = 4355; v12 = v13 = v14 = 0; goto L26; }
+	ptr v64 = at(v8+4, v63);
+	u64 v65 = v60 - v63;
+	switch (v59) {
+	case 1: goto L2;
+	case 2: goto L4;
+	case 3: goto L6;
+	case 4: goto L8;
+	case 5: goto L9;
+	case 6: goto L10;
+	case 7: goto L11;
+	case 8: goto L12;
+	case 9: goto L13;
+	case 10: goto L14;
+	case 11: goto L15;
+	case 12: goto L16;
+	case 13: goto L18;
+	case 14: goto L19;
+	case 15: goto L20;
+	case 2988: case 19372: goto L22;
+	case 2989: case 19373: goto L25;
+	default: v17 = v8+4; v18 = v62; v22 = v59; v23 = v61; v19 = v21 = v24 = v25 = 0; v20 = 17; goto L31;
+	}
+L2:
+	clear(v48, 24);
+	core_str_utf8_from_utf8(v48, v8+4, v62);
+	u64 v66 = ld64(v48+8);
+	if (ld8(v48)) goto L3;
+	v17 = (ptr)ld64(v48+16); v25 = v66; v18 = v19 = v20 = v21 = v22 = v23 = v24 = 0; goto L31;
+L3:
+	v12 = ld8(v48+17); v13 = ld8(v48+16); v14 = v66; v15 = 2; goto L26;
+L4:
+	clear(v47, 24);
+	core_str_utf8_from_utf8(v47, v8+4, v62);
+	u64 v67 = ld64(v47+8);
+	if (ld8(v47)) goto L5;
+	v17 = (ptr)ld64(v47+16); v25 = v67; v18 = v19 = v21 = v22 = v23 = v24 = 0; v20 = 1; goto L31;
+L5:
+	v12 = ld8(v47+17); v13 = ld8(v47+16); v14 = v67; v15 = 2; goto L26;
+L6:
+	clear(v46, 24);
+	core_str_utf8_from_utf8(v46, v8+4, v62);
+	u64 v68 = ld64(v46+8);
+	if (ld8(v46)) goto L7;
+	v17 = (ptr)ld64(v46+16); v25 = v68; v18 = v19 = v21 = v22 = v23 = v24 = 0; v20 = 2; goto L31;
+L7:
+	v12 = ld8(v46+17); v13 = ld8(v46+16); v14 = v68; v15 = 2; goto L26;
+L8:
+	if (v61 == 8) { v17 = (ptr)8ull; v25 = (u64)(v8+4); v18 = v19 = v21 = v22 = v23 = v24 = 0; v20 = 3; goto L31; }
+	v15 = 4611; v12 = v13 = v14 = 0; goto L26;
+L9:
+	if (v61 == 17) { v17 = (ptr)17ull; v25 = (u64)(v8+4); v18 = v19 = v21 = v22 = v23 = v24 = 0; v20 = 4; goto L31; }
+	v15 = 4867; v12 = v13 = v14 = 0; goto L26;
+L10:
+	if (v61 == 6) { v17 = (ptr)6ull; v25 = (u64)(v8+4); v18 = v19 = v21 = v22 = v23 = v24 = 0; v20 = 5; goto L31; }
+	v15 = 5123; v12 = v13 = v14 = 0; goto L26;
+L11:
+	if (v61 != 8) { v15 = 5379; v12 = v13 = v14 = 0; goto L26; }
+	u64 v69 = lu64(v8+4);
+	v17 = (ptr)0; v22 = (u16)v69; v23 = (u16)(v69 >> 16); v24 = (u32)(v69 >> 32); v18 = v19 = v21 = v25 = 0; v20 = 6; goto L31;
+L12:
+	if (v61 != 8) { v15 = 5635; v12 = v13 = v14 = 0; goto L26; }
+	u64 v70 = lu64(v8+4);
+	v17 = (ptr)0; v22 = (u16)v70; v23 = (u16)(v70 >> 16); v24 = (u32)(v70 >> 32); v18 = v19 = v21 = v25 = 0; v20 = 7; goto L31;
+L13:
+	if (v61 != 1) { v15 = 5891; v12 = v13 = v14 = 0; goto L26; }
+	v17 = (ptr)0; v21 = ld8(v8+4); v18 = v19 = v22 = v23 = v24 = v25 = 0; v20 = 8; goto L31;
+L14:
+	if (v61 != 4) { v15 = 6147; v12 = v13 = v14 = 0; goto L26; }
+	v17 = (ptr)0; v19 = lu32(v8+4); v18 = v21 = v22 = v23 = v24 = v25 = 0; v20 = 9; goto L31;
+L15:
+	if (!v61) { v15 = 6403; v12 = v13 = v14 = 0; goto L26; }
+	v17 = (ptr)v62; v25 = (u64)(v8+4); v18 = v19 = v21 = v22 = v23 = v24 = 0; v20 = 10; goto L31;
+L16:
+	clear(v45, 24);
+	core_str_utf8_from_utf8(v45, v8+4, v62);
+	u64 v71 = ld64(v45+8);
+	if (ld8(v45)) goto L17;
+	v17 = (ptr)ld64(v45+16); v25 = v71; v18 = v19 = v21 = v22 = v23 = v24 = 0; v20 = 11; goto L31;
+L17:
+	v12 = ld8(v45+17); v13 = ld8(v45+16); v14 = v71; v15 = 2; goto L26;
+L18:
+	if (v61 != 1) { v15 = 6659; v12 = v13 = v14 = 0; goto L26; }
+	v17 = (ptr)0; v21 = ld8(v8+4); v18 = v19 = v22 = v23 = v24 = v25 = 0; v20 = 12; goto L31;
+L19:
+	if (v61 != 8) { v15 = 6915; v12 = v13 = v14 = 0; goto L26; }
+	u64 v72 = lu64(v8+4);
+	v17 = (ptr)0; v22 = (u16)v72; v23 = (u16)(v72 >> 16); v24 = (u32)(v72 >> 32); v18 = v19 = v21 = v25 = 0; v20 = 13; goto L31;
+L20:
+	clear(v44, 24);
+	core_str_utf8_from_utf8(v44, v8+4, v62);
+	u64 v73 = ld64(v44+8);
+	if (ld8(v44)) goto L21;
+	v17 = (ptr)ld64(v44+16); v25 = v73; v18 = v19 = v21 = v22 = v23 = v24 = 0; v20 = 14; goto L31;
+L21:
+	v12 = ld8(v44+17); v13 = ld8(v44+16); v14 = v73; v15 = 2; goto L26;
+L22:
+	if (v61 < 4) { v9 = v10 = 0; v11 = 1; goto L24; }
+	u32 v74 = lu32(v8+4);
+	clear(v43, 24);
+	core_str_utf8_from_utf8(v43, v8+8, v62 - 4);
+	u64 v75 = ld64(v43+8);
+	if (ld8(v43)) goto L23;
+	v17 = (ptr)v75; v18 = ld64(v43+16); v22 = v59; v24 = v74; v19 = v21 = v23 = v25 = 0; v20 = 16; goto L31;
+L23:
+	v9 = (u64)ld16(v43+16); v10 = v75; v11 = 2;
+L24:
+	v12 = (u8)(v9 >> 8); v13 = (u8)v9; v14 = v10; v15 = v11; goto L26;
+L25:
+	if (v61 >= 4) goto L30;
+	v12 = v13 = v14 = 0; v15 = 1;
+L26:;
+	ptr v76 = ldp(v50);
+	u64 v77 = ld64(v50+16);
+	if (!v5) goto L28;
+	v16 = 0;
+L27:;
+	ptr v78 = at(v76, v16 * 48);
+	u8 v79 = ld8(v78), v80 = ld8(v78+1);
+	u32 v81 = lu32(v78+4);
+	u64 v82 = lu64(v78+8);
+	st64(v42, 0);
+	st8(v42, v79);
+	st8(v42+1, v80);
+	st32(v42+4, v81);
+	st64(v42+8, v82);
+	copy(v42+16, v78+16, 32);
+	ptions_interface_option_InterfaceDescriptionOption_Destruct_drop(v42);
+	u64 v83 = v16 + 1;
+	if (v83 != v5) { v16 = v83; goto L27; }
+L28:
+	if (!v77) goto L29;
+	deallocate(v76);
+L29:
+	v29 = v15; v30 = v14; v31 = ((u32)v12 << 8) | (u32)v13; goto L38;
+L30:
+	v17 = v8+8; v18 = v62 - 4; v22 = v59; v24 = lu32(v8+4); v19 = v21 = v23 = v25 = 0; v20 = 15;
+L31:;
+	u64 v84 = ((u64)v24 << 32) | ((u64)v23 << 16) | (u64)v22;
+	st64(v49, 0);
+	if (v5) goto L34;
+	t_64_64 v85 = allocate(384, 8);
+	if (!(v85.f0 & 1)) goto L33;
+	ptr v86 = ldp(v50);
+	u64 v87 = ld64(v50+16);
+	stp(v50, (ptr)v85.f1);
+	st64(v50+8, 0);
+	st64(v50+16, 8);
+	if (!v87) goto L32;
+	deallocate(v86);
+L32:
+	st8((ptr)v85.f1, v20);
+	st8((ptr)v85.f1+1, v21);
+	su32((ptr)v85.f1+4, v19);
+	su64((ptr)v85.f1+8, v84);
+	su64((ptr)v85.f1+16, v25);
+	sup((ptr)v85.f1+24, v17);
+	su64((ptr)v85.f1+32, v18);
+	su64((ptr)v85.f1+40, 0);
+	v33 = v85.f1; v34 = 1; goto L40;
+L33:
+	st8(v49, v20);
+	st8(v49+1, v21);
+	st32(v49+4, v19);
+	st64(v49+8, v84);
+	st64(v49+16, v25);
+	stp(v49+24, v17);
+	st64(v49+32, v18);
+	st64(v49+40, 0);
+	ptions_interface_option_InterfaceDescriptionOption_Destruct_drop(v49);
+	v27 = ld64(v50+16); v28 = ldp(v50); goto L37;
+L34:
+	if (ld64(v50+16) != v5) { v32 = v5; goto L39; }
+	u8 v88 = std_alloc_vec_Vec_grow_amortized_35f1(v50);
+	if (!v88) goto L35;
+	v32 = ld64(v50+8); goto L39;
+L35:
+	st64(v41+16, v25);
+	stp(v41+24, v17);
+	st64(v41+32, v18);
+	st64(v41+40, 0);
+	st64(v41, 0);
+	st8(v41, v20);
+	st8(v41+1, v21);
+	st32(v41+4, v19);
+	st64(v41+8, v84);
+	ptions_interface_option_InterfaceDescriptionOption_Destruct_drop(v41);
+	u64 v89 = ld64(v50+8);
+	ptr v90 = ldp(v50);
+	u64 v91 = ld64(v50+16);
+	if (!v89) { v27 = v91; v28 = v90; goto L37; }
+	v26 = 0;
+L36:;
+	ptr v92 = at(v90, v26 * 48);
+	u8 v93 = ld8(v92), v94 = ld8(v92+1);
+	u32 v95 = lu32(v92+4);
+	u64 v96 = lu64(v92+8);
+	st64(v40, 0);
+	st8(v40, v93);
+	st8(v40+1, v94);
+	st32(v40+4, v95);
+	st64(v40+8, v96);
+	copy(v40+16, v92+16, 32);
+	ptions_interface_option_InterfaceDescriptionOption_Destruct_drop(v40);
+	u64 v97 = v26 + 1;
+	if (v97 != v89) { v26 = v97; goto L36; }
+	v27 = v91; v28 = v90;
+L37:
+	if (!v27) { v29 = v30 = v31 = 0; goto L38; }
+	deallocate(v28);
+	v29 = v30 = v31 = 0;
+L38:
+	su64(v1, 1);
+	su16(v1+8, v29);
+	st_bytes(v1+10, 0, 6);
+	su64(v1+16, v30);
+	su32(v1+24, v31);
+	clear(v1+28, 36);
+	goto L42;
+L39:;
+	ptr v98 = ldp(v50), v99 = at(v98, v32 * 48);
+	st8(v99, v20);
+	st8(v99+1, v21);
+	su32(v99+4, v19);
+	su64(v99+8, v84);
+	su64(v99+16, v25);
+	sup(v99+24, v17);
+	su64(v99+32, v18);
+	su64(v99+40, 0);
+	v33 = (u64)v98; v34 = v32 + 1;
+L40:;
+	u8 v100 = (u8)(v33 >> 8);
+	st64(v50+8, v34);
+	if (v65) { v4 = (u8)v33; v5 = v34; v6 = v100; v7 = v65; v8 = v64; goto L1; }
+	v35 = v64; v37 = (u8)v33; v38 = v100; v36 = 0;
+L41:
+	copy(v51, v50+2, 22);
+	t_8_32 v101 = pcap_core_link_DataLinkFromU32_from((u32)v52);
+	su64(v1, 0);
+	su64(v1+8, (u64)v35);
+	su64(v1+16, v36);
+	su32(v1+24, (u32)v101.f0);
+	su32(v1+28, v101.f1);
+	su16(v1+32, v53);
+	su16(v1+34, 0);
+	su32(v1+36, v55);
+	st8(v1+40, v37);
+	st8(v1+41, v38);
+	copy(v1+42, v51, 6);
+	copy(v1+48, v51+6, 16);
+L42:
+	return;
+}
+static APART void pcap_options_records_records_from_slice_7f02(ptr v1, ptr v2, u64 v3) {
+	u64 v4, v7, v8, v10, v11, v12, v13, v16;
+	ptr v5, v6, v9;
+	u8 v14, v15;
+	_Alignas(8) u8 v17[1], v18[64], v19[64], v20[64], v21[72], v22[24], v23[16] = {0};
+	stp(v22, v17);
+	clear(v22+8, 16);
+	clear(v21+8, 64);
+	if (v3 < 4) { M0: v12 = 1; v13 = v14 = v15 = 0; goto L22; }
+	v4 = v3; v5 = v2; v6 = v17;
+L0:;
+	u64 v24 = v4 - 4;
+	u16 v25 = lu16(v5+2);
+	u64 v26 = (u64)v25;
+	if (v24 < v26) { v12 = 8451; v13 = v14 = v15 = 0; goto L22; }
+	pcap_options_record_Record_from_value(v21, lu16(v5), v25, v5+4, v26);
+	u16 v27 = ld16(v21+8);
+	u64 v28 = ld64(v21+16);
+	u16 v29 = (u16)v28, v30 = (u16)(v28 >> 16), v31 = ld16(v21+24);
+	u8 v32 = (u8)v31;
+	u16 v33 = v31 >> 8;
+	if (ld8(v21)) goto L21;
+	u64 v34 = (u64)ld_bytes(v21+26, 6) & 0xffffffffffffull, v35 = ld64(v21+32), v36 = ld64(v21+40);
+	u64 v37 = ld64(v21+48), v38 = ((0ull - v26) & 3) + v26;
+	if (v24 >= v38) goto L14;
+	u8 v39 = (u8)v28, v40 = (u8)v27;
+	switch (v40) {
+	case 1: goto L1;
+	case 2: goto L6;
+	case 3: goto L11;
+	case 0: v12 = 9731; v14 = v40; v15 = v40; v13 = 0; goto L22;
+	default: goto L13;
+	}
+L1:
+	if (v39 != 1 || !v36) goto L2;
+	deallocate((ptr)((v34 << 16) | (u64)v31));
+L2:;
+	u64 v41 = ld64(v21+56), v42 = ld64(v21+64);
+	if (!v41) goto L5;
+	v7 = 0;
+L3:;
+	ptr v43 = at((ptr)v37, v7 << 5);
+	if (!ld8(v43) || !lu64(v43+24)) goto L4;
+	deallocate(lup(v43+8));
+L4:;
+	u64 v44 = v7 + 1;
+	if (v44 != v41) { v7 = v44; goto L3; }
+L5:
+	if (!v42) { M3: v12 = 9731; v13 = v14 = v15 = 0; goto L22; }
+	v9 = (ptr)v37; goto L12;
+L6:
+	if (v39 != 1 || !v36) goto L7;
+	deallocate((ptr)((v34 << 16) | (u64)v31));
+L7:;
+	u64 v45 = ld64(v21+56), v46 = ld64(v21+64);
+	if (!v45) goto L10;
+	v8 = 0;
+L8:;
+	ptr v47 = at((ptr)v37, v8 << 5);
+	if (!ld8(v47) || !lu64(v47+24)) goto L9;
+	deallocate(lup(v47+8));
+L9:;
+	u64 v48 = v8 + 1;
+	if (v48 != v45) { v8 = v48; goto L8; }
+L10:
+	if (!v46) goto M3;
+	v9 = (ptr)v37; goto L12;
+L11:
+	if (v32 != 1 || !v37) goto M3;
+	v9 = (ptr)v35;
+L12:
+	deallocate(v9);
+	goto M3;
+L13:
+	__builtin_trap();
+L14:;
+	ptr v49 = at(v5+4, v38);
+	u64 v50 = v24 - v38, v51 = ((v34 << 8) & 0xffffffffffffffull) | (u64)v33;
+	copy(v23, v21+56, 16);
+	if (v27 & 255) goto L15;
+	u8 v52 = ld8(v22);
+	su64(v1, 0);
+	sup(v1+8, v49);
+	su64(v1+16, v50);
+	st8(v1+24, v52);
+	st8(v1+25, (u8)((u64)v6 >> 8));
+	copy(v1+26, v22+2, 22);
+	goto L26;
+L15:;
+	u64 v53 = (u64)(v27 & 255), v54 = ld64(v22+8);
+	if (ld64(v22+16) != v54) { v11 = v54; goto L20; }
+	u8 v55 = std_alloc_vec_Vec_grow_amortized_8416(v22);
+	if (!v55) goto L16;
+	v11 = ld64(v22+8); goto L20;
+L16:
+	st64(v19+8, 0);
+	st64(v19, v53);
+	st16(v19+8, v29);
+	st16(v19+10, v30);
+	st8(v19+16, v32);
+	st_bytes(v19+17, v51, 7);
+	st64(v19+24, v35);
+	st64(v19+32, v36);
+	st64(v19+40, v37);
+	copy(v19+48, v23, 16);
+	pcap_options_pcap_options_record_Record_Destruct_drop(v19);
+	ptr v56 = ldp(v22);
+	u64 v57 = ld64(v22+8), v58 = ld64(v22+16);
+	if (!v57) goto L18;
+	v10 = 0;
+L17:;
+	ptr v59 = at(v56, v10 << 6);
+	u64 v60 = (u64)ld8(v59);
+	u16 v61 = lu16(v59+8), v62 = lu16(v59+10);
+	st64(v18+8, 0);
+	st64(v18, v60);
+	st16(v18+8, v61);
+	st16(v18+10, v62);
+	copy(v18+16, v59+16, 48);
+	pcap_options_pcap_options_record_Record_Destruct_drop(v18);
+	u64 v63 = v10 + 1;
+	if (v63 != v57) { v10 = v63; goto L17; }
+L18:
+	if (!v58) goto L19;
+	deallocate(v56);
+L19:
+	su64(v1, 1);
+	clear(v1+8, 40);
+	goto L26;
+L20:;
+	ptr v64 = ldp(v22), v65 = at(v64, v11 << 6);
+	su64(v65, v53);
+	su16(v65+8, v29);
+	su16(v65+10, v30);
+	st8(v65+16, v32);
+	st_bytes(v65+17, v51, 7);
+	su64(v65+24, v35);
+	su64(v65+32, v36);
+	su64(v65+40, v37);
+	copy(v65+48, v23, 16);
+	st64(v22+8, v11 + 1);
+	clear(v21+8, 64);
+	if (v50 < 4) goto M0;
+	v4 = v50; v5 = v49; v6 = v64; goto L0;
+L21:
+	v12 = (u64)v27; v13 = v28; v14 = v32; v15 = (u8)v33;
+L22:;
+	ptr v66 = ldp(v22);
+	u64 v67 = ld64(v22+8), v68 = ld64(v22+16);
+	if (!v67) goto L24;
+	v16 = 0;
+L23:;
+	ptr v69 = at(v66, v16 << 6);
+	u64 v70 = (u64)ld8(v69);
+	u16 v71 = lu16(v69+8), v72 = lu16(v69+10);
+	st64(v20+8, 0);
+	st64(v20, v70);
+	st16(v20+8, v71);
+	st16(v20+10, v72);
+	copy(v20+16, v69+16, 48);
+	pcap_options_pcap_options_record_Record_Destruct_drop(v20);
+	u64 v73 = v16 + 1;
+	if (v73 != v67) { v16 = v73; goto L23; }
+L24:
+	if (!v68) goto L25;
+	deallocate(v66);
+L25:
+	su64(v1, 1);
+	sup(v1+8, (ptr)v12);
+	su64(v1+16, v13);
+	st8(v1+24, v14);
+	st8(v1+25, v15);
+	clear(v1+26, 22);
+L26:
+	return;
+}
+static void pcap_ng_pcapng_block_Block_parsed(ptr v1, ptr v2) {
+	u8 v3, v5, v15, v30, v31, v39, v40, v45, v46, v64, v70, v71, v91, v92, v109, v130, v132, v139, v153, v154, v162, v163, v168, v169, v172, v173, v184, v185, v186, v187, v197, v199, v202, v204, v214, v229, v230, v238, v239, v244, v245, v263, v269, v270, v290, v291, v308, v329, v331, v338, v352, v353, v361, v362, v367, v368, v371, v372, v383, v384, v385, v386, v396, v398, v402, v403, v413, v414;
+	u64 v4, v6, v9, v10, v11, v12, v13, v17, v18, v22, v23, v24, v26, v28, v29, v32, v33, v34, v35, v36, v38, v41, v42, v44, v47, v48, v49, v50, v51, v52, v54, v55, v58, v59, v60, v62, v67, v69, v72, v73, v74, v75, v76, v78, v79, v80, v82, v83, v84, v85, v86, v87, v88, v89, v90, v94, v95, v96, v97, v98, v100, v101, v104, v106, v110, v111, v112, v114, v115, v116, v118, v120, v121, v122, v123, v125, v127, v128, v129, v131, v133, v135, v136, v143, v144, v145, v146, v147, v149, v151, v152, v155, v156, v157, v158, v159, v161, v164, v165, v167, v170, v171, v174, v176, v177, v179, v180, v181, v182, v183, v188, v189, v190, v191, v192, v194, v195, v196, v200, v201, v203, v205, v208, v209, v210, v211, v212, v216, v217, v221, v222, v223, v225, v227, v228, v231, v232, v233, v234, v235, v237, v240, v241, v243, v246, v247, v248, v249, v250, v251, v253, v254, v257, v258, v259, v261, v266, v268, v271, v272, v273, v274, v275, v277, v278, v279, v281, v282, v283, v284, v285, v286, v287, v288, v289, v293, v294, v295, v296, v297, v299, v300, v303, v305, v309, v310, v311, v313, v314, v315, v317, v319, v320, v321, v322, v324, v326, v327, v328, v330, v332, v334, v335, v342, v343, v344, v345, v346, v348, v350, v351, v354, v355, v356, v357, v358, v360, v363, v364, v366, v369, v370, v373, v375, v376, v378, v379, v380, v381, v382, v387, v388, v389, v390, v391, v393, v394, v395, v399, v400, v401, v404, v405, v406, v407, v408, v410, v411, v412, v415, v416, v417, v418, v419, v420;
+	ptr v7, v37, v43, v53, v61, v77, v81, v93, v99, v103, v117, v119, v124, v126, v134, v160, v166, v175, v178, v193, v198, v206, v236, v242, v252, v260, v276, v280, v292, v298, v302, v316, v318, v323, v325, v333, v359, v365, v374, v377, v392, v397, v409;
+	u16 v8, v14, v19, v20, v25, v27, v56, v57, v63, v65, v68, v102, v107, v108, v137, v140, v141, v207, v213, v218, v219, v224, v226, v255, v256, v262, v264, v267, v301, v306, v307, v336, v339, v340;
+	u32 v16, v21, v66, v105, v113, v138, v142, v148, v150, v215, v220, v265, v304, v312, v337, v341, v347, v349;
+	_Alignas(8) u8 v421[1], v422[96], v423[24], v424[24], v425[24], v426[24], v427[24], v431[24], v432[24], v433[24], v434[24], v435[24], v436[24], v437[24], v438[24], v439[24], v441[16], v442[24], v444[16], v445[48], v446[24], v447[24], v448[24], v449[24], v454[64], v455[64], v462[96], v463[24], v464[24], v465[24], v466[24], v467[24], v471[24], v472[24], v473[24], v474[24], v475[24], v476[24], v477[24], v478[24], v479[24], v481[16], v482[24], v484[16], v485[48], v486[24], v487[24], v488[24], v489[24], v494[64], v495[64];
+	_Alignas(2) u8 v428[6], v429[6], v430[6], v440[6], v443[6], v450[6], v451[6], v452[6], v453[6], v456[6], v457[6], v458[6], v459[6], v460[6], v461[6], v468[6], v469[6], v470[6], v480[6], v483[6], v490[6], v491[6], v492[6], v493[6], v496[6], v497[6], v498[6], v499[6], v500[6], v501[6];
+	u8 v502 = ld8(v2);
+	u32 v503 = lu32(v2+4);
+	u64 v504 = ld64(v2+32);
+	ptr v505 = ldp(v2+24);
+	if (ld8(v2+52)) goto L134;
+	clear(v500, 6);
+	clear(v501, 6);
+	clear(v493, 6);
+	clear(v494, 64);
+	clear(v495, 64);
+	clear(v496, 6);
+	clear(v497, 6);
+	clear(v498, 6);
+	clear(v499, 6);
+	switch (v502) {
+	case 0: goto L0;
+	case 1: goto L2;
+	case 2: goto L4;
+	case 3: goto L34;
+	case 4: goto L35;
+	case 5: goto L71;
+	case 6: goto L98;
+	case 7: goto L128;
+	case 8: goto L129;
+	default: goto L133;
+	}
+L0:
+	pcap_blocks_section_header_SectionHeaderBlock_read(v494, v505, v504);
+	u16 v506 = ld16(v494+8);
+	u64 v507 = ld64(v494+16);
+	if (ld8(v494)) goto L1;
+	u64 v508 = (((u64)ld_bytes(v494+10, 6) & 0xffffffffffffull) << 16) | (u64)(v506 & 255) | (u64)(v506 & 65280);
+	u64 v509 = ld64(v494+24), v510 = ld64(v494+32), v511 = ld64(v494+40);
+	ptr v512 = ldp(v494+48);
+	u64 v513 = ld64(v494+56);
+	clear(v493, 6);
+	v174 = v511; v175 = v512; v176 = v513; v178 = (ptr)v508; v179 = v507; v180 = v509; v181 = v510; v170 = v171 = v172 = v173 = v177 = 0; goto L130;
+L1:
+	v182 = (u64)v506; v183 = v507; v184 = ld8(v494+24); v185 = ld8(v494+25); goto L131;
+L2:
+	blocks_interface_description_InterfaceDescriptionBlock_read_4da0(v495, v505, v504);
+	u16 v514 = ld16(v495+8);
+	u64 v515 = ld64(v495+16);
+	if (ld8(v495)) goto L3;
+	u64 v516 = (((u64)ld_bytes(v495+10, 6) & 0xffffffffffffull) << 16) | (u64)(v514 & 255) | (u64)(v514 & 65280);
+	u64 v517 = ld64(v495+24), v518 = ld64(v495+32), v519 = ld64(v495+40);
+	ptr v520 = ldp(v495+48);
+	u64 v521 = ld64(v495+56);
+	clear(v493, 6);
+	v174 = v519; v175 = v520; v176 = v521; v178 = (ptr)v516; v179 = v515; v180 = v517; v181 = v518; v170 = v171 = v172 = v173 = v177 = 0; goto L130;
+L3:
+	v182 = (u64)v514; v183 = v515; v184 = ld8(v495+24); v185 = ld8(v495+25); goto L131;
+L4:
+	clear(v492, 6);
+	if (v504 < 20) { v32 = 3075; v29 = v30 = v31 = 0; goto L29; }
+	u16 v522 = (u16)__builtin_bswap16(lu16(v505)), v523 = (u16)__builtin_bswap16(lu16(v505+2));
+	clear(v491, 6);
+	u64 v524 = (u64)__builtin_bswap64(lu64(v505+4));
+	u32 v525 = lu32(v505+12);
+	u64 v526 = v504 - 20;
+	u32 v527 = lu32(v505+16);
+	u64 v528 = (u64)(u32)__builtin_bswap32(v525), v529 = ((0ull - v528) & 3) + v528;
+	if (v526 < v529) { v28 = 3331; v26 = v27 = 0; goto L28; }
+	ptr v530 = at(v505+20, v529);
+	u64 v531 = v526 - v529;
+	clear(v490, 6);
+	stp(v489, v421);
+	clear(v489+8, 16);
+	u64 v532 = (u64)v421;
+	u8 v533 = (u8)(v532 >> 8), v534 = (u8)v532;
+	if (!v531) { v43 = v530; v45 = v534; v46 = v533; v41 = v42 = v44 = 0; goto L33; }
+	v3 = v534; v5 = v533; v6 = v531; v7 = v530; v4 = 0;
+L5:
+	if (v6 < 4) { v23 = 4099; v24 = v25 = 0; goto L27; }
+	u16 v535 = lu16(v7), v536 = (u16)__builtin_bswap16(v535);
+	u64 v537 = v6 - 4;
+	u16 v538 = lu16(v7+2), v539 = (u16)__builtin_bswap16(v538);
+	if (!v535) { v36 = v4; v37 = v7+4; v38 = v537; v39 = v3; v40 = v5; goto L32; }
+	u64 v540 = (u64)v539, v541 = ((0ull - v540) & 3) + v540;
+	if (v537 < v541) { v23 = 4355; v24 = v25 = 0; goto L27; }
+	ptr v542 = at(v7+4, v541);
+	u64 v543 = v537 - v541;
+	switch (v536) {
+	case 1: goto L6;
+	case 2: goto L8;
+	case 3: goto L9;
+	case 2988: case 19372: goto L10;
+	case 2989: case 19373: goto L13;
+	default: goto L16;
+	}
+L6:
+	clear(v487, 24);
+	core_str_utf8_from_utf8(v487, v7+4, v540);
+	u64 v544 = ld64(v487+8);
+	if (ld8(v487)) goto L7;
+	v17 = ld64(v487+16); v22 = v544; v15 = v16 = v18 = v19 = v20 = v21 = 0; goto L17;
+L7:
+	v12 = v544; v13 = v544 & 0xffffffff00000000ull; v14 = ld16(v487+16); v11 = 2; goto L14;
+L8:
+	if (v538 != 1024) { v11 = 7683; v12 = v13 = v14 = 0; goto L14; }
+	v16 = (u32)__builtin_bswap32(lu32(v7+4)); v15 = 1; v17 = v18 = v19 = v20 = v21 = v22 = 0; goto L17;
+L9:
+	v17 = v540; v22 = (u64)(v7+4); v15 = 2; v16 = v18 = v19 = v20 = v21 = 0; goto L17;
+L10:
+	if (v539 < 4) { v8 = v9 = 0; v10 = 1; goto L12; }
+	u32 v545 = lu32(v7+4);
+	clear(v486, 24);
+	core_str_utf8_from_utf8(v486, v7+8, v540 - 4);
+	u64 v546 = ld64(v486+8);
+	if (ld8(v486)) goto L11;
+	v17 = v546; v18 = ld64(v486+16); v19 = v536; v21 = (u32)__builtin_bswap32(v545); v15 = 4; v16 = v20 = v22 = 0; goto L17;
+L11:
+	v8 = ld16(v486+16); v9 = v546; v10 = 2;
+L12:
+	v11 = v10; v12 = v9; v13 = v9 & 0xffffffff00000000ull; v14 = v8; goto L14;
+L13:
+	if (v539 >= 4) goto L15;
+	v11 = 1; v12 = v13 = v14 = 0;
+L14:
+	v23 = v11; v24 = (v12 & 4294967295u) | v13; v25 = v14; goto L27;
+L15:
+	v17 = (u64)(v7+8); v18 = v540 - 4; v19 = v536; v21 = (u32)__builtin_bswap32(lu32(v7+4)); v15 = 3; v16 = v20 = v22 = 0; goto L17;
+L16:
+	v17 = (u64)(v7+4); v18 = v540; v19 = v536; v20 = v539; v15 = 5; v16 = v21 = v22 = 0;
+L17:;
+	u32 v547 = (u32)v15;
+	if (v4) goto L21;
+	t_64_64 v548 = allocate(384, 8);
+	if (!(v548.f0 & 1)) goto L18;
+	copy(v488, v489, 24);
+	stp(v489, (ptr)v548.f1);
+	st64(v489+16, 8);
+	std_alloc_vec_Vec_drop_e82e(v488);
+	su32((ptr)v548.f1, v547);
+	su32((ptr)v548.f1+4, v16);
+	su16((ptr)v548.f1+8, v19);
+	su16((ptr)v548.f1+10, v20);
+	su32((ptr)v548.f1+12, v21);
+	su64((ptr)v548.f1+16, v22);
+	su64((ptr)v548.f1+24, v17);
+	su64((ptr)v548.f1+32, v18);
+	su64((ptr)v548.f1+40, 0);
+	v34 = v548.f1; v35 = 1; goto L31;
+L18:;
+	u8 v549 = (u8)v19;
+	switch (v15) {
+	case 0: goto L19;
+	case 1: case 3: case 4: case 5: goto L26;
+	case 2: goto L20;
+	default: goto L259;
+	}
+L19:
+	if (!v549 || !v18) goto L26;
+	goto L25;
+L20:
+	if (!v549 || !v18) goto L26;
+	goto L25;
+L21:
+	if (ld64(v489+16) != v4) { v33 = v4; goto L30; }
+	u8 v550 = std_alloc_vec_Vec_grow_amortized_35f1(v489);
+	if (!v550) goto L22;
+	v33 = ld64(v489+8); goto L30;
+L22:;
+	u8 v551 = (u8)v19;
+	switch (v15) {
+	case 0: goto L23;
+	case 1: case 3: case 4: case 5: goto L26;
+	case 2: goto L24;
+	default: goto L259;
+	}
+L23:
+	if (!v551 || !v18) goto L26;
+	goto L25;
+L24:
+	if (!v551 || !v18) goto L26;
+L25:
+	deallocate((ptr)v22);
+L26:
+	v23 = v24 = v25 = 0;
+L27:
+	std_alloc_vec_Vec_drop_e82e(v489);
+	v26 = v24; v27 = v25; v28 = v23;
+L28:
+	v29 = v26; v30 = (u8)v27; v31 = (u8)(v27 >> 8); v32 = v28;
+L29:
+	v182 = v32; v183 = v29; v184 = v30; v185 = v31; goto L131;
+L30:;
+	ptr v552 = ldp(v489), v553 = at(v552, v33 * 48);
+	su32(v553, v547);
+	su32(v553+4, v16);
+	su16(v553+8, v19);
+	su16(v553+10, v20);
+	su32(v553+12, v21);
+	su64(v553+16, v22);
+	su64(v553+24, v17);
+	su64(v553+32, v18);
+	su64(v553+40, 0);
+	v34 = (u64)v552; v35 = v33 + 1;
+L31:;
+	u8 v554 = (u8)v34, v555 = (u8)(v34 >> 8);
+	st64(v489+8, v35);
+	if (v543) { v3 = v554; v4 = v35; v5 = v555; v6 = v543; v7 = v542; goto L5; }
+	v36 = v35; v37 = v542; v39 = v554; v40 = v555; v38 = 0;
+L32:
+	v41 = ld64(v489+16); v42 = v36; v43 = v37; v44 = v38; v45 = v39; v46 = v40;
+L33:
+	copy(v490, v489+2, 6);
+	copy(v491, v490, 6);
+	copy(v492, v491, 6);
+	copy(v496, v492, 6);
+	copy(v493, v496, 6);
+	v170 = v42; v171 = v41; v172 = v45; v173 = v46; v174 = (u64)__builtin_bswap64(((u64)v525 << 32) | (u64)v527); v175 = (ptr)0; v176 = (u64)(v505+20); v177 = v528; v178 = v43; v179 = v44; v180 = ((u64)v523 << 16) | (u64)(v522 & 65280) | (u64)(v522 & 255); v181 = v524; goto L130;
+L34:
+	if (v504 <= 3) { v182 = 3587; v183 = v184 = v185 = 0; goto L131; }
+	v174 = (u64)(v505+4); v175 = (ptr)(v504 - 4); v178 = at(v505, v504); v180 = (u64)(u32)__builtin_bswap32(lu32(v505)); v170 = v171 = v172 = v173 = v176 = v177 = v179 = v181 = 0; goto L130;
+L35:
+	clear(v485, 48);
+	pcap_options_records_records_from_slice_4da0(v485, v505, v504);
+	u8 v556 = ld8(v485+8), v557 = ld8(v485+9);
+	u64 v558 = ld64(v485+16);
+	u16 v559 = ld16(v485+24);
+	u64 v560 = (u64)v559;
+	u8 v561 = (u8)v559, v562 = (u8)(v559 >> 8), v563 = ld8(v485);
+	clear(v481, 16);
+	u8 v564 = v563 == 0;
+	if (!v564) goto L36;
+	u64 v565 = (u64)ld_bytes(v485+10, 6) & 0xffffffffffffull;
+	copy(v480, v485+26, 6);
+	copy(v481, v485+32, 16);
+	v47 = v565 << 16; goto L37;
+L36:
+	clear(v480, 6);
+	v47 = 0;
+L37:;
+	u64 v566 = (u64)v556, v567 = (u64)v557 << 8;
+	ptr v568 = (ptr)(v47 | v566 | v567);
+	copy(v483, v480, 6);
+	copy(v484, v481, 16);
+	if (!v564) { v88 = v567; v89 = v566; v90 = v558; v91 = v561; v92 = v562; goto L70; }
+	st16(v482, v559);
+	copy(v482+2, v483, 6);
+	copy(v482+8, v484, 16);
+	stp(v479, v421);
+	clear(v479+8, 16);
+	u64 v569 = (u64)v421, v570 = v569 >> 8, v571 = v569 >> 16;
+	if (!v558) { v81 = v568; v84 = v571; v86 = v569; v87 = v570; v82 = v83 = v85 = 0; goto L69; }
+	v48 = v571; v49 = v569; v51 = v570; v52 = v558; v53 = v568; v50 = 0;
+L38:
+	if (v52 < 4) { v68 = 4099; v69 = v70 = v71 = 0; goto L65; }
+	u16 v572 = lu16(v53), v573 = (u16)__builtin_bswap16(v572);
+	u64 v574 = v52 - 4;
+	u16 v575 = lu16(v53+2), v576 = (u16)__builtin_bswap16(v575);
+	if (!v572) { v75 = v50; v76 = v48; v77 = v53+4; v78 = v574; v79 = v49; v80 = v51; goto L68; }
+	u64 v577 = (u64)v576, v578 = ((0ull - v577) & 3) + v577;
+	if (v574 < v578) { v68 = 4355; v69 = v70 = v71 = 0; goto L65; }
+	ptr v579 = at(v53+4, v578);
+	u64 v580 = v574 - v578;
+	switch (v573) {
+	case 1: goto L39;
+	case 2: goto L41;
+	case 3: goto L43;
+	case 4: goto L44;
+	case 2988: case 19372: goto L45;
+	case 2989: case 19373: goto L48;
+	default: v61 = v53+4; v62 = v577; v63 = v576; v65 = v573; v64 = 6; v66 = v67 = 0; goto L51;
+	}
+L39:
+	clear(v477, 24);
+	core_str_utf8_from_utf8(v477, v53+4, v577);
+	u64 v581 = ld64(v477+8);
+	if (ld8(v477)) goto L40;
+	v61 = (ptr)ld64(v477+16); v67 = v581; v62 = v63 = v64 = v65 = v66 = 0; goto L51;
+L40:
+	v58 = v581; v59 = v581 & 0xffffffff00000000ull; v60 = (u64)ld16(v477+16); v57 = 2; goto L49;
+L41:
+	clear(v476, 24);
+	core_str_utf8_from_utf8(v476, v53+4, v577);
+	u64 v582 = ld64(v476+8);
+	if (ld8(v476)) goto L42;
+	v61 = (ptr)ld64(v476+16); v67 = v582; v62 = v63 = v65 = v66 = 0; v64 = 1; goto L51;
+L42:
+	v58 = v582; v59 = v582 & 0xffffffff00000000ull; v60 = (u64)ld16(v476+16); v57 = 2; goto L49;
+L43:
+	if (v575 == 1024) { v61 = (ptr)4ull; v67 = (u64)(v53+4); v62 = v63 = v65 = v66 = 0; v64 = 2; goto L51; }
+	v57 = 7939; v58 = v59 = v60 = 0; goto L49;
+L44:
+	if (v575 == 4096) { v61 = (ptr)16ull; v67 = (u64)(v53+4); v62 = v63 = v65 = v66 = 0; v64 = 3; goto L51; }
+	v57 = 8195; v58 = v59 = v60 = 0; goto L49;
+L45:
+	if (v576 < 4) { v54 = v55 = 0; v56 = 1; goto L47; }
+	u32 v583 = lu32(v53+4);
+	clear(v475, 24);
+	core_str_utf8_from_utf8(v475, v53+8, v577 - 4);
+	u64 v584 = ld64(v475+8);
+	if (ld8(v475)) goto L46;
+	v61 = (ptr)v584; v62 = ld64(v475+16); v65 = v573; v66 = (u32)__builtin_bswap32(v583); v63 = v67 = 0; v64 = 5; goto L51;
+L46:
+	v54 = (u64)ld16(v475+16); v55 = v584; v56 = 2;
+L47:
+	v57 = v56; v58 = v55; v59 = v55 & 0xffffffff00000000ull; v60 = v54; goto L49;
+L48:
+	if (v576 >= 4) goto L50;
+	v57 = 1; v58 = v59 = v60 = 0;
+L49:
+	v68 = v57; v69 = (v58 & 4294967295u) | v59; v70 = (u8)v60; v71 = (u8)(v60 >> 8); goto L65;
+L50:
+	v61 = v53+8; v62 = v577 - 4; v65 = v573; v66 = (u32)__builtin_bswap32(lu32(v53+4)); v63 = v67 = 0; v64 = 4;
+L51:;
+	u64 v585 = (u64)v61, v586 = (u64)v64;
+	if (v50) goto L57;
+	t_64_64 v587 = allocate(384, 8);
+	if (!(v587.f0 & 1)) goto L52;
+	copy(v478, v479, 24);
+	stp(v479, (ptr)v587.f1);
+	st64(v479+16, 8);
+	std_alloc_vec_Vec_drop_0f0e(v478);
+	su64((ptr)v587.f1, v586);
+	su16((ptr)v587.f1+8, v65);
+	su16((ptr)v587.f1+10, v63);
+	su32((ptr)v587.f1+12, v66);
+	su64((ptr)v587.f1+16, v67);
+	su64((ptr)v587.f1+24, v585);
+	su64((ptr)v587.f1+32, v62);
+	su64((ptr)v587.f1+40, 0);
+	v73 = v587.f1; v74 = 1; goto L67;
+L52:;
+	u8 v588 = (u8)v65;
+	switch (v64) {
+	case 0: goto L53;
+	case 1: goto L54;
+	case 2: goto L55;
+	case 3: goto L56;
+	case 4: case 5: case 6: goto L64;
+	default: goto L259;
+	}
+L53:
+	if (!v588 || !v62) goto L64;
+	goto L63;
+L54:
+	if (!v588 || !v62) goto L64;
+	goto L63;
+L55:
+	if (!v588 || !v62) goto L64;
+	goto L63;
+L56:
+	if (!v588 || !v62) goto L64;
+	goto L63;
+L57:
+	if (ld64(v479+16) != v50) { v72 = v50; goto L66; }
+	u8 v589 = std_alloc_vec_Vec_grow_amortized_35f1(v479);
+	if (!v589) goto L58;
+	v72 = ld64(v479+8); goto L66;
+L58:;
+	u8 v590 = (u8)v65;
+	switch (v64) {
+	case 0: goto L59;
+	case 1: goto L60;
+	case 2: goto L61;
+	case 3: goto L62;
+	case 4: case 5: case 6: goto L64;
+	default: goto L259;
+	}
+L59:
+	if (!v590 || !v62) goto L64;
+	goto L63;
+L60:
+	if (!v590 || !v62) goto L64;
+	goto L63;
+L61:
+	if (!v590 || !v62) goto L64;
+	goto L63;
+L62:
+	if (!v590 || !v62) goto L64;
+L63:
+	deallocate((ptr)v67);
+L64:
+	v68 = v69 = v70 = v71 = 0;
+L65:
+	std_alloc_vec_Vec_drop_0f0e(v479);
+	std_alloc_vec_Vec_drop_fe8c(v482);
+	v88 = (u64)(v68 & 65280); v89 = (u64)(v68 & 255); v90 = v69; v91 = v70; v92 = v71; goto L70;
+L66:;
+	ptr v591 = ldp(v479), v592 = at(v591, v72 * 48);
+	su64(v592, v586);
+	su16(v592+8, v65);
+	su16(v592+10, v63);
+	su32(v592+12, v66);
+	su64(v592+16, v67);
+	su64(v592+24, v585);
+	su64(v592+32, v62);
+	su64(v592+40, 0);
+	v73 = (u64)v591; v74 = v72 + 1;
+L67:;
+	u64 v593 = v73 >> 16, v594 = v73 >> 8;
+	st64(v479+8, v74);
+	if (v580) { v48 = v593; v49 = v73; v50 = v74; v51 = v594; v52 = v580; v53 = v579; goto L38; }
+	v75 = v74; v76 = v593; v77 = v579; v79 = v73; v80 = v594; v78 = 0;
+L68:
+	v81 = v77; v82 = ld64(v479+16); v83 = v75; v84 = v76; v85 = v78; v86 = v79; v87 = v80;
+L69:;
+	u64 v595 = ld64(v482+8), v596 = ld64(v482+16);
+	u64 v597 = (((u64)ld_bytes(v482+2, 6) & 0xffffffffffffull) << 16) | v560;
+	copy(v493, v497, 6);
+	v174 = v596; v175 = (ptr)((v86 & 255) | ((v87 << 8) & 65280) | (v84 << 16)); v176 = v83; v177 = v82; v178 = v81; v179 = v85; v180 = v597; v181 = v595; v170 = v171 = v172 = v173 = 0; goto L130;
+L70:
+	v182 = v89 | v88; v183 = v90; v184 = v91; v185 = v92; goto L131;
+L71:
+	if (v504 < 12) { v182 = 3843; v183 = v184 = v185 = 0; goto L131; }
+	u32 v598 = lu32(v505);
+	u64 v599 = v504 - 12, v600 = (u64)__builtin_bswap64(lu64(v505+4));
+	stp(v474, v421);
+	clear(v474+8, 16);
+	u64 v601 = (u64)v421, v602 = v601 >> 8, v603 = v601 >> 16;
+	if (!v599) { v124 = (ptr)0; v125 = v603; v126 = v505+12; v128 = v601; v129 = v602; v123 = v127 = 0; goto L97; }
+	v93 = (ptr)0; v94 = v603; v95 = v601; v97 = v602; v98 = v599; v99 = v505+12; v96 = 0;
+L72:
+	if (v98 < 4) { v111 = 4099; v112 = v113 = 0; goto L93; }
+	u16 v604 = lu16(v99), v605 = (u16)__builtin_bswap16(v604);
+	u64 v606 = v98 - 4;
+	u16 v607 = (u16)__builtin_bswap16(lu16(v99+2));
+	if (!v604) { v117 = v93; v118 = v94; v119 = v99+4; v120 = v606; v121 = v95; v122 = v97; goto L96; }
+	u64 v608 = (u64)v607, v609 = ((0ull - v608) & 3) + v608;
+	if (v606 < v609) { v111 = 4355; v112 = v113 = 0; goto L93; }
+	ptr v610 = at(v99+4, v609);
+	u64 v611 = v606 - v609;
+	switch (v605) {
+	case 1: goto L73;
+	case 2: goto L75;
+	case 3: goto L76;
+	case 4: goto L77;
+	case 5: goto L78;
+	case 6: goto L79;
+	case 7: goto L80;
+	case 8: goto L81;
+	case 2988: case 19372: goto L82;
+	case 2989: case 19373: goto L84;
+	default: v103 = v99+4; v104 = v608; v107 = v607; v108 = v605; v105 = v106 = v109 = 0; v110 = 10; goto L87;
+	}
+L73:
+	clear(v472, 24);
+	core_str_utf8_from_utf8(v472, v99+4, v608);
+	u64 v612 = ld64(v472+8);
+	if (ld8(v472)) goto L74;
+	v103 = (ptr)ld64(v472+16); v106 = v612; v104 = v105 = v107 = v108 = v110 = 0; v109 = 1; goto L87;
+L74:
+	v101 = v612; v102 = ld16(v472+16); v100 = 2; goto L85;
+L75:
+	if (v607 < 8) { M57: v100 = 1; v101 = v102 = 0; goto L85; }
+	u64 v613 = (u64)__builtin_bswap64(lu64(v99+4));
+	v103 = (ptr)0; v105 = (u32)(v613 >> 32); v107 = (u16)(v613 >> 16); v108 = (u16)v613; v104 = v106 = v109 = 0; v110 = 1; goto L87;
+L76:
+	if (v607 < 8) goto M57;
+	u64 v614 = (u64)__builtin_bswap64(lu64(v99+4));
+	v103 = (ptr)0; v105 = (u32)(v614 >> 32); v107 = (u16)(v614 >> 16); v108 = (u16)v614; v104 = v106 = v109 = 0; v110 = 2; goto L87;
+L77:
+	if (v607 < 8) goto M57;
+	u64 v615 = (u64)__builtin_bswap64(lu64(v99+4));
+	v103 = (ptr)0; v105 = (u32)(v615 >> 32); v107 = (u16)(v615 >> 16); v108 = (u16)v615; v104 = v106 = v109 = 0; v110 = 3; goto L87;
+L78:
+	if (v607 < 8) goto M57;
+	u64 v616 = (u64)__builtin_bswap64(lu64(v99+4));
+	v103 = (ptr)0; v105 = (u32)(v616 >> 32); v107 = (u16)(v616 >> 16); v108 = (u16)v616; v104 = v106 = v109 = 0; v110 = 4; goto L87;
+L79:
+	if (v607 < 8) goto M57;
+	u64 v617 = (u64)__builtin_bswap64(lu64(v99+4));
+	v103 = (ptr)0; v105 = (u32)(v617 >> 32); v107 = (u16)(v617 >> 16); v108 = (u16)v617; v104 = v106 = v109 = 0; v110 = 5; goto L87;
+L80:
+	if (v607 < 8) goto M57;
+	u64 v618 = (u64)__builtin_bswap64(lu64(v99+4));
+	v103 = (ptr)0; v105 = (u32)(v618 >> 32); v107 = (u16)(v618 >> 16); v108 = (u16)v618; v104 = v106 = v109 = 0; v110 = 6; goto L87;
+L81:
+	if (v607 < 8) goto M57;
+	u64 v619 = (u64)__builtin_bswap64(lu64(v99+4));
+	v103 = (ptr)0; v105 = (u32)(v619 >> 32); v107 = (u16)(v619 >> 16); v108 = (u16)v619; v104 = v106 = v109 = 0; v110 = 7; goto L87;
+L82:
+	if (v607 < 4) goto M57;
+	u32 v620 = lu32(v99+4);
+	clear(v471, 24);
+	core_str_utf8_from_utf8(v471, v99+8, v608 - 4);
+	u64 v621 = ld64(v471+8);
+	if (ld8(v471)) goto L83;
+	v103 = (ptr)v621; v104 = ld64(v471+16); v105 = (u32)__builtin_bswap32(v620); v108 = v605; v106 = v107 = v109 = 0; v110 = 9; goto L87;
+L83:
+	v101 = v621; v102 = ld16(v471+16); v100 = 2; goto L85;
+L84:
+	if (v607 >= 4) goto L86;
+	v100 = 1; v101 = v102 = 0;
+L85:
+	v111 = v100; v112 = v101; v113 = (u32)v102; goto L93;
+L86:
+	v103 = v99+8; v104 = v608 - 4; v105 = (u32)__builtin_bswap32(lu32(v99+4)); v108 = v605; v106 = v107 = v109 = 0; v110 = 8;
+L87:;
+	u64 v622 = (u64)v108, v623 = ((u64)v107 << 16) | ((u64)v105 << 32) | v622, v624 = (u64)v103;
+	if (v96) goto L89;
+	t_64_64 v625 = allocate(384, 8);
+	if (!(v625.f0 & 1)) goto L88;
+	copy(v473, v474, 24);
+	stp(v474, (ptr)v625.f1);
+	st64(v474+16, 8);
+	std_alloc_vec_Vec_drop_15c9(v473);
+	su64((ptr)v625.f1, v110);
+	su64((ptr)v625.f1+8, v623);
+	su64((ptr)v625.f1+16, v106);
+	su64((ptr)v625.f1+24, v624);
+	su64((ptr)v625.f1+32, v104);
+	su64((ptr)v625.f1+40, 0);
+	v115 = v625.f1; v116 = 1; goto L95;
+L88:
+	if (!v109) goto L92;
+	if (!(v622 & 255) || !v104) goto L92;
+	goto L91;
+L89:
+	if (ld64(v474+16) != v96) { v114 = v96; goto L94; }
+	u8 v626 = std_alloc_vec_Vec_grow_amortized_35f1(v474);
+	if (!v626) goto L90;
+	v114 = ld64(v474+8); goto L94;
+L90:
+	if (!v109) goto L92;
+	if (!(v622 & 255) || !v104) goto L92;
+L91:
+	deallocate((ptr)v106);
+L92:
+	v111 = v112 = v113 = 0;
+L93:
+	std_alloc_vec_Vec_drop_15c9(v474);
+	v182 = v111; v183 = v112; v184 = (u8)v113; v185 = (u8)(v113 >> 8); goto L131;
+L94:;
+	ptr v627 = ldp(v474), v628 = at(v627, v114 * 48);
+	su64(v628, v110);
+	su64(v628+8, v623);
+	su64(v628+16, v106);
+	su64(v628+24, v624);
+	su64(v628+32, v104);
+	su64(v628+40, 0);
+	v115 = (u64)v627; v116 = v114 + 1;
+L95:;
+	u64 v629 = v115 >> 16, v630 = v115 >> 8;
+	st64(v474+8, v116);
+	if (v611) { v93 = (ptr)v116; v94 = v629; v95 = v115; v96 = v116; v97 = v630; v98 = v611; v99 = v610; goto L72; }
+	v117 = (ptr)v116; v118 = v629; v119 = v610; v121 = v115; v122 = v630; v120 = 0;
+L96:
+	v123 = ld64(v474+16); v124 = v117; v125 = v118; v126 = v119; v127 = v120; v128 = v121; v129 = v122;
+L97:
+	copy(v493, v498, 6);
+	v174 = ((v129 << 8) & 65280) | (v125 << 16) | (v128 & 255); v175 = v124; v176 = v123; v178 = v126; v179 = v127; v180 = (u64)(u32)__builtin_bswap32(v598); v181 = v600; v170 = v171 = v172 = v173 = v177 = 0; goto L130;
+L98:
+	clear(v470, 6);
+	if (v504 < 20) { v155 = 3075; v152 = v153 = v154 = 0; goto L123; }
+	u32 v631 = lu32(v505);
+	clear(v469, 6);
+	u64 v632 = (u64)__builtin_bswap64(lu64(v505+4));
+	u32 v633 = lu32(v505+12);
+	u64 v634 = v504 - 20;
+	u32 v635 = lu32(v505+16);
+	u64 v636 = (u64)(u32)__builtin_bswap32(v633), v637 = ((0ull - v636) & 3) + v636;
+	if (v634 < v637) { v151 = 3331; v149 = v150 = 0; goto L122; }
+	ptr v638 = at(v505+20, v637);
+	u64 v639 = v634 - v637;
+	clear(v468, 6);
+	stp(v467, v421);
+	clear(v467+8, 16);
+	u64 v640 = (u64)v421;
+	u8 v641 = (u8)(v640 >> 8), v642 = (u8)v640;
+	if (!v639) { v166 = v638; v168 = v642; v169 = v641; v164 = v165 = v167 = 0; goto L127; }
+	v130 = v642; v132 = v641; v133 = v639; v134 = v638; v131 = 0;
+L99:
+	if (v133 < 4) { v146 = 4099; v147 = v148 = 0; goto L121; }
+	u16 v643 = lu16(v134), v644 = (u16)__builtin_bswap16(v643);
+	u64 v645 = v133 - 4;
+	u16 v646 = lu16(v134+2), v647 = (u16)__builtin_bswap16(v646);
+	if (!v643) { v159 = v131; v160 = v134+4; v161 = v645; v162 = v130; v163 = v132; goto L126; }
+	u64 v648 = (u64)v647, v649 = ((0ull - v648) & 3) + v648;
+	if (v645 < v649) { v146 = 4355; v147 = v148 = 0; goto L121; }
+	ptr v650 = at(v134+4, v649);
+	u64 v651 = v645 - v649;
+	switch (v644) {
+	case 1: goto L100;
+	case 2: goto L102;
+	case 3: goto L103;
+	case 4: goto L104;
+	case 2988: case 19372: goto L105;
+	case 2989: case 19373: goto L107;
+	default: goto L110;
+	}
+L100:
+	clear(v465, 24);
+	core_str_utf8_from_utf8(v465, v134+4, v648);
+	u64 v652 = ld64(v465+8);
+	if (ld8(v465)) goto L101;
+	v143 = ld64(v465+16); v145 = v652; v138 = v139 = v140 = v141 = v142 = v144 = 0; goto L111;
+L101:
+	v136 = v652; v137 = ld16(v465+16); v135 = 2; goto L108;
+L102:
+	if (v646 != 1024) { v135 = 7171; v136 = v137 = 0; goto L108; }
+	v138 = (u32)__builtin_bswap32(lu32(v134+4)); v139 = 1; v140 = v141 = v142 = v143 = v144 = v145 = 0; goto L111;
+L103:
+	v143 = v648; v145 = (u64)(v134+4); v138 = v140 = v141 = v142 = v144 = 0; v139 = 2; goto L111;
+L104:
+	if (v646 != 2048) { v135 = 7427; v136 = v137 = 0; goto L108; }
+	u64 v653 = (u64)__builtin_bswap64(lu64(v134+4));
+	v140 = (u16)v653; v141 = (u16)(v653 >> 16); v142 = (u32)(v653 >> 32); v138 = v143 = v144 = v145 = 0; v139 = 3; goto L111;
+L105:
+	if (v647 < 4) { v135 = 1; v136 = v137 = 0; goto L108; }
+	u32 v654 = lu32(v134+4);
+	clear(v464, 24);
+	core_str_utf8_from_utf8(v464, v134+8, v648 - 4);
+	u64 v655 = ld64(v464+8);
+	if (ld8(v464)) goto L106;
+	v140 = v644; v142 = (u32)__builtin_bswap32(v654); v143 = v655; v144 = ld64(v464+16); v138 = v141 = v145 = 0; v139 = 5; goto L111;
+L106:
+	v136 = v655; v137 = ld16(v464+16); v135 = 2; goto L108;
+L107:
+	if (v647 >= 4) goto L109;
+	v135 = 1; v136 = v137 = 0;
+L108:
+	v146 = v135; v147 = v136; v148 = (u32)v137; goto L121;
+L109:
+	v140 = v644; v142 = (u32)__builtin_bswap32(lu32(v134+4)); v143 = (u64)(v134+8); v144 = v648 - 4; v138 = v141 = v145 = 0; v139 = 4; goto L111;
+L110:
+	v140 = v644; v141 = v647; v143 = (u64)(v134+4); v144 = v648; v138 = v142 = v145 = 0; v139 = 6;
+L111:;
+	u64 v656 = ((u64)v142 << 32) | ((u64)v141 << 16) | (u64)v140;
+	u32 v657 = (u32)v139;
+	if (v131) goto L115;
+	t_64_64 v658 = allocate(384, 8);
+	if (!(v658.f0 & 1)) goto L112;
+	copy(v466, v467, 24);
+	stp(v467, (ptr)v658.f1);
+	st64(v467+16, 8);
+	std_alloc_vec_Vec_drop_4750(v466);
+	su32((ptr)v658.f1, v657);
+	su32((ptr)v658.f1+4, v138);
+	su64((ptr)v658.f1+8, v656);
+	su64((ptr)v658.f1+16, v145);
+	su64((ptr)v658.f1+24, v143);
+	su64((ptr)v658.f1+32, v144);
+	su64((ptr)v658.f1+40, 0);
+	v157 = v658.f1; v158 = 1; goto L125;
+L112:;
+	u8 v659 = (u8)v140;
+	switch (v139) {
+	case 0: goto L113;
+	case 1: case 3: case 4: case 5: case 6: goto L120;
+	case 2: goto L114;
+	default: goto L259;
+	}
+L113:
+	if (!v659 || !v144) goto L120;
+	goto L119;
+L114:
+	if (!v659 || !v144) goto L120;
+	goto L119;
+L115:
+	if (ld64(v467+16) != v131) { v156 = v131; goto L124; }
+	u8 v660 = std_alloc_vec_Vec_grow_amortized_35f1(v467);
+	if (!v660) goto L116;
+	v156 = ld64(v467+8); goto L124;
+L116:;
+	u8 v661 = (u8)v140;
+	switch (v139) {
+	case 0: goto L117;
+	case 1: case 3: case 4: case 5: case 6: goto L120;
+	case 2: goto L118;
+	default: goto L259;
+	}
+L117:
+	if (!v661 || !v144) goto L120;
+	goto L119;
+L118:
+	if (!v661 || !v144) goto L120;
+L119:
+	deallocate((ptr)v145);
+L120:
+	v146 = v147 = v148 = 0;
+L121:
+	std_alloc_vec_Vec_drop_4750(v467);
+	v149 = v147; v150 = v148; v151 = v146;
+L122:
+	v152 = v149; v153 = (u8)v150; v154 = (u8)(v150 >> 8); v155 = v151;
+L123:
+	v182 = v155; v183 = v152; v184 = v153; v185 = v154; goto L131;
+L124:;
+	ptr v662 = ldp(v467), v663 = at(v662, v156 * 48);
+	su32(v663, v657);
+	su32(v663+4, v138);
+	su64(v663+8, v656);
+	su64(v663+16, v145);
+	su64(v663+24, v143);
+	su64(v663+32, v144);
+	su64(v663+40, 0);
+	v157 = (u64)v662; v158 = v156 + 1;
+L125:;
+	u8 v664 = (u8)v157, v665 = (u8)(v157 >> 8);
+	st64(v467+8, v158);
+	if (v651) { v130 = v664; v131 = v158; v132 = v665; v133 = v651; v134 = v650; goto L99; }
+	v159 = v158; v160 = v650; v162 = v664; v163 = v665; v161 = 0;
+L126:
+	v164 = ld64(v467+16); v165 = v159; v166 = v160; v167 = v161; v168 = v162; v169 = v163;
+L127:
+	copy(v468, v467+2, 6);
+	copy(v469, v468, 6);
+	copy(v470, v469, 6);
+	copy(v499, v470, 6);
+	copy(v493, v499, 6);
+	v170 = v165; v171 = v164; v172 = v168; v173 = v169; v174 = (u64)__builtin_bswap64(((u64)v633 << 32) | (u64)v635); v175 = (ptr)0; v176 = (u64)(v505+20); v177 = v636; v178 = v166; v179 = v167; v180 = (u64)(u32)__builtin_bswap32(v631); v181 = v632; goto L130;
+L128:
+	v174 = v504; v175 = (ptr)0; v178 = at(v505, v504); v181 = (u64)v505; v170 = v171 = v172 = v173 = v176 = v177 = v179 = v180 = 0; goto L130;
+L129:
+	if (v504 >= 0x100000000ull) { v182 = 9987; v183 = v184 = v185 = 0; goto L131; }
+	v175 = v505; v176 = v504; v178 = v505; v179 = v504; v180 = ((u64)v503 << 32) | 8; v181 = v504; v170 = v171 = v172 = v173 = v174 = v177 = 0;
+L130:
+	copy(v501, v493, 6);
+	v187 = (u8)(u64)v178; v188 = v179; v189 = (u64)v502; v190 = v180; v191 = v181; v192 = v174; v193 = v175; v194 = v176; v195 = v177; v197 = v172; v198 = v501; v199 = v173; v200 = v170; v201 = v171; v186 = v196 = 0; goto L132;
+L131:
+	clear(v462, 96);
+	clear(v463, 24);
+	st16(v463, (u16)v182);
+	st64(v463+8, v183);
+	st8(v463+16, v184);
+	st8(v463+17, v185);
+	pcap_options_refusal_PcapErrorFromRefusal_from(v462, v463);
+	u8 v666 = ld8(v462);
+	u64 v667 = ld64(v462+8), v668 = ld64(v462+16), v669 = ld64(v462+24), v670 = ld64(v462+32);
+	u64 v671 = ld64(v462+40);
+	ptr v672 = ldp(v462+48);
+	u64 v673 = ld64(v462+56), v674 = ld64(v462+64), v675 = ld64(v462+72);
+	u8 v676 = ld8(v462+80), v677 = ld8(v462+81);
+	copy(v500, v462+82, 6);
+	v187 = v666; v188 = v667; v189 = v668; v190 = v669; v191 = v670; v192 = v671; v193 = v672; v194 = v673; v195 = v674; v196 = v675; v197 = v676; v198 = v500; v199 = v677; v200 = ld64(v462+88); v186 = 1; v201 = 0;
+L132:
+	v401 = (u64)ld_bytes(v198, 6) & 0xffffffffffffull; v402 = v186; v403 = v187; v404 = v188; v405 = v189; v406 = v190; v407 = v191; v408 = v192; v409 = v193; v410 = v194; v411 = v195; v412 = v196; v413 = v197; v414 = v199; v415 = v200; v416 = v201; goto L269;
+L133:
+	__builtin_trap();
+L134:
+	clear(v460, 6);
+	clear(v461, 6);
+	clear(v453, 6);
+	clear(v454, 64);
+	clear(v455, 64);
+	clear(v456, 6);
+	clear(v457, 6);
+	clear(v458, 6);
+	clear(v459, 6);
+	switch (v502) {
+	case 0: goto L135;
+	case 1: goto L137;
+	case 2: goto L139;
+	case 3: goto L169;
+	case 4: goto L170;
+	case 5: goto L206;
+	case 6: goto L233;
+	case 7: goto L264;
+	case 8: goto L265;
+	default: goto L272;
+	}
+L135:
+	pcap_blocks_section_header_SectionHeaderBlock_read(v454, v505, v504);
+	u16 v678 = ld16(v454+8);
+	u64 v679 = ld64(v454+16);
+	if (ld8(v454)) goto L136;
+	u64 v680 = (((u64)ld_bytes(v454+10, 6) & 0xffffffffffffull) << 16) | (u64)(v678 & 255) | (u64)(v678 & 65280);
+	u64 v681 = ld64(v454+24), v682 = ld64(v454+32), v683 = ld64(v454+40);
+	ptr v684 = ldp(v454+48);
+	u64 v685 = ld64(v454+56);
+	clear(v453, 6);
+	v373 = v683; v374 = v684; v375 = v685; v377 = (ptr)v680; v378 = v679; v379 = v681; v380 = v682; v369 = v370 = v371 = v372 = v376 = 0; goto L266;
+L136:
+	v381 = (u64)v678; v382 = v679; v383 = ld8(v454+24); v384 = ld8(v454+25); goto L267;
+L137:
+	blocks_interface_description_InterfaceDescriptionBlock_read_7f02(v455, v505, v504);
+	u16 v686 = ld16(v455+8);
+	u64 v687 = ld64(v455+16);
+	if (ld8(v455)) goto L138;
+	u64 v688 = (((u64)ld_bytes(v455+10, 6) & 0xffffffffffffull) << 16) | (u64)(v686 & 255) | (u64)(v686 & 65280);
+	u64 v689 = ld64(v455+24), v690 = ld64(v455+32), v691 = ld64(v455+40);
+	ptr v692 = ldp(v455+48);
+	u64 v693 = ld64(v455+56);
+	clear(v453, 6);
+	v373 = v691; v374 = v692; v375 = v693; v377 = (ptr)v688; v378 = v687; v379 = v689; v380 = v690; v369 = v370 = v371 = v372 = v376 = 0; goto L266;
+L138:
+	v381 = (u64)v686; v382 = v687; v383 = ld8(v455+24); v384 = ld8(v455+25); goto L267;
+L139:
+	clear(v452, 6);
+	if (v504 < 20) { v231 = 3075; v228 = v229 = v230 = 0; goto L164; }
+	u16 v694 = lu16(v505), v695 = lu16(v505+2);
+	clear(v451, 6);
+	u32 v696 = lu32(v505+8);
+	u64 v697 = (u64)lu32(v505+4) << 32, v698 = lu64(v505+12), v699 = v504 - 20;
+	u64 v700 = v698 & 4294967295u, v701 = ((0ull - v698) & 3) + v700;
+	if (v699 < v701) { v227 = 3331; v225 = v226 = 0; goto L163; }
+	ptr v702 = at(v505+20, v701);
+	u64 v703 = v699 - v701;
+	clear(v450, 6);
+	stp(v449, v421);
+	clear(v449+8, 16);
+	u64 v704 = (u64)v421;
+	u8 v705 = (u8)(v704 >> 8), v706 = (u8)v704;
+	if (!v703) { v242 = v702; v244 = v706; v245 = v705; v240 = v241 = v243 = 0; goto L168; }
+	v202 = v706; v204 = v705; v205 = v703; v206 = v702; v203 = 0;
+L140:
+	if (v205 < 4) { v222 = 4099; v223 = v224 = 0; goto L162; }
+	u16 v707 = lu16(v206);
+	u64 v708 = v205 - 4;
+	u16 v709 = lu16(v206+2);
+	if (!v707) { v235 = v203; v236 = v206+4; v237 = v708; v238 = v202; v239 = v204; goto L167; }
+	u64 v710 = (u64)v709, v711 = ((0ull - v710) & 3) + v710;
+	if (v708 < v711) { v222 = 4355; v223 = v224 = 0; goto L162; }
+	ptr v712 = at(v206+4, v711);
+	u64 v713 = v708 - v711;
+	switch (v707) {
+	case 1: goto L141;
+	case 2: goto L143;
+	case 3: goto L144;
+	case 2988: case 19372: goto L145;
+	case 2989: case 19373: goto L148;
+	default: goto L151;
+	}
+L141:
+	clear(v447, 24);
+	core_str_utf8_from_utf8(v447, v206+4, v710);
+	u64 v714 = ld64(v447+8);
+	if (ld8(v447)) goto L142;
+	v216 = ld64(v447+16); v221 = v714; v214 = v215 = v217 = v218 = v219 = v220 = 0; goto L152;
+L142:
+	v211 = v714; v212 = v714 & 0xffffffff00000000ull; v213 = ld16(v447+16); v210 = 2; goto L149;
+L143:
+	if (v709 != 4) { v210 = 7683; v211 = v212 = v213 = 0; goto L149; }
+	v215 = lu32(v206+4); v214 = 1; v216 = v217 = v218 = v219 = v220 = v221 = 0; goto L152;
+L144:
+	v216 = v710; v221 = (u64)(v206+4); v214 = 2; v215 = v217 = v218 = v219 = v220 = 0; goto L152;
+L145:
+	if (v709 < 4) { v207 = v208 = 0; v209 = 1; goto L147; }
+	u32 v715 = lu32(v206+4);
+	clear(v446, 24);
+	core_str_utf8_from_utf8(v446, v206+8, v710 - 4);
+	u64 v716 = ld64(v446+8);
+	if (ld8(v446)) goto L146;
+	v216 = v716; v217 = ld64(v446+16); v218 = v707; v220 = v715; v214 = 4; v215 = v219 = v221 = 0; goto L152;
+L146:
+	v207 = ld16(v446+16); v208 = v716; v209 = 2;
+L147:
+	v210 = v209; v211 = v208; v212 = v208 & 0xffffffff00000000ull; v213 = v207; goto L149;
+L148:
+	if (v709 >= 4) goto L150;
+	v210 = 1; v211 = v212 = v213 = 0;
+L149:
+	v222 = v210; v223 = (v211 & 4294967295u) | v212; v224 = v213; goto L162;
+L150:
+	v216 = (u64)(v206+8); v217 = v710 - 4; v218 = v707; v220 = lu32(v206+4); v214 = 3; v215 = v219 = v221 = 0; goto L152;
+L151:
+	v216 = (u64)(v206+4); v217 = v710; v218 = v707; v219 = v709; v214 = 5; v215 = v220 = v221 = 0;
+L152:;
+	u32 v717 = (u32)v214;
+	if (v203) goto L156;
+	t_64_64 v718 = allocate(384, 8);
+	if (!(v718.f0 & 1)) goto L153;
+	copy(v448, v449, 24);
+	stp(v449, (ptr)v718.f1);
+	st64(v449+16, 8);
+	std_alloc_vec_Vec_drop_e82e(v448);
+	su32((ptr)v718.f1, v717);
+	su32((ptr)v718.f1+4, v215);
+	su16((ptr)v718.f1+8, v218);
+	su16((ptr)v718.f1+10, v219);
+	su32((ptr)v718.f1+12, v220);
+	su64((ptr)v718.f1+16, v221);
+	su64((ptr)v718.f1+24, v216);
+	su64((ptr)v718.f1+32, v217);
+	su64((ptr)v718.f1+40, 0);
+	v233 = v718.f1; v234 = 1; goto L166;
+L153:;
+	u8 v719 = (u8)v218;
+	switch (v214) {
+	case 0: goto L154;
+	case 1: case 3: case 4: case 5: goto L161;
+	case 2: goto L155;
+	default: goto L259;
+	}
+L154:
+	if (!v719 || !v217) goto L161;
+	goto L160;
+L155:
+	if (!v719 || !v217) goto L161;
+	goto L160;
+L156:
+	if (ld64(v449+16) != v203) { v232 = v203; goto L165; }
+	u8 v720 = std_alloc_vec_Vec_grow_amortized_35f1(v449);
+	if (!v720) goto L157;
+	v232 = ld64(v449+8); goto L165;
+L157:;
+	u8 v721 = (u8)v218;
+	switch (v214) {
+	case 0: goto L158;
+	case 1: case 3: case 4: case 5: goto L161;
+	case 2: goto L159;
+	default: goto L259;
+	}
+L158:
+	if (!v721 || !v217) goto L161;
+	goto L160;
+L159:
+	if (!v721 || !v217) goto L161;
+L160:
+	deallocate((ptr)v221);
+L161:
+	v222 = v223 = v224 = 0;
+L162:
+	std_alloc_vec_Vec_drop_e82e(v449);
+	v225 = v223; v226 = v224; v227 = v222;
+L163:
+	v228 = v225; v229 = (u8)v226; v230 = (u8)(v226 >> 8); v231 = v227;
+L164:
+	v381 = v231; v382 = v228; v383 = v229; v384 = v230; goto L267;
+L165:;
+	ptr v722 = ldp(v449), v723 = at(v722, v232 * 48);
+	su32(v723, v717);
+	su32(v723+4, v215);
+	su16(v723+8, v218);
+	su16(v723+10, v219);
+	su32(v723+12, v220);
+	su64(v723+16, v221);
+	su64(v723+24, v216);
+	su64(v723+32, v217);
+	su64(v723+40, 0);
+	v233 = (u64)v722; v234 = v232 + 1;
+L166:;
+	u8 v724 = (u8)v233, v725 = (u8)(v233 >> 8);
+	st64(v449+8, v234);
+	if (v713) { v202 = v724; v203 = v234; v204 = v725; v205 = v713; v206 = v712; goto L140; }
+	v235 = v234; v236 = v712; v238 = v724; v239 = v725; v237 = 0;
+L167:
+	v240 = ld64(v449+16); v241 = v235; v242 = v236; v243 = v237; v244 = v238; v245 = v239;
+L168:
+	copy(v450, v449+2, 6);
+	copy(v451, v450, 6);
+	copy(v452, v451, 6);
+	copy(v456, v452, 6);
+	copy(v453, v456, 6);
+	v369 = v241; v370 = v240; v371 = v244; v372 = v245; v373 = v698; v374 = (ptr)0; v375 = (u64)(v505+20); v376 = v700; v377 = v242; v378 = v243; v379 = ((u64)v695 << 16) | (u64)(v694 & 65280) | (u64)(v694 & 255); v380 = v697 | (u64)(v696 & 4294967040u) | (u64)(v696 & 255); goto L266;
+L169:
+	if (v504 <= 3) { v381 = 3587; v382 = v383 = v384 = 0; goto L267; }
+	v373 = (u64)(v505+4); v374 = (ptr)(v504 - 4); v377 = at(v505, v504); v379 = (u64)lu32(v505); v369 = v370 = v371 = v372 = v375 = v376 = v378 = v380 = 0; goto L266;
+L170:
+	clear(v445, 48);
+	pcap_options_records_records_from_slice_7f02(v445, v505, v504);
+	u8 v726 = ld8(v445+8), v727 = ld8(v445+9);
+	u64 v728 = ld64(v445+16);
+	u16 v729 = ld16(v445+24);
+	u64 v730 = (u64)v729;
+	u8 v731 = (u8)v729, v732 = (u8)(v729 >> 8), v733 = ld8(v445);
+	clear(v441, 16);
+	u8 v734 = v733 == 0;
+	if (!v734) goto L171;
+	u64 v735 = (u64)ld_bytes(v445+10, 6) & 0xffffffffffffull;
+	copy(v440, v445+26, 6);
+	copy(v441, v445+32, 16);
+	v246 = v735 << 16; goto L172;
+L171:
+	clear(v440, 6);
+	v246 = 0;
+L172:;
+	u64 v736 = (u64)v726, v737 = (u64)v727 << 8;
+	ptr v738 = (ptr)(v246 | v736 | v737);
+	copy(v443, v440, 6);
+	copy(v444, v441, 16);
+	if (!v734) { v287 = v737; v288 = v736; v289 = v728; v290 = v731; v291 = v732; goto L205; }
+	st16(v442, v729);
+	copy(v442+2, v443, 6);
+	copy(v442+8, v444, 16);
+	stp(v439, v421);
+	clear(v439+8, 16);
+	u64 v739 = (u64)v421, v740 = v739 >> 8, v741 = v739 >> 16;
+	if (!v728) { v280 = v738; v283 = v741; v285 = v739; v286 = v740; v281 = v282 = v284 = 0; goto L204; }
+	v247 = v741; v248 = v739; v250 = v740; v251 = v728; v252 = v738; v249 = 0;
+L173:
+	if (v251 < 4) { v267 = 4099; v268 = v269 = v270 = 0; goto L200; }
+	u16 v742 = lu16(v252);
+	u64 v743 = v251 - 4;
+	u16 v744 = lu16(v252+2);
+	if (!v742) { v274 = v249; v275 = v247; v276 = v252+4; v277 = v743; v278 = v248; v279 = v250; goto L203; }
+	u64 v745 = (u64)v744, v746 = ((0ull - v745) & 3) + v745;
+	if (v743 < v746) { v267 = 4355; v268 = v269 = v270 = 0; goto L200; }
+	ptr v747 = at(v252+4, v746);
+	u64 v748 = v743 - v746;
+	switch (v742) {
+	case 1: goto L174;
+	case 2: goto L176;
+	case 3: goto L178;
+	case 4: goto L179;
+	case 2988: case 19372: goto L180;
+	case 2989: case 19373: goto L183;
+	default: v260 = v252+4; v261 = v745; v262 = v744; v264 = v742; v263 = 6; v265 = v266 = 0; goto L186;
+	}
+L174:
+	clear(v437, 24);
+	core_str_utf8_from_utf8(v437, v252+4, v745);
+	u64 v749 = ld64(v437+8);
+	if (ld8(v437)) goto L175;
+	v260 = (ptr)ld64(v437+16); v266 = v749; v261 = v262 = v263 = v264 = v265 = 0; goto L186;
+L175:
+	v257 = v749; v258 = v749 & 0xffffffff00000000ull; v259 = (u64)ld16(v437+16); v256 = 2; goto L184;
+L176:
+	clear(v436, 24);
+	core_str_utf8_from_utf8(v436, v252+4, v745);
+	u64 v750 = ld64(v436+8);
+	if (ld8(v436)) goto L177;
+	v260 = (ptr)ld64(v436+16); v266 = v750; v261 = v262 = v264 = v265 = 0; v263 = 1; goto L186;
+L177:
+	v257 = v750; v258 = v750 & 0xffffffff00000000ull; v259 = (u64)ld16(v436+16); v256 = 2; goto L184;
+L178:
+	if (v744 == 4) { v260 = (ptr)4ull; v266 = (u64)(v252+4); v261 = v262 = v264 = v265 = 0; v263 = 2; goto L186; }
+	v256 = 7939; v257 = v258 = v259 = 0; goto L184;
+L179:
+	if (v744 == 16) { v260 = (ptr)16ull; v266 = (u64)(v252+4); v261 = v262 = v264 = v265 = 0; v263 = 3; goto L186; }
+	v256 = 8195; v257 = v258 = v259 = 0; goto L184;
+L180:
+	if (v744 < 4) { v253 = v254 = 0; v255 = 1; goto L182; }
+	u32 v751 = lu32(v252+4);
+	clear(v435, 24);
+	core_str_utf8_from_utf8(v435, v252+8, v745 - 4);
+	u64 v752 = ld64(v435+8);
+	if (ld8(v435)) goto L181;
+	v260 = (ptr)v752; v261 = ld64(v435+16); v264 = v742; v265 = v751; v262 = v266 = 0; v263 = 5; goto L186;
+L181:
+	v253 = (u64)ld16(v435+16); v254 = v752; v255 = 2;
+L182:
+	v256 = v255; v257 = v254; v258 = v254 & 0xffffffff00000000ull; v259 = v253; goto L184;
+L183:
+	if (v744 >= 4) goto L185;
+	v256 = 1; v257 = v258 = v259 = 0;
+L184:
+	v267 = v256; v268 = (v257 & 4294967295u) | v258; v269 = (u8)v259; v270 = (u8)(v259 >> 8); goto L200;
+L185:
+	v260 = v252+8; v261 = v745 - 4; v264 = v742; v265 = lu32(v252+4); v262 = v266 = 0; v263 = 4;
+L186:;
+	u64 v753 = (u64)v260, v754 = (u64)v263;
+	if (v249) goto L192;
+	t_64_64 v755 = allocate(384, 8);
+	if (!(v755.f0 & 1)) goto L187;
+	copy(v438, v439, 24);
+	stp(v439, (ptr)v755.f1);
+	st64(v439+16, 8);
+	std_alloc_vec_Vec_drop_0f0e(v438);
+	su64((ptr)v755.f1, v754);
+	su16((ptr)v755.f1+8, v264);
+	su16((ptr)v755.f1+10, v262);
+	su32((ptr)v755.f1+12, v265);
+	su64((ptr)v755.f1+16, v266);
+	su64((ptr)v755.f1+24, v753);
+	su64((ptr)v755.f1+32, v261);
+	su64((ptr)v755.f1+40, 0);
+	v272 = v755.f1; v273 = 1; goto L202;
+L187:;
+	u8 v756 = (u8)v264;
+	switch (v263) {
+	case 0: goto L188;
+	case 1: goto L189;
+	case 2: goto L190;
+	case 3: goto L191;
+	case 4: case 5: case 6: goto L199;
+	default: goto L259;
+	}
+L188:
+	if (!v756 || !v261) goto L199;
+	goto L198;
+L189:
+	if (!v756 || !v261) goto L199;
+	goto L198;
+L190:
+	if (!v756 || !v261) goto L199;
+	goto L198;
+L191:
+	if (!v756 || !v261) goto L199;
+	goto L198;
+L192:
+	if (ld64(v439+16) != v249) { v271 = v249; goto L201; }
+	u8 v757 = std_alloc_vec_Vec_grow_amortized_35f1(v439);
+	if (!v757) goto L193;
+	v271 = ld64(v439+8); goto L201;
+L193:;
+	u8 v758 = (u8)v264;
+	switch (v263) {
+	case 0: goto L194;
+	case 1: goto L195;
+	case 2: goto L196;
+	case 3: goto L197;
+	case 4: case 5: case 6: goto L199;
+	default: goto L259;
+	}
+L194:
+	if (!v758 || !v261) goto L199;
+	goto L198;
+L195:
+	if (!v758 || !v261) goto L199;
+	goto L198;
+L196:
+	if (!v758 || !v261) goto L199;
+	goto L198;
+L197:
+	if (!v758 || !v261) goto L199;
+L198:
+	deallocate((ptr)v266);
+L199:
+	v267 = v268 = v269 = v270 = 0;
+L200:
+	std_alloc_vec_Vec_drop_0f0e(v439);
+	std_alloc_vec_Vec_drop_fe8c(v442);
+	v287 = (u64)(v267 & 65280); v288 = (u64)(v267 & 255); v289 = v268; v290 = v269; v291 = v270; goto L205;
+L201:;
+	ptr v759 = ldp(v439), v760 = at(v759, v271 * 48);
+	su64(v760, v754);
+	su16(v760+8, v264);
+	su16(v760+10, v262);
+	su32(v760+12, v265);
+	su64(v760+16, v266);
+	su64(v760+24, v753);
+	su64(v760+32, v261);
+	su64(v760+40, 0);
+	v272 = (u64)v759; v273 = v271 + 1;
+L202:;
+	u64 v761 = v272 >> 16, v762 = v272 >> 8;
+	st64(v439+8, v273);
+	if (v748) { v247 = v761; v248 = v272; v249 = v273; v250 = v762; v251 = v748; v252 = v747; goto L173; }
+	v274 = v273; v275 = v761; v276 = v747; v278 = v272; v279 = v762; v277 = 0;
+L203:
+	v280 = v276; v281 = ld64(v439+16); v282 = v274; v283 = v275; v284 = v277; v285 = v278; v286 = v279;
+L204:;
+	u64 v763 = ld64(v442+8), v764 = ld64(v442+16);
+	u64 v765 = (((u64)ld_bytes(v442+2, 6) & 0xffffffffffffull) << 16) | v730;
+	copy(v453, v457, 6);
+	v373 = v764; v374 = (ptr)((v285 & 255) | ((v286 << 8) & 65280) | (v283 << 16)); v375 = v282; v376 = v281; v377 = v280; v378 = v284; v379 = v765; v380 = v763; v369 = v370 = v371 = v372 = 0; goto L266;
+L205:
+	v381 = v288 | v287; v382 = v289; v383 = v290; v384 = v291; goto L267;
+L206:
+	if (v504 < 12) { v381 = 3843; v382 = v383 = v384 = 0; goto L267; }
+	u32 v766 = lu32(v505);
+	u64 v767 = v504 - 12, v768 = ((u64)lu32(v505+4) << 32) | (u64)lu32(v505+8);
+	stp(v434, v421);
+	clear(v434+8, 16);
+	u64 v769 = (u64)v421, v770 = v769 >> 8, v771 = v769 >> 16;
+	if (!v767) { v323 = (ptr)0; v324 = v771; v325 = v505+12; v327 = v769; v328 = v770; v322 = v326 = 0; goto L232; }
+	v292 = (ptr)0; v293 = v771; v294 = v769; v296 = v770; v297 = v767; v298 = v505+12; v295 = 0;
+L207:
+	if (v297 < 4) { v310 = 4099; v311 = v312 = 0; goto L228; }
+	u16 v772 = lu16(v298);
+	u64 v773 = v297 - 4;
+	u16 v774 = lu16(v298+2);
+	if (!v772) { v316 = v292; v317 = v293; v318 = v298+4; v319 = v773; v320 = v294; v321 = v296; goto L231; }
+	u64 v775 = (u64)v774, v776 = ((0ull - v775) & 3) + v775;
+	if (v773 < v776) { v310 = 4355; v311 = v312 = 0; goto L228; }
+	ptr v777 = at(v298+4, v776);
+	u64 v778 = v773 - v776;
+	switch (v772) {
+	case 1: goto L208;
+	case 2: goto L210;
+	case 3: goto L211;
+	case 4: goto L212;
+	case 5: goto L213;
+	case 6: goto L214;
+	case 7: goto L215;
+	case 8: goto L216;
+	case 2988: case 19372: goto L217;
+	case 2989: case 19373: goto L219;
+	default: v302 = v298+4; v303 = v775; v306 = v774; v307 = v772; v304 = v305 = v308 = 0; v309 = 10; goto L222;
+	}
+L208:
+	clear(v432, 24);
+	core_str_utf8_from_utf8(v432, v298+4, v775);
+	u64 v779 = ld64(v432+8);
+	if (ld8(v432)) goto L209;
+	v302 = (ptr)ld64(v432+16); v305 = v779; v303 = v304 = v306 = v307 = v309 = 0; v308 = 1; goto L222;
+L209:
+	v300 = v779; v301 = ld16(v432+16); v299 = 2; goto L220;
+L210:
+	if (v774 < 8) { M155: v299 = 1; v300 = v301 = 0; goto L220; }
+	u32 v780 = lu32(v298+8);
+	v302 = (ptr)0; v304 = lu32(v298+4); v306 = (u16)(v780 >> 16); v307 = (u16)v780; v303 = v305 = v308 = 0; v309 = 1; goto L222;
+L211:
+	if (v774 < 8) goto M155;
+	u32 v781 = lu32(v298+8);
+	v302 = (ptr)0; v304 = lu32(v298+4); v306 = (u16)(v781 >> 16); v307 = (u16)v781; v303 = v305 = v308 = 0; v309 = 2; goto L222;
+L212:
+	if (v774 < 8) goto M155;
+	u64 v782 = lu64(v298+4);
+	v302 = (ptr)0; v304 = (u32)(v782 >> 32); v306 = (u16)(v782 >> 16); v307 = (u16)v782; v303 = v305 = v308 = 0; v309 = 3; goto L222;
+L213:
+	if (v774 < 8) goto M155;
+	u64 v783 = lu64(v298+4);
+	v302 = (ptr)0; v304 = (u32)(v783 >> 32); v306 = (u16)(v783 >> 16); v307 = (u16)v783; v303 = v305 = v308 = 0; v309 = 4; goto L222;
+L214:
+	if (v774 < 8) goto M155;
+	u64 v784 = lu64(v298+4);
+	v302 = (ptr)0; v304 = (u32)(v784 >> 32); v306 = (u16)(v784 >> 16); v307 = (u16)v784; v303 = v305 = v308 = 0; v309 = 5; goto L222;
+L215:
+	if (v774 < 8) goto M155;
+	u64 v785 = lu64(v298+4);
+	v302 = (ptr)0; v304 = (u32)(v785 >> 32); v306 = (u16)(v785 >> 16); v307 = (u16)v785; v303 = v305 = v308 = 0; v309 = 6; goto L222;
+L216:
+	if (v774 < 8) goto M155;
+	u64 v786 = lu64(v298+4);
+	v302 = (ptr)0; v304 = (u32)(v786 >> 32); v306 = (u16)(v786 >> 16); v307 = (u16)v786; v303 = v305 = v308 = 0; v309 = 7; goto L222;
+L217:
+	if (v774 < 4) goto M155;
+	u32 v787 = lu32(v298+4);
+	clear(v431, 24);
+	core_str_utf8_from_utf8(v431, v298+8, v775 - 4);
+	u64 v788 = ld64(v431+8);
+	if (ld8(v431)) goto L218;
+	v302 = (ptr)v788; v303 = ld64(v431+16); v304 = v787; v307 = v772; v305 = v306 = v308 = 0; v309 = 9; goto L222;
+L218:
+	v300 = v788; v301 = ld16(v431+16); v299 = 2; goto L220;
+L219:
+	if (v774 >= 4) goto L221;
+	v299 = 1; v300 = v301 = 0;
+L220:
+	v310 = v299; v311 = v300; v312 = (u32)v301; goto L228;
+L221:
+	v302 = v298+8; v303 = v775 - 4; v304 = lu32(v298+4); v307 = v772; v305 = v306 = v308 = 0; v309 = 8;
+L222:;
+	u64 v789 = (u64)v307, v790 = ((u64)v306 << 16) | ((u64)v304 << 32) | v789, v791 = (u64)v302;
+	if (v295) goto L224;
+	t_64_64 v792 = allocate(384, 8);
+	if (!(v792.f0 & 1)) goto L223;
+	copy(v433, v434, 24);
+	stp(v434, (ptr)v792.f1);
+	st64(v434+16, 8);
+	std_alloc_vec_Vec_drop_15c9(v433);
+	su64((ptr)v792.f1, v309);
+	su64((ptr)v792.f1+8, v790);
+	su64((ptr)v792.f1+16, v305);
+	su64((ptr)v792.f1+24, v791);
+	su64((ptr)v792.f1+32, v303);
+	su64((ptr)v792.f1+40, 0);
+	v314 = v792.f1; v315 = 1; goto L230;
+L223:
+	if (!v308) goto L227;
+	if (!(v789 & 255) || !v303) goto L227;
+	goto L226;
+L224:
+	if (ld64(v434+16) != v295) { v313 = v295; goto L229; }
+	u8 v793 = std_alloc_vec_Vec_grow_amortized_35f1(v434);
+	if (!v793) goto L225;
+	v313 = ld64(v434+8); goto L229;
+L225:
+	if (!v308) goto L227;
+	if (!(v789 & 255) || !v303) goto L227;
+L226:
+	deallocate((ptr)v305);
+L227:
+	v310 = v311 = v312 = 0;
+L228:
+	std_alloc_vec_Vec_drop_15c9(v434);
+	v381 = v310; v382 = v311; v383 = (u8)v312; v384 = (u8)(v312 >> 8); goto L267;
+L229:;
+	ptr v794 = ldp(v434), v795 = at(v794, v313 * 48);
+	su64(v795, v309);
+	su64(v795+8, v790);
+	su64(v795+16, v305);
+	su64(v795+24, v791);
+	su64(v795+32, v303);
+	su64(v795+40, 0);
+	v314 = (u64)v794; v315 = v313 + 1;
+L230:;
+	u64 v796 = v314 >> 16, v797 = v314 >> 8;
+	st64(v434+8, v315);
+	if (v778) { v292 = (ptr)v315; v293 = v796; v294 = v314; v295 = v315; v296 = v797; v297 = v778; v298 = v777; goto L207; }
+	v316 = (ptr)v315; v317 = v796; v318 = v777; v320 = v314; v321 = v797; v319 = 0;
+L231:
+	v322 = ld64(v434+16); v323 = v316; v324 = v317; v325 = v318; v326 = v319; v327 = v320; v328 = v321;
+L232:
+	copy(v453, v458, 6);
+	v373 = ((v328 << 8) & 65280) | (v324 << 16) | (v327 & 255); v374 = v323; v375 = v322; v377 = v325; v378 = v326; v379 = (u64)v766; v380 = v768; v369 = v370 = v371 = v372 = v376 = 0; goto L266;
+L233:
+	clear(v430, 6);
+	if (v504 < 20) { v354 = 3075; v351 = v352 = v353 = 0; goto L258; }
+	u32 v798 = lu32(v505);
+	clear(v429, 6);
+	u32 v799 = lu32(v505+8);
+	u64 v800 = (u64)lu32(v505+4) << 32, v801 = lu64(v505+12), v802 = v504 - 20;
+	u64 v803 = v801 & 4294967295u, v804 = ((0ull - v801) & 3) + v803;
+	if (v802 < v804) { v350 = 3331; v348 = v349 = 0; goto L257; }
+	ptr v805 = at(v505+20, v804);
+	u64 v806 = v802 - v804;
+	clear(v428, 6);
+	stp(v427, v421);
+	clear(v427+8, 16);
+	u64 v807 = (u64)v421;
+	u8 v808 = (u8)(v807 >> 8), v809 = (u8)v807;
+	if (!v806) { v365 = v805; v367 = v809; v368 = v808; v363 = v364 = v366 = 0; goto L263; }
+	v329 = v809; v331 = v808; v332 = v806; v333 = v805; v330 = 0;
+L234:
+	if (v332 < 4) { v345 = 4099; v346 = v347 = 0; goto L256; }
+	u16 v810 = lu16(v333);
+	u64 v811 = v332 - 4;
+	u16 v812 = lu16(v333+2);
+	if (!v810) { v358 = v330; v359 = v333+4; v360 = v811; v361 = v329; v362 = v331; goto L262; }
+	u64 v813 = (u64)v812, v814 = ((0ull - v813) & 3) + v813;
+	if (v811 < v814) { v345 = 4355; v346 = v347 = 0; goto L256; }
+	ptr v815 = at(v333+4, v814);
+	u64 v816 = v811 - v814;
+	switch (v810) {
+	case 1: goto L235;
+	case 2: goto L237;
+	case 3: goto L238;
+	case 4: goto L239;
+	case 2988: case 19372: goto L240;
+	case 2989: case 19373: goto L242;
+	default: goto L245;
+	}
+L235:
+	clear(v425, 24);
+	core_str_utf8_from_utf8(v425, v333+4, v813);
+	u64 v817 = ld64(v425+8);
+	if (ld8(v425)) goto L236;
+	v342 = ld64(v425+16); v344 = v817; v337 = v338 = v339 = v340 = v341 = v343 = 0; goto L246;
+L236:
+	v335 = v817; v336 = ld16(v425+16); v334 = 2; goto L243;
+L237:
+	if (v812 != 4) { v334 = 7171; v335 = v336 = 0; goto L243; }
+	v337 = lu32(v333+4); v338 = 1; v339 = v340 = v341 = v342 = v343 = v344 = 0; goto L246;
+L238:
+	v342 = v813; v344 = (u64)(v333+4); v337 = v339 = v340 = v341 = v343 = 0; v338 = 2; goto L246;
+L239:
+	if (v812 != 8) { v334 = 7427; v335 = v336 = 0; goto L243; }
+	u64 v818 = lu64(v333+4);
+	v339 = (u16)v818; v340 = (u16)(v818 >> 16); v341 = (u32)(v818 >> 32); v337 = v342 = v343 = v344 = 0; v338 = 3; goto L246;
+L240:
+	if (v812 < 4) { v334 = 1; v335 = v336 = 0; goto L243; }
+	u32 v819 = lu32(v333+4);
+	clear(v424, 24);
+	core_str_utf8_from_utf8(v424, v333+8, v813 - 4);
+	u64 v820 = ld64(v424+8);
+	if (ld8(v424)) goto L241;
+	v339 = v810; v341 = v819; v342 = v820; v343 = ld64(v424+16); v337 = v340 = v344 = 0; v338 = 5; goto L246;
+L241:
+	v335 = v820; v336 = ld16(v424+16); v334 = 2; goto L243;
+L242:
+	if (v812 >= 4) goto L244;
+	v334 = 1; v335 = v336 = 0;
+L243:
+	v345 = v334; v346 = v335; v347 = (u32)v336; goto L256;
+L244:
+	v339 = v810; v341 = lu32(v333+4); v342 = (u64)(v333+8); v343 = v813 - 4; v337 = v340 = v344 = 0; v338 = 4; goto L246;
+L245:
+	v339 = v810; v340 = v812; v342 = (u64)(v333+4); v343 = v813; v337 = v341 = v344 = 0; v338 = 6;
+L246:;
+	u64 v821 = ((u64)v341 << 32) | ((u64)v340 << 16) | (u64)v339;
+	u32 v822 = (u32)v338;
+	if (v330) goto L250;
+	t_64_64 v823 = allocate(384, 8);
+	if (!(v823.f0 & 1)) goto L247;
+	copy(v426, v427, 24);
+	stp(v427, (ptr)v823.f1);
+	st64(v427+16, 8);
+	std_alloc_vec_Vec_drop_4750(v426);
+	su32((ptr)v823.f1, v822);
+	su32((ptr)v823.f1+4, v337);
+	su64((ptr)v823.f1+8, v821);
+	su64((ptr)v823.f1+16, v344);
+	su64((ptr)v823.f1+24, v342);
+	su64((ptr)v823.f1+32, v343);
+	su64((ptr)v823.f1+40, 0);
+	v356 = v823.f1; v357 = 1; goto L261;
+L247:;
+	u8 v824 = (u8)v339;
+	switch (v338) {
+	case 0: goto L248;
+	case 1: case 3: case 4: case 5: case 6: goto L255;
+	case 2: goto L249;
+	default: goto L259;
+	}
+L248:
+	if (!v824 || !v343) goto L255;
+	goto L254;
+L249:
+	if (!v824 || !v343) goto L255;
+	goto L254;
+L250:
+	if (ld64(v427+16) != v330) { v355 = v330; goto L260; }
+	u8 v825 = std_alloc_vec_Vec_grow_amortized_35f1(v427);
+	if (!v825) goto L251;
+	v355 = ld64(v427+8); goto L260;
+L251:;
+	u8 v826 = (u8)v339;
+	switch (v338) {
+	case 0: goto L252;
+	case 1: case 3: case 4: case 5: case 6: goto L255;
+	case 2: goto L253;
+	default: goto L259;
+	}
+L252:
+	if (!v826 || !v343) goto L255;
+	goto L254;
+L253:
+	if (!v826 || !v343) goto L255;
+L254:
+	deallocate((ptr)v344);
+L255:
+	v345 = v346 = v347 = 0;
+L256:
+	std_alloc_vec_Vec_drop_4750(v427);
+	v348 = v346; v349 = v347; v350 = v345;
+L257:
+	v351 = v348; v352 = (u8)v349; v353 = (u8)(v349 >> 8); v354 = v350;
+L258:
+	v381 = v354; v382 = v351; v383 = v352; v384 = v353; goto L267;
+L259:
+	__builtin_trap();
+L260:;
+	ptr v827 = ldp(v427), v828 = at(v827, v355 * 48);
+	su32(v828, v822);
+	su32(v828+4, v337);
+	su64(v828+8, v821);
+	su64(v828+16, v344);
+	su64(v828+24, v342);
+	su64(v828+32, v343);
+	su64(v828+40, 0);
+	v356 = (u64)v827; v357 = v355 + 1;
+L261:;
+	u8 v829 = (u8)v356, v830 = (u8)(v356 >> 8);
+	st64(v427+8, v357);
+	if (v816) { v329 = v829; v330 = v357; v331 = v830; v332 = v816; v333 = v815; goto L234; }
+	v358 = v357; v359 = v815; v361 = v829; v362 = v830; v360 = 0;
+L262:
+	v363 = ld64(v427+16); v364 = v358; v365 = v359; v366 = v360; v367 = v361; v368 = v362;
+L263:
+	copy(v428, v427+2, 6);
+	copy(v429, v428, 6);
+	copy(v430, v429, 6);
+	copy(v459, v430, 6);
+	copy(v453, v459, 6);
+	v369 = v364; v370 = v363; v371 = v367; v372 = v368; v373 = v801; v374 = (ptr)0; v375 = (u64)(v505+20); v376 = v803; v377 = v365; v378 = v366; v379 = (u64)v798; v380 = v800 | (u64)(v799 & 4294967040u) | (u64)(v799 & 255); goto L266;
+L264:
+	v373 = v504; v374 = (ptr)0; v377 = at(v505, v504); v380 = (u64)v505; v369 = v370 = v371 = v372 = v375 = v376 = v378 = v379 = 0; goto L266;
+L265:
+	if (v504 >= 0x100000000ull) { v381 = 9987; v382 = v383 = v384 = 0; goto L267; }
+	v374 = v505; v375 = v504; v377 = v505; v378 = v504; v379 = ((u64)v503 << 32) | 8; v380 = v504; v369 = v370 = v371 = v372 = v373 = v376 = 0;
+L266:
+	copy(v461, v453, 6);
+	v386 = (u8)(u64)v377; v387 = v378; v388 = (u64)v502; v389 = v379; v390 = v380; v391 = v373; v392 = v374; v393 = v375; v394 = v376; v396 = v371; v397 = v461; v398 = v372; v399 = v369; v400 = v370; v385 = v395 = 0; goto L268;
+L267:
+	clear(v422, 96);
+	clear(v423, 24);
+	st16(v423, (u16)v381);
+	st64(v423+8, v382);
+	st8(v423+16, v383);
+	st8(v423+17, v384);
+	pcap_options_refusal_PcapErrorFromRefusal_from(v422, v423);
+	u8 v831 = ld8(v422);
+	u64 v832 = ld64(v422+8), v833 = ld64(v422+16), v834 = ld64(v422+24), v835 = ld64(v422+32);
+	u64 v836 = ld64(v422+40);
+	ptr v837 = ldp(v422+48);
+	u64 v838 = ld64(v422+56), v839 = ld64(v422+64), v840 = ld64(v422+72);
+	u8 v841 = ld8(v422+80), v842 = ld8(v422+81);
+	copy(v460, v422+82, 6);
+	v386 = v831; v387 = v832; v388 = v833; v389 = v834; v390 = v835; v391 = v836; v392 = v837; v393 = v838; v394 = v839; v395 = v840; v396 = v841; v397 = v460; v398 = v842; v399 = ld64(v422+88); v385 = 1; v400 = 0;
+L268:
+	v401 = (u64)ld_bytes(v397, 6) & 0xffffffffffffull; v402 = v385; v403 = v386; v404 = v387; v405 = v388; v406 = v389; v407 = v390; v408 = v391; v409 = v392; v410 = v393; v411 = v394; v412 = v395; v413 = v396; v414 = v398; v415 = v399; v416 = v400;
+L269:
+	if (v402) goto L270;
+	su64(v1, 0);
+	st8(v1+8, (u8)v405);
+	su64(v1+16, v406);
+	su64(v1+24, v407);
+	su64(v1+32, v408);
+	sup(v1+40, v409);
+	su64(v1+48, v410);
+	su64(v1+56, v411);
+	st8(v1+72, v413);
+	st8(v1+73, v414);
+	st_bytes(v1+74, v401, 6);
+	v417 = v412; v418 = v415; v419 = v416; v420 = 0; goto L271;
+L270:
+	su64(v1, 1);
+	st8(v1+8, v403);
+	su64(v1+16, v404);
+	su64(v1+24, v405);
+	su64(v1+32, v406);
+	sup(v1+40, (ptr)v407);
+	su64(v1+48, v408);
+	su64(v1+56, (u64)v409);
+	su64(v1+72, v411);
+	v417 = v410; v418 = v412; v419 = ((u64)v414 << 8) | (u64)v413 | (v401 << 16); v420 = v415;
+L271:
+	su64(v1+64, v417);
+	su64(v1+80, v418);
+	su64(v1+88, v419);
+	su64(v1+96, v420);
+	return;
+L272:
+	__builtin_trap();
+}
+static void std_alloc_vec_deque_VecDeque_drop_0fd4(ptr v1) {
+	u64 v2, v3, v4, v5;
+	ptr v6 = lup(v1);
+	u64 v7 = lu64(v1+8), v8 = lu64(v1+16), v9 = lu64(v1+32);
+	if (!v7) goto L22;
+	u64 v10 = lu64(v1+24), v11 = v10 + (v7 - v9);
+	if (v10 >= v11) goto L11;
+	v2 = v10;
+L0:;
+	ptr v12 = at(v6, v2 * 48);
+	u64 v13 = lu64(v12+16), v14 = lu64(v12+24), v15 = lu64(v12+32), v16 = lu64(v12+40);
+	u8 v17 = (u8)lu16(v12+8), v18 = (u8)v13;
+	switch (ld8(v12)) {
+	case 0: goto L1;
+	case 1: goto L2;
+	case 2: goto L3;
+	case 3: goto L4;
+	case 4: goto L5;
+	case 5: goto L6;
+	case 6: goto L7;
+	default: goto L10;
+	}
+L1:
+	if (!v17 || !v15) goto L9;
+	v3 = v13; goto L8;
+L2:
+	if (!v17 || !v15) goto L9;
+	v3 = v13; goto L8;
+L3:
+	if (!v17 || !v15) goto L9;
+	v3 = v13; goto L8;
+L4:
+	if (!v17 || !v15) goto L9;
+	v3 = v13; goto L8;
+L5:
+	if (!v18 || !v16) goto L9;
+	v3 = v14; goto L8;
+L6:
+	if (!v18 || !v16) goto L9;
+	v3 = v14; goto L8;
+L7:
+	if (!v18 || !v16) goto L9;
+	v3 = v14;
+L8:
+	deallocate((ptr)v3);
+L9:;
+	u64 v19 = v2 + 1;
+	if (v19 == v11) goto L11;
+	v2 = v19; goto L0;
+L10:
+	__builtin_trap();
+L11:
+	if (!v9) goto L22;
+	v4 = 0;
+L12:;
+	ptr v20 = at(v6, v4 * 48);
+	u64 v21 = lu64(v20+16), v22 = lu64(v20+24), v23 = lu64(v20+32), v24 = lu64(v20+40);
+	u8 v25 = (u8)lu16(v20+8), v26 = (u8)v21;
+	switch (ld8(v20)) {
+	case 0: goto L13;
+	case 1: goto L14;
+	case 2: goto L15;
+	case 3: goto L16;
+	case 4: goto L17;
+	case 5: goto L18;
+	case 6: goto L19;
+	default: goto L24;
+	}
+L13:
+	if (!v25 || !v23) goto L21;
+	v5 = v21; goto L20;
+L14:
+	if (!v25 || !v23) goto L21;
+	v5 = v21; goto L20;
+L15:
+	if (!v25 || !v23) goto L21;
+	v5 = v21; goto L20;
+L16:
+	if (!v25 || !v23) goto L21;
+	v5 = v21; goto L20;
+L17:
+	if (!v26 || !v24) goto L21;
+	v5 = v22; goto L20;
+L18:
+	if (!v26 || !v24) goto L21;
+	v5 = v22; goto L20;
+L19:
+	if (!v26 || !v24) goto L21;
+	v5 = v22;
+L20:
+	deallocate((ptr)v5);
+L21:;
+	u64 v27 = v4 + 1;
+	if (v27 != v9) { v4 = v27; goto L12; }
+L22:
+	if (!v8) goto L23;
+	deallocate(v6);
+L23:
+	return;
+L24:
+	__builtin_trap();
+}
+static void pcap_blocks_section_header_SectionHeaderBlock_into_owned(ptr v1, ptr v2) {
+	ptr v3, v7, v9, v11, v13, v15, v17, v19, v21, v23, v25, v27, v29, v37, v39;
+	u64 v4, v5, v6, v8, v10, v12, v14, v16, v18, v20, v22, v24, v26, v28, v30, v31, v35, v36, v38;
+	u16 v32, v33;
+	u32 v34;
+	_Alignas(8) u8 v40[1], v41[24] = {0}, v42[24], v43[40] = {0}, v44[40] = {0}, v45[40], v55[24];
+	_Alignas(1) u8 v46[31], v47[56] = {0};
+	u32 v48 = lu32(v2);
+	u16 v49 = lu16(v2+4), v50 = lu16(v2+6);
+	u64 v51 = lu64(v2+8);
+	ptr v52 = lup(v2+16);
+	u64 v53 = lu64(v2+24), v54 = lu64(v2+32);
+	clear(v46, 7);
+	if (v53) goto L0;
+	stp(v41, v40);
+	goto L48;
+L0:
+	if (v53 >= 0x2aaaaaaaaaaaaabull) goto L50;
+	t_64_64 v56 = allocate(v53 * 48, 8);
+	if (!(v56.f0 & 1)) goto L50;
+	stp(v41, (ptr)v56.f1);
+	st64(v41+8, 0);
+	st64(v41+16, v53);
+	v3 = (ptr)v56.f1; v6 = v53; v4 = v5 = 0;
+L1:;
+	u64 v57 = v5 + 1, v58 = v6 - 1;
+	ptr v59 = at(v52, v5 * 48);
+	u8 v60 = ld8(v59);
+	u16 v61 = lu16(v59+8), v62 = lu16(v59+10);
+	u32 v63 = lu32(v59+12);
+	u8 v64 = ld8(v59+16);
+	u64 v65 = (u64)ld_bytes(v59+17, 7) & 0xffffffffffffffull, v66 = lu64(v59+24), v67 = lu64(v59+32);
+	u64 v68 = lu64(v59+40);
+	u8 v69 = (u8)v61;
+	switch (v60) {
+	case 0: goto L2;
+	case 1: goto L7;
+	case 2: goto L12;
+	case 3: goto L17;
+	case 4: goto L22;
+	case 5: goto L26;
+	case 6: goto L30;
+	default: goto L49;
+	}
+L2:;
+	u64 v70 = (v65 << 8) | (u64)v64;
+	if (v69) { v9 = (ptr)v70; v10 = v67; goto L6; }
+	if (!v66) { v7 = v40; goto L3; }
+	if ((s64)v66 <= -1) goto L34;
+	t_64_64 v71 = allocate(v66, 1);
+	if (!(v71.f0 & 1)) goto L34;
+	v7 = (ptr)v71.f1;
+L3:
+	if ((u64)v7 - v70 >= v66) goto L5;
+	v8 = 0;
+L4:
+	st8(at(v7, v8), ld8(at((ptr)v70, v8)));
+	u64 v72 = v8 + 1;
+	if (v72 == v66) { v9 = v7; v10 = v66; goto L6; }
+	v8 = v72; goto L4;
+L5:
+	move(v7, (ptr)v70, v66);
+	v9 = v7; v10 = v66;
+L6:
+	v29 = (ptr)v66; v30 = v10; v35 = (u64)v9; v31 = v33 = v34 = 0; v32 = 1; goto L35;
+L7:;
+	u64 v73 = (v65 << 8) | (u64)v64;
+	if (v69) { v13 = (ptr)v73; v14 = v67; goto L11; }
+	if (!v66) { v11 = v40; goto L8; }
+	if ((s64)v66 <= -1) goto L34;
+	t_64_64 v74 = allocate(v66, 1);
+	if (!(v74.f0 & 1)) goto L34;
+	v11 = (ptr)v74.f1;
+L8:
+	if ((u64)v11 - v73 >= v66) goto L10;
+	v12 = 0;
+L9:
+	st8(at(v11, v12), ld8(at((ptr)v73, v12)));
+	u64 v75 = v12 + 1;
+	if (v75 == v66) { v13 = v11; v14 = v66; goto L11; }
+	v12 = v75; goto L9;
+L10:
+	move(v11, (ptr)v73, v66);
+	v13 = v11; v14 = v66;
+L11:
+	v29 = (ptr)v66; v30 = v14; v35 = (u64)v13; v31 = v33 = v34 = 0; v32 = 1; goto L35;
+L12:;
+	u64 v76 = (v65 << 8) | (u64)v64;
+	if (v69) { v17 = (ptr)v76; v18 = v67; goto L16; }
+	if (!v66) { v15 = v40; goto L13; }
+	if ((s64)v66 <= -1) goto L34;
+	t_64_64 v77 = allocate(v66, 1);
+	if (!(v77.f0 & 1)) goto L34;
+	v15 = (ptr)v77.f1;
+L13:
+	if ((u64)v15 - v76 >= v66) goto L15;
+	v16 = 0;
+L14:
+	st8(at(v15, v16), ld8(at((ptr)v76, v16)));
+	u64 v78 = v16 + 1;
+	if (v78 == v66) { v17 = v15; v18 = v66; goto L16; }
+	v16 = v78; goto L14;
+L15:
+	move(v15, (ptr)v76, v66);
+	v17 = v15; v18 = v66;
+L16:
+	v29 = (ptr)v66; v30 = v18; v35 = (u64)v17; v31 = v33 = v34 = 0; v32 = 1; goto L35;
+L17:;
+	u64 v79 = (v65 << 8) | (u64)v64;
+	if (v69) { v21 = (ptr)v79; v22 = v67; goto L21; }
+	if (!v66) { v19 = v40; goto L18; }
+	if ((s64)v66 <= -1) goto L34;
+	t_64_64 v80 = allocate(v66, 1);
+	if (!(v80.f0 & 1)) goto L34;
+	v19 = (ptr)v80.f1;
+L18:
+	if ((u64)v19 - v79 >= v66) goto L20;
+	v20 = 0;
+L19:
+	st8(at(v19, v20), ld8(at((ptr)v79, v20)));
+	u64 v81 = v20 + 1;
+	if (v81 == v66) { v21 = v19; v22 = v66; goto L21; }
+	v20 = v81; goto L19;
+L20:
+	move(v19, (ptr)v79, v66);
+	v21 = v19; v22 = v66;
+L21:
+	v29 = (ptr)v66; v30 = v22; v35 = (u64)v21; v31 = v33 = v34 = 0; v32 = 1; goto L35;
+L22:
+	if (v64) { M12: v29 = (ptr)v66; v30 = v67; v31 = v68; v32 = v61; v34 = v63; v33 = 0; v35 = 1; goto L35; }
+	if (!v67) { v23 = v40; goto L23; }
+	if ((s64)v67 <= -1) goto L34;
+	t_64_64 v82 = allocate(v67, 1);
+	if (!(v82.f0 & 1)) goto L34;
+	v23 = (ptr)v82.f1;
+L23:
+	if ((u64)v23 - v66 >= v67) goto L25;
+	v24 = 0;
+L24:
+	st8(at(v23, v24), ld8(at((ptr)v66, v24)));
+	u64 v83 = v24 + 1;
+	if (v83 == v67) { M13: v29 = v23; v30 = v67; v31 = v67; v32 = v61; v34 = v63; v33 = 0; v35 = 1; goto L35; }
+	v24 = v83; goto L24;
+L25:
+	move(v23, (ptr)v66, v67);
+	goto M13;
+L26:
+	if (v64) goto M12;
+	if (!v67) { v25 = v40; goto L27; }
+	if ((s64)v67 <= -1) goto L34;
+	t_64_64 v84 = allocate(v67, 1);
+	if (!(v84.f0 & 1)) goto L34;
+	v25 = (ptr)v84.f1;
+L27:
+	if ((u64)v25 - v66 >= v67) goto L29;
+	v26 = 0;
+L28:
+	st8(at(v25, v26), ld8(at((ptr)v66, v26)));
+	u64 v85 = v26 + 1;
+	if (v85 == v67) { M14: v29 = v25; v30 = v67; v31 = v67; v32 = v61; v34 = v63; v33 = 0; v35 = 1; goto L35; }
+	v26 = v85; goto L28;
+L29:
+	move(v25, (ptr)v66, v67);
+	goto M14;
+L30:
+	if (v64) { v29 = (ptr)v66; v30 = v67; v31 = v68; v32 = v61; v33 = v62; v34 = 0; v35 = 1; goto L35; }
+	if (!v67) { v27 = v40; goto L31; }
+	if ((s64)v67 <= -1) goto L34;
+	t_64_64 v86 = allocate(v67, 1);
+	if (!(v86.f0 & 1)) goto L34;
+	v27 = (ptr)v86.f1;
+L31:
+	if ((u64)v27 - v66 >= v67) goto L33;
+	v28 = 0;
+L32:
+	st8(at(v27, v28), ld8(at((ptr)v66, v28)));
+	u64 v87 = v28 + 1;
+	if (v87 == v67) { M16: v29 = v27; v30 = v67; v31 = v67; v32 = v61; v33 = v62; v34 = 0; v35 = 1; goto L35; }
+	v28 = v87; goto L32;
+L33:
+	move(v27, (ptr)v66, v67);
+	goto M16;
+L34:
+	stp(v43, v52);
+	st64(v43+8, v58);
+	st64(v43+16, v54);
+	st64(v43+24, v57);
+	st64(v43+32, 0);
+	std_alloc_vec_deque_VecDeque_drop_0fd4(v43);
+	v39 = v41; goto L51;
+L35:;
+	u64 v88 = (u64)v60;
+	if (ld64(v41+16) != v4) { v37 = v3; v38 = v4; goto L47; }
+	u8 v89 = std_alloc_vec_Vec_grow_amortized_35f1(v41);
+	if (!v89) goto L36;
+	v37 = ldp(v41); v38 = ld64(v41+8); goto L47;
+L36:;
+	u64 v90 = (u64)v29;
+	u8 v91 = (u8)v32, v92 = (u8)v35;
+	switch (v60) {
+	case 0: goto L37;
+	case 1: goto L38;
+	case 2: goto L39;
+	case 3: goto L40;
+	case 4: goto L41;
+	case 5: goto L42;
+	case 6: goto L43;
+	default: goto L46;
+	}
+L37:
+	if (!v91 || !v30) goto L45;
+	v36 = v35; goto L44;
+L38:
+	if (!v91 || !v30) goto L45;
+	v36 = v35; goto L44;
+L39:
+	if (!v91 || !v30) goto L45;
+	v36 = v35; goto L44;
+L40:
+	if (!v91 || !v30) goto L45;
+	v36 = v35; goto L44;
+L41:
+	if (!v92 || !v31) goto L45;
+	v36 = v90; goto L44;
+L42:
+	if (!v92 || !v31) goto L45;
+	v36 = v90; goto L44;
+L43:
+	if (!v92 || !v31) goto L45;
+	v36 = v90;
+L44:
+	deallocate((ptr)v36);
+L45:
+	stp(v44, v52);
+	st64(v44+8, v58);
+	st64(v44+16, v54);
+	st64(v44+24, v57);
+	st64(v44+32, 0);
+	std_alloc_vec_deque_VecDeque_drop_0fd4(v44);
+	v39 = v41; goto L51;
+L46:
+	__builtin_trap();
+L47:;
+	ptr v93 = at(v37, v38 * 48);
+	su64(v93, v88);
+	su16(v93+8, v32);
+	su16(v93+10, v33);
+	su32(v93+12, v34);
+	su64(v93+16, v35);
+	sup(v93+24, v29);
+	su64(v93+32, v30);
+	su64(v93+40, v31);
+	u64 v94 = v38 + 1;
+	st64(v41+8, v94);
+	if (v58) { v3 = v37; v4 = v94; v5 = v57; v6 = v58; goto L1; }
+L48:
+	stp(v45, v52);
+	st64(v45+8, 0);
+	st64(v45+16, v54);
+	st64(v45+24, v53);
+	st64(v45+32, 0);
+	std_alloc_vec_deque_VecDeque_drop_0fd4(v45);
+	copy(v46+7, v41, 24);
+	copy(v55, v46+7, 24);
+	su64(v1, 0);
+	su32(v1+8, v48);
+	su16(v1+12, v49);
+	su16(v1+14, v50);
+	su64(v1+16, v51);
+	copy(v1+24, v55, 24);
+	copy(v1+48, v47, 56);
+	goto L52;
+L49:
+	__builtin_trap();
+L50:
+	stp(v42, v52);
+	st64(v42+8, v53);
+	st64(v42+16, v54);
+	v39 = v42;
+L51:
+	std_alloc_vec_Vec_drop_0f0e(v39);
+	su64(v1, 1);
+	st8(v1+8, 5);
+	clear(v1+9, 95);
+L52:
+	return;
+}
+static void std_alloc_vec_Vec_drop_37c7(ptr v1) {
+	u64 v2, v3;
+	ptr v4 = lup(v1);
+	u64 v5 = lu64(v1+8), v6 = lu64(v1+16);
+	if (!v5) goto L15;
+	v2 = 0;
+L0:;
+	ptr v7 = at(v4, v2 * 48);
+	u64 v8 = lu64(v7+16), v9 = lu64(v7+24), v10 = lu64(v7+32), v11 = lu64(v7+40);
+	u8 v12 = (u8)lu64(v7+8), v13 = (u8)v8;
+	switch (ld8(v7)) {
+	case 0: goto L1;
+	case 1: goto L2;
+	case 2: goto L3;
+	case 3: goto L4;
+	case 4: goto L5;
+	case 5: goto L6;
+	case 6: case 7: case 8: case 9: case 12: case 13: goto L14;
+	case 10: goto L7;
+	case 11: goto L8;
+	case 14: goto L9;
+	case 15: goto L10;
+	case 16: goto L11;
+	case 17: goto L12;
+	default: goto L17;
+	}
+L1:
+	if (!v12 || !v10) goto L14;
+	v3 = v8; goto L13;
+L2:
+	if (!v12 || !v10) goto L14;
+	v3 = v8; goto L13;
+L3:
+	if (!v12 || !v10) goto L14;
+	v3 = v8; goto L13;
+L4:
+	if (!v12 || !v10) goto L14;
+	v3 = v8; goto L13;
+L5:
+	if (!v12 || !v10) goto L14;
+	v3 = v8; goto L13;
+L6:
+	if (!v12 || !v10) goto L14;
+	v3 = v8; goto L13;
+L7:
+	if (!v12 || !v10) goto L14;
+	v3 = v8; goto L13;
+L8:
+	if (!v12 || !v10) goto L14;
+	v3 = v8; goto L13;
+L9:
+	if (!v12 || !v10) goto L14;
+	v3 = v8; goto L13;
+L10:
+	if (!v13 || !v11) goto L14;
+	v3 = v9; goto L13;
+L11:
+	if (!v13 || !v11) goto L14;
+	v3 = v9; goto L13;
+L12:
+	if (!v13 || !v11) goto L14;
+	v3 = v9;
+L13:
+	deallocate((ptr)v3);
+L14:;
+	u64 v14 = v2 + 1;
+	if (v14 != v5) { v2 = v14; goto L0; }
+L15:
+	if (!v6) goto L16;
+	deallocate(v4);
+L16:
+	return;
+L17:
+	__builtin_trap();
+}
+static u8 core_fmt_formatter_Formatter_write_raw_1a69(ptr v1, ptr v2, u64 v3) {
+	u64 v4, v5, v6, v7, v8;
+	u8 v9;
+	if (!v3) goto L3;
+	v4 = 0;
+L0:;
+	u8 v10 = ld8(at(v2, v4));
+	u32 v11 = (u32)v10;
+	if ((s8)v10 > -1) { v5 = 1; goto L2; }
+	u64 v12 = v4 + 1;
+	if (v3 <= v12) { v9 = 1; goto L8; }
+	u8 v13 = ld8(at(v2, v12));
+	if ((s8)v13 > -1) { v9 = 1; goto L8; }
+	u8 v14 = (v13 < 192 ? v13 : 192) & 127;
+	u32 v15 = (u32)v14;
+	if (v10 < 194 || v14 > 63) { v9 = 1; goto L8; }
+	if (v10 < 224) { v5 = 2; goto L2; }
+	u64 v16 = v4 + 2;
+	if (v3 <= v16) { v9 = 1; goto L8; }
+	if ((s8)ld8(at(v2, v16)) >= -64) { v9 = 1; goto L8; }
+	if (v10 >= 240) goto L1;
+	u32 v17 = (v15 << 6) | ((v11 << 12) - 917504);
+	if (v17 < 2048) { v9 = 1; goto L8; }
+	if (v17 > 55295 && v10 < 238) { v9 = 1; goto L8; }
+	v5 = 3; goto L2;
+L1:;
+	u64 v18 = v4 + 3;
+	if (v3 <= v18) { v9 = 1; goto L8; }
+	if ((s8)ld8(at(v2, v18)) >= -64) { v9 = 1; goto L8; }
+	if ((v11 << 18) - 62980096 + (v15 << 12) >= 1048576) { v9 = 1; goto L8; }
+	v5 = 4;
+L2:;
+	u64 v19 = v5 + v4;
+	if (v19 < v3) { v4 = v19; goto L0; }
+L3:;
+	u64 v20 = ld64(v1+16), v21 = ld64(v1+8);
+	if (v3 <= v20 - v21) { v6 = v20; v7 = v21; goto L4; }
+	u8 v22 = std_alloc_vec_Vec_grow_amortized_56a3(v1, v3);
+	if (!v22) { v9 = 1; goto L8; }
+	v6 = ld64(v1+16); v7 = ld64(v1+8);
+L4:;
+	u64 v23 = v7 + v3;
+	ptr v24 = ldp(v1);
+	clear(v1+8, 16);
+	ptr v25 = at(v24, v7);
+	if ((u64)v25 - (u64)v2 >= v3) goto L6;
+	v8 = 0;
+L5:
+	st8(at(v25, v8), ld8(at(v2, v8)));
+	u64 v26 = v8 + 1;
+	if (v26 == v3) goto L7;
+	v8 = v26; goto L5;
+L6:
+	move(v25, v2, v3);
+L7:
+	stp(v1, v24);
+	st64(v1+8, v23);
+	st64(v1+16, v6);
+	v9 = 0;
+L8:
+	return v9;
+}
+static APART RARE u8 core_fmt_formatter_Formatter_write_indented_1a69(ptr v1, ptr v2, u64 v3) {
+	u64 v4, v5, v6, v7, v8;
+	u8 v9;
+	if (!v3) { v9 = 0; goto L6; }
+	v4 = v5 = 0;
+L0:;
+	u64 v10 = v5 + 1;
+	if (ld8(at(v2, v5)) != 10) { v7 = v4; goto L3; }
+	u64 v11 = v10 - v4;
+	ptr v12 = at(v2, v4 > v10 ? 0 : v4);
+	if (v4 > v5) { v7 = v10; goto L3; }
+	if (!(ld8(v1+56) & 1)) goto L2;
+	u64 v13 = ld64(v1+48);
+	if (!v13) goto L2;
+	v6 = 0;
+L1:;
+	u8 v14 = core_fmt_formatter_Formatter_write_raw_1a69(v1, (ptr)static_62, 4);
+	if (v14 & 1) { v9 = 1; goto L6; }
+	u64 v15 = v6 + 1;
+	if (v15 != v13) { v6 = v15; goto L1; }
+L2:
+	st8(v1+56, 1);
+	u8 v16 = core_fmt_formatter_Formatter_write_raw_1a69(v1, v12, v11);
+	if (v16 & 1) { v9 = 1; goto L6; }
+	v7 = v10;
+L3:
+	if (v10 != v3) { v4 = v7; v5 = v10; goto L0; }
+	u64 v17 = v3 > v7 ? v3 - v7 : 0;
+	ptr v18 = at(v2, v7 > v3 ? 0 : v7);
+	if (v3 <= v7) { v9 = 0; goto L6; }
+	if (!(ld8(v1+56) & 1)) goto L5;
+	u64 v19 = ld64(v1+48);
+	if (!v19) goto L5;
+	v8 = 0;
+L4:;
+	u8 v20 = core_fmt_formatter_Formatter_write_raw_1a69(v1, (ptr)static_62, 4);
+	if (v20 & 1) { v9 = 1; goto L6; }
+	u64 v21 = v8 + 1;
+	if (v21 != v19) { v8 = v21; goto L4; }
+L5:
+	st8(v1+56, 0);
+	u8 v22 = core_fmt_formatter_Formatter_write_raw_1a69(v1, v18, v17);
+	v9 = v22;
+L6:
+	return v9;
+}
+static u8 core_fmt_formatter_Formatter_write_piece_7520(ptr v1, ptr v2) {
+	u64 v3, v4, v5, v6, v7, v8, v9;
+	u8 v10;
+	_Alignas(1) u8 v11[24] = {0};
+	su32(v1+24, 32);
+	clear(v1+28, 12);
+	su64(v1+40, ~0ull);
+	u16 v12 = ld16(v2);
+	u64 v13 = (u64)v12;
+	if (v12 <= 99) { v5 = v13; v6 = 24; goto L1; }
+	v4 = v13; v3 = 24;
+L0:;
+	u8 v14 = (u8)(v4 % 100);
+	ptr v15 = at(v11, v3);
+	st8(v15-1, (v14 % 10) | 48);
+	st8(v15-2, (v14 / 10) | 48);
+	u64 v16 = v4 / 100, v17 = v3 - 2;
+	if (v4 > 9999) { v3 = v17; v4 = v16; goto L0; }
+	v5 = v16; v6 = v17;
+L1:;
+	u8 v18 = (u8)v5;
+	if (v5 <= 9) goto L2;
+	ptr v19 = at(v11, v6);
+	st8(v19-1, (v18 % 10) | 48);
+	st8(v19-2, (v18 / 10) | 48);
+	v7 = v6 - 2; goto L3;
+L2:;
+	u64 v20 = v6 - 1;
+	st8(at(v11, v20), v18 | 48);
+	v7 = v20;
+L3:;
+	ptr v21 = at(v11, v7);
+	st8(v21-1, 45);
+	u64 v22 = 24ull - v7;
+	if (ld64(v1+48)) goto L5;
+	u64 v23 = ld64(v1+16), v24 = ld64(v1+8);
+	if (v22 <= v23 - v24) { v8 = v23; v9 = v24; goto L4; }
+	u8 v25 = std_alloc_vec_Vec_grow_amortized_56a3(v1, v22);
+	if (!v25) { v10 = 1; goto L6; }
+	v8 = ld64(v1+16); v9 = ld64(v1+8);
+L4:;
+	ptr v26 = ldp(v1);
+	copy(at(v26, v9), v21, v22);
+	stp(v1, v26);
+	st64(v1+8, v9 + v22);
+	st64(v1+16, v8);
+	v10 = 0; goto L6;
+L5:;
+	u8 v27 = core_fmt_formatter_Formatter_write_indented_1a69(v1, v21, v22);
+	v10 = v27;
+L6:
+	return v10;
+}
+static RARE void capcopy_run_blocks_write_section_ce79(ptr v1, ptr v2, ptr v3) {
+	u64 v4, v6, v7, v8, v9, v10, v11, v12, v13, v14, v16, v17, v19, v20, v21, v23, v24, v25, v26, v27, v28, v29, v30, v31, v32, v33, v34, v36;
+	ptr v5, v15, v18, v35;
+	u8 v22;
+	_Alignas(1) u8 v37[1];
+	_Alignas(8) u8 v38[96], v39[64];
+	_Alignas(2) u8 v40[2], v41[2];
+	u8 v42 = ld32(v3) == 439041101;
+	u64 v43 = v42 ? 3ull : 6ull;
+	ptr v44 = v42 ? (ptr)static_3 : (ptr)static_6;
+	st16(v40, ld16(v3+4));
+	st16(v41, ld16(v3+6));
+	stp(v39, v37);
+	clear(v39+48, 16);
+	clear(v39+8, 16);
+	st32(v39+24, 32);
+	clear(v39+28, 12);
+	st64(v39+40, ~0ull);
+	u8 v45 = std_alloc_vec_Vec_grow_amortized_56a3(v39, 8);
+	if (!v45) goto L26;
+	u64 v46 = ld64(v39+8), v47 = ld64(v39+16), v48 = v46 + 8;
+	ptr v49 = ldp(v39), v50 = at(v49, v46);
+	if ((u64)v50 - (u64)(ptr)static_58 >= 8) goto L1;
+	v4 = 0;
+L0:
+	st8(at(v50, v4), ld8(at((ptr)static_58, v4)));
+	u64 v51 = v4 + 1;
+	if (v51 == 8) goto L2;
+	v4 = v51; goto L0;
+L1:
+	su64(v50, 0x206e6f6974636573ull);
+L2:
+	st64(v39+8, v48);
+	st32(v39+24, 32);
+	clear(v39+28, 12);
+	st64(v39+40, ~0ull);
+	if (ld64(v39+48)) goto L7;
+	if (v43 <= v47 - v48) { v5 = v49; v6 = v47; v7 = v48; goto L3; }
+	u8 v52 = std_alloc_vec_Vec_grow_amortized_56a3(v39, v43);
+	if (!v52) goto L26;
+	v5 = ldp(v39); v6 = ld64(v39+16); v7 = ld64(v39+8);
+L3:;
+	u64 v53 = v7 + v43;
+	ptr v54 = at(v5, v7);
+	if ((u64)v54 - (u64)v44 >= v43) goto L5;
+	v8 = 0;
+L4:
+	st8(at(v54, v8), ld8(at(v44, v8)));
+	u64 v55 = v8 + 1;
+	if (v55 == v43) goto L6;
+	v8 = v55; goto L4;
+L5:
+	copy(v54, v44, v43);
+L6:
+	stp(v39, v5);
+	st64(v39+8, v53);
+	st64(v39+16, v6);
+	goto L8;
+L7:;
+	u8 v56 = core_fmt_formatter_Formatter_write_indented_1a69(v39, v44, v43);
+	if (v56) goto L26;
+L8:
+	st32(v39+24, 32);
+	clear(v39+28, 12);
+	st64(v39+40, ~0ull);
+	if (ld64(v39+48)) goto L10;
+	u64 v57 = ld64(v39+16), v58 = ld64(v39+8);
+	if (v57 != v58) { v9 = v57; v10 = v58; goto L9; }
+	u8 v59 = std_alloc_vec_Vec_grow_amortized_56a3(v39, 1);
+	if (!v59) goto L26;
+	v9 = ld64(v39+16); v10 = ld64(v39+8);
+L9:
+	st8(at(ldp(v39), v10), 32);
+	st64(v39+8, v10 + 1);
+	st64(v39+16, v9);
+	goto L11;
+L10:;
+	u8 v60 = core_fmt_formatter_Formatter_write_indented_1a69(v39, (ptr)static_59, 1);
+	if (v60) goto L26;
+L11:;
+	u8 v61 = core_fmt_formatter_Formatter_write_piece_7520(v39, v40);
+	if (v61) goto L26;
+	st32(v39+24, 32);
+	clear(v39+28, 12);
+	st64(v39+40, ~0ull);
+	if (ld64(v39+48)) goto L13;
+	u64 v62 = ld64(v39+16), v63 = ld64(v39+8);
+	if (v62 != v63) { v11 = v62; v12 = v63; goto L12; }
+	u8 v64 = std_alloc_vec_Vec_grow_amortized_56a3(v39, 1);
+	if (!v64) goto L26;
+	v11 = ld64(v39+16); v12 = ld64(v39+8);
+L12:
+	st8(at(ldp(v39), v12), 46);
+	st64(v39+8, v12 + 1);
+	st64(v39+16, v11);
+	goto L14;
+L13:;
+	u8 v65 = core_fmt_formatter_Formatter_write_indented_1a69(v39, (ptr)static_60, 1);
+	if (v65) goto L26;
+L14:;
+	u8 v66 = core_fmt_formatter_Formatter_write_piece_7520(v39, v41);
+	if (v66) goto L26;
+	st32(v39+24, 32);
+	clear(v39+28, 12);
+	st64(v39+40, ~0ull);
+	if (ld64(v39+48)) goto L16;
+	u64 v67 = ld64(v39+16), v68 = ld64(v39+8);
+	if (v67 != v68) { v13 = v67; v14 = v68; goto L15; }
+	u8 v69 = std_alloc_vec_Vec_grow_amortized_56a3(v39, 1);
+	if (!v69) goto L26;
+	v13 = ld64(v39+16); v14 = ld64(v39+8);
+L15:;
+	ptr v70 = ldp(v39);
+	st8(at(v70, v14), 10);
+	v15 = v70; v16 = v14 + 1; v17 = v13; goto L17;
+L16:;
+	u8 v71 = core_fmt_formatter_Formatter_write_indented_1a69(v39, (ptr)static_61, 1);
+	ptr v72 = ldp(v39);
+	u64 v73 = ld64(v39+16);
+	if (v71) { v35 = v72; v36 = v73; goto L27; }
+	v15 = v72; v16 = ld64(v39+8); v17 = v73;
+L17:
+	if (!v16) { v22 = v23 = v24 = v25 = v26 = v27 = v28 = v29 = v30 = v31 = v32 = v33 = v34 = 0; goto L24; }
+	v18 = v15; v19 = v16;
+L18:
+	clear(v38, 96);
+	u64 v74 = ld64(v2+16), v75 = ld64(v2+8);
+	if (v19 >= v74 - v75) goto L22;
+	u64 v76 = v75 + v19;
+	ptr v77 = ldp(v2);
+	clear(v2+8, 16);
+	ptr v78 = at(v77, v75);
+	if ((u64)v78 - (u64)v18 >= v19) goto L20;
+	v20 = 0;
+L19:
+	st8(at(v78, v20), ld8(at(v18, v20)));
+	u64 v79 = v20 + 1;
+	if (v79 == v19) goto L21;
+	v20 = v79; goto L19;
+L20:
+	move(v78, v18, v19);
+L21:
+	stp(v2, v77);
+	st64(v2+8, v76);
+	st64(v2+16, v74);
+	v21 = v19; goto L23;
+L22:
+	std_io_buffered_BufWriter_write_cold_9d90(v38, v2, v18, v19);
+	u64 v80 = ld64(v38+8);
+	if (ld8(v38)) { v24 = v80; v25 = ld64(v38+16); v26 = ld64(v38+24); v27 = ld64(v38+32); v28 = ld64(v38+40); v29 = ld64(v38+48); v30 = ld64(v38+56); v31 = ld64(v38+64); v32 = ld64(v38+72); v33 = ld64(v38+80); v34 = ld64(v38+88); v22 = 1; v23 = 4; goto L24; }
+	if (!v80) { v24 = 1513219; v25 = 0x7074756f20656874ull; v26 = 0x206b6f6f74207475ull; v27 = 0x2e676e6968746f6eull; v28 = 0x2e2e2e2e2e2e2e2eull; v29 = 0x2e2e2e2e2e2e2e2eull; v30 = 0x2e2e2e2e2e2e2e2eull; v31 = 0x2e2e2e2e2e2e2e2eull; v32 = 0x2e2e2e2e2e2e2e2eull; v33 = 0x2e2e2e2e2e2e2e2eull; v34 = 0x2e2e2e2e2e2e2e2eull; v22 = 1; v23 = 4; goto L24; }
+	v21 = v80;
+L23:;
+	u64 v81 = v19 - v21;
+	if (v81) { v18 = at(v18, v21); v19 = v81; goto L18; }
+	v22 = v23 = v24 = v25 = v26 = v27 = v28 = v29 = v30 = v31 = v32 = v33 = v34 = 0;
+L24:
+	if (!v17) goto L25;
+	deallocate(v15);
+L25:
+	st8(v1, v22);
+	su64(v1+8, v23);
+	st8(v1+16, v22);
+	su64(v1+24, v24);
+	su64(v1+32, v25);
+	su64(v1+40, v26);
+	su64(v1+48, v27);
+	su64(v1+56, v28);
+	su64(v1+64, v29);
+	su64(v1+72, v30);
+	su64(v1+80, v31);
+	su64(v1+88, v32);
+	su64(v1+96, v33);
+	su64(v1+104, v34);
+	goto L29;
+L26:
+	v35 = ldp(v39); v36 = ld64(v39+16);
+L27:
+	if (!v36) goto L28;
+	deallocate(v35);
+L28:
+	st8(v1, 1);
+	su64(v1+8, 5);
+	st8(v1+16, 0);
+	clear(v1+24, 88);
+L29:
+	return;
+}
+static APART void pcap_ng_pcapng_block_Block_new_section(ptr v1, ptr v2, u64 v3) {
+	u64 v4, v5;
+	_Alignas(8) u8 v6[96], v7[24], v8[64] = {0}, v9[40];
+	pcap_blocks_section_header_SectionHeaderBlock_read(v8, v2, v3);
+	u8 v10 = ld8(v8+24), v11 = ld8(v8+25);
+	if (ld8(v8)) goto L0;
+	u64 v12 = (u64)ld_bytes(v8+26, 6) & 0xffffffffffffull;
+	u8 v13 = ld8(v8+32), v14 = ld8(v8+33);
+	u64 v15 = (u64)ld_bytes(v8+34, 6) & 0xffffffffffffull;
+	u8 v16 = ld8(v8+40), v17 = ld8(v8+41);
+	u64 v18 = (u64)ld_bytes(v8+42, 6) & 0xffffffffffffull, v19 = ld64(v8+48), v20 = ld64(v8+56);
+	su64(v1, 0);
+	st8(v1+8, 0);
+	st8(v1+16, v10);
+	st8(v1+17, v11);
+	st_bytes(v1+18, v12, 6);
+	st8(v1+24, v13);
+	st8(v1+25, v14);
+	st_bytes(v1+26, v15, 6);
+	st8(v1+32, v16);
+	st8(v1+33, v17);
+	st_bytes(v1+34, v18, 6);
+	su64(v1+40, v19);
+	clear(v1+64, 40);
+	v4 = v20; v5 = 0; goto L1;
+L0:;
+	u64 v21 = ld64(v8+16);
+	u8 v22 = ld8(v8+9), v23 = ld8(v8+8);
+	clear(v6, 96);
+	clear(v7, 24);
+	st8(v7, v23);
+	st8(v7+1, v22);
+	st64(v7+8, v21);
+	st8(v7+16, v10);
+	st8(v7+17, v11);
+	pcap_options_refusal_PcapErrorFromRefusal_from(v6, v7);
+	u8 v24 = ld8(v6);
+	u64 v25 = ld64(v6+8);
+	u8 v26 = ld8(v6+16), v27 = ld8(v6+17);
+	u64 v28 = (u64)ld_bytes(v6+18, 6) & 0xffffffffffffull;
+	u8 v29 = ld8(v6+24), v30 = ld8(v6+25);
+	u64 v31 = (u64)ld_bytes(v6+26, 6) & 0xffffffffffffull;
+	u8 v32 = ld8(v6+32), v33 = ld8(v6+33);
+	u64 v34 = (u64)ld_bytes(v6+34, 6) & 0xffffffffffffull, v35 = ld64(v6+40), v36 = ld64(v6+48);
+	copy(v9, v6+56, 40);
+	su64(v1, 1);
+	st8(v1+8, v24);
+	su64(v1+16, v25);
+	st8(v1+24, v26);
+	st8(v1+25, v27);
+	st_bytes(v1+26, v28, 6);
+	st8(v1+32, v29);
+	st8(v1+33, v30);
+	st_bytes(v1+34, v31, 6);
+	st8(v1+40, v32);
+	st8(v1+41, v33);
+	st_bytes(v1+42, v34, 6);
+	copy(v1+64, v9, 40);
+	v4 = v35; v5 = v36;
+L1:
+	su64(v1+48, v4);
+	su64(v1+56, v5);
+	return;
+}
+static APART void pcap_ng_pcapng_block_Block_new_interface(ptr v1, ptr v2) {
+	u64 v3, v6, v9, v10, v11, v14, v17, v20, v23, v24, v25, v28, v31, v34, v37, v38, v39, v42, v46, v47, v48;
+	u8 v4, v5, v7, v8, v12, v13, v15, v16, v18, v19, v21, v22, v26, v27, v29, v30, v32, v33, v35, v36, v40, v41, v43, v44, v45;
+	_Alignas(8) u8 v49[96], v50[24], v51[64], v52[96], v53[24], v54[64], v55[40], v56[40];
+	u64 v57 = ld64(v2+32);
+	ptr v58 = ldp(v2+24);
+	if (ld8(v2+52)) goto L2;
+	clear(v54, 64);
+	blocks_interface_description_InterfaceDescriptionBlock_read_4da0(v54, v58, v57);
+	u8 v59 = ld8(v54+8);
+	u64 v60 = ld64(v54+16);
+	u8 v61 = ld8(v54+24), v62 = ld8(v54+25);
+	if (ld8(v54)) goto L0;
+	u64 v63 = (u64)ld_bytes(v54+26, 6) & 0xffffffffffffull;
+	u8 v64 = ld8(v54+32), v65 = ld8(v54+33);
+	u64 v66 = (u64)ld_bytes(v54+34, 6) & 0xffffffffffffull;
+	u8 v67 = ld8(v54+40), v68 = ld8(v54+41);
+	u64 v69 = (u64)ld_bytes(v54+42, 6) & 0xffffffffffffull, v70 = ld64(v54+48), v71 = ld64(v54+56);
+	clear(v55, 40);
+	v3 = v63; v4 = v64; v5 = v65; v6 = v66; v7 = v67; v8 = v68; v9 = v69; v10 = v70; v11 = v71; v13 = v59; v14 = v60; v15 = v61; v16 = v62; v12 = 0; goto L1;
+L0:;
+	u8 v72 = ld8(v54+9);
+	clear(v52, 96);
+	clear(v53, 24);
+	st8(v53, v59);
+	st8(v53+1, v72);
+	st64(v53+8, v60);
+	st8(v53+16, v61);
+	st8(v53+17, v62);
+	pcap_options_refusal_PcapErrorFromRefusal_from(v52, v53);
+	u8 v73 = ld8(v52);
+	u64 v74 = ld64(v52+8);
+	u8 v75 = ld8(v52+16), v76 = ld8(v52+17);
+	u64 v77 = (u64)ld_bytes(v52+18, 6) & 0xffffffffffffull;
+	u8 v78 = ld8(v52+24), v79 = ld8(v52+25);
+	u64 v80 = (u64)ld_bytes(v52+26, 6) & 0xffffffffffffull;
+	u8 v81 = ld8(v52+32), v82 = ld8(v52+33);
+	u64 v83 = (u64)ld_bytes(v52+34, 6) & 0xffffffffffffull, v84 = ld64(v52+40), v85 = ld64(v52+48);
+	copy(v55, v52+56, 40);
+	v3 = v77; v4 = v78; v5 = v79; v6 = v80; v7 = v81; v8 = v82; v9 = v83; v10 = v84; v11 = v85; v13 = v73; v14 = v74; v15 = v75; v16 = v76; v12 = 1;
+L1:
+	v31 = v3; v32 = v4; v33 = v5; v34 = v6; v35 = v7; v36 = v8; v37 = v9; v38 = v10; v39 = v11; v40 = v12; v41 = v13; v42 = v14; v43 = v15; v44 = v16; goto L5;
+L2:
+	clear(v51, 64);
+	blocks_interface_description_InterfaceDescriptionBlock_read_7f02(v51, v58, v57);
+	u8 v86 = ld8(v51+8);
+	u64 v87 = ld64(v51+16);
+	u8 v88 = ld8(v51+24), v89 = ld8(v51+25);
+	if (ld8(v51)) goto L3;
+	u64 v90 = (u64)ld_bytes(v51+26, 6) & 0xffffffffffffull;
+	u8 v91 = ld8(v51+32), v92 = ld8(v51+33);
+	u64 v93 = (u64)ld_bytes(v51+34, 6) & 0xffffffffffffull;
+	u8 v94 = ld8(v51+40), v95 = ld8(v51+41);
+	u64 v96 = (u64)ld_bytes(v51+42, 6) & 0xffffffffffffull, v97 = ld64(v51+48), v98 = ld64(v51+56);
+	clear(v55, 40);
+	v17 = v90; v18 = v91; v19 = v92; v20 = v93; v21 = v94; v22 = v95; v23 = v96; v24 = v97; v25 = v98; v27 = v86; v28 = v87; v29 = v88; v30 = v89; v26 = 0; goto L4;
+L3:;
+	u8 v99 = ld8(v51+9);
+	clear(v49, 96);
+	clear(v50, 24);
+	st8(v50, v86);
+	st8(v50+1, v99);
+	st64(v50+8, v87);
+	st8(v50+16, v88);
+	st8(v50+17, v89);
+	pcap_options_refusal_PcapErrorFromRefusal_from(v49, v50);
+	u8 v100 = ld8(v49);
+	u64 v101 = ld64(v49+8);
+	u8 v102 = ld8(v49+16), v103 = ld8(v49+17);
+	u64 v104 = (u64)ld_bytes(v49+18, 6) & 0xffffffffffffull;
+	u8 v105 = ld8(v49+24), v106 = ld8(v49+25);
+	u64 v107 = (u64)ld_bytes(v49+26, 6) & 0xffffffffffffull;
+	u8 v108 = ld8(v49+32), v109 = ld8(v49+33);
+	u64 v110 = (u64)ld_bytes(v49+34, 6) & 0xffffffffffffull, v111 = ld64(v49+40), v112 = ld64(v49+48);
+	copy(v55, v49+56, 40);
+	v17 = v104; v18 = v105; v19 = v106; v20 = v107; v21 = v108; v22 = v109; v23 = v110; v24 = v111; v25 = v112; v27 = v100; v28 = v101; v29 = v102; v30 = v103; v26 = 1;
+L4:
+	v31 = v17; v32 = v18; v33 = v19; v34 = v20; v35 = v21; v36 = v22; v37 = v23; v38 = v24; v39 = v25; v40 = v26; v41 = v27; v42 = v28; v43 = v29; v44 = v30;
+L5:
+	copy(v56, v55, 40);
+	if (v40) goto L6;
+	su64(v1, 0);
+	st8(v1+8, 1);
+	st8(v1+16, v43);
+	st8(v1+17, v44);
+	st_bytes(v1+18, v31, 6);
+	st8(v1+24, v32);
+	st8(v1+25, v33);
+	st_bytes(v1+26, v34, 6);
+	st8(v1+32, v35);
+	su64(v1+40, v38);
+	clear(v1+64, 40);
+	v45 = v36; v46 = v37; v47 = v39; v48 = 0; goto L7;
+L6:
+	su64(v1, 1);
+	st8(v1+8, v41);
+	su64(v1+16, v42);
+	st8(v1+24, v43);
+	st8(v1+25, v44);
+	st_bytes(v1+26, v31, 6);
+	st8(v1+32, v32);
+	st8(v1+40, v35);
+	st8(v1+41, v36);
+	st_bytes(v1+42, v37, 6);
+	copy(v1+64, v56, 40);
+	v45 = v33; v46 = v34; v47 = v38; v48 = v39;
+L7:
+	st8(v1+33, v45);
+	st_bytes(v1+34, v46, 6);
+	su64(v1+48, v47);
+	su64(v1+56, v48);
+	return;
+}
+static APART void pcap_ng_pcapng_state_InForce_begin_section(ptr v1, ptr v2, ptr v3) {
+	u64 v4, v5, v6;
+	_Alignas(8) u8 v7[24], v10[104] = {0}, v11[40];
+	_Alignas(1) u8 v8[95] = {0}, v9[95];
+	copy(v11, v3, 40);
+	pcap_blocks_section_header_SectionHeaderBlock_into_owned(v10, v11);
+	u8 v12 = ld8(v10+8), v13 = ld8(v10);
+	if (v13) goto L15;
+	copy(v8, v10+9, 39);
+	copy(v9, v8, 95);
+	ptr v14 = lup(v2+16);
+	u64 v15 = lu64(v2+24), v16 = lu64(v2+32);
+	st8(v2, v12);
+	copy(v2+1, v9, 39);
+	if (!v15) goto L10;
+	v4 = 0;
+L0:;
+	ptr v17 = at(v14, v4 * 48);
+	u64 v18 = lu64(v17+16), v19 = lu64(v17+24), v20 = lu64(v17+32), v21 = lu64(v17+40);
+	u8 v22 = (u8)lu16(v17+8), v23 = (u8)v18;
+	switch (ld8(v17)) {
+	case 0: goto L1;
+	case 1: goto L2;
+	case 2: goto L3;
+	case 3: goto L4;
+	case 4: goto L5;
+	case 5: goto L6;
+	case 6: goto L7;
+	default: goto L14;
+	}
+L1:
+	if (!v22 || !v20) goto L9;
+	v5 = v18; goto L8;
+L2:
+	if (!v22 || !v20) goto L9;
+	v5 = v18; goto L8;
+L3:
+	if (!v22 || !v20) goto L9;
+	v5 = v18; goto L8;
+L4:
+	if (!v22 || !v20) goto L9;
+	v5 = v18; goto L8;
+L5:
+	if (!v23 || !v21) goto L9;
+	v5 = v19; goto L8;
+L6:
+	if (!v23 || !v21) goto L9;
+	v5 = v19; goto L8;
+L7:
+	if (!v23 || !v21) goto L9;
+	v5 = v19;
+L8:
+	deallocate((ptr)v5);
+L9:;
+	u64 v24 = v4 + 1;
+	if (v24 != v15) { v4 = v24; goto L0; }
+L10:
+	if (!v16) goto L11;
+	deallocate(v14);
+L11:;
+	u64 v25 = ld64(v2+48);
+	if (!v25) goto L13;
+	ptr v26 = ldp(v2+40);
+	u64 v27 = ld64(v2+56);
+	clear(v2+48, 16);
+	v6 = 0;
+L12:
+	copy(v7, at(v26, v6 * 40)+16, 24);
+	std_alloc_vec_Vec_drop_37c7(v7);
+	u64 v28 = v6 + 1;
+	if (v28 != v25) { v6 = v28; goto L12; }
+	stp(v2+40, v26);
+	st64(v2+48, 0);
+	st64(v2+56, v27);
+L13:
+	st8(v1, 0);
+	st8(v1+8, 0);
+	clear(v1+16, 88);
+	goto L16;
+L14:
+	__builtin_trap();
+L15:
+	copy(v8+7, v10+16, 88);
+	copy(v9, v8, 95);
+	st8(v1, 1);
+	st8(v1+8, v12);
+	copy(v1+16, v9+7, 88);
+L16:
+	return;
+}
+static void std_alloc_vec_deque_VecDeque_drop_af98(ptr v1) {
+	u64 v2, v3;
+	_Alignas(8) u8 v4[48], v5[48];
+	ptr v6 = lup(v1);
+	u64 v7 = lu64(v1+8), v8 = lu64(v1+16), v9 = lu64(v1+24), v10 = lu64(v1+32);
+	if (!v7) goto L3;
+	u64 v11 = v7 - v10 + v9;
+	if (v9 >= v11) goto L1;
+	v2 = v9;
+L0:;
+	ptr v12 = at(v6, v2 * 48);
+	u8 v13 = ld8(v12), v14 = ld8(v12+1);
+	u32 v15 = lu32(v12+4);
+	u64 v16 = lu64(v12+8);
+	st64(v5, 0);
+	st8(v5, v13);
+	st8(v5+1, v14);
+	st32(v5+4, v15);
+	st64(v5+8, v16);
+	copy(v5+16, v12+16, 32);
+	ptions_interface_option_InterfaceDescriptionOption_Destruct_drop(v5);
+	u64 v17 = v2 + 1;
+	if (v17 != v11) { v2 = v17; goto L0; }
+L1:
+	if (!v10) goto L3;
+	v3 = 0;
+L2:;
+	ptr v18 = at(v6, v3 * 48);
+	u8 v19 = ld8(v18), v20 = ld8(v18+1);
+	u32 v21 = lu32(v18+4);
+	u64 v22 = lu64(v18+8);
+	st64(v4, 0);
+	st8(v4, v19);
+	st8(v4+1, v20);
+	st32(v4+4, v21);
+	st64(v4+8, v22);
+	copy(v4+16, v18+16, 32);
+	ptions_interface_option_InterfaceDescriptionOption_Destruct_drop(v4);
+	u64 v23 = v3 + 1;
+	if (v23 != v10) { v3 = v23; goto L2; }
+L3:
+	if (!v8) goto L4;
+	deallocate(v6);
+L4:
+	return;
+}
+static APART RARE u8 std_alloc_vec_Vec_grow_amortized_1728(ptr v1) {
+	t_64_64 v2;
+	u8 v3;
+	u64 v4 = ld64(v1+8);
+	if (v4 == ~0ull) { v3 = 0; goto L2; }
+	u64 v5 = ld64(v1+16), v6 = (v4 > 3 ? v4 : 3) + 1, v7 = v5 << 1, v8 = v6 > v7 ? v6 : v7;
+	u64 v9 = v5 < 0x4000000000000000ull ? v8 : v6;
+	if (v9 >= 0x333333333333334ull) { v3 = 0; goto L2; }
+	if (v5) goto L0;
+	t_64_64 v10 = allocate(v8 * 40, 8);
+	if (v10.f0 & 1) { v2 = v10; goto L1; }
+	v3 = 0; goto L2;
+L0:;
+	t_64_64 v11 = reallocate(ldp(v1), v4 * 40, v9 * 40, 8);
+	if (!(v11.f0 & 1)) { v3 = 0; goto L2; }
+	v2 = v11;
+L1:
+	stp(v1, (ptr)v2.f1);
+	st64(v1+16, v9);
+	v3 = 1;
+L2:
+	return v3;
+}
+static APART void pcap_ng_pcapng_state_InForce_add_interface(ptr v1, ptr v2, ptr v3) {
+	ptr v4, v8, v10, v12, v14, v16, v18, v20, v22, v24, v26, v28, v30, v32, v34, v36, v38, v40, v42, v44, v46, v48, v50, v52, v55, v58, v65;
+	u64 v5, v6, v7, v9, v11, v13, v15, v17, v19, v21, v23, v25, v27, v29, v31, v33, v35, v37, v39, v41, v43, v45, v47, v49, v51, v53, v54, v56, v57, v59, v60, v63, v64, v66, v67, v68;
+	u32 v61;
+	u8 v62;
+	_Alignas(8) u8 v69[1], v70[48], v71[48], v72[48], v73[48], v74[24] = {0}, v75[40] = {0}, v76[40] = {0}, v77[40] = {0}, v79[24] = {0}, v89[24] = {0};
+	_Alignas(1) u8 v78[31] = {0}, v80[24] = {0}, v81[56] = {0};
+	u8 v82 = ld8(v3);
+	u32 v83 = lu32(v3+4);
+	u16 v84 = lu16(v3+8);
+	u32 v85 = lu32(v3+12);
+	ptr v86 = lup(v3+16);
+	u64 v87 = lu64(v3+24), v88 = lu64(v3+32);
+	if (v87) goto L0;
+	stp(v74, v69);
+	goto L72;
+L0:
+	if (v87 >= 0x2aaaaaaaaaaaaabull) goto L76;
+	t_64_64 v90 = allocate(v87 * 48, 8);
+	if (!(v90.f0 & 1)) goto L76;
+	stp(v74, (ptr)v90.f1);
+	st64(v74+8, 0);
+	st64(v74+16, v87);
+	v4 = (ptr)v90.f1; v7 = v87; v5 = v6 = 0;
+L1:;
+	u64 v91 = v6 + 1, v92 = v7 - 1;
+	ptr v93 = at(v86, v6 * 48);
+	u8 v94 = ld8(v93);
+	u64 v95 = lu64(v93+8);
+	u8 v96 = ld8(v93+16);
+	u64 v97 = (u64)ld_bytes(v93+17, 7) & 0xffffffffffffffull, v98 = lu64(v93+24), v99 = lu64(v93+32);
+	u64 v100 = lu64(v93+40);
+	switch (v94) {
+	case 0: goto L2;
+	case 1: goto L7;
+	case 2: goto L12;
+	case 3: goto L17;
+	case 4: goto L22;
+	case 5: goto L27;
+	case 6: case 7: case 13: v58 = (ptr)0; v63 = v95; v57 = v59 = v60 = v61 = v62 = 0; goto L67;
+	case 8: case 12: goto L32;
+	case 9: goto L33;
+	case 10: goto L34;
+	case 11: goto L39;
+	case 14: goto L44;
+	case 15: goto L49;
+	case 16: goto L54;
+	case 17: goto L59;
+	default: goto L75;
+	}
+L2:;
+	u64 v101 = (v97 << 8) | (u64)v96;
+	if (v95 & 255) { v10 = (ptr)v101; v11 = v99; goto L6; }
+	if (!v98) { v8 = v69; goto L3; }
+	if ((s64)v98 <= -1) goto L63;
+	t_64_64 v102 = allocate(v98, 1);
+	if (!(v102.f0 & 1)) goto L63;
+	v8 = (ptr)v102.f1;
+L3:
+	if ((u64)v8 - v101 >= v98) goto L5;
+	v9 = 0;
+L4:
+	st8(at(v8, v9), ld8(at((ptr)v101, v9)));
+	u64 v103 = v9 + 1;
+	if (v103 == v98) { v10 = v8; v11 = v98; goto L6; }
+	v9 = v103; goto L4;
+L5:
+	move(v8, (ptr)v101, v98);
+	v10 = v8; v11 = v98;
+L6:
+	v57 = (u64)v10; v58 = (ptr)v98; v59 = v11; v60 = v61 = v62 = 0; v63 = 1; goto L67;
+L7:;
+	u64 v104 = (v97 << 8) | (u64)v96;
+	if (v95 & 255) { v14 = (ptr)v104; v15 = v99; goto L11; }
+	if (!v98) { v12 = v69; goto L8; }
+	if ((s64)v98 <= -1) goto L63;
+	t_64_64 v105 = allocate(v98, 1);
+	if (!(v105.f0 & 1)) goto L63;
+	v12 = (ptr)v105.f1;
+L8:
+	if ((u64)v12 - v104 >= v98) goto L10;
+	v13 = 0;
+L9:
+	st8(at(v12, v13), ld8(at((ptr)v104, v13)));
+	u64 v106 = v13 + 1;
+	if (v106 == v98) { v14 = v12; v15 = v98; goto L11; }
+	v13 = v106; goto L9;
+L10:
+	move(v12, (ptr)v104, v98);
+	v14 = v12; v15 = v98;
+L11:
+	v57 = (u64)v14; v58 = (ptr)v98; v59 = v15; v60 = v61 = v62 = 0; v63 = 1; goto L67;
+L12:;
+	u64 v107 = (v97 << 8) | (u64)v96;
+	if (v95 & 255) { v18 = (ptr)v107; v19 = v99; goto L16; }
+	if (!v98) { v16 = v69; goto L13; }
+	if ((s64)v98 <= -1) goto L63;
+	t_64_64 v108 = allocate(v98, 1);
+	if (!(v108.f0 & 1)) goto L63;
+	v16 = (ptr)v108.f1;
+L13:
+	if ((u64)v16 - v107 >= v98) goto L15;
+	v17 = 0;
+L14:
+	st8(at(v16, v17), ld8(at((ptr)v107, v17)));
+	u64 v109 = v17 + 1;
+	if (v109 == v98) { v18 = v16; v19 = v98; goto L16; }
+	v17 = v109; goto L14;
+L15:
+	move(v16, (ptr)v107, v98);
+	v18 = v16; v19 = v98;
+L16:
+	v57 = (u64)v18; v58 = (ptr)v98; v59 = v19; v60 = v61 = v62 = 0; v63 = 1; goto L67;
+L17:;
+	u64 v110 = (v97 << 8) | (u64)v96;
+	if (v95 & 255) { v22 = (ptr)v110; v23 = v99; goto L21; }
+	if (!v98) { v20 = v69; goto L18; }
+	if ((s64)v98 <= -1) goto L63;
+	t_64_64 v111 = allocate(v98, 1);
+	if (!(v111.f0 & 1)) goto L63;
+	v20 = (ptr)v111.f1;
+L18:
+	if ((u64)v20 - v110 >= v98) goto L20;
+	v21 = 0;
+L19:
+	st8(at(v20, v21), ld8(at((ptr)v110, v21)));
+	u64 v112 = v21 + 1;
+	if (v112 == v98) { v22 = v20; v23 = v98; goto L21; }
+	v21 = v112; goto L19;
+L20:
+	move(v20, (ptr)v110, v98);
+	v22 = v20; v23 = v98;
+L21:
+	v57 = (u64)v22; v58 = (ptr)v98; v59 = v23; v60 = v61 = v62 = 0; v63 = 1; goto L67;
+L22:;
+	u64 v113 = (v97 << 8) | (u64)v96;
+	if (v95 & 255) { v26 = (ptr)v113; v27 = v99; goto L26; }
+	if (!v98) { v24 = v69; goto L23; }
+	if ((s64)v98 <= -1) goto L63;
+	t_64_64 v114 = allocate(v98, 1);
+	if (!(v114.f0 & 1)) goto L63;
+	v24 = (ptr)v114.f1;
+L23:
+	if ((u64)v24 - v113 >= v98) goto L25;
+	v25 = 0;
+L24:
+	st8(at(v24, v25), ld8(at((ptr)v113, v25)));
+	u64 v115 = v25 + 1;
+	if (v115 == v98) { v26 = v24; v27 = v98; goto L26; }
+	v25 = v115; goto L24;
+L25:
+	move(v24, (ptr)v113, v98);
+	v26 = v24; v27 = v98;
+L26:
+	v57 = (u64)v26; v58 = (ptr)v98; v59 = v27; v60 = v61 = v62 = 0; v63 = 1; goto L67;
+L27:;
+	u64 v116 = (v97 << 8) | (u64)v96;
+	if (v95 & 255) { v30 = (ptr)v116; v31 = v99; goto L31; }
+	if (!v98) { v28 = v69; goto L28; }
+	if ((s64)v98 <= -1) goto L63;
+	t_64_64 v117 = allocate(v98, 1);
+	if (!(v117.f0 & 1)) goto L63;
+	v28 = (ptr)v117.f1;
+L28:
+	if ((u64)v28 - v116 >= v98) goto L30;
+	v29 = 0;
+L29:
+	st8(at(v28, v29), ld8(at((ptr)v116, v29)));
+	u64 v118 = v29 + 1;
+	if (v118 == v98) { v30 = v28; v31 = v98; goto L31; }
+	v29 = v118; goto L29;
+L30:
+	move(v28, (ptr)v116, v98);
+	v30 = v28; v31 = v98;
+L31:
+	v57 = (u64)v30; v58 = (ptr)v98; v59 = v31; v60 = v61 = v62 = 0; v63 = 1; goto L67;
+L32:
+	v58 = (ptr)0; v62 = ld8(v93+1); v57 = v59 = v60 = v61 = v63 = 0; goto L67;
+L33:
+	v58 = (ptr)0; v61 = lu32(v93+4); v57 = v59 = v60 = v62 = v63 = 0; goto L67;
+L34:;
+	u64 v119 = (v97 << 8) | (u64)v96;
+	if (v95 & 255) { v34 = (ptr)v119; v35 = v99; goto L38; }
+	if (!v98) { v32 = v69; goto L35; }
+	if ((s64)v98 <= -1) goto L63;
+	t_64_64 v120 = allocate(v98, 1);
+	if (!(v120.f0 & 1)) goto L63;
+	v32 = (ptr)v120.f1;
+L35:
+	if ((u64)v32 - v119 >= v98) goto L37;
+	v33 = 0;
+L36:
+	st8(at(v32, v33), ld8(at((ptr)v119, v33)));
+	u64 v121 = v33 + 1;
+	if (v121 == v98) { v34 = v32; v35 = v98; goto L38; }
+	v33 = v121; goto L36;
+L37:
+	move(v32, (ptr)v119, v98);
+	v34 = v32; v35 = v98;
+L38:
+	v57 = (u64)v34; v58 = (ptr)v98; v59 = v35; v60 = v61 = v62 = 0; v63 = 1; goto L67;
+L39:;
+	u64 v122 = (v97 << 8) | (u64)v96;
+	if (v95 & 255) { v38 = (ptr)v122; v39 = v99; goto L43; }
+	if (!v98) { v36 = v69; goto L40; }
+	if ((s64)v98 <= -1) goto L63;
+	t_64_64 v123 = allocate(v98, 1);
+	if (!(v123.f0 & 1)) goto L63;
+	v36 = (ptr)v123.f1;
+L40:
+	if ((u64)v36 - v122 >= v98) goto L42;
+	v37 = 0;
+L41:
+	st8(at(v36, v37), ld8(at((ptr)v122, v37)));
+	u64 v124 = v37 + 1;
+	if (v124 == v98) { v38 = v36; v39 = v98; goto L43; }
+	v37 = v124; goto L41;
+L42:
+	move(v36, (ptr)v122, v98);
+	v38 = v36; v39 = v98;
+L43:
+	v57 = (u64)v38; v58 = (ptr)v98; v59 = v39; v60 = v61 = v62 = 0; v63 = 1; goto L67;
+L44:;
+	u64 v125 = (v97 << 8) | (u64)v96;
+	if (v95 & 255) { v42 = (ptr)v125; v43 = v99; goto L48; }
+	if (!v98) { v40 = v69; goto L45; }
+	if ((s64)v98 <= -1) goto L63;
+	t_64_64 v126 = allocate(v98, 1);
+	if (!(v126.f0 & 1)) goto L63;
+	v40 = (ptr)v126.f1;
+L45:
+	if ((u64)v40 - v125 >= v98) goto L47;
+	v41 = 0;
+L46:
+	st8(at(v40, v41), ld8(at((ptr)v125, v41)));
+	u64 v127 = v41 + 1;
+	if (v127 == v98) { v42 = v40; v43 = v98; goto L48; }
+	v41 = v127; goto L46;
+L47:
+	move(v40, (ptr)v125, v98);
+	v42 = v40; v43 = v98;
+L48:
+	v57 = (u64)v42; v58 = (ptr)v98; v59 = v43; v60 = v61 = v62 = 0; v63 = 1; goto L67;
+L49:
+	if (v96) { v46 = (ptr)v98; v47 = v100; goto L53; }
+	if (!v99) { v44 = v69; goto L50; }
+	if ((s64)v99 <= -1) goto L63;
+	t_64_64 v128 = allocate(v99, 1);
+	if (!(v128.f0 & 1)) goto L63;
+	v44 = (ptr)v128.f1;
+L50:
+	if ((u64)v44 - v98 >= v99) goto L52;
+	v45 = 0;
+L51:
+	st8(at(v44, v45), ld8(at((ptr)v98, v45)));
+	u64 v129 = v45 + 1;
+	if (v129 == v99) { v46 = v44; v47 = v99; goto L53; }
+	v45 = v129; goto L51;
+L52:
+	move(v44, (ptr)v98, v99);
+	v46 = v44; v47 = v99;
+L53:
+	v58 = v46; v59 = v99; v60 = v47; v63 = v95 & 0xffffffff0000ffffull; v57 = 1; v61 = v62 = 0; goto L67;
+L54:
+	if (v96) { v50 = (ptr)v98; v51 = v100; goto L58; }
+	if (!v99) { v48 = v69; goto L55; }
+	if ((s64)v99 <= -1) goto L63;
+	t_64_64 v130 = allocate(v99, 1);
+	if (!(v130.f0 & 1)) goto L63;
+	v48 = (ptr)v130.f1;
+L55:
+	if ((u64)v48 - v98 >= v99) goto L57;
+	v49 = 0;
+L56:
+	st8(at(v48, v49), ld8(at((ptr)v98, v49)));
+	u64 v131 = v49 + 1;
+	if (v131 == v99) { v50 = v48; v51 = v99; goto L58; }
+	v49 = v131; goto L56;
+L57:
+	move(v48, (ptr)v98, v99);
+	v50 = v48; v51 = v99;
+L58:
+	v58 = v50; v59 = v99; v60 = v51; v63 = v95 & 0xffffffff0000ffffull; v57 = 1; v61 = v62 = 0; goto L67;
+L59:
+	if (v96) { v55 = (ptr)v98; v56 = v100; goto L66; }
+	if (!v99) { v52 = v69; goto L60; }
+	if ((s64)v99 <= -1) goto L63;
+	t_64_64 v132 = allocate(v99, 1);
+	if (!(v132.f0 & 1)) goto L63;
+	v52 = (ptr)v132.f1;
+L60:
+	if ((u64)v52 - v98 >= v99) goto L62;
+	v53 = 0;
+L61:
+	st8(at(v52, v53), ld8(at((ptr)v98, v53)));
+	u64 v133 = v53 + 1;
+	if (v133 == v99) { M37: v55 = v52; v56 = v99; goto L66; }
+	v53 = v133; goto L61;
+L62:
+	move(v52, (ptr)v98, v99);
+	goto M37;
+L63:
+	stp(v75, v86);
+	st64(v75+8, v92);
+	st64(v75+16, v88);
+	st64(v75+24, v91);
+	st64(v75+32, 0);
+	std_alloc_vec_deque_VecDeque_drop_af98(v75);
+	u64 v134 = ld64(v74+16);
+	if (!v5) goto L65;
+	v54 = 0;
+L64:;
+	ptr v135 = at(v4, v54 * 48);
+	u8 v136 = ld8(v135), v137 = ld8(v135+1);
+	u32 v138 = lu32(v135+4);
+	u64 v139 = lu64(v135+8);
+	st64(v72, 0);
+	st8(v72, v136);
+	st8(v72+1, v137);
+	st32(v72+4, v138);
+	st64(v72+8, v139);
+	copy(v72+16, v135+16, 32);
+	ptions_interface_option_InterfaceDescriptionOption_Destruct_drop(v72);
+	u64 v140 = v54 + 1;
+	if (v140 != v5) { v54 = v140; goto L64; }
+L65:
+	if (!v134) goto L78;
+	deallocate(v4);
+	goto L78;
+L66:
+	v58 = v55; v59 = v99; v60 = v56; v63 = v95 & 4294967295u; v57 = 1; v61 = v62 = 0;
+L67:
+	if (ld64(v74+16) != v5) { v65 = v4; v66 = v5; goto L71; }
+	u8 v141 = std_alloc_vec_Vec_grow_amortized_35f1(v74);
+	if (!v141) goto L68;
+	v65 = ldp(v74); v66 = ld64(v74+8); goto L71;
+L68:
+	st64(v71+16, v57);
+	stp(v71+24, v58);
+	st64(v71+32, v59);
+	st64(v71+40, v60);
+	st64(v71, 0);
+	st8(v71, v94);
+	st8(v71+1, v62);
+	st32(v71+4, v61);
+	st64(v71+8, v63);
+	ptions_interface_option_InterfaceDescriptionOption_Destruct_drop(v71);
+	stp(v76, v86);
+	st64(v76+8, v92);
+	st64(v76+16, v88);
+	st64(v76+24, v91);
+	st64(v76+32, 0);
+	std_alloc_vec_deque_VecDeque_drop_af98(v76);
+	ptr v142 = ldp(v74);
+	u64 v143 = ld64(v74+8), v144 = ld64(v74+16);
+	if (!v143) goto L70;
+	v64 = 0;
+L69:;
+	ptr v145 = at(v142, v64 * 48);
+	u8 v146 = ld8(v145), v147 = ld8(v145+1);
+	u32 v148 = lu32(v145+4);
+	u64 v149 = lu64(v145+8);
+	st64(v70, 0);
+	st8(v70, v146);
+	st8(v70+1, v147);
+	st32(v70+4, v148);
+	st64(v70+8, v149);
+	copy(v70+16, v145+16, 32);
+	ptions_interface_option_InterfaceDescriptionOption_Destruct_drop(v70);
+	u64 v150 = v64 + 1;
+	if (v150 != v143) { v64 = v150; goto L69; }
+L70:
+	if (!v144) goto L78;
+	deallocate(v142);
+	goto L78;
+L71:;
+	ptr v151 = at(v65, v66 * 48);
+	st8(v151, v94);
+	st8(v151+1, v62);
+	su32(v151+4, v61);
+	su64(v151+8, v63);
+	su64(v151+16, v57);
+	sup(v151+24, v58);
+	su64(v151+32, v59);
+	su64(v151+40, v60);
+	u64 v152 = v66 + 1;
+	st64(v74+8, v152);
+	if (v92) { v4 = v65; v5 = v152; v6 = v91; v7 = v92; goto L1; }
+L72:
+	stp(v77, v86);
+	st64(v77+8, 0);
+	st64(v77+16, v88);
+	st64(v77+24, v87);
+	st64(v77+32, 0);
+	std_alloc_vec_deque_VecDeque_drop_af98(v77);
+	copy(v78+7, v74, 24);
+	copy(v79, v78+7, 24);
+	copy(v89, v79, 24);
+	u64 v153 = ld64(v2+48);
+	if (ld64(v2+56) != v153) { v67 = v153; goto L74; }
+	u8 v154 = std_alloc_vec_Vec_grow_amortized_1728(v2+40);
+	if (!v154) goto L73;
+	v67 = ld64(v2+48); goto L74;
+L73:
+	std_alloc_vec_Vec_drop_37c7(v89);
+	st8(v1, 1);
+	st8(v1+8, 5);
+	clear(v1+16, 88);
+	goto L79;
+L74:;
+	ptr v155 = at(ldp(v2+40), v67 * 40);
+	st8(v155, v82);
+	st_bytes(v155+1, 0, 3);
+	su32(v155+4, v83);
+	su16(v155+8, v84);
+	su16(v155+10, 0);
+	su32(v155+12, v85);
+	copy(v155+16, v89, 24);
+	st64(v2+48, v67 + 1);
+	st8(v1, 0);
+	st8(v1+8, 0);
+	su64(v1+16, 0);
+	copy(v1+24, v80, 24);
+	copy(v1+48, v81, 56);
+	goto L79;
+L75:
+	__builtin_trap();
+L76:
+	v68 = 0;
+L77:;
+	ptr v156 = at(v86, v68 * 48);
+	u8 v157 = ld8(v156), v158 = ld8(v156+1);
+	u32 v159 = lu32(v156+4);
+	u64 v160 = lu64(v156+8);
+	st64(v73, 0);
+	st8(v73, v157);
+	st8(v73+1, v158);
+	st32(v73+4, v159);
+	st64(v73+8, v160);
+	copy(v73+16, v156+16, 32);
+	ptions_interface_option_InterfaceDescriptionOption_Destruct_drop(v73);
+	u64 v161 = v68 + 1;
+	if (v161 != v87) { v68 = v161; goto L77; }
+	if (!v88) goto L78;
+	deallocate(v86);
+L78:
+	st8(v1, 1);
+	st8(v1+8, 5);
+	clear(v1+16, 88);
+L79:
+	return;
+}
+static void capcopy_run_blocks_KindLinesBlockLine_write_line_ce79(ptr v1, ptr v2, ptr v3, u64 v4, ptr v5) {
+	u64 v6, v7, v8, v9, v10, v12, v13, v14, v15, v16, v17, v18, v19, v20, v21, v22, v23, v24, v25, v26, v27, v28, v29, v30, v31, v32, v33, v34, v35, v36, v37, v38, v39, v40, v41, v42, v43, v44, v45, v47, v48, v49, v51, v52, v53, v54, v55, v56, v57, v58, v59, v60, v61, v62;
+	ptr v11, v46;
+	u8 v50;
+	_Alignas(8) u8 v63[96], v64[104] = {0}, v65[24], v66[24];
+	pcap_ng_pcapng_block_Block_parsed(v64, v5);
+	u8 v67 = ld8(v64), v68 = ld8(v64+8);
+	if (v67) goto L70;
+	u8 v69 = ld8(v64+16);
+	u64 v70 = ld64(v64+24), v71 = ld64(v64+32), v72 = ld64(v64+40);
+	u8 v73 = (u8)v72;
+	u64 v74 = ld64(v64+48), v75 = ld64(v64+56), v76 = ld64(v64+64);
+	switch (v68) {
+	case 0: goto L0;
+	case 1: goto L1;
+	case 2: goto L2;
+	case 3: goto L14;
+	case 4: goto L15;
+	case 5: goto L45;
+	case 6: goto L55;
+	case 7: goto L67;
+	case 8: goto L68;
+	default: goto L69;
+	}
+L0:
+	st64(v65, v71);
+	st64(v65+8, v72);
+	st64(v65+16, v74);
+	std_alloc_vec_Vec_drop_0f0e(v65);
+	M0: v18 = (u64)(ptr)static_66; v19 = 2; goto L72;
+L1:
+	st64(v66, v71);
+	st64(v66+8, v72);
+	st64(v66+16, v74);
+	std_alloc_vec_Vec_drop_37c7(v66);
+	goto M0;
+L2:
+	if (v73 != 1 || !v76) goto L3;
+	deallocate((ptr)v74);
+L3:;
+	ptr v77 = ldp(v64+72);
+	u64 v78 = ld64(v64+80), v79 = ld64(v64+88);
+	if (!v78) goto L12;
+	v6 = 0;
+L4:;
+	ptr v80 = at(v77, v6 * 48);
+	u64 v81 = lu64(v80+16), v82 = lu64(v80+24), v83 = lu64(v80+32), v84 = lu64(v80+40);
+	u8 v85 = (u8)lu16(v80+8), v86 = (u8)v81;
+	switch (ld8(v80)) {
+	case 0: goto L5;
+	case 1: goto L11;
+	case 2: goto L6;
+	case 3: goto L7;
+	case 4: goto L8;
+	case 5: goto L9;
+	default: goto L13;
+	}
+L5:
+	if (!v85 || !v83) goto L11;
+	v7 = v81; goto L10;
+L6:
+	if (!v85 || !v83) goto L11;
+	v7 = v81; goto L10;
+L7:
+	if (!v86 || !v84) goto L11;
+	v7 = v82; goto L10;
+L8:
+	if (!v86 || !v84) goto L11;
+	v7 = v82; goto L10;
+L9:
+	if (!v86 || !v84) goto L11;
+	v7 = v82;
+L10:
+	deallocate((ptr)v7);
+L11:;
+	u64 v87 = v6 + 1;
+	if (v87 != v78) { v6 = v87; goto L4; }
+L12:
+	if (!v79) goto M0;
+	deallocate(v77);
+	goto M0;
+L13:
+	__builtin_trap();
+L14:
+	if ((v70 & 255) != 1 || !v74) goto M0;
+	deallocate((ptr)v71);
+	goto M0;
+L15:;
+	ptr v88 = (ptr)(((u64)ld32(v64+20) << 32) | (u64)v69 | ((u64)((u32)ld_bytes(v64+17, 3) & 16777215) << 8));
+	if (!v70) goto L30;
+	v8 = 0;
+L16:;
+	ptr v89 = at(v88, v8 << 6);
+	u64 v90 = lu64(v89+16), v91 = lu64(v89+24), v92 = lu64(v89+32), v93 = lu64(v89+40);
+	u64 v94 = lu64(v89+48), v95 = lu64(v89+56);
+	u8 v96 = (u8)lu16(v89+8);
+	switch (ld8(v89)) {
+	case 0: goto L29;
+	case 1: goto L17;
+	case 2: goto L22;
+	case 3: goto L27;
+	default: goto L44;
+	}
+L17:
+	if (!v96 || !v92) goto L18;
+	deallocate((ptr)v90);
+L18:
+	if (!v94) goto L21;
+	v9 = 0;
+L19:;
+	ptr v97 = at((ptr)v93, v9 << 5);
+	if (!ld8(v97) || !lu64(v97+24)) goto L20;
+	deallocate(lup(v97+8));
+L20:;
+	u64 v98 = v9 + 1;
+	if (v98 != v94) { v9 = v98; goto L19; }
+L21:
+	if (!v95) goto L29;
+	v11 = (ptr)v93; goto L28;
+L22:
+	if (!v96 || !v92) goto L23;
+	deallocate((ptr)v90);
+L23:
+	if (!v94) goto L26;
+	v10 = 0;
+L24:;
+	ptr v99 = at((ptr)v93, v10 << 5);
+	if (!ld8(v99) || !lu64(v99+24)) goto L25;
+	deallocate(lup(v99+8));
+L25:;
+	u64 v100 = v10 + 1;
+	if (v100 != v94) { v10 = v100; goto L24; }
+L26:
+	if (!v95) goto L29;
+	v11 = (ptr)v93; goto L28;
+L27:
+	if (!(v90 & 255) || !v93) goto L29;
+	v11 = (ptr)v91;
+L28:
+	deallocate(v11);
+L29:;
+	u64 v101 = v8 + 1;
+	if (v101 != v70) { v8 = v101; goto L16; }
+L30:
+	if (!v71) goto L31;
+	deallocate(v88);
+L31:
+	if (!v74) goto L42;
+	v12 = 0;
+L32:;
+	ptr v102 = at((ptr)v72, v12 * 48);
+	u64 v103 = lu64(v102+16), v104 = lu64(v102+24), v105 = lu64(v102+32), v106 = lu64(v102+40);
+	u8 v107 = (u8)lu16(v102+8), v108 = (u8)v103;
+	switch (ld8(v102)) {
+	case 0: goto L33;
+	case 1: goto L34;
+	case 2: goto L35;
+	case 3: goto L36;
+	case 4: goto L37;
+	case 5: goto L38;
+	case 6: goto L39;
+	default: goto L43;
+	}
+L33:
+	if (!v107 || !v105) goto L41;
+	v13 = v103; goto L40;
+L34:
+	if (!v107 || !v105) goto L41;
+	v13 = v103; goto L40;
+L35:
+	if (!v107 || !v105) goto L41;
+	v13 = v103; goto L40;
+L36:
+	if (!v107 || !v105) goto L41;
+	v13 = v103; goto L40;
+L37:
+	if (!v108 || !v106) goto L41;
+	v13 = v104; goto L40;
+L38:
+	if (!v108 || !v106) goto L41;
+	v13 = v104; goto L40;
+L39:
+	if (!v108 || !v106) goto L41;
+	v13 = v104;
+L40:
+	deallocate((ptr)v13);
+L41:;
+	u64 v109 = v12 + 1;
+	if (v109 != v74) { v12 = v109; goto L32; }
+L42:
+	if (!v75) goto M0;
+	deallocate((ptr)v72);
+	goto M0;
+L43:
+	__builtin_trap();
+L44:
+	__builtin_trap();
+L45:
+	if (!v72) goto L53;
+	v14 = 0;
+L46:;
+	ptr v110 = at((ptr)v71, v14 * 48);
+	u64 v111 = lu64(v110+16), v112 = lu64(v110+24), v113 = lu64(v110+40);
+	u8 v114 = (u8)v111;
+	switch (ld8(v110)) {
+	case 0: goto L47;
+	case 1: case 2: case 3: case 4: case 5: case 6: case 7: goto L52;
+	case 8: goto L48;
+	case 9: goto L49;
+	case 10: goto L50;
+	default: goto L54;
+	}
+L47:
+	if (!(lu64(v110+8) & 255) || !lu64(v110+32)) goto L52;
+	v15 = v111; goto L51;
+L48:
+	if (!v114 || !v113) goto L52;
+	v15 = v112; goto L51;
+L49:
+	if (!v114 || !v113) goto L52;
+	v15 = v112; goto L51;
+L50:
+	if (!v114 || !v113) goto L52;
+	v15 = v112;
+L51:
+	deallocate((ptr)v15);
+L52:;
+	u64 v115 = v14 + 1;
+	if (v115 != v72) { v14 = v115; goto L46; }
+L53:
+	if (!v74) goto M0;
+	deallocate((ptr)v71);
+	goto M0;
+L54:
+	__builtin_trap();
+L55:
+	if (v73 != 1 || !v76) goto L56;
+	deallocate((ptr)v74);
+L56:;
+	ptr v116 = ldp(v64+72);
+	u64 v117 = ld64(v64+80), v118 = ld64(v64+88);
+	if (!v117) goto L65;
+	v16 = 0;
+L57:;
+	ptr v119 = at(v116, v16 * 48);
+	u64 v120 = lu64(v119+16), v121 = lu64(v119+24), v122 = lu64(v119+32), v123 = lu64(v119+40);
+	u8 v124 = (u8)lu64(v119+8), v125 = (u8)v120;
+	switch (ld8(v119)) {
+	case 0: goto L58;
+	case 1: case 3: goto L64;
+	case 2: goto L59;
+	case 4: goto L60;
+	case 5: goto L61;
+	case 6: goto L62;
+	default: goto L66;
+	}
+L58:
+	if (!v124 || !v122) goto L64;
+	v17 = v120; goto L63;
+L59:
+	if (!v124 || !v122) goto L64;
+	v17 = v120; goto L63;
+L60:
+	if (!v125 || !v123) goto L64;
+	v17 = v121; goto L63;
+L61:
+	if (!v125 || !v123) goto L64;
+	v17 = v121; goto L63;
+L62:
+	if (!v125 || !v123) goto L64;
+	v17 = v121;
+L63:
+	deallocate((ptr)v17);
+L64:;
+	u64 v126 = v16 + 1;
+	if (v126 != v117) { v16 = v126; goto L57; }
+L65:
+	if (!v118) goto M0;
+	deallocate(v116);
+	goto M0;
+L66:
+	__builtin_trap();
+L67:
+	if (v69 != 1 || !v72) goto M0;
+	deallocate((ptr)v70);
+	goto M0;
+L68:
+	if ((v71 & 255) != 1 || !v75) goto M0;
+	deallocate((ptr)v72);
+	goto M0;
+L69:
+	__builtin_trap();
+L70:
+	if (v68 != 5) goto L71;
+	st8(v1, 1);
+	su64(v1+8, 5);
+	st8(v1+16, 0);
+	clear(v1+24, 88);
+	goto L129;
+L71:
+	if (v67 != 1) { M1: v18 = (u64)(ptr)static_67; v19 = 7; goto L72; }
+	if (v68 != 4 || !ld64(v64+32)) goto M1;
+	deallocate(ldp(v64+16));
+	v18 = (u64)(ptr)static_67; v19 = 7;
+L72:
+	st8(v2+125, 10);
+	ptr v127 = at(v2, 125ull - v19);
+	if ((u64)v127 - v18 >= v19) goto L74;
+	v20 = 0;
+L73:
+	st8(at(v127, v20), ld8(at((ptr)v18, v20)));
+	u64 v128 = v20 + 1;
+	if (v128 == v19) goto L75;
+	v20 = v128; goto L73;
+L74:
+	move(v127, (ptr)v18, v19);
+L75:;
+	u64 v129 = 124ull - v19;
+	st8(at(v2, v129), 32);
+	u32 v130 = ld32(v5+8);
+	u64 v131 = (u64)v130;
+	if (v130 <= 9999) { v23 = v129; v24 = v131; goto L77; }
+	v21 = v131; v22 = v129;
+L76:;
+	u64 v132 = v21 / 10000;
+	u16 v133 = (u16)(v21 % 10000);
+	ptr v134 = at((ptr)static_51, (u64)(u16)((u32)(v133 % 100) << 1)), v135 = at(v2, v22);
+	u8 v136 = ld8(v134+1);
+	st8(v135-2, ld8(v134));
+	st8(v135-1, v136);
+	u64 v137 = v22 - 4;
+	ptr v138 = at((ptr)static_51, (u64)(u16)((u32)(v133 / 100) << 1)), v139 = at(v2, v137);
+	u8 v140 = ld8(v138+1);
+	st8(v139, ld8(v138));
+	st8(v139+1, v140);
+	if (v21 > 99999999) { v21 = v132; v22 = v137; goto L76; }
+	v23 = v137; v24 = v132;
+L77:
+	if (v24 >= 100) goto L79;
+	if (v24 >= 10) goto L78;
+	u64 v141 = v23 - 1;
+	st8(at(v2, v141), (u8)v24 | 48);
+	v25 = v141; goto L81;
+L78:;
+	u64 v142 = v23 - 2;
+	ptr v143 = at((ptr)static_51, v24 << 1), v144 = at(v2, v142);
+	u8 v145 = ld8(v143+1);
+	st8(v144, ld8(v143));
+	st8(v144+1, v145);
+	v25 = v142; goto L81;
+L79:;
+	u16 v146 = (u16)v24;
+	ptr v147 = at((ptr)static_51, (u64)(u16)((u32)(v146 % 100) << 1)), v148 = at(v2, v23);
+	u8 v149 = ld8(v147+1);
+	st8(v148-2, ld8(v147));
+	st8(v148-1, v149);
+	u16 v150 = v146 / 100;
+	if (v24 >= 1000) goto L80;
+	u64 v151 = v23 - 3;
+	st8(at(v2, v151), (u8)v150 | 48);
+	v25 = v151; goto L81;
+L80:;
+	u64 v152 = v23 - 4;
+	ptr v153 = at((ptr)static_51, (u64)(u16)((u32)v150 << 1)), v154 = at(v2, v152);
+	u8 v155 = ld8(v153+1);
+	st8(v154, ld8(v153));
+	st8(v154+1, v155);
+	v25 = v152;
+L81:;
+	u64 v156 = v25 - 1;
+	st8(at(v2, v156), 32);
+	switch (ld8(v5)) {
+	case 0: goto L82;
+	case 1: goto L85;
+	case 2: goto L88;
+	case 3: goto L91;
+	case 4: goto L94;
+	case 5: goto L97;
+	case 6: goto L100;
+	case 7: goto L103;
+	case 8: goto L106;
+	default: goto L130;
+	}
+L82:;
+	u64 v157 = v25 - 8;
+	ptr v158 = at(v2, v157);
+	if ((u64)v158 - (u64)(ptr)static_68 >= 7) goto L84;
+	v26 = 0;
+L83:
+	st8(at(v158, v26), ld8(at((ptr)static_68, v26)));
+	u64 v159 = v26 + 1;
+	if (v159 == 7) { v40 = v157; goto L115; }
+	v26 = v159; goto L83;
+L84:
+	copy(v158, (ptr)static_68, 7);
+	v40 = v157; goto L115;
+L85:;
+	u64 v160 = v25 - 10;
+	ptr v161 = at(v2, v160);
+	if ((u64)v161 - (u64)(ptr)static_69 >= 9) goto L87;
+	v27 = 0;
+L86:
+	st8(at(v161, v27), ld8(at((ptr)static_69, v27)));
+	u64 v162 = v27 + 1;
+	if (v162 == 9) { v40 = v160; goto L115; }
+	v27 = v162; goto L86;
+L87:
+	copy(v161, (ptr)static_69, 9);
+	v40 = v160; goto L115;
+L88:;
+	u64 v163 = v25 - 7;
+	ptr v164 = at(v2, v163);
+	if ((u64)v164 - (u64)(ptr)static_70 >= 6) goto L90;
+	v28 = 0;
+L89:
+	st8(at(v164, v28), ld8(at((ptr)static_70, v28)));
+	u64 v165 = v28 + 1;
+	if (v165 == 6) { v40 = v163; goto L115; }
+	v28 = v165; goto L89;
+L90:
+	copy(v164, (ptr)static_70, 6);
+	v40 = v163; goto L115;
+L91:;
+	u64 v166 = v25 - 7;
+	ptr v167 = at(v2, v166);
+	if ((u64)v167 - (u64)(ptr)static_71 >= 6) goto L93;
+	v29 = 0;
+L92:
+	st8(at(v167, v29), ld8(at((ptr)static_71, v29)));
+	u64 v168 = v29 + 1;
+	if (v168 == 6) { v40 = v166; goto L115; }
+	v29 = v168; goto L92;
+L93:
+	copy(v167, (ptr)static_71, 6);
+	v40 = v166; goto L115;
+L94:;
+	u64 v169 = v25 - 6;
+	ptr v170 = at(v2, v169);
+	if ((u64)v170 - (u64)(ptr)static_72 >= 5) goto L96;
+	v30 = 0;
+L95:
+	st8(at(v170, v30), ld8(at((ptr)static_72, v30)));
+	u64 v171 = v30 + 1;
+	if (v171 == 5) { v40 = v169; goto L115; }
+	v30 = v171; goto L95;
+L96:
+	copy(v170, (ptr)static_72, 5);
+	v40 = v169; goto L115;
+L97:;
+	u64 v172 = v25 - 11;
+	ptr v173 = at(v2, v172);
+	if ((u64)v173 - (u64)(ptr)static_73 >= 10) goto L99;
+	v31 = 0;
+L98:
+	st8(at(v173, v31), ld8(at((ptr)static_73, v31)));
+	u64 v174 = v31 + 1;
+	if (v174 == 10) { v40 = v172; goto L115; }
+	v31 = v174; goto L98;
+L99:
+	copy(v173, (ptr)static_73, 10);
+	v40 = v172; goto L115;
+L100:;
+	u64 v175 = v25 - 9;
+	ptr v176 = at(v2, v175);
+	if ((u64)v176 - (u64)(ptr)static_74 >= 8) goto L102;
+	v32 = 0;
+L101:
+	st8(at(v176, v32), ld8(at((ptr)static_74, v32)));
+	u64 v177 = v32 + 1;
+	if (v177 == 8) { v40 = v175; goto L115; }
+	v32 = v177; goto L101;
+L102:
+	su64(v176, 0x6465636e61686e65ull);
+	v40 = v175; goto L115;
+L103:;
+	u64 v178 = v25 - 8;
+	ptr v179 = at(v2, v178);
+	if ((u64)v179 - (u64)(ptr)static_75 >= 7) goto L105;
+	v33 = 0;
+L104:
+	st8(at(v179, v33), ld8(at((ptr)static_75, v33)));
+	u64 v180 = v33 + 1;
+	if (v180 == 7) { v40 = v178; goto L115; }
+	v33 = v180; goto L104;
+L105:
+	copy(v179, (ptr)static_75, 7);
+	v40 = v178; goto L115;
+L106:;
+	u32 v181 = lu32(v5+4);
+	u64 v182 = (u64)v181;
+	if (v181 <= 9999) { v36 = v156; v37 = v182; goto L108; }
+	v34 = v182; v35 = v156;
+L107:;
+	u64 v183 = v34 / 10000;
+	u16 v184 = (u16)(v34 % 10000);
+	ptr v185 = at((ptr)static_51, (u64)(u16)((u32)(v184 % 100) << 1)), v186 = at(v2, v35);
+	u8 v187 = ld8(v185+1);
+	st8(v186-2, ld8(v185));
+	st8(v186-1, v187);
+	u64 v188 = v35 - 4;
+	ptr v189 = at((ptr)static_51, (u64)(u16)((u32)(v184 / 100) << 1)), v190 = at(v2, v188);
+	u8 v191 = ld8(v189+1);
+	st8(v190, ld8(v189));
+	st8(v190+1, v191);
+	if (v34 > 99999999) { v34 = v183; v35 = v188; goto L107; }
+	v36 = v188; v37 = v183;
+L108:
+	if (v37 >= 100) goto L110;
+	if (v37 >= 10) goto L109;
+	u64 v192 = v36 - 1;
+	st8(at(v2, v192), (u8)v37 | 48);
+	v38 = v192; goto L112;
+L109:;
+	u64 v193 = v36 - 2;
+	ptr v194 = at((ptr)static_51, v37 << 1), v195 = at(v2, v193);
+	u8 v196 = ld8(v194+1);
+	st8(v195, ld8(v194));
+	st8(v195+1, v196);
+	v38 = v193; goto L112;
+L110:;
+	u16 v197 = (u16)v37;
+	ptr v198 = at((ptr)static_51, (u64)(u16)((u32)(v197 % 100) << 1)), v199 = at(v2, v36);
+	u8 v200 = ld8(v198+1);
+	st8(v199-2, ld8(v198));
+	st8(v199-1, v200);
+	u16 v201 = v197 / 100;
+	if (v37 >= 1000) goto L111;
+	u64 v202 = v36 - 3;
+	st8(at(v2, v202), (u8)v201 | 48);
+	v38 = v202; goto L112;
+L111:;
+	u64 v203 = v36 - 4;
+	ptr v204 = at((ptr)static_51, (u64)(u16)((u32)v201 << 1)), v205 = at(v2, v203);
+	u8 v206 = ld8(v204+1);
+	st8(v205, ld8(v204));
+	st8(v205+1, v206);
+	v38 = v203;
+L112:;
+	u64 v207 = v38 - 8;
+	ptr v208 = at(v2, v207);
+	if ((u64)v208 - (u64)(ptr)static_76 >= 8) goto L114;
+	v39 = 0;
+L113:
+	st8(at(v208, v39), ld8(at((ptr)static_76, v39)));
+	u64 v209 = v39 + 1;
+	if (v209 == 8) { v40 = v207; goto L115; }
+	v39 = v209; goto L113;
+L114:
+	su64(v208, 0x3a6e776f6e6b6e75ull);
+	v40 = v207;
+L115:;
+	u64 v210 = v40 - 1;
+	st8(at(v2, v210), 32);
+	if (v4 <= 9999) { v43 = v210; v44 = v4; goto L117; }
+	v41 = v4; v42 = v210;
+L116:;
+	u64 v211 = v41 / 10000;
+	u16 v212 = (u16)(v41 % 10000);
+	ptr v213 = at((ptr)static_51, (u64)(u16)((u32)(v212 % 100) << 1)), v214 = at(v2, v42);
+	u8 v215 = ld8(v213+1);
+	st8(v214-2, ld8(v213));
+	st8(v214-1, v215);
+	u64 v216 = v42 - 4;
+	ptr v217 = at((ptr)static_51, (u64)(u16)((u32)(v212 / 100) << 1)), v218 = at(v2, v216);
+	u8 v219 = ld8(v217+1);
+	st8(v218, ld8(v217));
+	st8(v218+1, v219);
+	if (v41 > 99999999) { v41 = v211; v42 = v216; goto L116; }
+	v43 = v216; v44 = v211;
+L117:
+	if (v44 >= 100) goto L119;
+	if (v44 >= 10) goto L118;
+	u64 v220 = v43 - 1;
+	st8(at(v2, v220), (u8)v44 | 48);
+	v45 = v220; goto L121;
+L118:;
+	u64 v221 = v43 - 2;
+	ptr v222 = at((ptr)static_51, v44 << 1), v223 = at(v2, v221);
+	u8 v224 = ld8(v222+1);
+	st8(v223, ld8(v222));
+	st8(v223+1, v224);
+	v45 = v221; goto L121;
+L119:;
+	u16 v225 = (u16)v44;
+	ptr v226 = at((ptr)static_51, (u64)(u16)((u32)(v225 % 100) << 1)), v227 = at(v2, v43);
+	u8 v228 = ld8(v226+1);
+	st8(v227-2, ld8(v226));
+	st8(v227-1, v228);
+	u16 v229 = v225 / 100;
+	if (v44 >= 1000) goto L120;
+	u64 v230 = v43 - 3;
+	st8(at(v2, v230), (u8)v229 | 48);
+	v45 = v230; goto L121;
+L120:;
+	u64 v231 = v43 - 4;
+	ptr v232 = at((ptr)static_51, (u64)(u16)((u32)v229 << 1)), v233 = at(v2, v231);
+	u8 v234 = ld8(v232+1);
+	st8(v233, ld8(v232));
+	st8(v233+1, v234);
+	v45 = v231;
+L121:
+	if (v45 == 126) { v50 = v51 = v52 = v53 = v54 = v55 = v56 = v57 = v58 = v59 = v60 = v61 = v62 = 0; goto L128; }
+	v46 = at(v2, v45); v47 = 126ull - v45;
+L122:
+	clear(v63, 96);
+	u64 v235 = ld64(v3+16), v236 = ld64(v3+8);
+	if (v47 >= v235 - v236) goto L126;
+	u64 v237 = v236 + v47;
+	ptr v238 = ldp(v3);
+	clear(v3+8, 16);
+	ptr v239 = at(v238, v236);
+	if ((u64)v239 - (u64)v46 >= v47) goto L124;
+	v48 = 0;
+L123:
+	st8(at(v239, v48), ld8(at(v46, v48)));
+	u64 v240 = v48 + 1;
+	if (v240 == v47) goto L125;
+	v48 = v240; goto L123;
+L124:
+	move(v239, v46, v47);
+L125:
+	stp(v3, v238);
+	st64(v3+8, v237);
+	st64(v3+16, v235);
+	v49 = v47; goto L127;
+L126:
+	std_io_buffered_BufWriter_write_cold_9d90(v63, v3, v46, v47);
+	u64 v241 = ld64(v63+8);
+	if (ld8(v63)) { v52 = v241; v53 = ld64(v63+16); v54 = ld64(v63+24); v55 = ld64(v63+32); v56 = ld64(v63+40); v57 = ld64(v63+48); v58 = ld64(v63+56); v59 = ld64(v63+64); v60 = ld64(v63+72); v61 = ld64(v63+80); v62 = ld64(v63+88); v50 = 1; v51 = 4; goto L128; }
+	if (!v241) { v52 = 1513219; v53 = 0x7074756f20656874ull; v54 = 0x206b6f6f74207475ull; v55 = 0x2e676e6968746f6eull; v56 = 0x2e2e2e2e2e2e2e2eull; v57 = 0x2e2e2e2e2e2e2e2eull; v58 = 0x2e2e2e2e2e2e2e2eull; v59 = 0x2e2e2e2e2e2e2e2eull; v60 = 0x2e2e2e2e2e2e2e2eull; v61 = 0x2e2e2e2e2e2e2e2eull; v62 = 0x2e2e2e2e2e2e2e2eull; v50 = 1; v51 = 4; goto L128; }
+	v49 = v241;
+L127:;
+	u64 v242 = v47 - v49;
+	if (v242) { v46 = at(v46, v49); v47 = v242; goto L122; }
+	v50 = v51 = v52 = v53 = v54 = v55 = v56 = v57 = v58 = v59 = v60 = v61 = v62 = 0;
+L128:
+	st8(v1, v50);
+	su64(v1+8, v51);
+	st8(v1+16, v50);
+	su64(v1+24, v52);
+	su64(v1+32, v53);
+	su64(v1+40, v54);
+	su64(v1+48, v55);
+	su64(v1+56, v56);
+	su64(v1+64, v57);
+	su64(v1+72, v58);
+	su64(v1+80, v59);
+	su64(v1+88, v60);
+	su64(v1+96, v61);
+	su64(v1+104, v62);
+L129:
+	return;
+L130:
+	__builtin_trap();
+}
+static u8 core_lang_str_eq(ptr v1, u64 v2, ptr v3, u64 v4) {
+	u64 v5, v6;
+	u8 v7;
+	if (v2 != v4) { v7 = 0; goto L2; }
+	if (v2 <= 3) goto L0;
+	u64 v8 = v2 - 4;
+	v5 = (u64)__builtin_bswap64(((u64)lu32(at(v3, v8)) << 32) | (u64)lu32(v3)); v6 = (u64)__builtin_bswap64(((u64)lu32(at(v1, v8)) << 32) | (u64)lu32(v1)); goto L1;
+L0:
+	v5 = ((u64)ld8(v3+1) << 8) | ((u64)ld8(v3) << 16) | (u64)ld8(v3+2); v6 = ((u64)ld8(v1+1) << 8) | ((u64)ld8(v1) << 16) | (u64)ld8(v1+2);
+L1:
+	v7 = v6 == v5;
+L2:
+	return v7;
 }
 static u32 core_convert_AnyInto_into_d3a8(u8 v1, u32 v2) {
 	u32 v3;
@@ -5191,292 +7399,286 @@ static u32 core_convert_AnyInto_into_d3a8(u8 v1, u32 v2) {
 	case 107: goto L106;
 	default: goto L108;
 	}
-L0:;
+L0:
 	v3 = 1; goto L107;
-L1:;
+L1:
 	v3 = 3; goto L107;
-L2:;
+L2:
 	v3 = 6; goto L107;
-L3:;
+L3:
 	v3 = 7; goto L107;
-L4:;
+L4:
 	v3 = 8; goto L107;
-L5:;
+L5:
 	v3 = 9; goto L107;
-L6:;
+L6:
 	v3 = 10; goto L107;
-L7:;
+L7:
 	v3 = 50; goto L107;
-L8:;
+L8:
 	v3 = 51; goto L107;
-L9:;
+L9:
 	v3 = 100; goto L107;
-L10:;
+L10:
 	v3 = 101; goto L107;
-L11:;
+L11:
 	v3 = 104; goto L107;
-L12:;
+L12:
 	v3 = 105; goto L107;
-L13:;
+L13:
 	v3 = 107; goto L107;
-L14:;
+L14:
 	v3 = 108; goto L107;
-L15:;
+L15:
 	v3 = 113; goto L107;
-L16:;
+L16:
 	v3 = 114; goto L107;
-L17:;
+L17:
 	v3 = 117; goto L107;
-L18:;
+L18:
 	v3 = 119; goto L107;
-L19:;
+L19:
 	v3 = 122; goto L107;
-L20:;
+L20:
 	v3 = 123; goto L107;
-L21:;
+L21:
 	v3 = 127; goto L107;
-L22:;
+L22:
 	v3 = 129; goto L107;
-L23:;
+L23:
 	v3 = 138; goto L107;
-L24:;
+L24:
 	v3 = 139; goto L107;
-L25:;
+L25:
 	v3 = 140; goto L107;
-L26:;
+L26:
 	v3 = 141; goto L107;
-L27:;
+L27:
 	v3 = 142; goto L107;
-L28:;
+L28:
 	v3 = 143; goto L107;
-L29:;
+L29:
 	v3 = 144; goto L107;
-L30:;
+L30:
 	v3 = 147; goto L107;
-L31:;
+L31:
 	v3 = 148; goto L107;
-L32:;
+L32:
 	v3 = 149; goto L107;
-L33:;
+L33:
 	v3 = 150; goto L107;
-L34:;
+L34:
 	v3 = 151; goto L107;
-L35:;
+L35:
 	v3 = 152; goto L107;
-L36:;
+L36:
 	v3 = 153; goto L107;
-L37:;
+L37:
 	v3 = 154; goto L107;
-L38:;
+L38:
 	v3 = 155; goto L107;
-L39:;
+L39:
 	v3 = 156; goto L107;
-L40:;
+L40:
 	v3 = 157; goto L107;
-L41:;
+L41:
 	v3 = 158; goto L107;
-L42:;
+L42:
 	v3 = 159; goto L107;
-L43:;
+L43:
 	v3 = 160; goto L107;
-L44:;
+L44:
 	v3 = 161; goto L107;
-L45:;
+L45:
 	v3 = 162; goto L107;
-L46:;
+L46:
 	v3 = 163; goto L107;
-L47:;
+L47:
 	v3 = 165; goto L107;
-L48:;
+L48:
 	v3 = 166; goto L107;
-L49:;
+L49:
 	v3 = 169; goto L107;
-L50:;
+L50:
 	v3 = 170; goto L107;
-L51:;
+L51:
 	v3 = 171; goto L107;
-L52:;
+L52:
 	v3 = 177; goto L107;
-L53:;
+L53:
 	v3 = 187; goto L107;
-L54:;
+L54:
 	v3 = 189; goto L107;
-L55:;
+L55:
 	v3 = 192; goto L107;
-L56:;
+L56:
 	v3 = 195; goto L107;
-L57:;
+L57:
 	v3 = 196; goto L107;
-L58:;
+L58:
 	v3 = 197; goto L107;
-L59:;
+L59:
 	v3 = 201; goto L107;
-L60:;
+L60:
 	v3 = 202; goto L107;
-L61:;
+L61:
 	v3 = 203; goto L107;
-L62:;
+L62:
 	v3 = 204; goto L107;
-L63:;
+L63:
 	v3 = 205; goto L107;
-L64:;
+L64:
 	v3 = 206; goto L107;
-L65:;
+L65:
 	v3 = 209; goto L107;
-L66:;
+L66:
 	v3 = 215; goto L107;
-L67:;
+L67:
 	v3 = 220; goto L107;
-L68:;
+L68:
 	v3 = 224; goto L107;
-L69:;
+L69:
 	v3 = 225; goto L107;
-L70:;
+L70:
 	v3 = 226; goto L107;
-L71:;
+L71:
 	v3 = 227; goto L107;
-L72:;
+L72:
 	v3 = 228; goto L107;
-L73:;
+L73:
 	v3 = 229; goto L107;
-L74:;
+L74:
 	v3 = 230; goto L107;
-L75:;
+L75:
 	v3 = 231; goto L107;
-L76:;
+L76:
 	v3 = 235; goto L107;
-L77:;
+L77:
 	v3 = 236; goto L107;
-L78:;
+L78:
 	v3 = 237; goto L107;
-L79:;
+L79:
 	v3 = 239; goto L107;
-L80:;
+L80:
 	v3 = 240; goto L107;
-L81:;
+L81:
 	v3 = 241; goto L107;
-L82:;
+L82:
 	v3 = 242; goto L107;
-L83:;
+L83:
 	v3 = 243; goto L107;
-L84:;
+L84:
 	v3 = 244; goto L107;
-L85:;
+L85:
 	v3 = 245; goto L107;
-L86:;
+L86:
 	v3 = 247; goto L107;
-L87:;
+L87:
 	v3 = 248; goto L107;
-L88:;
+L88:
 	v3 = 249; goto L107;
-L89:;
+L89:
 	v3 = 250; goto L107;
-L90:;
+L90:
 	v3 = 251; goto L107;
-L91:;
+L91:
 	v3 = 253; goto L107;
-L92:;
+L92:
 	v3 = 254; goto L107;
-L93:;
+L93:
 	v3 = 255; goto L107;
-L94:;
+L94:
 	v3 = 256; goto L107;
-L95:;
+L95:
 	v3 = 257; goto L107;
-L96:;
+L96:
 	v3 = 258; goto L107;
-L97:;
+L97:
 	v3 = 259; goto L107;
-L98:;
+L98:
 	v3 = 260; goto L107;
-L99:;
+L99:
 	v3 = 261; goto L107;
-L100:;
+L100:
 	v3 = 262; goto L107;
-L101:;
+L101:
 	v3 = 263; goto L107;
-L102:;
+L102:
 	v3 = 264; goto L107;
-L103:;
+L103:
 	v3 = 265; goto L107;
-L104:;
+L104:
 	v3 = 266; goto L107;
-L105:;
+L105:
 	v3 = 268; goto L107;
-L106:;
+L106:
 	v3 = v2;
-L107:;
+L107:
 	return v3;
-L108:;
+L108:
 	__builtin_trap();
 }
-static __attribute__((noinline)) void pcap_classic_run_stretch_whole_packets(ptr v1, ptr v2, ptr v3, u64 v4, u64 v5) {
+static APART void pcap_classic_run_stretch_whole_packets(ptr v1, ptr v2, ptr v3, u64 v4, u64 v5) {
 	u64 v6, v8, v9, v11, v12, v14, v15, v17, v18, v20;
 	ptr v7, v10, v13, v16, v19;
-	if (v5 == 0) { v18 = v5; v19 = v3; v20 = v4; goto L4; }
+	if (!v5) { v18 = v5; v19 = v3; v20 = v4; goto L4; }
 	switch (ld32(v2)) {
 	case 2712847316u: v6 = v4; v7 = v3; v8 = 0; goto L0;
 	case 2712812621u: v9 = v4; v10 = v3; v11 = 0; goto L1;
 	case 3569595041u: v12 = v4; v13 = v3; v14 = 0; goto L2;
 	default: v15 = v4; v16 = v3; v17 = 0; goto L3;
 	}
-L0:;
-	if (v6 < 16) { v18 = v8; v19 = v7; v20 = v6; goto L4; }
-	u32 v21 = lu32(v7+8);
-	u32 v22 = (u32)__builtin_bswap32(v21);
+L0:
+	if (v6 < 16) { M5: v18 = v8; v19 = v7; v20 = v6; goto L4; }
+	u32 v21 = lu32(v7+8), v22 = (u32)__builtin_bswap32(v21);
 	u64 v23 = v6 - 16;
 	u32 v24 = (u32)__builtin_bswap32(lu32(v7+12));
-	u8 v25 = (((u32)__builtin_bswap32(lu32(v7+4)) > 4294967) | (v22 > 262144) | (v24 > 262144)) || (v24 < v22);
-	if (v25) { v18 = v8; v19 = v7; v20 = v6; goto L4; }
+	u8 v25 = ((u32)__builtin_bswap32(lu32(v7+4)) > 4294967) | (v22 > 262144) | (v24 > 262144) || v24 < v22;
+	if (v25) goto M5;
 	u64 v26 = (u64)(u32)__builtin_bswap32(v21);
-	if (v23 < v26) { v18 = v8; v19 = v7; v20 = v6; goto L4; }
+	if (v23 < v26) goto M5;
 	ptr v27 = at(v7+16, v26);
-	u64 v28 = v23 - v26;
-	u64 v29 = v8 + 1;
+	u64 v28 = v23 - v26, v29 = v8 + 1;
 	if (v29 == v5) { v18 = v5; v19 = v27; v20 = v28; goto L4; }
 	v6 = v28; v7 = v27; v8 = v29; goto L0;
-L1:;
-	if (v9 < 16) { v18 = v11; v19 = v10; v20 = v9; goto L4; }
-	u32 v30 = lu32(v10+8);
-	u32 v31 = (u32)__builtin_bswap32(v30);
+L1:
+	if (v9 < 16) { M8: v18 = v11; v19 = v10; v20 = v9; goto L4; }
+	u32 v30 = lu32(v10+8), v31 = (u32)__builtin_bswap32(v30);
 	u64 v32 = v9 - 16;
 	u32 v33 = (u32)__builtin_bswap32(lu32(v10+12));
-	if (((v31 > 262144) | (v33 > 262144)) || (v33 < v31)) { v18 = v11; v19 = v10; v20 = v9; goto L4; }
+	if ((v31 > 262144) | (v33 > 262144) || v33 < v31) goto M8;
 	u64 v34 = (u64)(u32)__builtin_bswap32(v30);
-	if (v32 < v34) { v18 = v11; v19 = v10; v20 = v9; goto L4; }
+	if (v32 < v34) goto M8;
 	ptr v35 = at(v10+16, v34);
-	u64 v36 = v32 - v34;
-	u64 v37 = v11 + 1;
+	u64 v36 = v32 - v34, v37 = v11 + 1;
 	if (v37 == v5) { v18 = v5; v19 = v35; v20 = v36; goto L4; }
 	v9 = v36; v10 = v35; v11 = v37; goto L1;
-L2:;
-	if (v12 < 16) { v18 = v14; v19 = v13; v20 = v12; goto L4; }
+L2:
+	if (v12 < 16) { M11: v18 = v14; v19 = v13; v20 = v12; goto L4; }
 	u64 v38 = lu64(v13+8);
 	u32 v39 = (u32)v38;
 	u64 v40 = v12 - 16;
-	u8 v41 = ((lu32(v13+4) > 4294967) || ((v39 > 262144) | (v38 > 0x40000ffffffffull))) || ((u32)(v38 >> 32) < v39);
-	if (v41) { v18 = v14; v19 = v13; v20 = v12; goto L4; }
+	u8 v41 = lu32(v13+4) > 4294967 || (v39 > 262144) | (v38 > 0x40000ffffffffull) || (u32)(v38 >> 32) < v39;
+	if (v41) goto M11;
 	u64 v42 = v38 & 524287;
-	if (v40 < v42) { v18 = v14; v19 = v13; v20 = v12; goto L4; }
+	if (v40 < v42) goto M11;
 	ptr v43 = at(v13+16, v42);
-	u64 v44 = v40 - v42;
-	u64 v45 = v14 + 1;
+	u64 v44 = v40 - v42, v45 = v14 + 1;
 	if (v45 == v5) { v18 = v5; v19 = v43; v20 = v44; goto L4; }
 	v12 = v44; v13 = v43; v14 = v45; goto L2;
-L3:;
-	if (v15 < 16) { v18 = v17; v19 = v16; v20 = v15; goto L4; }
+L3:
+	if (v15 < 16) { M14: v18 = v17; v19 = v16; v20 = v15; goto L4; }
 	u64 v46 = lu64(v16+8);
 	u32 v47 = (u32)v46;
 	u64 v48 = v15 - 16;
-	if (((v47 > 262144) | (v46 > 0x40000ffffffffull)) || ((u32)(v46 >> 32) < v47)) { v18 = v17; v19 = v16; v20 = v15; goto L4; }
+	if ((v47 > 262144) | (v46 > 0x40000ffffffffull) || (u32)(v46 >> 32) < v47) goto M14;
 	u64 v49 = v46 & 524287;
-	if (v48 < v49) { v18 = v17; v19 = v16; v20 = v15; goto L4; }
+	if (v48 < v49) goto M14;
 	ptr v50 = at(v16+16, v49);
-	u64 v51 = v48 - v49;
-	u64 v52 = v17 + 1;
+	u64 v51 = v48 - v49, v52 = v17 + 1;
 	if (v52 != v5) { v15 = v51; v16 = v50; v17 = v52; goto L3; }
 	v18 = v5; v19 = v50; v20 = v51;
-L4:;
+L4:
 	su64(v1, v18);
 	sup(v1+8, v19);
 	su64(v1+16, v20);
@@ -5487,11 +7689,9 @@ static void pcap_classic_pcap_writer_put_packet_ce79(ptr v1, ptr v2, ptr v3, u32
 	ptr v10, v14, v36;
 	u64 v11, v12, v13, v15, v16, v17, v18, v19, v20, v21, v23, v24, v25, v26, v27, v28, v29, v30, v32, v33, v34, v35;
 	u8 v22, v31;
-	_Alignas(8) u8 v37[96], v38[56], v41[96], v42[56], v44[56], v45[56];
+	_Alignas(8) u8 v37[96], v38[56], v41[96], v42[56], v44[56] = {0}, v45[56] = {0};
 	_Alignas(1) u8 v39[56], v40[56], v43[56];
 	_Alignas(4) u8 v46[16];
-	clear(v44, 56);
-	clear(v45, 56);
 	u8 v47 = v4 != 3569595041u;
 	switch (v4) {
 	case 2712847316u: case 2712812621u: goto L0;
@@ -5503,116 +7703,107 @@ L0:;
 L1:;
 	u32 v49 = ld32(v5+4);
 	v6 = ld32(v5); v7 = v47 ? v49 : v49 / 1000; v8 = ld32(v5+8); v9 = ld32(v5+12);
-L2:;
+L2:
 	st32(v46, v6);
 	st32(v46+4, v7);
 	st32(v46+8, v8);
 	st32(v46+12, v9);
 	v10 = v46; v11 = 16;
-L3:;
+L3:
 	clear(v41, 96);
-	u64 v50 = ld64(v2+16);
-	u64 v51 = ld64(v2+8);
-	if (v11 >= (v50 - v51)) goto L7;
+	u64 v50 = ld64(v2+16), v51 = ld64(v2+8);
+	if (v11 >= v50 - v51) goto L7;
 	u64 v52 = v51 + v11;
-	ptr v53 = ldp(v2);
-	ptr v54 = at(v53, v51);
-	if (((u64)v54 - (u64)v10) >= v11) goto L5;
+	ptr v53 = ldp(v2), v54 = at(v53, v51);
+	if ((u64)v54 - (u64)v10 >= v11) goto L5;
 	v12 = 0;
-L4:;
+L4:
 	st8(at(v54, v12), ld8(at(v10, v12)));
 	u64 v55 = v12 + 1;
 	if (v55 == v11) goto L6;
 	v12 = v55; goto L4;
-L5:;
+L5:
 	move(v54, v10, v11);
-L6:;
+L6:
 	stp(v2, v53);
 	st64(v2+8, v52);
 	st64(v2+16, v50);
 	clear(v42, 56);
 	v13 = v11; goto L8;
-L7:;
+L7:
 	std_io_buffered_BufWriter_write_cold_9d90(v41, v2, v10, v11);
-	u64 v56 = ld64(v41+8);
-	u64 v57 = ld64(v41+16);
-	u64 v58 = ld64(v41+24);
-	u64 v59 = ld64(v41+32);
+	u64 v56 = ld64(v41+8), v57 = ld64(v41+16), v58 = ld64(v41+24), v59 = ld64(v41+32);
 	u8 v60 = ld8(v41);
 	copy(v42, v41+40, 56);
-	if (v60 != 0) goto L19;
-	if (v56 != 0) { v13 = v56; goto L8; }
+	if (v60) goto L19;
+	if (v56) { v13 = v56; goto L8; }
 	st8(v3, 1);
 	fill(v43, 46, 56);
 	v27 = 1513219; v28 = 0x7469727720656874ull; v29 = 0x206b6f6f74207265ull; v30 = 0x2e676e6968746f6eull; goto L20;
 L8:;
 	u64 v61 = v11 - v13;
-	if (v61 != 0) { v10 = at(v10, v13); v11 = v61; goto L3; }
+	if (v61) { v10 = at(v10, v13); v11 = v61; goto L3; }
 	u64 v62 = ld64(v5+32);
 	ptr v63 = ldp(v5+24);
 	clear(v40, 56);
-	if (v62 == 0) goto L15;
+	if (!v62) goto L15;
 	v14 = v63; v15 = v62;
-L9:;
+L9:
 	clear(v37, 96);
-	u64 v64 = ld64(v2+16);
-	u64 v65 = ld64(v2+8);
-	if (v15 >= (v64 - v65)) goto L13;
+	u64 v64 = ld64(v2+16), v65 = ld64(v2+8);
+	if (v15 >= v64 - v65) goto L13;
 	u64 v66 = v65 + v15;
 	ptr v67 = ldp(v2);
 	clear(v2+8, 16);
 	ptr v68 = at(v67, v65);
-	if (((u64)v68 - (u64)v14) >= v15) goto L11;
+	if ((u64)v68 - (u64)v14 >= v15) goto L11;
 	v16 = 0;
-L10:;
+L10:
 	st8(at(v68, v16), ld8(at(v14, v16)));
 	u64 v69 = v16 + 1;
 	if (v69 == v15) goto L12;
 	v16 = v69; goto L10;
-L11:;
+L11:
 	move(v68, v14, v15);
-L12:;
+L12:
 	stp(v2, v67);
 	st64(v2+8, v66);
 	st64(v2+16, v64);
 	clear(v38, 56);
 	v17 = v15; goto L14;
-L13:;
+L13:
 	std_io_buffered_BufWriter_write_cold_9d90(v37, v2, v14, v15);
-	u64 v70 = ld64(v37+8);
-	u64 v71 = ld64(v37+16);
-	u64 v72 = ld64(v37+24);
-	u64 v73 = ld64(v37+32);
+	u64 v70 = ld64(v37+8), v71 = ld64(v37+16), v72 = ld64(v37+24), v73 = ld64(v37+32);
 	u8 v74 = ld8(v37);
 	copy(v38, v37+40, 56);
-	if (v74 != 0) goto L16;
-	if (v70 != 0) { v17 = v70; goto L14; }
+	if (v74) goto L16;
+	if (v70) { v17 = v70; goto L14; }
 	st8(v3, 1);
 	fill(v39, 46, 56);
 	v18 = 1513219; v19 = 0x7469727720656874ull; v20 = 0x206b6f6f74207265ull; v21 = 0x2e676e6968746f6eull; goto L17;
 L14:;
 	u64 v75 = v15 - v17;
-	if (v75 != 0) { v14 = at(v14, v17); v15 = v75; goto L9; }
-L15:;
-	v22 = 0; v23 = 0; v24 = 0; v25 = 0; v26 = 0; goto L18;
-L16:;
+	if (v75) { v14 = at(v14, v17); v15 = v75; goto L9; }
+L15:
+	v22 = v23 = v24 = v25 = v26 = 0; goto L18;
+L16:
 	st8(v3, 1);
 	copy(v39, v38, 56);
 	v18 = v70; v19 = v71; v20 = v72; v21 = v73;
-L17:;
+L17:
 	copy(v40, v39, 56);
-	v22 = 1; v23 = v18; v24 = v19; v25 = v20; v26 = v21;
-L18:;
+	v23 = v18; v24 = v19; v25 = v20; v26 = v21; v22 = 1;
+L18:
 	copy(v44, v40, 56);
 	v31 = v22; v32 = v23; v33 = v24; v34 = v25; v35 = v26; v36 = v44; goto L21;
-L19:;
+L19:
 	st8(v3, 1);
 	copy(v43, v42, 56);
 	v27 = v56; v28 = v57; v29 = v58; v30 = v59;
-L20:;
+L20:
 	copy(v45, v43, 56);
-	v31 = 1; v32 = v27; v33 = v28; v34 = v29; v35 = v30; v36 = v45;
-L21:;
+	v32 = v27; v33 = v28; v34 = v29; v35 = v30; v36 = v45; v31 = 1;
+L21:
 	st8(v1, v31);
 	st8(v1+8, v31);
 	su64(v1+16, v32);
@@ -5622,6143 +7813,3138 @@ L21:;
 	copy(v1+48, v36, 56);
 	return;
 }
-static void pcap_ng_pcapng_block_Block_parsed(ptr v1, ptr v2) {
-	u8 v3, v5, v15, v30, v31, v39, v40, v45, v46, v64, v70, v71, v91, v92, v109, v130, v132, v139, v153, v154, v162, v163, v168, v169, v172, v173, v184, v185, v186, v187, v197, v199, v202, v204, v214, v229, v230, v238, v239, v244, v245, v263, v269, v270, v290, v291, v308, v329, v331, v338, v352, v353, v361, v362, v367, v368, v371, v372, v383, v384, v385, v386, v396, v398, v402, v403, v413, v414;
-	u64 v4, v6, v9, v10, v11, v12, v13, v17, v18, v22, v23, v24, v26, v28, v29, v32, v33, v34, v35, v36, v38, v41, v42, v44, v47, v48, v49, v50, v51, v52, v54, v55, v58, v59, v60, v62, v67, v69, v72, v73, v74, v75, v76, v78, v79, v80, v82, v83, v84, v85, v86, v87, v88, v89, v90, v94, v95, v96, v97, v98, v100, v101, v104, v106, v110, v111, v112, v114, v115, v116, v118, v120, v121, v122, v123, v125, v127, v128, v129, v131, v133, v135, v136, v143, v144, v145, v146, v147, v149, v151, v152, v155, v156, v157, v158, v159, v161, v164, v165, v167, v170, v171, v174, v176, v177, v179, v180, v181, v182, v183, v188, v189, v190, v191, v192, v194, v195, v196, v200, v201, v203, v205, v208, v209, v210, v211, v212, v216, v217, v221, v222, v223, v225, v227, v228, v231, v232, v233, v234, v235, v237, v240, v241, v243, v246, v247, v248, v249, v250, v251, v253, v254, v257, v258, v259, v261, v266, v268, v271, v272, v273, v274, v275, v277, v278, v279, v281, v282, v283, v284, v285, v286, v287, v288, v289, v293, v294, v295, v296, v297, v299, v300, v303, v305, v309, v310, v311, v313, v314, v315, v317, v319, v320, v321, v322, v324, v326, v327, v328, v330, v332, v334, v335, v342, v343, v344, v345, v346, v348, v350, v351, v354, v355, v356, v357, v358, v360, v363, v364, v366, v369, v370, v373, v375, v376, v378, v379, v380, v381, v382, v387, v388, v389, v390, v391, v393, v394, v395, v399, v400, v401, v404, v405, v406, v407, v408, v410, v411, v412, v415, v416, v417, v418, v419, v420;
-	ptr v7, v37, v43, v53, v61, v77, v81, v93, v99, v103, v117, v119, v124, v126, v134, v160, v166, v175, v178, v193, v198, v206, v236, v242, v252, v260, v276, v280, v292, v298, v302, v316, v318, v323, v325, v333, v359, v365, v374, v377, v392, v397, v409;
-	u16 v8, v14, v19, v20, v25, v27, v56, v57, v63, v65, v68, v102, v107, v108, v137, v140, v141, v207, v213, v218, v219, v224, v226, v255, v256, v262, v264, v267, v301, v306, v307, v336, v339, v340;
-	u32 v16, v21, v66, v105, v113, v138, v142, v148, v150, v215, v220, v265, v304, v312, v337, v341, v347, v349;
-	_Alignas(8) u8 v421[1], v422[96], v423[24], v424[24], v425[24], v426[24], v427[24], v431[24], v432[24], v433[24], v434[24], v435[24], v436[24], v437[24], v438[24], v439[24], v441[16], v442[24], v444[16], v445[48], v446[24], v447[24], v448[24], v449[24], v454[64], v455[64], v462[96], v463[24], v464[24], v465[24], v466[24], v467[24], v471[24], v472[24], v473[24], v474[24], v475[24], v476[24], v477[24], v478[24], v479[24], v481[16], v482[24], v484[16], v485[48], v486[24], v487[24], v488[24], v489[24], v494[64], v495[64];
-	_Alignas(2) u8 v428[6], v429[6], v430[6], v440[6], v443[6], v450[6], v451[6], v452[6], v453[6], v456[6], v457[6], v458[6], v459[6], v460[6], v461[6], v468[6], v469[6], v470[6], v480[6], v483[6], v490[6], v491[6], v492[6], v493[6], v496[6], v497[6], v498[6], v499[6], v500[6], v501[6];
-	u8 v502 = ld8(v2);
-	u32 v503 = lu32(v2+4);
-	u64 v504 = ld64(v2+32);
-	ptr v505 = ldp(v2+24);
-	if (ld8(v2+52) != 0) goto L134;
-	clear(v500, 6);
-	clear(v501, 6);
-	clear(v493, 6);
-	clear(v494, 64);
-	clear(v495, 64);
-	clear(v496, 6);
-	clear(v497, 6);
-	clear(v498, 6);
-	clear(v499, 6);
-	switch (v502) {
-	case 0: goto L0;
-	case 1: goto L2;
-	case 2: goto L4;
-	case 3: goto L34;
-	case 4: goto L35;
-	case 5: goto L71;
-	case 6: goto L98;
-	case 7: goto L128;
-	case 8: goto L129;
-	default: goto L133;
+static void capcopy_run_commands_run_0456(ptr v1, ptr v2, u64 v3, ptr v4, ptr v5) {
+	u64 v6, v7, v8, v9, v11, v13, v14, v15, v16, v17, v18, v19, v20, v21, v22, v23, v24, v25, v26, v27, v28, v29, v30, v31, v33, v34, v35, v36, v38, v40, v41, v42, v43, v44, v45, v46, v47, v48, v49, v50, v51, v52, v53, v54, v55, v56, v58, v59, v60, v61, v62, v63, v65, v67, v68, v69, v70, v71, v72, v73, v74, v75, v76, v77, v78, v79, v80, v81, v82, v83, v84, v85, v86, v87, v88, v89, v90, v92, v93, v94, v95, v96, v97, v98, v99, v100, v101, v102, v103, v104, v105, v106, v107, v108, v109, v110, v111, v112, v113, v114, v115, v116, v117, v120, v122, v124, v125, v126, v127, v128, v130, v131, v132, v133, v134, v135, v136, v137, v138, v139, v140, v141, v142, v143, v144, v146, v147, v148, v149, v150, v151, v152, v153, v154, v155, v156, v157, v158, v159, v160, v161, v162, v163, v164, v165, v166, v167, v168, v169, v170, v171, v172, v177, v178, v179, v180, v181, v182, v183, v184, v185, v186, v187, v188, v194, v195, v196, v197, v198, v199, v200, v201, v202, v203, v208, v209, v210, v211, v212, v213, v214, v215, v216, v217, v218, v219, v220, v221, v222, v223, v224, v225, v226, v227, v232, v233, v234, v235, v236, v237, v238, v239, v240, v242, v245, v246, v247, v248, v249, v251, v252, v253, v254, v255, v256, v264, v266, v267, v269, v270, v272, v273, v274, v282, v284, v285, v287, v288, v290, v291, v292, v294, v295, v297, v298, v300, v309, v310, v311, v312, v313, v314, v315, v317, v320, v324, v326, v327, v328, v329, v330, v331, v332, v333, v334, v335, v338, v339, v341, v342, v343, v344, v345, v346, v348, v351, v352, v353, v354, v355, v356, v357, v362, v364, v365, v366, v367, v373, v374, v375, v378, v379, v380, v381, v382, v384, v385, v386, v387, v388, v391, v392, v393, v394, v395, v396, v399, v402, v403, v404, v407, v408, v409, v410, v411, v413, v414, v415, v416, v417, v420, v421, v422, v423, v424, v425, v428, v434, v435, v436, v438, v439, v440, v441, v442, v445, v450, v451, v452, v456, v457, v458, v459, v460, v463, v465, v466, v467, v471, v472, v473, v474, v481, v482, v483, v486, v487, v493, v494, v495, v496, v497, v498, v499, v500, v501, v502, v507, v508, v509, v510, v511, v512, v513, v514, v515, v516, v517, v522, v523, v524, v525, v526, v527, v528, v529, v530, v531, v532, v533, v535, v536, v537, v538, v539, v540, v541, v542, v544, v547, v549, v550, v551, v553, v554, v555, v556, v557, v558, v561, v562, v563, v565, v566, v571, v572, v573, v577, v578, v579, v581, v582, v584, v585, v586, v589, v596, v597, v598, v600, v601, v603, v604, v605, v611, v612, v613, v614, v615, v616, v617, v618, v619, v620, v626, v627, v628, v629, v630, v631, v632, v633, v634, v635, v637, v638, v639, v640, v641, v642, v643, v644, v645, v646, v652, v653, v654, v656, v657, v658, v659, v660, v662, v663, v664, v666, v667, v668, v669, v670, v671, v672, v673, v674, v675, v676, v677, v678, v680, v682, v685, v687, v688, v689, v691, v692, v693, v694, v695, v696, v699, v700, v701, v704, v705, v706, v707, v708, v709, v710, v711, v712, v713, v714, v715, v716, v717, v718, v719, v723, v726, v730, v731, v732, v733, v734, v735, v736, v737, v738, v739, v740, v741, v743, v744, v746, v749, v750, v751, v752, v753, v754, v755, v757, v758, v759, v760, v761, v762, v763, v764, v768, v769, v770, v771, v773, v774, v775, v776, v777, v778, v781, v782, v783, v784, v785, v786, v787, v788, v789, v790, v791, v792, v795, v796, v797, v798, v799, v800, v801, v802, v805, v806, v807, v808, v810, v816, v817, v818, v819, v826, v827, v828, v829, v831, v833, v834, v835, v836, v837, v843, v844, v845, v846, v847, v850, v851, v852, v853, v854, v855, v856, v857, v858, v866, v867, v868, v869, v870, v874, v875, v876, v877, v880, v881, v882, v883, v884, v886, v887, v898, v899, v900, v901, v902, v903, v904, v905, v906, v911, v912, v913, v914, v915, v916, v917, v918, v919, v920, v921, v922, v923, v924, v925, v928, v929, v930, v931, v932, v933, v934, v935, v936, v937, v938;
+	ptr v10, v32, v37, v57, v66, v91, v123, v129, v145, v228, v241, v250, v268, v271, v286, v289, v296, v308, v316, v325, v340, v347, v358, v361, v406, v455, v521, v534, v543, v546, v548, v552, v560, v564, v576, v580, v599, v602, v625, v647, v651, v655, v665, v681, v686, v690, v720, v724, v727, v742, v747, v748, v794, v804, v811, v812, v813, v814, v815, v821, v822, v823, v824, v825, v832;
+	u32 v12, v39, v64, v121, v193, v231, v244, v262, v280, v305, v319, v322, v323, v350, v360, v363, v369, v370, v371, v372, v376, v390, v397, v400, v401, v419, v426, v429, v430, v431, v432, v433, v443, v446, v447, v448, v449, v453, v461, v464, v468, v470, v477, v478, v479, v480, v484, v492, v567, v568, v569, v570, v574, v583, v587, v595, v610, v661, v683, v684, v722, v725, v728, v729, v745, v838, v839, v841, v848, v849, v859, v861, v864, v865, v871, v873, v878, v879, v888, v891, v892, v893, v895, v896, v897, v907, v909;
+	u8 v118, v119, v173, v174, v175, v176, v189, v190, v191, v192, v204, v205, v206, v207, v229, v230, v243, v257, v258, v259, v260, v261, v263, v265, v275, v276, v277, v278, v279, v281, v283, v293, v299, v301, v302, v303, v304, v306, v307, v318, v321, v336, v337, v349, v359, v368, v377, v383, v389, v398, v405, v412, v418, v427, v437, v444, v454, v462, v469, v475, v476, v485, v488, v489, v490, v491, v503, v504, v505, v506, v518, v519, v520, v545, v559, v575, v588, v590, v591, v592, v593, v594, v606, v607, v608, v609, v621, v622, v623, v624, v636, v648, v649, v650, v679, v697, v698, v702, v703, v721, v756, v765, v766, v767, v772, v779, v780, v793, v803, v809, v820, v830, v840, v842, v860, v862, v863, v872, v885, v894, v908, v910, v926, v927, v939, v940;
+	u16 v889, v890;
+	_Alignas(8) u8 v941[1], v942[24], v943[24], v944[8], v945[104], v946[104], v947[40], v948[40], v949[96], v955[96], v960[56], v961[32], v962[56], v963[112], v964[104], v965[104], v966[40], v967[40], v968[56], v969[56], v970[112], v971[96], v972[96], v974[104], v975[24], v976[104], v977[40], v979[56], v980[96], v981[96], v984[32], v986[64], v988[112], v989[192], v990[192], v991[24], v992[96], v993[56], v997[48], v998[104], v999[96], v1000[56], v1001[24], v1003[24], v1004[24], v1005[56], v1006[56], v1007[96], v1008[56], v1009[56], v1010[56], v1012[104], v1014[48], v1015[96], v1016[56], v1017[56], v1018[96], v1019[56], v1020[56], v1021[56], v1022[56], v1023[56], v1024[56], v1035[96], v1036[96], v1039[12], v1040[104], v1042[16], v1043[32], v1045[96], v1046[96], v1047[12], v1048[12], v1049[96], v1051[96], v1052[96], v1053[12], v1054[12], v1055[96], v1057[96], v1058[96], v1059[96], v1060[96], v1061[104];
+	_Alignas(1) u8 v950[3], v951[3], v952[3], v953[3], v954[3], v956[3], v957[3], v958[3], v959[3], v973[7], v978[7], v982[7], v983[7], v985[7], v987[7], v994[56], v995[56], v996[56], v1002[56], v1011[3], v1013[1], v1025[56], v1026[56], v1027[56], v1028[56], v1029[56], v1030[3], v1031[56], v1032[56], v1033[3], v1034[3], v1044[7], v1062[1], v1063[128];
+	_Alignas(4) u8 v1037[24], v1038[24], v1041[56], v1050[16], v1056[16];
+	u8 v1064 = v3 < 2;
+	if (!v1064) goto L401;
+	ptr v1065 = lup(v2);
+	switch (lu64(v2+8)) {
+	case 4: goto L0;
+	case 6: goto L172;
+	default: M0: v928 = v929 = v930 = v931 = v932 = v933 = v934 = v935 = v936 = v937 = v938 = v940 = 0; v939 = 3; goto L518;
 	}
 L0:;
-	pcap_blocks_section_header_SectionHeaderBlock_read(v494, v505, v504);
-	u16 v506 = ld16(v494+8);
-	u64 v507 = ld64(v494+16);
-	if (ld8(v494) != 0) goto L1;
-	u64 v508 = (((u64)ld_bytes(v494+10, 6) & 0xffffffffffffull) << 16) | (u64)(v506 & 255) | (u64)(v506 & 65280);
-	u64 v509 = ld64(v494+24);
-	u64 v510 = ld64(v494+32);
-	u64 v511 = ld64(v494+40);
-	ptr v512 = ldp(v494+48);
-	u64 v513 = ld64(v494+56);
-	clear(v493, 6);
-	v170 = 0; v171 = 0; v172 = 0; v173 = 0; v174 = v511; v175 = v512; v176 = v513; v177 = 0; v178 = (ptr)v508; v179 = v507; v180 = v509; v181 = v510; goto L130;
-L1:;
-	v182 = (u64)v506; v183 = v507; v184 = ld8(v494+24); v185 = ld8(v494+25); goto L131;
-L2:;
-	blocks_interface_description_InterfaceDescriptionBlock_read_4da0(v495, v505, v504);
-	u16 v514 = ld16(v495+8);
-	u64 v515 = ld64(v495+16);
-	if (ld8(v495) != 0) goto L3;
-	u64 v516 = (((u64)ld_bytes(v495+10, 6) & 0xffffffffffffull) << 16) | (u64)(v514 & 255) | (u64)(v514 & 65280);
-	u64 v517 = ld64(v495+24);
-	u64 v518 = ld64(v495+32);
-	u64 v519 = ld64(v495+40);
-	ptr v520 = ldp(v495+48);
-	u64 v521 = ld64(v495+56);
-	clear(v493, 6);
-	v170 = 0; v171 = 0; v172 = 0; v173 = 0; v174 = v519; v175 = v520; v176 = v521; v177 = 0; v178 = (ptr)v516; v179 = v515; v180 = v517; v181 = v518; goto L130;
+	u64 v1066 = (u64)lu32(v1065);
+	switch ((v1066 << 32) | v1066) {
+	case 8391166445252471148u: goto L1;
+	case 8750616549010730851u: v649 = v650 = 1; goto L407;
+	default: goto M0;
+	}
+L1:
+	clear(v1063, 128);
+	clear(v1061, 104);
+	pcap_classic_pcap_header_read_header_67f8(v1061, v4, v1062);
+	u32 v1067 = ld32(v1061+4);
+	u8 v1068 = ld8(v1061+8), v1069 = ld8(v1061+16), v1070 = ld8(v1061+17), v1071 = ld8(v1061+18);
+	u8 v1072 = ld8(v1061+19);
+	u32 v1073 = ld32(v1061+20);
+	u64 v1074 = ld64(v1061+24), v1075 = ld64(v1061+32), v1076 = ld64(v1061+40), v1077 = ld64(v1061+48);
+	u64 v1078 = ld64(v1061+56), v1079 = ld64(v1061+64), v1080 = ld64(v1061+72), v1081 = ld64(v1061+80);
+	u64 v1082 = ld64(v1061+88), v1083 = ld64(v1061+96);
+	if (ld8(v1061)) goto L165;
+	u8 v1084 = v1067 != 2712847316u;
+	clear(v1063, 126);
+	st8(v1063+126, (v1067 != 2712812621u) & v1084);
+	st8(v1063+127, v1084 & (v1067 != 3569595041u));
+	v6 = 0;
+L2:
+	clear(v1060, 96);
+	std_io_buffered_BufWriter_flush_buf_9d90(v1060, v5);
+	if (ld8(v1060)) goto L164;
+	u64 v1085 = ld64(v4+24), v1086 = ld64(v4+32);
+	if (v1085 < v1086) { v7 = v1086; v8 = v1085; goto L3; }
+	clear(v4+24, 16);
+	ptr v1087 = ldp(v4);
+	u64 v1088 = ld64(v4+8);
+	clear(v1059, 96);
+	capcopy_run_uninterrupted_UninterruptedRead_read_f128(v1059, v1087, v1088);
+	u64 v1089 = ld64(v1059+8);
+	if (ld8(v1059)) { v208 = v1089; v209 = ld64(v1059+16); v210 = ld64(v1059+24); v211 = ld64(v1059+32); v212 = ld64(v1059+40); v213 = ld64(v1059+48); v214 = ld64(v1059+56); v215 = ld64(v1059+64); v216 = ld64(v1059+72); v217 = ld64(v1059+80); v218 = ld64(v1059+88); v206 = 4; v207 = 1; goto L170; }
+	st64(v4+32, v1089);
+	v7 = v1089; v8 = ld64(v4+24);
 L3:;
-	v182 = (u64)v514; v183 = v515; v184 = ld8(v495+24); v185 = ld8(v495+25); goto L131;
+	ptr v1090 = at(ldp(v4), v8);
+	u64 v1091 = v7 - v8;
+	if (v1091) goto L4;
+	v928 = v929 = v930 = v931 = v932 = v933 = v934 = v935 = v936 = v937 = v938 = v939 = v940 = 0; goto L518;
 L4:;
-	clear(v492, 6);
-	if (v504 < 20) { v29 = 0; v30 = 0; v31 = 0; v32 = 3075; goto L29; }
-	u16 v522 = (u16)__builtin_bswap16(lu16(v505));
-	u16 v523 = (u16)__builtin_bswap16(lu16(v505+2));
-	clear(v491, 6);
-	u64 v524 = (u64)__builtin_bswap64(lu64(v505+4));
-	u32 v525 = lu32(v505+12);
-	u64 v526 = v504 - 20;
-	u32 v527 = lu32(v505+16);
-	u64 v528 = (u64)(u32)__builtin_bswap32(v525);
-	u64 v529 = ((0ull - v528) & 3) + v528;
-	if (v526 < v529) { v26 = 0; v27 = 0; v28 = 3331; goto L28; }
-	ptr v530 = at(v505+20, v529);
-	u64 v531 = v526 - v529;
-	clear(v490, 6);
-	stp(v489, v421);
-	clear(v489+8, 16);
-	u64 v532 = (u64)v421;
-	u8 v533 = (u8)(v532 >> 8);
-	u8 v534 = (u8)v532;
-	if (v531 == 0) { v41 = 0; v42 = 0; v43 = v530; v44 = 0; v45 = v534; v46 = v533; goto L33; }
-	v3 = v534; v4 = 0; v5 = v533; v6 = v531; v7 = v530;
+	u8 v1092 = ld8(v1063+127), v1093 = v1091 < 16;
+	if (ld8(v1063+126)) goto L41;
+	if (v1093) { M3: v61 = v6; v62 = v1091; goto L78; }
+	u8 v1094 = v1092 == 1;
+	v9 = v6; v10 = v1090; v11 = v1091;
 L5:;
-	if (v6 < 4) { v23 = 4099; v24 = 0; v25 = 0; goto L27; }
-	u16 v535 = lu16(v7);
-	u16 v536 = (u16)__builtin_bswap16(v535);
-	u64 v537 = v6 - 4;
-	u16 v538 = lu16(v7+2);
-	u16 v539 = (u16)__builtin_bswap16(v538);
-	if (v535 == 0) { v36 = v4; v37 = v7+4; v38 = v537; v39 = v3; v40 = v5; goto L32; }
-	u64 v540 = (u64)v539;
-	u64 v541 = ((0ull - v540) & 3) + v540;
-	if (v537 < v541) { v23 = 4355; v24 = 0; v25 = 0; goto L27; }
-	ptr v542 = at(v7+4, v541);
-	u64 v543 = v537 - v541;
-	switch (v536) {
-	case 1: goto L6;
-	case 2: goto L8;
-	case 3: goto L9;
-	case 2988: case 19372: goto L10;
-	case 2989: case 19373: goto L13;
-	default: goto L16;
-	}
-L6:;
-	clear(v487, 24);
-	core_str_utf8_from_utf8(v487, v7+4, v540);
-	u64 v544 = ld64(v487+8);
-	if (ld8(v487) != 0) goto L7;
-	v15 = 0; v16 = 0; v17 = ld64(v487+16); v18 = 0; v19 = 0; v20 = 0; v21 = 0; v22 = v544; goto L17;
+	u32 v1095 = (u32)__builtin_bswap32(lu32(v10)), v1096 = (u32)__builtin_bswap32(lu32(v10+4));
+	u32 v1097 = lu32(v10+8), v1098 = (u32)__builtin_bswap32(v1097);
+	u64 v1099 = v11 - 16;
+	u32 v1100 = lu32(v10+12), v1101 = (u32)__builtin_bswap32(v1100);
+	if (v1094) { v12 = v1096; goto L6; }
+	if (v1096 > 4294967) { M4: v61 = v9; v62 = v11; goto L78; }
+	v12 = v1096 * 1000;
+L6:
+	if ((v1098 > 262144) | (v1101 > 262144) || v1101 < v1098) goto M4;
+	u64 v1102 = (u64)__builtin_bswap64(((u64)v1097 << 32) | (u64)v1100), v1103 = v1102 & 4294967295u;
+	if (v1099 < v1103) goto M4;
+	ptr v1104 = at(v10+16, v1103);
+	u64 v1105 = v1099 - v1103, v1106 = v9 + 1, v1107 = v1102 >> 32;
+	st8(v1063+125, 10);
+	if (v1102 <= 0x270fffffffffull) { v15 = 125; v16 = v1107; goto L8; }
+	v13 = v1107; v14 = 125;
 L7:;
-	v11 = 2; v12 = v544; v13 = v544 & 0xffffffff00000000ull; v14 = ld16(v487+16); goto L14;
-L8:;
-	if (v538 != 1024) { v11 = 7683; v12 = 0; v13 = 0; v14 = 0; goto L14; }
-	v15 = 1; v16 = (u32)__builtin_bswap32(lu32(v7+4)); v17 = 0; v18 = 0; v19 = 0; v20 = 0; v21 = 0; v22 = 0; goto L17;
+	u64 v1108 = v13 / 10000;
+	u16 v1109 = (u16)(v13 % 10000);
+	ptr v1110 = at((ptr)static_51, (u64)(u16)((u32)(v1109 % 100) << 1)), v1111 = at(v1063, v14);
+	u8 v1112 = ld8(v1110+1);
+	st8(v1111-2, ld8(v1110));
+	st8(v1111-1, v1112);
+	u64 v1113 = v14 - 4;
+	ptr v1114 = at((ptr)static_51, (u64)(u16)((u32)(v1109 / 100) << 1)), v1115 = at(v1063, v1113);
+	u8 v1116 = ld8(v1114+1);
+	st8(v1115, ld8(v1114));
+	st8(v1115+1, v1116);
+	if (v13 > 99999999) { v13 = v1108; v14 = v1113; goto L7; }
+	v15 = v1113; v16 = v1108;
+L8:
+	if (v16 >= 100) goto L10;
+	if (v16 >= 10) goto L9;
+	u64 v1117 = v15 - 1;
+	st8(at(v1063, v1117), (u8)v16 | 48);
+	v17 = v1117; goto L12;
 L9:;
-	v15 = 2; v16 = 0; v17 = v540; v18 = 0; v19 = 0; v20 = 0; v21 = 0; v22 = (u64)(v7+4); goto L17;
+	u64 v1118 = v15 - 2;
+	ptr v1119 = at((ptr)static_51, v16 << 1), v1120 = at(v1063, v1118);
+	u8 v1121 = ld8(v1119+1);
+	st8(v1120, ld8(v1119));
+	st8(v1120+1, v1121);
+	v17 = v1118; goto L12;
 L10:;
-	if (v539 < 4) { v8 = 0; v9 = 0; v10 = 1; goto L12; }
-	u32 v545 = lu32(v7+4);
-	clear(v486, 24);
-	core_str_utf8_from_utf8(v486, v7+8, v540 - 4);
-	u64 v546 = ld64(v486+8);
-	if (ld8(v486) != 0) goto L11;
-	v15 = 4; v16 = 0; v17 = v546; v18 = ld64(v486+16); v19 = v536; v20 = 0; v21 = (u32)__builtin_bswap32(v545); v22 = 0; goto L17;
+	u16 v1122 = (u16)v16;
+	ptr v1123 = at((ptr)static_51, (u64)(u16)((u32)(v1122 % 100) << 1)), v1124 = at(v1063, v15);
+	u8 v1125 = ld8(v1123+1);
+	st8(v1124-2, ld8(v1123));
+	st8(v1124-1, v1125);
+	u16 v1126 = v1122 / 100;
+	if (v16 >= 1000) goto L11;
+	u64 v1127 = v15 - 3;
+	st8(at(v1063, v1127), (u8)v1126 | 48);
+	v17 = v1127; goto L12;
 L11:;
-	v8 = ld16(v486+16); v9 = v546; v10 = 2;
+	u64 v1128 = v15 - 4;
+	ptr v1129 = at((ptr)static_51, (u64)(u16)((u32)v1126 << 1)), v1130 = at(v1063, v1128);
+	u8 v1131 = ld8(v1129+1);
+	st8(v1130, ld8(v1129));
+	st8(v1130+1, v1131);
+	v17 = v1128;
 L12:;
-	v11 = v10; v12 = v9; v13 = v9 & 0xffffffff00000000ull; v14 = v8; goto L14;
+	u64 v1132 = v17 - 1;
+	st8(at(v1063, v1132), 47);
+	if (v1103 <= 9999) { v20 = v1132; v21 = v1103; goto L14; }
+	v18 = v1103; v19 = v1132;
 L13:;
-	if (v539 >= 4) goto L15;
-	v11 = 1; v12 = 0; v13 = 0; v14 = 0;
-L14:;
-	v23 = v11; v24 = (v12 & 4294967295u) | v13; v25 = v14; goto L27;
+	u64 v1133 = v18 / 10000;
+	u16 v1134 = (u16)(v18 % 10000);
+	ptr v1135 = at((ptr)static_51, (u64)(u16)((u32)(v1134 % 100) << 1)), v1136 = at(v1063, v19);
+	u8 v1137 = ld8(v1135+1);
+	st8(v1136-2, ld8(v1135));
+	st8(v1136-1, v1137);
+	u64 v1138 = v19 - 4;
+	ptr v1139 = at((ptr)static_51, (u64)(u16)((u32)(v1134 / 100) << 1)), v1140 = at(v1063, v1138);
+	u8 v1141 = ld8(v1139+1);
+	st8(v1140, ld8(v1139));
+	st8(v1140+1, v1141);
+	if (v18 > 99999999) { v18 = v1133; v19 = v1138; goto L13; }
+	v20 = v1138; v21 = v1133;
+L14:
+	if (v21 >= 100) goto L16;
+	if (v21 >= 10) goto L15;
+	u64 v1142 = v20 - 1;
+	st8(at(v1063, v1142), (u8)v21 | 48);
+	v22 = v1142; goto L18;
 L15:;
-	v15 = 3; v16 = 0; v17 = (u64)(v7+8); v18 = v540 - 4; v19 = v536; v20 = 0; v21 = (u32)__builtin_bswap32(lu32(v7+4)); v22 = 0; goto L17;
+	u64 v1143 = v20 - 2;
+	ptr v1144 = at((ptr)static_51, v21 << 1), v1145 = at(v1063, v1143);
+	u8 v1146 = ld8(v1144+1);
+	st8(v1145, ld8(v1144));
+	st8(v1145+1, v1146);
+	v22 = v1143; goto L18;
 L16:;
-	v15 = 5; v16 = 0; v17 = (u64)(v7+4); v18 = v540; v19 = v536; v20 = v539; v21 = 0; v22 = 0;
+	u16 v1147 = (u16)v21;
+	ptr v1148 = at((ptr)static_51, (u64)(u16)((u32)(v1147 % 100) << 1)), v1149 = at(v1063, v20);
+	u8 v1150 = ld8(v1148+1);
+	st8(v1149-2, ld8(v1148));
+	st8(v1149-1, v1150);
+	u16 v1151 = v1147 / 100;
+	if (v21 >= 1000) goto L17;
+	u64 v1152 = v20 - 3;
+	st8(at(v1063, v1152), (u8)v1151 | 48);
+	v22 = v1152; goto L18;
 L17:;
-	u32 v547 = (u32)v15;
-	if (v4 != 0) goto L21;
-	t_64_64 v548 = allocate(384, 8);
-	if (!(v548.f0 & 1)) goto L18;
-	copy(v488, v489, 24);
-	stp(v489, (ptr)v548.f1);
-	st64(v489+16, 8);
-	std_alloc_vec_Vec_drop_e82e(v488);
-	su32((ptr)v548.f1, v547);
-	su32((ptr)v548.f1+4, v16);
-	su16((ptr)v548.f1+8, v19);
-	su16((ptr)v548.f1+10, v20);
-	su32((ptr)v548.f1+12, v21);
-	su64((ptr)v548.f1+16, v22);
-	su64((ptr)v548.f1+24, v17);
-	su64((ptr)v548.f1+32, v18);
-	su64((ptr)v548.f1+40, 0);
-	v34 = v548.f1; v35 = 1; goto L31;
+	u64 v1153 = v20 - 4;
+	ptr v1154 = at((ptr)static_51, (u64)(u16)((u32)v1151 << 1)), v1155 = at(v1063, v1153);
+	u8 v1156 = ld8(v1154+1);
+	st8(v1155, ld8(v1154));
+	st8(v1155+1, v1156);
+	v22 = v1153;
 L18:;
-	u8 v549 = (u8)v19;
-	switch (v15) {
-	case 0: goto L19;
-	case 1: case 3: case 4: case 5: goto L26;
-	case 2: goto L20;
-	default: goto L259;
-	}
+	ptr v1157 = at(v1063, v22);
+	st8(v1157-1, 32);
+	u64 v1158 = (u64)v12 * 1441151881, v1159 = (v1158 & 0x1ffffffffffffffull) * 100;
+	u64 v1160 = (v1159 & 0x1fffffffffffffcull) * 100, v1161 = (v1160 & 0x1fffffffffffff0ull) * 100;
+	ptr v1162 = at((ptr)static_51, (((v1161 & 0x1ffffffffffffc0ull) * 100) >> 56) & 254);
+	st8(v1157-3, ld8(v1162));
+	st8(v1157-2, ld8(v1162+1));
+	ptr v1163 = at((ptr)static_51, (v1161 >> 56) & 254);
+	st8(v1157-5, ld8(v1163));
+	st8(v1157-4, ld8(v1163+1));
+	ptr v1164 = at((ptr)static_51, (v1160 >> 56) & 254);
+	st8(v1157-7, ld8(v1164));
+	st8(v1157-6, ld8(v1164+1));
+	ptr v1165 = at((ptr)static_51, (v1159 >> 56) & 254);
+	st8(v1157-9, ld8(v1165));
+	st8(v1157-8, ld8(v1165+1));
+	u64 v1166 = v1158 >> 57;
+	if (v12 >= 1000000000) goto L19;
+	u64 v1167 = v22 - 10;
+	st8(at(v1063, v1167), (u8)v1166 | 48);
+	v23 = v1167; goto L20;
 L19:;
-	if ((v549 == 0) || (v18 == 0)) goto L26;
-	goto L25;
+	u64 v1168 = v22 - 11;
+	ptr v1169 = at((ptr)static_51, v1166 << 1), v1170 = at(v1063, v1168);
+	u8 v1171 = ld8(v1169+1);
+	st8(v1170, ld8(v1169));
+	st8(v1170+1, v1171);
+	v23 = v1168;
 L20:;
-	if ((v549 == 0) || (v18 == 0)) goto L26;
-	goto L25;
-L21:;
-	if (ld64(v489+16) != v4) { v33 = v4; goto L30; }
-	u8 v550 = std_alloc_vec_Vec_grow_amortized_35f1(v489);
-	if (!v550) goto L22;
-	v33 = ld64(v489+8); goto L30;
+	u64 v1172 = v23 - 1;
+	ptr v1173 = at(v1063, v1172);
+	st8(v1173, 46);
+	u64 v1174 = (u64)v1095;
+	if (v1095 >= 100000000) goto L25;
+	if (v1095 <= 9999) { v24 = v1172; v25 = v1174; goto L21; }
+	u16 v1175 = (u16)(v1095 % 10000);
+	ptr v1176 = at((ptr)static_51, (u64)(u16)((u32)(v1175 % 100) << 1));
+	u8 v1177 = ld8(v1176+1);
+	st8(v1173-2, ld8(v1176));
+	st8(v1173-1, v1177);
+	u64 v1178 = v23 - 5;
+	ptr v1179 = at((ptr)static_51, (u64)(u16)((u32)(v1175 / 100) << 1)), v1180 = at(v1063, v1178);
+	u8 v1181 = ld8(v1179+1);
+	st8(v1180, ld8(v1179));
+	st8(v1180+1, v1181);
+	v24 = v1178; v25 = (u64)(v1095 / 10000);
+L21:
+	if (v25 >= 100) goto L23;
+	if (v25 >= 10) goto L22;
+	u64 v1182 = v24 - 1;
+	st8(at(v1063, v1182), (u8)v25 | 48);
+	v26 = v1182; goto L27;
 L22:;
-	u8 v551 = (u8)v19;
-	switch (v15) {
-	case 0: goto L23;
-	case 1: case 3: case 4: case 5: goto L26;
-	case 2: goto L24;
-	default: goto L259;
-	}
+	u64 v1183 = v24 - 2;
+	ptr v1184 = at((ptr)static_51, v25 << 1), v1185 = at(v1063, v1183);
+	u8 v1186 = ld8(v1184+1);
+	st8(v1185, ld8(v1184));
+	st8(v1185+1, v1186);
+	v26 = v1183; goto L27;
 L23:;
-	if ((v551 == 0) || (v18 == 0)) goto L26;
-	goto L25;
+	u16 v1187 = (u16)v25;
+	ptr v1188 = at((ptr)static_51, (u64)(u16)((u32)(v1187 % 100) << 1)), v1189 = at(v1063, v24);
+	u8 v1190 = ld8(v1188+1);
+	st8(v1189-2, ld8(v1188));
+	st8(v1189-1, v1190);
+	u16 v1191 = v1187 / 100;
+	if (v25 >= 1000) goto L24;
+	u64 v1192 = v24 - 3;
+	st8(at(v1063, v1192), (u8)v1191 | 48);
+	v26 = v1192; goto L27;
 L24:;
-	if ((v551 == 0) || (v18 == 0)) goto L26;
+	u64 v1193 = v24 - 4;
+	ptr v1194 = at((ptr)static_51, (u64)(u16)((u32)v1191 << 1)), v1195 = at(v1063, v1193);
+	u8 v1196 = ld8(v1194+1);
+	st8(v1195, ld8(v1194));
+	st8(v1195+1, v1196);
+	v26 = v1193; goto L27;
 L25:;
-	deallocate((ptr)v22);
+	u64 v1197 = v1174 * 1441151881, v1198 = (v1197 & 0x1ffffffffffffffull) * 100;
+	u64 v1199 = (v1198 & 0x1fffffffffffffcull) * 100, v1200 = (v1199 & 0x1fffffffffffff0ull) * 100;
+	ptr v1201 = at((ptr)static_51, (((v1200 & 0x1ffffffffffffc0ull) * 100) >> 56) & 254);
+	st8(v1173-2, ld8(v1201));
+	st8(v1173-1, ld8(v1201+1));
+	ptr v1202 = at((ptr)static_51, (v1200 >> 56) & 254);
+	st8(v1173-4, ld8(v1202));
+	st8(v1173-3, ld8(v1202+1));
+	ptr v1203 = at((ptr)static_51, (v1199 >> 56) & 254);
+	st8(v1173-6, ld8(v1203));
+	st8(v1173-5, ld8(v1203+1));
+	ptr v1204 = at((ptr)static_51, (v1198 >> 56) & 254);
+	st8(v1173-8, ld8(v1204));
+	st8(v1173-7, ld8(v1204+1));
+	u64 v1205 = v1197 >> 57;
+	if (v1095 >= 1000000000) goto L26;
+	u64 v1206 = v23 - 10;
+	st8(at(v1063, v1206), (u8)v1205 | 48);
+	v26 = v1206; goto L27;
 L26:;
-	v23 = 0; v24 = 0; v25 = 0;
+	u64 v1207 = v23 - 11;
+	ptr v1208 = at((ptr)static_51, v1205 << 1), v1209 = at(v1063, v1207);
+	u8 v1210 = ld8(v1208+1);
+	st8(v1209, ld8(v1208));
+	st8(v1209+1, v1210);
+	v26 = v1207;
 L27:;
-	std_alloc_vec_Vec_drop_e82e(v489);
-	v26 = v24; v27 = v25; v28 = v23;
+	u64 v1211 = v26 - 1;
+	st8(at(v1063, v1211), 32);
+	if (v9 <= 9998) { v29 = v1211; v30 = v1106; goto L29; }
+	v27 = v1106; v28 = v1211;
 L28:;
-	v29 = v26; v30 = (u8)v27; v31 = (u8)(v27 >> 8); v32 = v28;
-L29:;
-	v182 = v32; v183 = v29; v184 = v30; v185 = v31; goto L131;
+	u64 v1212 = v27 / 10000;
+	u16 v1213 = (u16)(v27 % 10000);
+	ptr v1214 = at((ptr)static_51, (u64)(u16)((u32)(v1213 % 100) << 1)), v1215 = at(v1063, v28);
+	u8 v1216 = ld8(v1214+1);
+	st8(v1215-2, ld8(v1214));
+	st8(v1215-1, v1216);
+	u64 v1217 = v28 - 4;
+	ptr v1218 = at((ptr)static_51, (u64)(u16)((u32)(v1213 / 100) << 1)), v1219 = at(v1063, v1217);
+	u8 v1220 = ld8(v1218+1);
+	st8(v1219, ld8(v1218));
+	st8(v1219+1, v1220);
+	if (v27 > 99999999) { v27 = v1212; v28 = v1217; goto L28; }
+	v29 = v1217; v30 = v1212;
+L29:
+	if (v30 >= 100) goto L31;
+	if (v30 >= 10) goto L30;
+	u64 v1221 = v29 - 1;
+	st8(at(v1063, v1221), (u8)v30 | 48);
+	v31 = v1221; goto L33;
 L30:;
-	ptr v552 = ldp(v489);
-	ptr v553 = at(v552, v33 * 48);
-	su32(v553, v547);
-	su32(v553+4, v16);
-	su16(v553+8, v19);
-	su16(v553+10, v20);
-	su32(v553+12, v21);
-	su64(v553+16, v22);
-	su64(v553+24, v17);
-	su64(v553+32, v18);
-	su64(v553+40, 0);
-	v34 = (u64)v552; v35 = v33 + 1;
+	u64 v1222 = v29 - 2;
+	ptr v1223 = at((ptr)static_51, v30 << 1), v1224 = at(v1063, v1222);
+	u8 v1225 = ld8(v1223+1);
+	st8(v1224, ld8(v1223));
+	st8(v1224+1, v1225);
+	v31 = v1222; goto L33;
 L31:;
-	u8 v554 = (u8)v34;
-	u8 v555 = (u8)(v34 >> 8);
-	st64(v489+8, v35);
-	if (v543 != 0) { v3 = v554; v4 = v35; v5 = v555; v6 = v543; v7 = v542; goto L5; }
-	v36 = v35; v37 = v542; v38 = 0; v39 = v554; v40 = v555;
+	u16 v1226 = (u16)v30;
+	ptr v1227 = at((ptr)static_51, (u64)(u16)((u32)(v1226 % 100) << 1)), v1228 = at(v1063, v29);
+	u8 v1229 = ld8(v1227+1);
+	st8(v1228-2, ld8(v1227));
+	st8(v1228-1, v1229);
+	u16 v1230 = v1226 / 100;
+	if (v30 >= 1000) goto L32;
+	u64 v1231 = v29 - 3;
+	st8(at(v1063, v1231), (u8)v1230 | 48);
+	v31 = v1231; goto L33;
 L32:;
-	v41 = ld64(v489+16); v42 = v36; v43 = v37; v44 = v38; v45 = v39; v46 = v40;
-L33:;
-	copy(v490, v489+2, 6);
-	copy(v491, v490, 6);
-	copy(v492, v491, 6);
-	copy(v496, v492, 6);
-	copy(v493, v496, 6);
-	v170 = v42; v171 = v41; v172 = v45; v173 = v46; v174 = (u64)__builtin_bswap64(((u64)v525 << 32) | (u64)v527); v175 = (ptr)0; v176 = (u64)(v505+20); v177 = v528; v178 = v43; v179 = v44; v180 = ((u64)v523 << 16) | (u64)(v522 & 65280) | (u64)(v522 & 255); v181 = v524; goto L130;
-L34:;
-	if (v504 <= 3) { v182 = 3587; v183 = 0; v184 = 0; v185 = 0; goto L131; }
-	v170 = 0; v171 = 0; v172 = 0; v173 = 0; v174 = (u64)(v505+4); v175 = (ptr)(v504 - 4); v176 = 0; v177 = 0; v178 = at(v505, v504); v179 = 0; v180 = (u64)(u32)__builtin_bswap32(lu32(v505)); v181 = 0; goto L130;
-L35:;
-	clear(v485, 48);
-	pcap_options_records_records_from_slice_4da0(v485, v505, v504);
-	u8 v556 = ld8(v485+8);
-	u8 v557 = ld8(v485+9);
-	u64 v558 = ld64(v485+16);
-	u16 v559 = ld16(v485+24);
-	u64 v560 = (u64)v559;
-	u8 v561 = (u8)v559;
-	u8 v562 = (u8)(v559 >> 8);
-	u8 v563 = ld8(v485);
-	clear(v481, 16);
-	u8 v564 = v563 == 0;
-	if (!v564) goto L36;
-	u64 v565 = (u64)ld_bytes(v485+10, 6) & 0xffffffffffffull;
-	copy(v480, v485+26, 6);
-	copy(v481, v485+32, 16);
-	v47 = v565 << 16; goto L37;
-L36:;
-	clear(v480, 6);
-	v47 = 0;
-L37:;
-	u64 v566 = (u64)v556;
-	u64 v567 = (u64)v557 << 8;
-	ptr v568 = (ptr)(v47 | v566 | v567);
-	copy(v483, v480, 6);
-	copy(v484, v481, 16);
-	if (!v564) { v88 = v567; v89 = v566; v90 = v558; v91 = v561; v92 = v562; goto L70; }
-	st16(v482, v559);
-	copy(v482+2, v483, 6);
-	copy(v482+8, v484, 16);
-	stp(v479, v421);
-	clear(v479+8, 16);
-	u64 v569 = (u64)v421;
-	u64 v570 = v569 >> 8;
-	u64 v571 = v569 >> 16;
-	if (v558 == 0) { v81 = v568; v82 = 0; v83 = 0; v84 = v571; v85 = 0; v86 = v569; v87 = v570; goto L69; }
-	v48 = v571; v49 = v569; v50 = 0; v51 = v570; v52 = v558; v53 = v568;
-L38:;
-	if (v52 < 4) { v68 = 4099; v69 = 0; v70 = 0; v71 = 0; goto L65; }
-	u16 v572 = lu16(v53);
-	u16 v573 = (u16)__builtin_bswap16(v572);
-	u64 v574 = v52 - 4;
-	u16 v575 = lu16(v53+2);
-	u16 v576 = (u16)__builtin_bswap16(v575);
-	if (v572 == 0) { v75 = v50; v76 = v48; v77 = v53+4; v78 = v574; v79 = v49; v80 = v51; goto L68; }
-	u64 v577 = (u64)v576;
-	u64 v578 = ((0ull - v577) & 3) + v577;
-	if (v574 < v578) { v68 = 4355; v69 = 0; v70 = 0; v71 = 0; goto L65; }
-	ptr v579 = at(v53+4, v578);
-	u64 v580 = v574 - v578;
-	switch (v573) {
-	case 1: goto L39;
-	case 2: goto L41;
-	case 3: goto L43;
-	case 4: goto L44;
-	case 2988: case 19372: goto L45;
-	case 2989: case 19373: goto L48;
-	default: v61 = v53+4; v62 = v577; v63 = v576; v64 = 6; v65 = v573; v66 = 0; v67 = 0; goto L51;
-	}
+	u64 v1232 = v29 - 4;
+	ptr v1233 = at((ptr)static_51, (u64)(u16)((u32)v1230 << 1)), v1234 = at(v1063, v1232);
+	u8 v1235 = ld8(v1233+1);
+	st8(v1234, ld8(v1233));
+	st8(v1234+1, v1235);
+	v31 = v1232;
+L33:
+	if (v31 == 126) goto L40;
+	v32 = at(v1063, v31); v33 = 126ull - v31;
+L34:
+	clear(v1058, 96);
+	u64 v1236 = ld64(v5+16), v1237 = ld64(v5+8);
+	if (v33 >= v1236 - v1237) goto L38;
+	u64 v1238 = v1237 + v33;
+	ptr v1239 = ldp(v5), v1240 = at(v1239, v1237);
+	if ((u64)v1240 - (u64)v32 >= v33) goto L36;
+	v34 = 0;
+L35:
+	st8(at(v1240, v34), ld8(at(v32, v34)));
+	u64 v1241 = v34 + 1;
+	if (v1241 == v33) goto L37;
+	v34 = v1241; goto L35;
+L36:
+	move(v1240, v32, v33);
+L37:
+	stp(v5, v1239);
+	st64(v5+8, v1238);
+	st64(v5+16, v1236);
+	v35 = v33; goto L39;
+L38:
+	std_io_buffered_BufWriter_write_cold_9d90(v1058, v5, v32, v33);
+	u64 v1242 = ld64(v1058+8);
+	if (ld8(v1058)) { v208 = v1242; v209 = ld64(v1058+16); v210 = ld64(v1058+24); v211 = ld64(v1058+32); v212 = ld64(v1058+40); v213 = ld64(v1058+48); v214 = ld64(v1058+56); v215 = ld64(v1058+64); v216 = ld64(v1058+72); v217 = ld64(v1058+80); v218 = ld64(v1058+88); v206 = 4; v207 = 1; goto L170; }
+	if (!v1242) { M13: v208 = 1513219; v209 = 0x7074756f20656874ull; v210 = 0x206b6f6f74207475ull; v211 = 0x2e676e6968746f6eull; v212 = 0x2e2e2e2e2e2e2e2eull; v213 = 0x2e2e2e2e2e2e2e2eull; v214 = 0x2e2e2e2e2e2e2e2eull; v215 = 0x2e2e2e2e2e2e2e2eull; v216 = 0x2e2e2e2e2e2e2e2eull; v217 = 0x2e2e2e2e2e2e2e2eull; v218 = 0x2e2e2e2e2e2e2e2eull; v206 = 4; v207 = 1; goto L170; }
+	v35 = v1242;
 L39:;
-	clear(v477, 24);
-	core_str_utf8_from_utf8(v477, v53+4, v577);
-	u64 v581 = ld64(v477+8);
-	if (ld8(v477) != 0) goto L40;
-	v61 = (ptr)ld64(v477+16); v62 = 0; v63 = 0; v64 = 0; v65 = 0; v66 = 0; v67 = v581; goto L51;
-L40:;
-	v57 = 2; v58 = v581; v59 = v581 & 0xffffffff00000000ull; v60 = (u64)ld16(v477+16); goto L49;
-L41:;
-	clear(v476, 24);
-	core_str_utf8_from_utf8(v476, v53+4, v577);
-	u64 v582 = ld64(v476+8);
-	if (ld8(v476) != 0) goto L42;
-	v61 = (ptr)ld64(v476+16); v62 = 0; v63 = 0; v64 = 1; v65 = 0; v66 = 0; v67 = v582; goto L51;
+	u64 v1243 = v33 - v35;
+	if (v1243) { v32 = at(v32, v35); v33 = v1243; goto L34; }
+L40:
+	if (v9 > 4294967293u || v1105 < 16) { v61 = v1106; v62 = v1105; goto L78; }
+	v9 = v1106; v10 = v1104; v11 = v1105; goto L5;
+L41:
+	if (v1093) goto M3;
+	u8 v1244 = v1092 == 1;
+	v36 = v6; v37 = v1090; v38 = v1091;
 L42:;
-	v57 = 2; v58 = v582; v59 = v582 & 0xffffffff00000000ull; v60 = (u64)ld16(v476+16); goto L49;
-L43:;
-	if (v575 == 1024) { v61 = (ptr)4ull; v62 = 0; v63 = 0; v64 = 2; v65 = 0; v66 = 0; v67 = (u64)(v53+4); goto L51; }
-	v57 = 7939; v58 = 0; v59 = 0; v60 = 0; goto L49;
+	u32 v1245 = lu32(v37), v1246 = lu32(v37+4);
+	u64 v1247 = lu64(v37+8);
+	u32 v1248 = (u32)v1247;
+	u64 v1249 = v38 - 16, v1250 = v1247 >> 32;
+	u32 v1251 = (u32)v1250;
+	if (v1244) { v39 = v1246; goto L43; }
+	if (v1246 > 4294967) { M17: v61 = v36; v62 = v38; goto L78; }
+	v39 = v1246 * 1000;
+L43:
+	if ((v1247 > 0x40000ffffffffull) | (v1248 > 262144) || v1251 < v1248) goto M17;
+	u64 v1252 = v1247 & 524287;
+	if (v1249 < v1252) goto M17;
+	ptr v1253 = at(v37+16, v1252);
+	u64 v1254 = v1249 - v1252, v1255 = v36 + 1;
+	st8(v1063+125, 10);
+	if (v1247 <= 0x270fffffffffull) { v42 = 125; v43 = v1250; goto L45; }
+	v40 = v1250; v41 = 125;
 L44:;
-	if (v575 == 4096) { v61 = (ptr)16ull; v62 = 0; v63 = 0; v64 = 3; v65 = 0; v66 = 0; v67 = (u64)(v53+4); goto L51; }
-	v57 = 8195; v58 = 0; v59 = 0; v60 = 0; goto L49;
-L45:;
-	if (v576 < 4) { v54 = 0; v55 = 0; v56 = 1; goto L47; }
-	u32 v583 = lu32(v53+4);
-	clear(v475, 24);
-	core_str_utf8_from_utf8(v475, v53+8, v577 - 4);
-	u64 v584 = ld64(v475+8);
-	if (ld8(v475) != 0) goto L46;
-	v61 = (ptr)v584; v62 = ld64(v475+16); v63 = 0; v64 = 5; v65 = v573; v66 = (u32)__builtin_bswap32(v583); v67 = 0; goto L51;
+	u64 v1256 = v40 / 10000;
+	u16 v1257 = (u16)(v40 % 10000);
+	ptr v1258 = at((ptr)static_51, (u64)(u16)((u32)(v1257 % 100) << 1)), v1259 = at(v1063, v41);
+	u8 v1260 = ld8(v1258+1);
+	st8(v1259-2, ld8(v1258));
+	st8(v1259-1, v1260);
+	u64 v1261 = v41 - 4;
+	ptr v1262 = at((ptr)static_51, (u64)(u16)((u32)(v1257 / 100) << 1)), v1263 = at(v1063, v1261);
+	u8 v1264 = ld8(v1262+1);
+	st8(v1263, ld8(v1262));
+	st8(v1263+1, v1264);
+	if (v40 > 99999999) { v40 = v1256; v41 = v1261; goto L44; }
+	v42 = v1261; v43 = v1256;
+L45:
+	if (v43 >= 100) goto L47;
+	if (v43 >= 10) goto L46;
+	u64 v1265 = v42 - 1;
+	st8(at(v1063, v1265), (u8)v43 | 48);
+	v44 = v1265; goto L49;
 L46:;
-	v54 = (u64)ld16(v475+16); v55 = v584; v56 = 2;
+	u64 v1266 = v42 - 2;
+	ptr v1267 = at((ptr)static_51, v43 << 1), v1268 = at(v1063, v1266);
+	u8 v1269 = ld8(v1267+1);
+	st8(v1268, ld8(v1267));
+	st8(v1268+1, v1269);
+	v44 = v1266; goto L49;
 L47:;
-	v57 = v56; v58 = v55; v59 = v55 & 0xffffffff00000000ull; v60 = v54; goto L49;
+	u16 v1270 = (u16)v43;
+	ptr v1271 = at((ptr)static_51, (u64)(u16)((u32)(v1270 % 100) << 1)), v1272 = at(v1063, v42);
+	u8 v1273 = ld8(v1271+1);
+	st8(v1272-2, ld8(v1271));
+	st8(v1272-1, v1273);
+	u16 v1274 = v1270 / 100;
+	if (v43 >= 1000) goto L48;
+	u64 v1275 = v42 - 3;
+	st8(at(v1063, v1275), (u8)v1274 | 48);
+	v44 = v1275; goto L49;
 L48:;
-	if (v576 >= 4) goto L50;
-	v57 = 1; v58 = 0; v59 = 0; v60 = 0;
+	u64 v1276 = v42 - 4;
+	ptr v1277 = at((ptr)static_51, (u64)(u16)((u32)v1274 << 1)), v1278 = at(v1063, v1276);
+	u8 v1279 = ld8(v1277+1);
+	st8(v1278, ld8(v1277));
+	st8(v1278+1, v1279);
+	v44 = v1276;
 L49:;
-	v68 = v57; v69 = (v58 & 4294967295u) | v59; v70 = (u8)v60; v71 = (u8)(v60 >> 8); goto L65;
-L50:;
-	v61 = v53+8; v62 = v577 - 4; v63 = 0; v64 = 4; v65 = v573; v66 = (u32)__builtin_bswap32(lu32(v53+4)); v67 = 0;
-L51:;
-	u64 v585 = (u64)v61;
-	u64 v586 = (u64)v64;
-	if (v50 != 0) goto L57;
-	t_64_64 v587 = allocate(384, 8);
-	if (!(v587.f0 & 1)) goto L52;
-	copy(v478, v479, 24);
-	stp(v479, (ptr)v587.f1);
-	st64(v479+16, 8);
-	std_alloc_vec_Vec_drop_0f0e(v478);
-	su64((ptr)v587.f1, v586);
-	su16((ptr)v587.f1+8, v65);
-	su16((ptr)v587.f1+10, v63);
-	su32((ptr)v587.f1+12, v66);
-	su64((ptr)v587.f1+16, v67);
-	su64((ptr)v587.f1+24, v585);
-	su64((ptr)v587.f1+32, v62);
-	su64((ptr)v587.f1+40, 0);
-	v73 = v587.f1; v74 = 1; goto L67;
+	u64 v1280 = v44 - 1;
+	ptr v1281 = at(v1063, v1280);
+	st8(v1281, 47);
+	if (v1252 <= 9999) goto L50;
+	u16 v1282 = (u16)(v1248 % 10000);
+	ptr v1283 = at((ptr)static_51, (u64)(u16)((u32)(v1282 % 100) << 1));
+	u8 v1284 = ld8(v1283+1);
+	st8(v1281-2, ld8(v1283));
+	st8(v1281-1, v1284);
+	u64 v1285 = v44 - 5;
+	ptr v1286 = at((ptr)static_51, (u64)(u16)((u32)(v1282 / 100) << 1)), v1287 = at(v1063, v1285);
+	u8 v1288 = ld8(v1286+1);
+	st8(v1287, ld8(v1286));
+	st8(v1287+1, v1288);
+	v45 = (u64)(v1248 / 10000); v46 = v1285; goto L51;
+L50:
+	if (v1252 >= 100) goto L53;
+	v45 = v1252; v46 = v1280;
+L51:
+	if (v45 >= 10) goto L52;
+	u64 v1289 = v46 - 1;
+	st8(at(v1063, v1289), (u8)v45 | 48);
+	v47 = v1289; goto L55;
 L52:;
-	u8 v588 = (u8)v65;
-	switch (v64) {
-	case 0: goto L53;
-	case 1: goto L54;
-	case 2: goto L55;
-	case 3: goto L56;
-	case 4: case 5: case 6: goto L64;
-	default: goto L259;
-	}
+	u64 v1290 = v46 - 2;
+	ptr v1291 = at((ptr)static_51, v45 << 1), v1292 = at(v1063, v1290);
+	u8 v1293 = ld8(v1291+1);
+	st8(v1292, ld8(v1291));
+	st8(v1292+1, v1293);
+	v47 = v1290; goto L55;
 L53:;
-	if ((v588 == 0) || (v62 == 0)) goto L64;
-	goto L63;
+	u16 v1294 = (u16)v1247;
+	ptr v1295 = at((ptr)static_51, (u64)(u16)((u32)(v1294 % 100) << 1));
+	u8 v1296 = ld8(v1295+1);
+	st8(v1281-2, ld8(v1295));
+	st8(v1281-1, v1296);
+	u16 v1297 = v1294 / 100;
+	if (v1252 >= 1000) goto L54;
+	u64 v1298 = v44 - 4;
+	st8(at(v1063, v1298), (u8)v1297 | 48);
+	v47 = v1298; goto L55;
 L54:;
-	if ((v588 == 0) || (v62 == 0)) goto L64;
-	goto L63;
+	u64 v1299 = v44 - 5;
+	ptr v1300 = at((ptr)static_51, (u64)(u16)((u32)v1297 << 1)), v1301 = at(v1063, v1299);
+	u8 v1302 = ld8(v1300+1);
+	st8(v1301, ld8(v1300));
+	st8(v1301+1, v1302);
+	v47 = v1299;
 L55:;
-	if ((v588 == 0) || (v62 == 0)) goto L64;
-	goto L63;
+	ptr v1303 = at(v1063, v47);
+	st8(v1303-1, 32);
+	u64 v1304 = (u64)v39 * 1441151881, v1305 = (v1304 & 0x1ffffffffffffffull) * 100;
+	u64 v1306 = (v1305 & 0x1fffffffffffffcull) * 100, v1307 = (v1306 & 0x1fffffffffffff0ull) * 100;
+	ptr v1308 = at((ptr)static_51, (((v1307 & 0x1ffffffffffffc0ull) * 100) >> 56) & 254);
+	st8(v1303-3, ld8(v1308));
+	st8(v1303-2, ld8(v1308+1));
+	ptr v1309 = at((ptr)static_51, (v1307 >> 56) & 254);
+	st8(v1303-5, ld8(v1309));
+	st8(v1303-4, ld8(v1309+1));
+	ptr v1310 = at((ptr)static_51, (v1306 >> 56) & 254);
+	st8(v1303-7, ld8(v1310));
+	st8(v1303-6, ld8(v1310+1));
+	ptr v1311 = at((ptr)static_51, (v1305 >> 56) & 254);
+	st8(v1303-9, ld8(v1311));
+	st8(v1303-8, ld8(v1311+1));
+	u64 v1312 = v1304 >> 57;
+	if (v39 >= 1000000000) goto L56;
+	u64 v1313 = v47 - 10;
+	st8(at(v1063, v1313), (u8)v1312 | 48);
+	v48 = v1313; goto L57;
 L56:;
-	if ((v588 == 0) || (v62 == 0)) goto L64;
-	goto L63;
+	u64 v1314 = v47 - 11;
+	ptr v1315 = at((ptr)static_51, v1312 << 1), v1316 = at(v1063, v1314);
+	u8 v1317 = ld8(v1315+1);
+	st8(v1316, ld8(v1315));
+	st8(v1316+1, v1317);
+	v48 = v1314;
 L57:;
-	if (ld64(v479+16) != v50) { v72 = v50; goto L66; }
-	u8 v589 = std_alloc_vec_Vec_grow_amortized_35f1(v479);
-	if (!v589) goto L58;
-	v72 = ld64(v479+8); goto L66;
-L58:;
-	u8 v590 = (u8)v65;
-	switch (v64) {
-	case 0: goto L59;
-	case 1: goto L60;
-	case 2: goto L61;
-	case 3: goto L62;
-	case 4: case 5: case 6: goto L64;
-	default: goto L259;
-	}
+	u64 v1318 = v48 - 1;
+	ptr v1319 = at(v1063, v1318);
+	st8(v1319, 46);
+	u64 v1320 = (u64)v1245;
+	if (v1245 >= 100000000) goto L62;
+	if (v1245 <= 9999) { v49 = v1318; v50 = v1320; goto L58; }
+	u16 v1321 = (u16)(v1245 % 10000);
+	ptr v1322 = at((ptr)static_51, (u64)(u16)((u32)(v1321 % 100) << 1));
+	u8 v1323 = ld8(v1322+1);
+	st8(v1319-2, ld8(v1322));
+	st8(v1319-1, v1323);
+	u64 v1324 = v48 - 5;
+	ptr v1325 = at((ptr)static_51, (u64)(u16)((u32)(v1321 / 100) << 1)), v1326 = at(v1063, v1324);
+	u8 v1327 = ld8(v1325+1);
+	st8(v1326, ld8(v1325));
+	st8(v1326+1, v1327);
+	v49 = v1324; v50 = (u64)(v1245 / 10000);
+L58:
+	if (v50 >= 100) goto L60;
+	if (v50 >= 10) goto L59;
+	u64 v1328 = v49 - 1;
+	st8(at(v1063, v1328), (u8)v50 | 48);
+	v51 = v1328; goto L64;
 L59:;
-	if ((v590 == 0) || (v62 == 0)) goto L64;
-	goto L63;
+	u64 v1329 = v49 - 2;
+	ptr v1330 = at((ptr)static_51, v50 << 1), v1331 = at(v1063, v1329);
+	u8 v1332 = ld8(v1330+1);
+	st8(v1331, ld8(v1330));
+	st8(v1331+1, v1332);
+	v51 = v1329; goto L64;
 L60:;
-	if ((v590 == 0) || (v62 == 0)) goto L64;
-	goto L63;
+	u16 v1333 = (u16)v50;
+	ptr v1334 = at((ptr)static_51, (u64)(u16)((u32)(v1333 % 100) << 1)), v1335 = at(v1063, v49);
+	u8 v1336 = ld8(v1334+1);
+	st8(v1335-2, ld8(v1334));
+	st8(v1335-1, v1336);
+	u16 v1337 = v1333 / 100;
+	if (v50 >= 1000) goto L61;
+	u64 v1338 = v49 - 3;
+	st8(at(v1063, v1338), (u8)v1337 | 48);
+	v51 = v1338; goto L64;
 L61:;
-	if ((v590 == 0) || (v62 == 0)) goto L64;
-	goto L63;
+	u64 v1339 = v49 - 4;
+	ptr v1340 = at((ptr)static_51, (u64)(u16)((u32)v1337 << 1)), v1341 = at(v1063, v1339);
+	u8 v1342 = ld8(v1340+1);
+	st8(v1341, ld8(v1340));
+	st8(v1341+1, v1342);
+	v51 = v1339; goto L64;
 L62:;
-	if ((v590 == 0) || (v62 == 0)) goto L64;
+	u64 v1343 = v1320 * 1441151881, v1344 = (v1343 & 0x1ffffffffffffffull) * 100;
+	u64 v1345 = (v1344 & 0x1fffffffffffffcull) * 100, v1346 = (v1345 & 0x1fffffffffffff0ull) * 100;
+	ptr v1347 = at((ptr)static_51, (((v1346 & 0x1ffffffffffffc0ull) * 100) >> 56) & 254);
+	st8(v1319-2, ld8(v1347));
+	st8(v1319-1, ld8(v1347+1));
+	ptr v1348 = at((ptr)static_51, (v1346 >> 56) & 254);
+	st8(v1319-4, ld8(v1348));
+	st8(v1319-3, ld8(v1348+1));
+	ptr v1349 = at((ptr)static_51, (v1345 >> 56) & 254);
+	st8(v1319-6, ld8(v1349));
+	st8(v1319-5, ld8(v1349+1));
+	ptr v1350 = at((ptr)static_51, (v1344 >> 56) & 254);
+	st8(v1319-8, ld8(v1350));
+	st8(v1319-7, ld8(v1350+1));
+	u64 v1351 = v1343 >> 57;
+	if (v1245 >= 1000000000) goto L63;
+	u64 v1352 = v48 - 10;
+	st8(at(v1063, v1352), (u8)v1351 | 48);
+	v51 = v1352; goto L64;
 L63:;
-	deallocate((ptr)v67);
+	u64 v1353 = v48 - 11;
+	ptr v1354 = at((ptr)static_51, v1351 << 1), v1355 = at(v1063, v1353);
+	u8 v1356 = ld8(v1354+1);
+	st8(v1355, ld8(v1354));
+	st8(v1355+1, v1356);
+	v51 = v1353;
 L64:;
-	v68 = 0; v69 = 0; v70 = 0; v71 = 0;
+	u64 v1357 = v51 - 1;
+	st8(at(v1063, v1357), 32);
+	if (v36 <= 9998) { v54 = v1357; v55 = v1255; goto L66; }
+	v52 = v1255; v53 = v1357;
 L65:;
-	std_alloc_vec_Vec_drop_0f0e(v479);
-	std_alloc_vec_Vec_drop_fe8c(v482);
-	v88 = (u64)(v68 & 65280); v89 = (u64)(v68 & 255); v90 = v69; v91 = v70; v92 = v71; goto L70;
-L66:;
-	ptr v591 = ldp(v479);
-	ptr v592 = at(v591, v72 * 48);
-	su64(v592, v586);
-	su16(v592+8, v65);
-	su16(v592+10, v63);
-	su32(v592+12, v66);
-	su64(v592+16, v67);
-	su64(v592+24, v585);
-	su64(v592+32, v62);
-	su64(v592+40, 0);
-	v73 = (u64)v591; v74 = v72 + 1;
+	u64 v1358 = v52 / 10000;
+	u16 v1359 = (u16)(v52 % 10000);
+	ptr v1360 = at((ptr)static_51, (u64)(u16)((u32)(v1359 % 100) << 1)), v1361 = at(v1063, v53);
+	u8 v1362 = ld8(v1360+1);
+	st8(v1361-2, ld8(v1360));
+	st8(v1361-1, v1362);
+	u64 v1363 = v53 - 4;
+	ptr v1364 = at((ptr)static_51, (u64)(u16)((u32)(v1359 / 100) << 1)), v1365 = at(v1063, v1363);
+	u8 v1366 = ld8(v1364+1);
+	st8(v1365, ld8(v1364));
+	st8(v1365+1, v1366);
+	if (v52 > 99999999) { v52 = v1358; v53 = v1363; goto L65; }
+	v54 = v1363; v55 = v1358;
+L66:
+	if (v55 >= 100) goto L68;
+	if (v55 >= 10) goto L67;
+	u64 v1367 = v54 - 1;
+	st8(at(v1063, v1367), (u8)v55 | 48);
+	v56 = v1367; goto L70;
 L67:;
-	u64 v593 = v73 >> 16;
-	u64 v594 = v73 >> 8;
-	st64(v479+8, v74);
-	if (v580 != 0) { v48 = v593; v49 = v73; v50 = v74; v51 = v594; v52 = v580; v53 = v579; goto L38; }
-	v75 = v74; v76 = v593; v77 = v579; v78 = 0; v79 = v73; v80 = v594;
+	u64 v1368 = v54 - 2;
+	ptr v1369 = at((ptr)static_51, v55 << 1), v1370 = at(v1063, v1368);
+	u8 v1371 = ld8(v1369+1);
+	st8(v1370, ld8(v1369));
+	st8(v1370+1, v1371);
+	v56 = v1368; goto L70;
 L68:;
-	v81 = v77; v82 = ld64(v479+16); v83 = v75; v84 = v76; v85 = v78; v86 = v79; v87 = v80;
+	u16 v1372 = (u16)v55;
+	ptr v1373 = at((ptr)static_51, (u64)(u16)((u32)(v1372 % 100) << 1)), v1374 = at(v1063, v54);
+	u8 v1375 = ld8(v1373+1);
+	st8(v1374-2, ld8(v1373));
+	st8(v1374-1, v1375);
+	u16 v1376 = v1372 / 100;
+	if (v55 >= 1000) goto L69;
+	u64 v1377 = v54 - 3;
+	st8(at(v1063, v1377), (u8)v1376 | 48);
+	v56 = v1377; goto L70;
 L69:;
-	u64 v595 = ld64(v482+8);
-	u64 v596 = ld64(v482+16);
-	u64 v597 = (((u64)ld_bytes(v482+2, 6) & 0xffffffffffffull) << 16) | v560;
-	copy(v493, v497, 6);
-	v170 = 0; v171 = 0; v172 = 0; v173 = 0; v174 = v596; v175 = (ptr)((v86 & 255) | ((v87 << 8) & 65280) | (v84 << 16)); v176 = v83; v177 = v82; v178 = v81; v179 = v85; v180 = v597; v181 = v595; goto L130;
-L70:;
-	v182 = v89 | v88; v183 = v90; v184 = v91; v185 = v92; goto L131;
-L71:;
-	if (v504 < 12) { v182 = 3843; v183 = 0; v184 = 0; v185 = 0; goto L131; }
-	u32 v598 = lu32(v505);
-	u64 v599 = v504 - 12;
-	u64 v600 = (u64)__builtin_bswap64(lu64(v505+4));
-	stp(v474, v421);
-	clear(v474+8, 16);
-	u64 v601 = (u64)v421;
-	u64 v602 = v601 >> 8;
-	u64 v603 = v601 >> 16;
-	if (v599 == 0) { v123 = 0; v124 = (ptr)0; v125 = v603; v126 = v505+12; v127 = 0; v128 = v601; v129 = v602; goto L97; }
-	v93 = (ptr)0; v94 = v603; v95 = v601; v96 = 0; v97 = v602; v98 = v599; v99 = v505+12;
-L72:;
-	if (v98 < 4) { v111 = 4099; v112 = 0; v113 = 0; goto L93; }
-	u16 v604 = lu16(v99);
-	u16 v605 = (u16)__builtin_bswap16(v604);
-	u64 v606 = v98 - 4;
-	u16 v607 = (u16)__builtin_bswap16(lu16(v99+2));
-	if (v604 == 0) { v117 = v93; v118 = v94; v119 = v99+4; v120 = v606; v121 = v95; v122 = v97; goto L96; }
-	u64 v608 = (u64)v607;
-	u64 v609 = ((0ull - v608) & 3) + v608;
-	if (v606 < v609) { v111 = 4355; v112 = 0; v113 = 0; goto L93; }
-	ptr v610 = at(v99+4, v609);
-	u64 v611 = v606 - v609;
-	switch (v605) {
-	case 1: goto L73;
-	case 2: goto L75;
-	case 3: goto L76;
-	case 4: goto L77;
-	case 5: goto L78;
-	case 6: goto L79;
-	case 7: goto L80;
-	case 8: goto L81;
-	case 2988: case 19372: goto L82;
-	case 2989: case 19373: goto L84;
-	default: v103 = v99+4; v104 = v608; v105 = 0; v106 = 0; v107 = v607; v108 = v605; v109 = 0; v110 = 10; goto L87;
-	}
-L73:;
-	clear(v472, 24);
-	core_str_utf8_from_utf8(v472, v99+4, v608);
-	u64 v612 = ld64(v472+8);
-	if (ld8(v472) != 0) goto L74;
-	v103 = (ptr)ld64(v472+16); v104 = 0; v105 = 0; v106 = v612; v107 = 0; v108 = 0; v109 = 1; v110 = 0; goto L87;
-L74:;
-	v100 = 2; v101 = v612; v102 = ld16(v472+16); goto L85;
-L75:;
-	if (v607 < 8) { v100 = 1; v101 = 0; v102 = 0; goto L85; }
-	u64 v613 = (u64)__builtin_bswap64(lu64(v99+4));
-	v103 = (ptr)0; v104 = 0; v105 = (u32)(v613 >> 32); v106 = 0; v107 = (u16)(v613 >> 16); v108 = (u16)v613; v109 = 0; v110 = 1; goto L87;
+	u64 v1378 = v54 - 4;
+	ptr v1379 = at((ptr)static_51, (u64)(u16)((u32)v1376 << 1)), v1380 = at(v1063, v1378);
+	u8 v1381 = ld8(v1379+1);
+	st8(v1380, ld8(v1379));
+	st8(v1380+1, v1381);
+	v56 = v1378;
+L70:
+	if (v56 == 126) goto L77;
+	v57 = at(v1063, v56); v58 = 126ull - v56;
+L71:
+	clear(v1057, 96);
+	u64 v1382 = ld64(v5+16), v1383 = ld64(v5+8);
+	if (v58 >= v1382 - v1383) goto L75;
+	u64 v1384 = v1383 + v58;
+	ptr v1385 = ldp(v5), v1386 = at(v1385, v1383);
+	if ((u64)v1386 - (u64)v57 >= v58) goto L73;
+	v59 = 0;
+L72:
+	st8(at(v1386, v59), ld8(at(v57, v59)));
+	u64 v1387 = v59 + 1;
+	if (v1387 == v58) goto L74;
+	v59 = v1387; goto L72;
+L73:
+	move(v1386, v57, v58);
+L74:
+	stp(v5, v1385);
+	st64(v5+8, v1384);
+	st64(v5+16, v1382);
+	v60 = v58; goto L76;
+L75:
+	std_io_buffered_BufWriter_write_cold_9d90(v1057, v5, v57, v58);
+	u64 v1388 = ld64(v1057+8);
+	if (ld8(v1057)) { v208 = v1388; v209 = ld64(v1057+16); v210 = ld64(v1057+24); v211 = ld64(v1057+32); v212 = ld64(v1057+40); v213 = ld64(v1057+48); v214 = ld64(v1057+56); v215 = ld64(v1057+64); v216 = ld64(v1057+72); v217 = ld64(v1057+80); v218 = ld64(v1057+88); v206 = 4; v207 = 1; goto L170; }
+	if (!v1388) goto M13;
+	v60 = v1388;
 L76:;
-	if (v607 < 8) { v100 = 1; v101 = 0; v102 = 0; goto L85; }
-	u64 v614 = (u64)__builtin_bswap64(lu64(v99+4));
-	v103 = (ptr)0; v104 = 0; v105 = (u32)(v614 >> 32); v106 = 0; v107 = (u16)(v614 >> 16); v108 = (u16)v614; v109 = 0; v110 = 2; goto L87;
-L77:;
-	if (v607 < 8) { v100 = 1; v101 = 0; v102 = 0; goto L85; }
-	u64 v615 = (u64)__builtin_bswap64(lu64(v99+4));
-	v103 = (ptr)0; v104 = 0; v105 = (u32)(v615 >> 32); v106 = 0; v107 = (u16)(v615 >> 16); v108 = (u16)v615; v109 = 0; v110 = 3; goto L87;
+	u64 v1389 = v58 - v60;
+	if (v1389) { v57 = at(v57, v60); v58 = v1389; goto L71; }
+L77:
+	if (!(v36 > 4294967293u || v1254 < 16)) { v36 = v1255; v37 = v1253; v38 = v1254; goto L42; }
+	v61 = v1255; v62 = v1254;
 L78:;
-	if (v607 < 8) { v100 = 1; v101 = 0; v102 = 0; goto L85; }
-	u64 v616 = (u64)__builtin_bswap64(lu64(v99+4));
-	v103 = (ptr)0; v104 = 0; v105 = (u32)(v616 >> 32); v106 = 0; v107 = (u16)(v616 >> 16); v108 = (u16)v616; v109 = 0; v110 = 4; goto L87;
-L79:;
-	if (v607 < 8) { v100 = 1; v101 = 0; v102 = 0; goto L85; }
-	u64 v617 = (u64)__builtin_bswap64(lu64(v99+4));
-	v103 = (ptr)0; v104 = 0; v105 = (u32)(v617 >> 32); v106 = 0; v107 = (u16)(v617 >> 16); v108 = (u16)v617; v109 = 0; v110 = 5; goto L87;
-L80:;
-	if (v607 < 8) { v100 = 1; v101 = 0; v102 = 0; goto L85; }
-	u64 v618 = (u64)__builtin_bswap64(lu64(v99+4));
-	v103 = (ptr)0; v104 = 0; v105 = (u32)(v618 >> 32); v106 = 0; v107 = (u16)(v618 >> 16); v108 = (u16)v618; v109 = 0; v110 = 6; goto L87;
+	u64 v1390 = ld64(v4+24), v1391 = v1091 - v62, v1392 = ld64(v4+32) - v1390;
+	st64(v4+24, (v1391 < v1392 ? v1391 : v1392) + v1390);
+	if (v6 < v61) { v149 = v61; goto L160; }
+	u8 v1393 = ld8(v1063+127);
+	if (ld8(v1063+126)) goto L121;
+	clear(v1056, 16);
+	v63 = 0;
+L79:
+	clear(v1055, 96);
+	std_io_buffered_BufReaderRead_read_e988(v1055, v4, at(v1056, v63), 16ull - v63);
+	u64 v1394 = ld64(v1055+8);
+	if (ld8(v1055)) { v95 = ld64(v1055+40); v96 = ld64(v1055+48); v97 = ld64(v1055+56); v98 = ld64(v1055+64); v99 = ld64(v1055+72); v100 = ld64(v1055+80); v101 = ld64(v1055+88); v102 = v1394; v103 = ld64(v1055+16); v104 = ld64(v1055+24); v105 = ld64(v1055+32); goto L119; }
+	if (!v1394) { v95 = 0x2e2e2e2e2e2e2e2eull; v96 = 0x2e2e2e2e2e2e2e2eull; v97 = 0x2e2e2e2e2e2e2e2eull; v98 = 0x2e2e2e2e2e2e2e2eull; v99 = 0x2e2e2e2e2e2e2e2eull; v100 = 0x2e2e2e2e2e2e2e2eull; v101 = 0x2e2e2e2e2e2e2e2eull; v102 = 1451267; v103 = 0x6572747320656874ull; v104 = 0x6465646e65206d61ull; v105 = 0x2e2e796c72616520ull; goto L119; }
+	u64 v1395 = v1394 + v63;
+	if (v1395 < 16) { v63 = v1395; goto L79; }
+	u32 v1396 = (u32)__builtin_bswap32(ld32(v1056)), v1397 = (u32)__builtin_bswap32(ld32(v1056+4));
+	u32 v1398 = ld32(v1056+8), v1399 = (u32)__builtin_bswap32(v1398), v1400 = ld32(v1056+12);
+	u32 v1401 = (u32)__builtin_bswap32(v1400);
+	if (v1393 == 1) { v64 = v1397; goto L80; }
+	if (v1397 > 4294967) { v66 = (ptr)static_11; v65 = 40; goto L81; }
+	v64 = v1397 * 1000;
+L80:
+	if (v1399 > 262144) { v66 = (ptr)static_12; v65 = 31; goto L81; }
+	if (v1401 > 262144) { v66 = (ptr)static_13; v65 = 31; goto L81; }
+	if (v1401 >= v1399) goto L82;
+	v66 = (ptr)static_14; v65 = 32;
 L81:;
-	if (v607 < 8) { v100 = 1; v101 = 0; v102 = 0; goto L85; }
-	u64 v619 = (u64)__builtin_bswap64(lu64(v99+4));
-	v103 = (ptr)0; v104 = 0; v105 = (u32)(v619 >> 32); v106 = 0; v107 = (u16)(v619 >> 16); v108 = (u16)v619; v109 = 0; v110 = 7; goto L87;
+	u64 v1402 = (u64)v66;
+	st32(v1053, 0);
+	su64(v1053+4, v1402);
+	v106 = ld64(v1053); v107 = v1402; v108 = v65; v109 = v110 = v111 = v112 = v113 = v114 = v115 = v116 = v117 = 0; v118 = 1; v119 = 2; goto L120;
 L82:;
-	if (v607 < 4) { v100 = 1; v101 = 0; v102 = 0; goto L85; }
-	u32 v620 = lu32(v99+4);
-	clear(v471, 24);
-	core_str_utf8_from_utf8(v471, v99+8, v608 - 4);
-	u64 v621 = ld64(v471+8);
-	if (ld8(v471) != 0) goto L83;
-	v103 = (ptr)v621; v104 = ld64(v471+16); v105 = (u32)__builtin_bswap32(v620); v106 = 0; v107 = 0; v108 = v605; v109 = 0; v110 = 9; goto L87;
-L83:;
-	v100 = 2; v101 = v621; v102 = ld16(v471+16); goto L85;
-L84:;
-	if (v607 >= 4) goto L86;
-	v100 = 1; v101 = 0; v102 = 0;
+	u64 v1403 = (u64)__builtin_bswap64(((u64)v1398 << 32) | (u64)v1400), v1404 = v1403 >> 32;
+	u64 v1405 = v1403 & 4294967295u;
+	if (!v1405) goto L85;
+	v67 = ld64(v4+32); v68 = ld64(v4+24); v69 = v1405;
+L83:
+	if (v68 < v67) { v70 = v67; v71 = v68; goto L84; }
+	clear(v4+24, 16);
+	ptr v1406 = ldp(v4);
+	u64 v1407 = ld64(v4+8);
+	clear(v1052, 96);
+	capcopy_run_uninterrupted_UninterruptedRead_read_f128(v1052, v1406, v1407);
+	u64 v1408 = ld64(v1052+8);
+	if (ld8(v1052)) { v177 = v1408; v178 = v1408; v179 = ld64(v1052+16); v180 = ld64(v1052+24); v181 = ld64(v1052+32); v182 = ld64(v1052+40); v183 = ld64(v1052+48); v184 = ld64(v1052+56); v185 = ld64(v1052+64); v186 = ld64(v1052+72); v187 = ld64(v1052+80); v188 = ld64(v1052+88); v175 = 4; v176 = 1; goto L163; }
+	st64(v4+32, v1408);
+	v70 = v1408; v71 = ld64(v4+24);
+L84:
+	if (v70 == v71) { M35: v177 = 1385731; v178 = 1385731; v179 = 0x75706e6920656874ull; v180 = 0x206465646e652074ull; v181 = 0x2e2e2e796c726165ull; v182 = 0x2e2e2e2e2e2e2e2eull; v183 = 0x2e2e2e2e2e2e2e2eull; v184 = 0x2e2e2e2e2e2e2e2eull; v185 = 0x2e2e2e2e2e2e2e2eull; v186 = 0x2e2e2e2e2e2e2e2eull; v187 = 0x2e2e2e2e2e2e2e2eull; v188 = 0x2e2e2e2e2e2e2e2eull; v175 = 4; v176 = 1; goto L163; }
+	u64 v1409 = v70 - v71, v1410 = v69 < v1409 ? v69 : v1409, v1411 = v1410 + v71;
+	st64(v4+24, v1411);
+	u64 v1412 = v69 - v1410;
+	if (v1412) { v67 = v70; v68 = v1411; v69 = v1412; goto L83; }
 L85:;
-	v111 = v100; v112 = v101; v113 = (u32)v102; goto L93;
+	u64 v1413 = v61 + 1;
+	st8(v1063+125, 10);
+	if (v1403 <= 0x270fffffffffull) { v74 = 125; v75 = v1404; goto L87; }
+	v72 = v1404; v73 = 125;
 L86:;
-	v103 = v99+8; v104 = v608 - 4; v105 = (u32)__builtin_bswap32(lu32(v99+4)); v106 = 0; v107 = 0; v108 = v605; v109 = 0; v110 = 8;
-L87:;
-	u64 v622 = (u64)v108;
-	u64 v623 = ((u64)v107 << 16) | ((u64)v105 << 32) | v622;
-	u64 v624 = (u64)v103;
-	if (v96 != 0) goto L89;
-	t_64_64 v625 = allocate(384, 8);
-	if (!(v625.f0 & 1)) goto L88;
-	copy(v473, v474, 24);
-	stp(v474, (ptr)v625.f1);
-	st64(v474+16, 8);
-	std_alloc_vec_Vec_drop_15c9(v473);
-	su64((ptr)v625.f1, v110);
-	su64((ptr)v625.f1+8, v623);
-	su64((ptr)v625.f1+16, v106);
-	su64((ptr)v625.f1+24, v624);
-	su64((ptr)v625.f1+32, v104);
-	su64((ptr)v625.f1+40, 0);
-	v115 = v625.f1; v116 = 1; goto L95;
+	u64 v1414 = v72 / 10000;
+	u16 v1415 = (u16)(v72 % 10000);
+	ptr v1416 = at((ptr)static_51, (u64)(u16)((u32)(v1415 % 100) << 1)), v1417 = at(v1063, v73);
+	u8 v1418 = ld8(v1416+1);
+	st8(v1417-2, ld8(v1416));
+	st8(v1417-1, v1418);
+	u64 v1419 = v73 - 4;
+	ptr v1420 = at((ptr)static_51, (u64)(u16)((u32)(v1415 / 100) << 1)), v1421 = at(v1063, v1419);
+	u8 v1422 = ld8(v1420+1);
+	st8(v1421, ld8(v1420));
+	st8(v1421+1, v1422);
+	if (v72 > 99999999) { v72 = v1414; v73 = v1419; goto L86; }
+	v74 = v1419; v75 = v1414;
+L87:
+	if (v75 >= 100) goto L89;
+	if (v75 >= 10) goto L88;
+	u64 v1423 = v74 - 1;
+	st8(at(v1063, v1423), (u8)v75 | 48);
+	v76 = v1423; goto L91;
 L88:;
-	if (!v109) goto L92;
-	if (((v622 & 255) == 0) || (v104 == 0)) goto L92;
-	goto L91;
+	u64 v1424 = v74 - 2;
+	ptr v1425 = at((ptr)static_51, v75 << 1), v1426 = at(v1063, v1424);
+	u8 v1427 = ld8(v1425+1);
+	st8(v1426, ld8(v1425));
+	st8(v1426+1, v1427);
+	v76 = v1424; goto L91;
 L89:;
-	if (ld64(v474+16) != v96) { v114 = v96; goto L94; }
-	u8 v626 = std_alloc_vec_Vec_grow_amortized_35f1(v474);
-	if (!v626) goto L90;
-	v114 = ld64(v474+8); goto L94;
+	u16 v1428 = (u16)v75;
+	ptr v1429 = at((ptr)static_51, (u64)(u16)((u32)(v1428 % 100) << 1)), v1430 = at(v1063, v74);
+	u8 v1431 = ld8(v1429+1);
+	st8(v1430-2, ld8(v1429));
+	st8(v1430-1, v1431);
+	u16 v1432 = v1428 / 100;
+	if (v75 >= 1000) goto L90;
+	u64 v1433 = v74 - 3;
+	st8(at(v1063, v1433), (u8)v1432 | 48);
+	v76 = v1433; goto L91;
 L90:;
-	if (!v109) goto L92;
-	if (((v622 & 255) == 0) || (v104 == 0)) goto L92;
+	u64 v1434 = v74 - 4;
+	ptr v1435 = at((ptr)static_51, (u64)(u16)((u32)v1432 << 1)), v1436 = at(v1063, v1434);
+	u8 v1437 = ld8(v1435+1);
+	st8(v1436, ld8(v1435));
+	st8(v1436+1, v1437);
+	v76 = v1434;
 L91:;
-	deallocate((ptr)v106);
+	u64 v1438 = v76 - 1;
+	st8(at(v1063, v1438), 47);
+	if (v1405 <= 9999) { v79 = v1438; v80 = v1405; goto L93; }
+	v77 = v1405; v78 = v1438;
 L92:;
-	v111 = 0; v112 = 0; v113 = 0;
-L93:;
-	std_alloc_vec_Vec_drop_15c9(v474);
-	v182 = v111; v183 = v112; v184 = (u8)v113; v185 = (u8)(v113 >> 8); goto L131;
+	u64 v1439 = v77 / 10000;
+	u16 v1440 = (u16)(v77 % 10000);
+	ptr v1441 = at((ptr)static_51, (u64)(u16)((u32)(v1440 % 100) << 1)), v1442 = at(v1063, v78);
+	u8 v1443 = ld8(v1441+1);
+	st8(v1442-2, ld8(v1441));
+	st8(v1442-1, v1443);
+	u64 v1444 = v78 - 4;
+	ptr v1445 = at((ptr)static_51, (u64)(u16)((u32)(v1440 / 100) << 1)), v1446 = at(v1063, v1444);
+	u8 v1447 = ld8(v1445+1);
+	st8(v1446, ld8(v1445));
+	st8(v1446+1, v1447);
+	if (v77 > 99999999) { v77 = v1439; v78 = v1444; goto L92; }
+	v79 = v1444; v80 = v1439;
+L93:
+	if (v80 >= 100) goto L95;
+	if (v80 >= 10) goto L94;
+	u64 v1448 = v79 - 1;
+	st8(at(v1063, v1448), (u8)v80 | 48);
+	v81 = v1448; goto L97;
 L94:;
-	ptr v627 = ldp(v474);
-	ptr v628 = at(v627, v114 * 48);
-	su64(v628, v110);
-	su64(v628+8, v623);
-	su64(v628+16, v106);
-	su64(v628+24, v624);
-	su64(v628+32, v104);
-	su64(v628+40, 0);
-	v115 = (u64)v627; v116 = v114 + 1;
+	u64 v1449 = v79 - 2;
+	ptr v1450 = at((ptr)static_51, v80 << 1), v1451 = at(v1063, v1449);
+	u8 v1452 = ld8(v1450+1);
+	st8(v1451, ld8(v1450));
+	st8(v1451+1, v1452);
+	v81 = v1449; goto L97;
 L95:;
-	u64 v629 = v115 >> 16;
-	u64 v630 = v115 >> 8;
-	st64(v474+8, v116);
-	if (v611 != 0) { v93 = (ptr)v116; v94 = v629; v95 = v115; v96 = v116; v97 = v630; v98 = v611; v99 = v610; goto L72; }
-	v117 = (ptr)v116; v118 = v629; v119 = v610; v120 = 0; v121 = v115; v122 = v630;
+	u16 v1453 = (u16)v80;
+	ptr v1454 = at((ptr)static_51, (u64)(u16)((u32)(v1453 % 100) << 1)), v1455 = at(v1063, v79);
+	u8 v1456 = ld8(v1454+1);
+	st8(v1455-2, ld8(v1454));
+	st8(v1455-1, v1456);
+	u16 v1457 = v1453 / 100;
+	if (v80 >= 1000) goto L96;
+	u64 v1458 = v79 - 3;
+	st8(at(v1063, v1458), (u8)v1457 | 48);
+	v81 = v1458; goto L97;
 L96:;
-	v123 = ld64(v474+16); v124 = v117; v125 = v118; v126 = v119; v127 = v120; v128 = v121; v129 = v122;
+	u64 v1459 = v79 - 4;
+	ptr v1460 = at((ptr)static_51, (u64)(u16)((u32)v1457 << 1)), v1461 = at(v1063, v1459);
+	u8 v1462 = ld8(v1460+1);
+	st8(v1461, ld8(v1460));
+	st8(v1461+1, v1462);
+	v81 = v1459;
 L97:;
-	copy(v493, v498, 6);
-	v170 = 0; v171 = 0; v172 = 0; v173 = 0; v174 = ((v129 << 8) & 65280) | (v125 << 16) | (v128 & 255); v175 = v124; v176 = v123; v177 = 0; v178 = v126; v179 = v127; v180 = (u64)(u32)__builtin_bswap32(v598); v181 = v600; goto L130;
+	ptr v1463 = at(v1063, v81);
+	st8(v1463-1, 32);
+	u64 v1464 = (u64)v64 * 1441151881, v1465 = (v1464 & 0x1ffffffffffffffull) * 100;
+	u64 v1466 = (v1465 & 0x1fffffffffffffcull) * 100, v1467 = (v1466 & 0x1fffffffffffff0ull) * 100;
+	ptr v1468 = at((ptr)static_51, (((v1467 & 0x1ffffffffffffc0ull) * 100) >> 56) & 254);
+	st8(v1463-3, ld8(v1468));
+	st8(v1463-2, ld8(v1468+1));
+	ptr v1469 = at((ptr)static_51, (v1467 >> 56) & 254);
+	st8(v1463-5, ld8(v1469));
+	st8(v1463-4, ld8(v1469+1));
+	ptr v1470 = at((ptr)static_51, (v1466 >> 56) & 254);
+	st8(v1463-7, ld8(v1470));
+	st8(v1463-6, ld8(v1470+1));
+	ptr v1471 = at((ptr)static_51, (v1465 >> 56) & 254);
+	st8(v1463-9, ld8(v1471));
+	st8(v1463-8, ld8(v1471+1));
+	u64 v1472 = v1464 >> 57;
+	if (v64 >= 1000000000) goto L98;
+	u64 v1473 = v81 - 10;
+	st8(at(v1063, v1473), (u8)v1472 | 48);
+	v82 = v1473; goto L99;
 L98:;
-	clear(v470, 6);
-	if (v504 < 20) { v152 = 0; v153 = 0; v154 = 0; v155 = 3075; goto L123; }
-	u32 v631 = lu32(v505);
-	clear(v469, 6);
-	u64 v632 = (u64)__builtin_bswap64(lu64(v505+4));
-	u32 v633 = lu32(v505+12);
-	u64 v634 = v504 - 20;
-	u32 v635 = lu32(v505+16);
-	u64 v636 = (u64)(u32)__builtin_bswap32(v633);
-	u64 v637 = ((0ull - v636) & 3) + v636;
-	if (v634 < v637) { v149 = 0; v150 = 0; v151 = 3331; goto L122; }
-	ptr v638 = at(v505+20, v637);
-	u64 v639 = v634 - v637;
-	clear(v468, 6);
-	stp(v467, v421);
-	clear(v467+8, 16);
-	u64 v640 = (u64)v421;
-	u8 v641 = (u8)(v640 >> 8);
-	u8 v642 = (u8)v640;
-	if (v639 == 0) { v164 = 0; v165 = 0; v166 = v638; v167 = 0; v168 = v642; v169 = v641; goto L127; }
-	v130 = v642; v131 = 0; v132 = v641; v133 = v639; v134 = v638;
+	u64 v1474 = v81 - 11;
+	ptr v1475 = at((ptr)static_51, v1472 << 1), v1476 = at(v1063, v1474);
+	u8 v1477 = ld8(v1475+1);
+	st8(v1476, ld8(v1475));
+	st8(v1476+1, v1477);
+	v82 = v1474;
 L99:;
-	if (v133 < 4) { v146 = 4099; v147 = 0; v148 = 0; goto L121; }
-	u16 v643 = lu16(v134);
-	u16 v644 = (u16)__builtin_bswap16(v643);
-	u64 v645 = v133 - 4;
-	u16 v646 = lu16(v134+2);
-	u16 v647 = (u16)__builtin_bswap16(v646);
-	if (v643 == 0) { v159 = v131; v160 = v134+4; v161 = v645; v162 = v130; v163 = v132; goto L126; }
-	u64 v648 = (u64)v647;
-	u64 v649 = ((0ull - v648) & 3) + v648;
-	if (v645 < v649) { v146 = 4355; v147 = 0; v148 = 0; goto L121; }
-	ptr v650 = at(v134+4, v649);
-	u64 v651 = v645 - v649;
-	switch (v644) {
-	case 1: goto L100;
-	case 2: goto L102;
-	case 3: goto L103;
-	case 4: goto L104;
-	case 2988: case 19372: goto L105;
-	case 2989: case 19373: goto L107;
-	default: goto L110;
-	}
-L100:;
-	clear(v465, 24);
-	core_str_utf8_from_utf8(v465, v134+4, v648);
-	u64 v652 = ld64(v465+8);
-	if (ld8(v465) != 0) goto L101;
-	v138 = 0; v139 = 0; v140 = 0; v141 = 0; v142 = 0; v143 = ld64(v465+16); v144 = 0; v145 = v652; goto L111;
+	u64 v1478 = v82 - 1;
+	ptr v1479 = at(v1063, v1478);
+	st8(v1479, 46);
+	u64 v1480 = (u64)v1396;
+	if (v1396 >= 100000000) goto L104;
+	if (v1396 <= 9999) { v83 = v1478; v84 = v1480; goto L100; }
+	u16 v1481 = (u16)(v1396 % 10000);
+	ptr v1482 = at((ptr)static_51, (u64)(u16)((u32)(v1481 % 100) << 1));
+	u8 v1483 = ld8(v1482+1);
+	st8(v1479-2, ld8(v1482));
+	st8(v1479-1, v1483);
+	u64 v1484 = v82 - 5;
+	ptr v1485 = at((ptr)static_51, (u64)(u16)((u32)(v1481 / 100) << 1)), v1486 = at(v1063, v1484);
+	u8 v1487 = ld8(v1485+1);
+	st8(v1486, ld8(v1485));
+	st8(v1486+1, v1487);
+	v83 = v1484; v84 = (u64)(v1396 / 10000);
+L100:
+	if (v84 >= 100) goto L102;
+	if (v84 >= 10) goto L101;
+	u64 v1488 = v83 - 1;
+	st8(at(v1063, v1488), (u8)v84 | 48);
+	v85 = v1488; goto L106;
 L101:;
-	v135 = 2; v136 = v652; v137 = ld16(v465+16); goto L108;
+	u64 v1489 = v83 - 2;
+	ptr v1490 = at((ptr)static_51, v84 << 1), v1491 = at(v1063, v1489);
+	u8 v1492 = ld8(v1490+1);
+	st8(v1491, ld8(v1490));
+	st8(v1491+1, v1492);
+	v85 = v1489; goto L106;
 L102:;
-	if (v646 != 1024) { v135 = 7171; v136 = 0; v137 = 0; goto L108; }
-	v138 = (u32)__builtin_bswap32(lu32(v134+4)); v139 = 1; v140 = 0; v141 = 0; v142 = 0; v143 = 0; v144 = 0; v145 = 0; goto L111;
+	u16 v1493 = (u16)v84;
+	ptr v1494 = at((ptr)static_51, (u64)(u16)((u32)(v1493 % 100) << 1)), v1495 = at(v1063, v83);
+	u8 v1496 = ld8(v1494+1);
+	st8(v1495-2, ld8(v1494));
+	st8(v1495-1, v1496);
+	u16 v1497 = v1493 / 100;
+	if (v84 >= 1000) goto L103;
+	u64 v1498 = v83 - 3;
+	st8(at(v1063, v1498), (u8)v1497 | 48);
+	v85 = v1498; goto L106;
 L103:;
-	v138 = 0; v139 = 2; v140 = 0; v141 = 0; v142 = 0; v143 = v648; v144 = 0; v145 = (u64)(v134+4); goto L111;
+	u64 v1499 = v83 - 4;
+	ptr v1500 = at((ptr)static_51, (u64)(u16)((u32)v1497 << 1)), v1501 = at(v1063, v1499);
+	u8 v1502 = ld8(v1500+1);
+	st8(v1501, ld8(v1500));
+	st8(v1501+1, v1502);
+	v85 = v1499; goto L106;
 L104:;
-	if (v646 != 2048) { v135 = 7427; v136 = 0; v137 = 0; goto L108; }
-	u64 v653 = (u64)__builtin_bswap64(lu64(v134+4));
-	v138 = 0; v139 = 3; v140 = (u16)v653; v141 = (u16)(v653 >> 16); v142 = (u32)(v653 >> 32); v143 = 0; v144 = 0; v145 = 0; goto L111;
+	u64 v1503 = v1480 * 1441151881, v1504 = (v1503 & 0x1ffffffffffffffull) * 100;
+	u64 v1505 = (v1504 & 0x1fffffffffffffcull) * 100, v1506 = (v1505 & 0x1fffffffffffff0ull) * 100;
+	ptr v1507 = at((ptr)static_51, (((v1506 & 0x1ffffffffffffc0ull) * 100) >> 56) & 254);
+	st8(v1479-2, ld8(v1507));
+	st8(v1479-1, ld8(v1507+1));
+	ptr v1508 = at((ptr)static_51, (v1506 >> 56) & 254);
+	st8(v1479-4, ld8(v1508));
+	st8(v1479-3, ld8(v1508+1));
+	ptr v1509 = at((ptr)static_51, (v1505 >> 56) & 254);
+	st8(v1479-6, ld8(v1509));
+	st8(v1479-5, ld8(v1509+1));
+	ptr v1510 = at((ptr)static_51, (v1504 >> 56) & 254);
+	st8(v1479-8, ld8(v1510));
+	st8(v1479-7, ld8(v1510+1));
+	u64 v1511 = v1503 >> 57;
+	if (v1396 >= 1000000000) goto L105;
+	u64 v1512 = v82 - 10;
+	st8(at(v1063, v1512), (u8)v1511 | 48);
+	v85 = v1512; goto L106;
 L105:;
-	if (v647 < 4) { v135 = 1; v136 = 0; v137 = 0; goto L108; }
-	u32 v654 = lu32(v134+4);
-	clear(v464, 24);
-	core_str_utf8_from_utf8(v464, v134+8, v648 - 4);
-	u64 v655 = ld64(v464+8);
-	if (ld8(v464) != 0) goto L106;
-	v138 = 0; v139 = 5; v140 = v644; v141 = 0; v142 = (u32)__builtin_bswap32(v654); v143 = v655; v144 = ld64(v464+16); v145 = 0; goto L111;
+	u64 v1513 = v82 - 11;
+	ptr v1514 = at((ptr)static_51, v1511 << 1), v1515 = at(v1063, v1513);
+	u8 v1516 = ld8(v1514+1);
+	st8(v1515, ld8(v1514));
+	st8(v1515+1, v1516);
+	v85 = v1513;
 L106:;
-	v135 = 2; v136 = v655; v137 = ld16(v464+16); goto L108;
+	u64 v1517 = v85 - 1;
+	st8(at(v1063, v1517), 32);
+	if (v61 <= 9998) { v88 = v1517; v89 = v1413; goto L108; }
+	v86 = v1413; v87 = v1517;
 L107:;
-	if (v647 >= 4) goto L109;
-	v135 = 1; v136 = 0; v137 = 0;
-L108:;
-	v146 = v135; v147 = v136; v148 = (u32)v137; goto L121;
+	u64 v1518 = v86 / 10000;
+	u16 v1519 = (u16)(v86 % 10000);
+	ptr v1520 = at((ptr)static_51, (u64)(u16)((u32)(v1519 % 100) << 1)), v1521 = at(v1063, v87);
+	u8 v1522 = ld8(v1520+1);
+	st8(v1521-2, ld8(v1520));
+	st8(v1521-1, v1522);
+	u64 v1523 = v87 - 4;
+	ptr v1524 = at((ptr)static_51, (u64)(u16)((u32)(v1519 / 100) << 1)), v1525 = at(v1063, v1523);
+	u8 v1526 = ld8(v1524+1);
+	st8(v1525, ld8(v1524));
+	st8(v1525+1, v1526);
+	if (v86 > 99999999) { v86 = v1518; v87 = v1523; goto L107; }
+	v88 = v1523; v89 = v1518;
+L108:
+	if (v89 >= 100) goto L110;
+	if (v89 >= 10) goto L109;
+	u64 v1527 = v88 - 1;
+	st8(at(v1063, v1527), (u8)v89 | 48);
+	v90 = v1527; goto L112;
 L109:;
-	v138 = 0; v139 = 4; v140 = v644; v141 = 0; v142 = (u32)__builtin_bswap32(lu32(v134+4)); v143 = (u64)(v134+8); v144 = v648 - 4; v145 = 0; goto L111;
+	u64 v1528 = v88 - 2;
+	ptr v1529 = at((ptr)static_51, v89 << 1), v1530 = at(v1063, v1528);
+	u8 v1531 = ld8(v1529+1);
+	st8(v1530, ld8(v1529));
+	st8(v1530+1, v1531);
+	v90 = v1528; goto L112;
 L110:;
-	v138 = 0; v139 = 6; v140 = v644; v141 = v647; v142 = 0; v143 = (u64)(v134+4); v144 = v648; v145 = 0;
+	u16 v1532 = (u16)v89;
+	ptr v1533 = at((ptr)static_51, (u64)(u16)((u32)(v1532 % 100) << 1)), v1534 = at(v1063, v88);
+	u8 v1535 = ld8(v1533+1);
+	st8(v1534-2, ld8(v1533));
+	st8(v1534-1, v1535);
+	u16 v1536 = v1532 / 100;
+	if (v89 >= 1000) goto L111;
+	u64 v1537 = v88 - 3;
+	st8(at(v1063, v1537), (u8)v1536 | 48);
+	v90 = v1537; goto L112;
 L111:;
-	u64 v656 = ((u64)v142 << 32) | ((u64)v141 << 16) | (u64)v140;
-	u32 v657 = (u32)v139;
-	if (v131 != 0) goto L115;
-	t_64_64 v658 = allocate(384, 8);
-	if (!(v658.f0 & 1)) goto L112;
-	copy(v466, v467, 24);
-	stp(v467, (ptr)v658.f1);
-	st64(v467+16, 8);
-	std_alloc_vec_Vec_drop_4750(v466);
-	su32((ptr)v658.f1, v657);
-	su32((ptr)v658.f1+4, v138);
-	su64((ptr)v658.f1+8, v656);
-	su64((ptr)v658.f1+16, v145);
-	su64((ptr)v658.f1+24, v143);
-	su64((ptr)v658.f1+32, v144);
-	su64((ptr)v658.f1+40, 0);
-	v157 = v658.f1; v158 = 1; goto L125;
-L112:;
-	u8 v659 = (u8)v140;
-	switch (v139) {
-	case 0: goto L113;
-	case 1: case 3: case 4: case 5: case 6: goto L120;
-	case 2: goto L114;
-	default: goto L259;
-	}
-L113:;
-	if ((v659 == 0) || (v144 == 0)) goto L120;
-	goto L119;
-L114:;
-	if ((v659 == 0) || (v144 == 0)) goto L120;
-	goto L119;
-L115:;
-	if (ld64(v467+16) != v131) { v156 = v131; goto L124; }
-	u8 v660 = std_alloc_vec_Vec_grow_amortized_35f1(v467);
-	if (!v660) goto L116;
-	v156 = ld64(v467+8); goto L124;
-L116:;
-	u8 v661 = (u8)v140;
-	switch (v139) {
-	case 0: goto L117;
-	case 1: case 3: case 4: case 5: case 6: goto L120;
-	case 2: goto L118;
-	default: goto L259;
-	}
-L117:;
-	if ((v661 == 0) || (v144 == 0)) goto L120;
-	goto L119;
+	u64 v1538 = v88 - 4;
+	ptr v1539 = at((ptr)static_51, (u64)(u16)((u32)v1536 << 1)), v1540 = at(v1063, v1538);
+	u8 v1541 = ld8(v1539+1);
+	st8(v1540, ld8(v1539));
+	st8(v1540+1, v1541);
+	v90 = v1538;
+L112:
+	if (v90 == 126) { v149 = v1413; goto L160; }
+	v91 = at(v1063, v90); v92 = 126ull - v90;
+L113:
+	clear(v1051, 96);
+	u64 v1542 = ld64(v5+16), v1543 = ld64(v5+8);
+	if (v92 >= v1542 - v1543) goto L117;
+	u64 v1544 = v1543 + v92;
+	ptr v1545 = ldp(v5), v1546 = at(v1545, v1543);
+	if ((u64)v1546 - (u64)v91 >= v92) goto L115;
+	v93 = 0;
+L114:
+	st8(at(v1546, v93), ld8(at(v91, v93)));
+	u64 v1547 = v93 + 1;
+	if (v1547 == v92) goto L116;
+	v93 = v1547; goto L114;
+L115:
+	move(v1546, v91, v92);
+L116:
+	stp(v5, v1545);
+	st64(v5+8, v1544);
+	st64(v5+16, v1542);
+	v94 = v92; goto L118;
+L117:
+	std_io_buffered_BufWriter_write_cold_9d90(v1051, v5, v91, v92);
+	u64 v1548 = ld64(v1051+8);
+	if (ld8(v1051)) { v177 = v1548; v178 = v1548; v179 = ld64(v1051+16); v180 = ld64(v1051+24); v181 = ld64(v1051+32); v182 = ld64(v1051+40); v183 = ld64(v1051+48); v184 = ld64(v1051+56); v185 = ld64(v1051+64); v186 = ld64(v1051+72); v187 = ld64(v1051+80); v188 = ld64(v1051+88); v175 = 4; v176 = 1; goto L163; }
+	if (!v1548) { M45: v177 = 1513219; v178 = 1513219; v179 = 0x7074756f20656874ull; v180 = 0x206b6f6f74207475ull; v181 = 0x2e676e6968746f6eull; v182 = 0x2e2e2e2e2e2e2e2eull; v183 = 0x2e2e2e2e2e2e2e2eull; v184 = 0x2e2e2e2e2e2e2e2eull; v185 = 0x2e2e2e2e2e2e2e2eull; v186 = 0x2e2e2e2e2e2e2e2eull; v187 = 0x2e2e2e2e2e2e2e2eull; v188 = 0x2e2e2e2e2e2e2e2eull; v175 = 4; v176 = 1; goto L163; }
+	v94 = v1548;
 L118:;
-	if ((v661 == 0) || (v144 == 0)) goto L120;
-L119:;
-	deallocate((ptr)v145);
-L120:;
-	v146 = 0; v147 = 0; v148 = 0;
-L121:;
-	std_alloc_vec_Vec_drop_4750(v467);
-	v149 = v147; v150 = v148; v151 = v146;
-L122:;
-	v152 = v149; v153 = (u8)v150; v154 = (u8)(v150 >> 8); v155 = v151;
-L123:;
-	v182 = v155; v183 = v152; v184 = v153; v185 = v154; goto L131;
+	u64 v1549 = v92 - v94;
+	if (!v1549) { v149 = v1413; goto L160; }
+	v91 = at(v91, v94); v92 = v1549; goto L113;
+L119:
+	st32(v1054, 0);
+	su64(v1054+4, v102);
+	v106 = ld64(v1054); v107 = v102; v108 = v103; v109 = v104; v110 = v105; v111 = v95; v112 = v96; v113 = v97; v114 = v98; v115 = v99; v116 = v100; v117 = v101; v118 = 4; v119 = 1;
+L120:
+	v175 = v118; v176 = v119; v177 = v106 >> 32; v178 = v107; v179 = v108; v180 = v109; v181 = v110; v182 = v111; v183 = v112; v184 = v113; v185 = v114; v186 = v115; v187 = v116; v188 = v117; goto L163;
+L121:
+	clear(v1050, 16);
+	v120 = 0;
+L122:
+	clear(v1049, 96);
+	std_io_buffered_BufReaderRead_read_e988(v1049, v4, at(v1050, v120), 16ull - v120);
+	u64 v1550 = ld64(v1049+8);
+	if (ld8(v1049)) { v150 = ld64(v1049+40); v151 = ld64(v1049+48); v152 = ld64(v1049+56); v153 = ld64(v1049+64); v154 = ld64(v1049+72); v155 = ld64(v1049+80); v156 = ld64(v1049+88); v157 = v1550; v158 = ld64(v1049+16); v159 = ld64(v1049+24); v160 = ld64(v1049+32); goto L161; }
+	if (!v1550) { v150 = 0x2e2e2e2e2e2e2e2eull; v151 = 0x2e2e2e2e2e2e2e2eull; v152 = 0x2e2e2e2e2e2e2e2eull; v153 = 0x2e2e2e2e2e2e2e2eull; v154 = 0x2e2e2e2e2e2e2e2eull; v155 = 0x2e2e2e2e2e2e2e2eull; v156 = 0x2e2e2e2e2e2e2e2eull; v157 = 1451267; v158 = 0x6572747320656874ull; v159 = 0x6465646e65206d61ull; v160 = 0x2e2e796c72616520ull; goto L161; }
+	u64 v1551 = v1550 + v120;
+	if (v1551 < 16) { v120 = v1551; goto L122; }
+	u32 v1552 = ld32(v1050), v1553 = ld32(v1050+4);
+	u64 v1554 = lu64(v1050+8);
+	u32 v1555 = (u32)v1554;
+	u64 v1556 = v1554 >> 32;
+	u32 v1557 = (u32)v1556;
+	if (v1393 == 1) { v121 = v1553; goto L123; }
+	if (v1553 > 4294967) { v123 = (ptr)static_11; v122 = 40; goto L124; }
+	v121 = v1553 * 1000;
+L123:
+	if (v1555 > 262144) { v123 = (ptr)static_12; v122 = 31; goto L124; }
+	if (v1554 > 0x40000ffffffffull) { v123 = (ptr)static_13; v122 = 31; goto L124; }
+	if (v1557 >= v1555) goto L125;
+	v123 = (ptr)static_14; v122 = 32;
 L124:;
-	ptr v662 = ldp(v467);
-	ptr v663 = at(v662, v156 * 48);
-	su32(v663, v657);
-	su32(v663+4, v138);
-	su64(v663+8, v656);
-	su64(v663+16, v145);
-	su64(v663+24, v143);
-	su64(v663+32, v144);
-	su64(v663+40, 0);
-	v157 = (u64)v662; v158 = v156 + 1;
+	u64 v1558 = (u64)v123;
+	st32(v1047, 0);
+	su64(v1047+4, v1558);
+	v161 = ld64(v1047); v162 = v1558; v163 = v122; v164 = v165 = v166 = v167 = v168 = v169 = v170 = v171 = v172 = 0; v173 = 1; v174 = 2; goto L162;
 L125:;
-	u8 v664 = (u8)v157;
-	u8 v665 = (u8)(v157 >> 8);
-	st64(v467+8, v158);
-	if (v651 != 0) { v130 = v664; v131 = v158; v132 = v665; v133 = v651; v134 = v650; goto L99; }
-	v159 = v158; v160 = v650; v161 = 0; v162 = v664; v163 = v665;
-L126:;
-	v164 = ld64(v467+16); v165 = v159; v166 = v160; v167 = v161; v168 = v162; v169 = v163;
-L127:;
-	copy(v468, v467+2, 6);
-	copy(v469, v468, 6);
-	copy(v470, v469, 6);
-	copy(v499, v470, 6);
-	copy(v493, v499, 6);
-	v170 = v165; v171 = v164; v172 = v168; v173 = v169; v174 = (u64)__builtin_bswap64(((u64)v633 << 32) | (u64)v635); v175 = (ptr)0; v176 = (u64)(v505+20); v177 = v636; v178 = v166; v179 = v167; v180 = (u64)(u32)__builtin_bswap32(v631); v181 = v632; goto L130;
+	u64 v1559 = v1554 & 524287;
+	if (!v1559) goto L128;
+	v124 = ld64(v4+32); v125 = ld64(v4+24); v126 = v1559;
+L126:
+	if (v125 < v124) { v127 = v124; v128 = v125; goto L127; }
+	clear(v4+24, 16);
+	ptr v1560 = ldp(v4);
+	u64 v1561 = ld64(v4+8);
+	clear(v1046, 96);
+	capcopy_run_uninterrupted_UninterruptedRead_read_f128(v1046, v1560, v1561);
+	u64 v1562 = ld64(v1046+8);
+	if (ld8(v1046)) { v177 = v1562; v178 = v1562; v179 = ld64(v1046+16); v180 = ld64(v1046+24); v181 = ld64(v1046+32); v182 = ld64(v1046+40); v183 = ld64(v1046+48); v184 = ld64(v1046+56); v185 = ld64(v1046+64); v186 = ld64(v1046+72); v187 = ld64(v1046+80); v188 = ld64(v1046+88); v175 = 4; v176 = 1; goto L163; }
+	st64(v4+32, v1562);
+	v127 = v1562; v128 = ld64(v4+24);
+L127:
+	if (v127 == v128) goto M35;
+	u64 v1563 = v127 - v128, v1564 = v126 < v1563 ? v126 : v1563, v1565 = v1564 + v128;
+	st64(v4+24, v1565);
+	u64 v1566 = v126 - v1564;
+	if (v1566) { v124 = v127; v125 = v1565; v126 = v1566; goto L126; }
 L128:;
-	v170 = 0; v171 = 0; v172 = 0; v173 = 0; v174 = v504; v175 = (ptr)0; v176 = 0; v177 = 0; v178 = at(v505, v504); v179 = 0; v180 = 0; v181 = (u64)v505; goto L130;
-L129:;
-	if (v504 >= 0x100000000ull) { v182 = 9987; v183 = 0; v184 = 0; v185 = 0; goto L131; }
-	v170 = 0; v171 = 0; v172 = 0; v173 = 0; v174 = 0; v175 = v505; v176 = v504; v177 = 0; v178 = v505; v179 = v504; v180 = ((u64)v503 << 32) | 8; v181 = v504;
+	u64 v1567 = v61 + 1;
+	st8(v1063+125, 10);
+	if (v1554 <= 0x270fffffffffull) { v129 = v1063+125; v130 = 125; v131 = v1556; goto L129; }
+	u16 v1568 = (u16)(v1556 % 10000);
+	ptr v1569 = at((ptr)static_51, (u64)(u16)((u32)(v1568 % 100) << 1));
+	u8 v1570 = ld8(v1569+1);
+	st8(v1063+123, ld8(v1569));
+	st8(v1063+124, v1570);
+	ptr v1571 = at((ptr)static_51, (u64)(u16)((u32)(v1568 / 100) << 1));
+	u8 v1572 = ld8(v1571+1);
+	st8(v1063+121, ld8(v1571));
+	st8(v1063+122, v1572);
+	v129 = v1063+121; v130 = 121; v131 = v1554 / 0x271000000000ull;
+L129:
+	if (v131 >= 100) goto L131;
+	if (v131 >= 10) goto L130;
+	u64 v1573 = v130 - 1;
+	st8(at(v1063, v1573), (u8)v131 | 48);
+	v132 = v1573; goto L133;
 L130:;
-	copy(v501, v493, 6);
-	v186 = 0; v187 = (u8)(u64)v178; v188 = v179; v189 = (u64)v502; v190 = v180; v191 = v181; v192 = v174; v193 = v175; v194 = v176; v195 = v177; v196 = 0; v197 = v172; v198 = v501; v199 = v173; v200 = v170; v201 = v171; goto L132;
+	u64 v1574 = v130 - 2;
+	ptr v1575 = at((ptr)static_51, v131 << 1), v1576 = at(v1063, v1574);
+	u8 v1577 = ld8(v1575+1);
+	st8(v1576, ld8(v1575));
+	st8(v1576+1, v1577);
+	v132 = v1574; goto L133;
 L131:;
-	clear(v462, 96);
-	clear(v463, 24);
-	st16(v463, (u16)v182);
-	st64(v463+8, v183);
-	st8(v463+16, v184);
-	st8(v463+17, v185);
-	pcap_options_refusal_PcapErrorFromRefusal_from(v462, v463);
-	u8 v666 = ld8(v462);
-	u64 v667 = ld64(v462+8);
-	u64 v668 = ld64(v462+16);
-	u64 v669 = ld64(v462+24);
-	u64 v670 = ld64(v462+32);
-	u64 v671 = ld64(v462+40);
-	ptr v672 = ldp(v462+48);
-	u64 v673 = ld64(v462+56);
-	u64 v674 = ld64(v462+64);
-	u64 v675 = ld64(v462+72);
-	u8 v676 = ld8(v462+80);
-	u8 v677 = ld8(v462+81);
-	copy(v500, v462+82, 6);
-	v186 = 1; v187 = v666; v188 = v667; v189 = v668; v190 = v669; v191 = v670; v192 = v671; v193 = v672; v194 = v673; v195 = v674; v196 = v675; v197 = v676; v198 = v500; v199 = v677; v200 = ld64(v462+88); v201 = 0;
+	u16 v1578 = (u16)v131;
+	ptr v1579 = at((ptr)static_51, (u64)(u16)((u32)(v1578 % 100) << 1));
+	u8 v1580 = ld8(v1579+1);
+	st8(v129-2, ld8(v1579));
+	st8(v129-1, v1580);
+	u16 v1581 = v1578 / 100;
+	if (v131 >= 1000) goto L132;
+	u64 v1582 = v130 - 3;
+	st8(at(v1063, v1582), (u8)v1581 | 48);
+	v132 = v1582; goto L133;
 L132:;
-	v401 = (u64)ld_bytes(v198, 6) & 0xffffffffffffull; v402 = v186; v403 = v187; v404 = v188; v405 = v189; v406 = v190; v407 = v191; v408 = v192; v409 = v193; v410 = v194; v411 = v195; v412 = v196; v413 = v197; v414 = v199; v415 = v200; v416 = v201; goto L269;
+	u64 v1583 = v130 - 4;
+	ptr v1584 = at((ptr)static_51, (u64)(u16)((u32)v1581 << 1)), v1585 = at(v1063, v1583);
+	u8 v1586 = ld8(v1584+1);
+	st8(v1585, ld8(v1584));
+	st8(v1585+1, v1586);
+	v132 = v1583;
 L133:;
-	__builtin_trap();
-L134:;
-	clear(v460, 6);
-	clear(v461, 6);
-	clear(v453, 6);
-	clear(v454, 64);
-	clear(v455, 64);
-	clear(v456, 6);
-	clear(v457, 6);
-	clear(v458, 6);
-	clear(v459, 6);
-	switch (v502) {
-	case 0: goto L135;
-	case 1: goto L137;
-	case 2: goto L139;
-	case 3: goto L169;
-	case 4: goto L170;
-	case 5: goto L206;
-	case 6: goto L233;
-	case 7: goto L264;
-	case 8: goto L265;
-	default: goto L272;
-	}
+	u64 v1587 = v132 - 1;
+	ptr v1588 = at(v1063, v1587);
+	st8(v1588, 47);
+	if (v1559 <= 9999) { v133 = v1587; v134 = v1559; goto L134; }
+	u16 v1589 = (u16)(v1559 % 10000);
+	ptr v1590 = at((ptr)static_51, (u64)(u16)((u32)(v1589 % 100) << 1));
+	u8 v1591 = ld8(v1590+1);
+	st8(v1588-2, ld8(v1590));
+	st8(v1588-1, v1591);
+	u64 v1592 = v132 - 5;
+	ptr v1593 = at((ptr)static_51, (u64)(u16)((u32)(v1589 / 100) << 1)), v1594 = at(v1063, v1592);
+	u8 v1595 = ld8(v1593+1);
+	st8(v1594, ld8(v1593));
+	st8(v1594+1, v1595);
+	v133 = v1592; v134 = v1559 / 10000;
+L134:
+	if (v134 >= 100) goto L136;
+	if (v134 >= 10) goto L135;
+	u64 v1596 = v133 - 1;
+	st8(at(v1063, v1596), (u8)v134 | 48);
+	v135 = v1596; goto L138;
 L135:;
-	pcap_blocks_section_header_SectionHeaderBlock_read(v454, v505, v504);
-	u16 v678 = ld16(v454+8);
-	u64 v679 = ld64(v454+16);
-	if (ld8(v454) != 0) goto L136;
-	u64 v680 = (((u64)ld_bytes(v454+10, 6) & 0xffffffffffffull) << 16) | (u64)(v678 & 255) | (u64)(v678 & 65280);
-	u64 v681 = ld64(v454+24);
-	u64 v682 = ld64(v454+32);
-	u64 v683 = ld64(v454+40);
-	ptr v684 = ldp(v454+48);
-	u64 v685 = ld64(v454+56);
-	clear(v453, 6);
-	v369 = 0; v370 = 0; v371 = 0; v372 = 0; v373 = v683; v374 = v684; v375 = v685; v376 = 0; v377 = (ptr)v680; v378 = v679; v379 = v681; v380 = v682; goto L266;
+	u64 v1597 = v133 - 2;
+	ptr v1598 = at((ptr)static_51, v134 << 1), v1599 = at(v1063, v1597);
+	u8 v1600 = ld8(v1598+1);
+	st8(v1599, ld8(v1598));
+	st8(v1599+1, v1600);
+	v135 = v1597; goto L138;
 L136:;
-	v381 = (u64)v678; v382 = v679; v383 = ld8(v454+24); v384 = ld8(v454+25); goto L267;
+	u16 v1601 = (u16)v134;
+	ptr v1602 = at((ptr)static_51, (u64)(u16)((u32)(v1601 % 100) << 1)), v1603 = at(v1063, v133);
+	u8 v1604 = ld8(v1602+1);
+	st8(v1603-2, ld8(v1602));
+	st8(v1603-1, v1604);
+	u16 v1605 = v1601 / 100;
+	if (v134 >= 1000) goto L137;
+	u64 v1606 = v133 - 3;
+	st8(at(v1063, v1606), (u8)v1605 | 48);
+	v135 = v1606; goto L138;
 L137:;
-	blocks_interface_description_InterfaceDescriptionBlock_read_7f02(v455, v505, v504);
-	u16 v686 = ld16(v455+8);
-	u64 v687 = ld64(v455+16);
-	if (ld8(v455) != 0) goto L138;
-	u64 v688 = (((u64)ld_bytes(v455+10, 6) & 0xffffffffffffull) << 16) | (u64)(v686 & 255) | (u64)(v686 & 65280);
-	u64 v689 = ld64(v455+24);
-	u64 v690 = ld64(v455+32);
-	u64 v691 = ld64(v455+40);
-	ptr v692 = ldp(v455+48);
-	u64 v693 = ld64(v455+56);
-	clear(v453, 6);
-	v369 = 0; v370 = 0; v371 = 0; v372 = 0; v373 = v691; v374 = v692; v375 = v693; v376 = 0; v377 = (ptr)v688; v378 = v687; v379 = v689; v380 = v690; goto L266;
+	u64 v1607 = v133 - 4;
+	ptr v1608 = at((ptr)static_51, (u64)(u16)((u32)v1605 << 1)), v1609 = at(v1063, v1607);
+	u8 v1610 = ld8(v1608+1);
+	st8(v1609, ld8(v1608));
+	st8(v1609+1, v1610);
+	v135 = v1607;
 L138:;
-	v381 = (u64)v686; v382 = v687; v383 = ld8(v455+24); v384 = ld8(v455+25); goto L267;
+	ptr v1611 = at(v1063, v135);
+	st8(v1611-1, 32);
+	u64 v1612 = (u64)v121 * 1441151881, v1613 = (v1612 & 0x1ffffffffffffffull) * 100;
+	u64 v1614 = (v1613 & 0x1fffffffffffffcull) * 100, v1615 = (v1614 & 0x1fffffffffffff0ull) * 100;
+	ptr v1616 = at((ptr)static_51, (((v1615 & 0x1ffffffffffffc0ull) * 100) >> 56) & 254);
+	st8(v1611-3, ld8(v1616));
+	st8(v1611-2, ld8(v1616+1));
+	ptr v1617 = at((ptr)static_51, (v1615 >> 56) & 254);
+	st8(v1611-5, ld8(v1617));
+	st8(v1611-4, ld8(v1617+1));
+	ptr v1618 = at((ptr)static_51, (v1614 >> 56) & 254);
+	st8(v1611-7, ld8(v1618));
+	st8(v1611-6, ld8(v1618+1));
+	ptr v1619 = at((ptr)static_51, (v1613 >> 56) & 254);
+	st8(v1611-9, ld8(v1619));
+	st8(v1611-8, ld8(v1619+1));
+	u64 v1620 = v1612 >> 57;
+	if (v121 >= 1000000000) goto L139;
+	u64 v1621 = v135 - 10;
+	st8(at(v1063, v1621), (u8)v1620 | 48);
+	v136 = v1621; goto L140;
 L139:;
-	clear(v452, 6);
-	if (v504 < 20) { v228 = 0; v229 = 0; v230 = 0; v231 = 3075; goto L164; }
-	u16 v694 = lu16(v505);
-	u16 v695 = lu16(v505+2);
-	clear(v451, 6);
-	u32 v696 = lu32(v505+8);
-	u64 v697 = (u64)lu32(v505+4) << 32;
-	u64 v698 = lu64(v505+12);
-	u64 v699 = v504 - 20;
-	u64 v700 = v698 & 4294967295u;
-	u64 v701 = ((0ull - v698) & 3) + v700;
-	if (v699 < v701) { v225 = 0; v226 = 0; v227 = 3331; goto L163; }
-	ptr v702 = at(v505+20, v701);
-	u64 v703 = v699 - v701;
-	clear(v450, 6);
-	stp(v449, v421);
-	clear(v449+8, 16);
-	u64 v704 = (u64)v421;
-	u8 v705 = (u8)(v704 >> 8);
-	u8 v706 = (u8)v704;
-	if (v703 == 0) { v240 = 0; v241 = 0; v242 = v702; v243 = 0; v244 = v706; v245 = v705; goto L168; }
-	v202 = v706; v203 = 0; v204 = v705; v205 = v703; v206 = v702;
+	u64 v1622 = v135 - 11;
+	ptr v1623 = at((ptr)static_51, v1620 << 1), v1624 = at(v1063, v1622);
+	u8 v1625 = ld8(v1623+1);
+	st8(v1624, ld8(v1623));
+	st8(v1624+1, v1625);
+	v136 = v1622;
 L140:;
-	if (v205 < 4) { v222 = 4099; v223 = 0; v224 = 0; goto L162; }
-	u16 v707 = lu16(v206);
-	u64 v708 = v205 - 4;
-	u16 v709 = lu16(v206+2);
-	if (v707 == 0) { v235 = v203; v236 = v206+4; v237 = v708; v238 = v202; v239 = v204; goto L167; }
-	u64 v710 = (u64)v709;
-	u64 v711 = ((0ull - v710) & 3) + v710;
-	if (v708 < v711) { v222 = 4355; v223 = 0; v224 = 0; goto L162; }
-	ptr v712 = at(v206+4, v711);
-	u64 v713 = v708 - v711;
-	switch (v707) {
-	case 1: goto L141;
-	case 2: goto L143;
-	case 3: goto L144;
-	case 2988: case 19372: goto L145;
-	case 2989: case 19373: goto L148;
-	default: goto L151;
-	}
-L141:;
-	clear(v447, 24);
-	core_str_utf8_from_utf8(v447, v206+4, v710);
-	u64 v714 = ld64(v447+8);
-	if (ld8(v447) != 0) goto L142;
-	v214 = 0; v215 = 0; v216 = ld64(v447+16); v217 = 0; v218 = 0; v219 = 0; v220 = 0; v221 = v714; goto L152;
+	u64 v1626 = v136 - 1;
+	ptr v1627 = at(v1063, v1626);
+	st8(v1627, 46);
+	u64 v1628 = (u64)v1552;
+	if (v1552 >= 100000000) goto L145;
+	if (v1552 <= 9999) { v137 = v1626; v138 = v1628; goto L141; }
+	u16 v1629 = (u16)(v1552 % 10000);
+	ptr v1630 = at((ptr)static_51, (u64)(u16)((u32)(v1629 % 100) << 1));
+	u8 v1631 = ld8(v1630+1);
+	st8(v1627-2, ld8(v1630));
+	st8(v1627-1, v1631);
+	u64 v1632 = v136 - 5;
+	ptr v1633 = at((ptr)static_51, (u64)(u16)((u32)(v1629 / 100) << 1)), v1634 = at(v1063, v1632);
+	u8 v1635 = ld8(v1633+1);
+	st8(v1634, ld8(v1633));
+	st8(v1634+1, v1635);
+	v137 = v1632; v138 = (u64)(v1552 / 10000);
+L141:
+	if (v138 >= 100) goto L143;
+	if (v138 >= 10) goto L142;
+	u64 v1636 = v137 - 1;
+	st8(at(v1063, v1636), (u8)v138 | 48);
+	v139 = v1636; goto L147;
 L142:;
-	v210 = 2; v211 = v714; v212 = v714 & 0xffffffff00000000ull; v213 = ld16(v447+16); goto L149;
+	u64 v1637 = v137 - 2;
+	ptr v1638 = at((ptr)static_51, v138 << 1), v1639 = at(v1063, v1637);
+	u8 v1640 = ld8(v1638+1);
+	st8(v1639, ld8(v1638));
+	st8(v1639+1, v1640);
+	v139 = v1637; goto L147;
 L143:;
-	if (v709 != 4) { v210 = 7683; v211 = 0; v212 = 0; v213 = 0; goto L149; }
-	v214 = 1; v215 = lu32(v206+4); v216 = 0; v217 = 0; v218 = 0; v219 = 0; v220 = 0; v221 = 0; goto L152;
+	u16 v1641 = (u16)v138;
+	ptr v1642 = at((ptr)static_51, (u64)(u16)((u32)(v1641 % 100) << 1)), v1643 = at(v1063, v137);
+	u8 v1644 = ld8(v1642+1);
+	st8(v1643-2, ld8(v1642));
+	st8(v1643-1, v1644);
+	u16 v1645 = v1641 / 100;
+	if (v138 >= 1000) goto L144;
+	u64 v1646 = v137 - 3;
+	st8(at(v1063, v1646), (u8)v1645 | 48);
+	v139 = v1646; goto L147;
 L144:;
-	v214 = 2; v215 = 0; v216 = v710; v217 = 0; v218 = 0; v219 = 0; v220 = 0; v221 = (u64)(v206+4); goto L152;
+	u64 v1647 = v137 - 4;
+	ptr v1648 = at((ptr)static_51, (u64)(u16)((u32)v1645 << 1)), v1649 = at(v1063, v1647);
+	u8 v1650 = ld8(v1648+1);
+	st8(v1649, ld8(v1648));
+	st8(v1649+1, v1650);
+	v139 = v1647; goto L147;
 L145:;
-	if (v709 < 4) { v207 = 0; v208 = 0; v209 = 1; goto L147; }
-	u32 v715 = lu32(v206+4);
-	clear(v446, 24);
-	core_str_utf8_from_utf8(v446, v206+8, v710 - 4);
-	u64 v716 = ld64(v446+8);
-	if (ld8(v446) != 0) goto L146;
-	v214 = 4; v215 = 0; v216 = v716; v217 = ld64(v446+16); v218 = v707; v219 = 0; v220 = v715; v221 = 0; goto L152;
+	u64 v1651 = v1628 * 1441151881, v1652 = (v1651 & 0x1ffffffffffffffull) * 100;
+	u64 v1653 = (v1652 & 0x1fffffffffffffcull) * 100, v1654 = (v1653 & 0x1fffffffffffff0ull) * 100;
+	ptr v1655 = at((ptr)static_51, (((v1654 & 0x1ffffffffffffc0ull) * 100) >> 56) & 254);
+	st8(v1627-2, ld8(v1655));
+	st8(v1627-1, ld8(v1655+1));
+	ptr v1656 = at((ptr)static_51, (v1654 >> 56) & 254);
+	st8(v1627-4, ld8(v1656));
+	st8(v1627-3, ld8(v1656+1));
+	ptr v1657 = at((ptr)static_51, (v1653 >> 56) & 254);
+	st8(v1627-6, ld8(v1657));
+	st8(v1627-5, ld8(v1657+1));
+	ptr v1658 = at((ptr)static_51, (v1652 >> 56) & 254);
+	st8(v1627-8, ld8(v1658));
+	st8(v1627-7, ld8(v1658+1));
+	u64 v1659 = v1651 >> 57;
+	if (v1552 >= 1000000000) goto L146;
+	u64 v1660 = v136 - 10;
+	st8(at(v1063, v1660), (u8)v1659 | 48);
+	v139 = v1660; goto L147;
 L146:;
-	v207 = ld16(v446+16); v208 = v716; v209 = 2;
+	u64 v1661 = v136 - 11;
+	ptr v1662 = at((ptr)static_51, v1659 << 1), v1663 = at(v1063, v1661);
+	u8 v1664 = ld8(v1662+1);
+	st8(v1663, ld8(v1662));
+	st8(v1663+1, v1664);
+	v139 = v1661;
 L147:;
-	v210 = v209; v211 = v208; v212 = v208 & 0xffffffff00000000ull; v213 = v207; goto L149;
+	u64 v1665 = v139 - 1;
+	st8(at(v1063, v1665), 32);
+	if (v61 <= 9998) { v142 = v1665; v143 = v1567; goto L149; }
+	v140 = v1567; v141 = v1665;
 L148:;
-	if (v709 >= 4) goto L150;
-	v210 = 1; v211 = 0; v212 = 0; v213 = 0;
-L149:;
-	v222 = v210; v223 = (v211 & 4294967295u) | v212; v224 = v213; goto L162;
+	u64 v1666 = v140 / 10000;
+	u16 v1667 = (u16)(v140 % 10000);
+	ptr v1668 = at((ptr)static_51, (u64)(u16)((u32)(v1667 % 100) << 1)), v1669 = at(v1063, v141);
+	u8 v1670 = ld8(v1668+1);
+	st8(v1669-2, ld8(v1668));
+	st8(v1669-1, v1670);
+	u64 v1671 = v141 - 4;
+	ptr v1672 = at((ptr)static_51, (u64)(u16)((u32)(v1667 / 100) << 1)), v1673 = at(v1063, v1671);
+	u8 v1674 = ld8(v1672+1);
+	st8(v1673, ld8(v1672));
+	st8(v1673+1, v1674);
+	if (v140 > 99999999) { v140 = v1666; v141 = v1671; goto L148; }
+	v142 = v1671; v143 = v1666;
+L149:
+	if (v143 >= 100) goto L151;
+	if (v143 >= 10) goto L150;
+	u64 v1675 = v142 - 1;
+	st8(at(v1063, v1675), (u8)v143 | 48);
+	v144 = v1675; goto L153;
 L150:;
-	v214 = 3; v215 = 0; v216 = (u64)(v206+8); v217 = v710 - 4; v218 = v707; v219 = 0; v220 = lu32(v206+4); v221 = 0; goto L152;
+	u64 v1676 = v142 - 2;
+	ptr v1677 = at((ptr)static_51, v143 << 1), v1678 = at(v1063, v1676);
+	u8 v1679 = ld8(v1677+1);
+	st8(v1678, ld8(v1677));
+	st8(v1678+1, v1679);
+	v144 = v1676; goto L153;
 L151:;
-	v214 = 5; v215 = 0; v216 = (u64)(v206+4); v217 = v710; v218 = v707; v219 = v709; v220 = 0; v221 = 0;
+	u16 v1680 = (u16)v143;
+	ptr v1681 = at((ptr)static_51, (u64)(u16)((u32)(v1680 % 100) << 1)), v1682 = at(v1063, v142);
+	u8 v1683 = ld8(v1681+1);
+	st8(v1682-2, ld8(v1681));
+	st8(v1682-1, v1683);
+	u16 v1684 = v1680 / 100;
+	if (v143 >= 1000) goto L152;
+	u64 v1685 = v142 - 3;
+	st8(at(v1063, v1685), (u8)v1684 | 48);
+	v144 = v1685; goto L153;
 L152:;
-	u32 v717 = (u32)v214;
-	if (v203 != 0) goto L156;
-	t_64_64 v718 = allocate(384, 8);
-	if (!(v718.f0 & 1)) goto L153;
-	copy(v448, v449, 24);
-	stp(v449, (ptr)v718.f1);
-	st64(v449+16, 8);
-	std_alloc_vec_Vec_drop_e82e(v448);
-	su32((ptr)v718.f1, v717);
-	su32((ptr)v718.f1+4, v215);
-	su16((ptr)v718.f1+8, v218);
-	su16((ptr)v718.f1+10, v219);
-	su32((ptr)v718.f1+12, v220);
-	su64((ptr)v718.f1+16, v221);
-	su64((ptr)v718.f1+24, v216);
-	su64((ptr)v718.f1+32, v217);
-	su64((ptr)v718.f1+40, 0);
-	v233 = v718.f1; v234 = 1; goto L166;
-L153:;
-	u8 v719 = (u8)v218;
-	switch (v214) {
-	case 0: goto L154;
-	case 1: case 3: case 4: case 5: goto L161;
-	case 2: goto L155;
-	default: goto L259;
-	}
-L154:;
-	if ((v719 == 0) || (v217 == 0)) goto L161;
-	goto L160;
-L155:;
-	if ((v719 == 0) || (v217 == 0)) goto L161;
-	goto L160;
-L156:;
-	if (ld64(v449+16) != v203) { v232 = v203; goto L165; }
-	u8 v720 = std_alloc_vec_Vec_grow_amortized_35f1(v449);
-	if (!v720) goto L157;
-	v232 = ld64(v449+8); goto L165;
-L157:;
-	u8 v721 = (u8)v218;
-	switch (v214) {
-	case 0: goto L158;
-	case 1: case 3: case 4: case 5: goto L161;
-	case 2: goto L159;
-	default: goto L259;
-	}
-L158:;
-	if ((v721 == 0) || (v217 == 0)) goto L161;
-	goto L160;
+	u64 v1686 = v142 - 4;
+	ptr v1687 = at((ptr)static_51, (u64)(u16)((u32)v1684 << 1)), v1688 = at(v1063, v1686);
+	u8 v1689 = ld8(v1687+1);
+	st8(v1688, ld8(v1687));
+	st8(v1688+1, v1689);
+	v144 = v1686;
+L153:
+	if (v144 == 126) { v149 = v1567; goto L160; }
+	v145 = at(v1063, v144); v146 = 126ull - v144;
+L154:
+	clear(v1045, 96);
+	u64 v1690 = ld64(v5+16), v1691 = ld64(v5+8);
+	if (v146 >= v1690 - v1691) goto L158;
+	u64 v1692 = v1691 + v146;
+	ptr v1693 = ldp(v5), v1694 = at(v1693, v1691);
+	if ((u64)v1694 - (u64)v145 >= v146) goto L156;
+	v147 = 0;
+L155:
+	st8(at(v1694, v147), ld8(at(v145, v147)));
+	u64 v1695 = v147 + 1;
+	if (v1695 == v146) goto L157;
+	v147 = v1695; goto L155;
+L156:
+	move(v1694, v145, v146);
+L157:
+	stp(v5, v1693);
+	st64(v5+8, v1692);
+	st64(v5+16, v1690);
+	v148 = v146; goto L159;
+L158:
+	std_io_buffered_BufWriter_write_cold_9d90(v1045, v5, v145, v146);
+	u64 v1696 = ld64(v1045+8);
+	if (ld8(v1045)) { v177 = v1696; v178 = v1696; v179 = ld64(v1045+16); v180 = ld64(v1045+24); v181 = ld64(v1045+32); v182 = ld64(v1045+40); v183 = ld64(v1045+48); v184 = ld64(v1045+56); v185 = ld64(v1045+64); v186 = ld64(v1045+72); v187 = ld64(v1045+80); v188 = ld64(v1045+88); v175 = 4; v176 = 1; goto L163; }
+	if (!v1696) goto M45;
+	v148 = v1696;
 L159:;
-	if ((v721 == 0) || (v217 == 0)) goto L161;
-L160:;
-	deallocate((ptr)v221);
-L161:;
-	v222 = 0; v223 = 0; v224 = 0;
-L162:;
-	std_alloc_vec_Vec_drop_e82e(v449);
-	v225 = v223; v226 = v224; v227 = v222;
-L163:;
-	v228 = v225; v229 = (u8)v226; v230 = (u8)(v226 >> 8); v231 = v227;
-L164:;
-	v381 = v231; v382 = v228; v383 = v229; v384 = v230; goto L267;
-L165:;
-	ptr v722 = ldp(v449);
-	ptr v723 = at(v722, v232 * 48);
-	su32(v723, v717);
-	su32(v723+4, v215);
-	su16(v723+8, v218);
-	su16(v723+10, v219);
-	su32(v723+12, v220);
-	su64(v723+16, v221);
-	su64(v723+24, v216);
-	su64(v723+32, v217);
-	su64(v723+40, 0);
-	v233 = (u64)v722; v234 = v232 + 1;
-L166:;
-	u8 v724 = (u8)v233;
-	u8 v725 = (u8)(v233 >> 8);
-	st64(v449+8, v234);
-	if (v713 != 0) { v202 = v724; v203 = v234; v204 = v725; v205 = v713; v206 = v712; goto L140; }
-	v235 = v234; v236 = v712; v237 = 0; v238 = v724; v239 = v725;
-L167:;
-	v240 = ld64(v449+16); v241 = v235; v242 = v236; v243 = v237; v244 = v238; v245 = v239;
-L168:;
-	copy(v450, v449+2, 6);
-	copy(v451, v450, 6);
-	copy(v452, v451, 6);
-	copy(v456, v452, 6);
-	copy(v453, v456, 6);
-	v369 = v241; v370 = v240; v371 = v244; v372 = v245; v373 = v698; v374 = (ptr)0; v375 = (u64)(v505+20); v376 = v700; v377 = v242; v378 = v243; v379 = ((u64)v695 << 16) | (u64)(v694 & 65280) | (u64)(v694 & 255); v380 = v697 | (u64)(v696 & 4294967040u) | (u64)(v696 & 255); goto L266;
-L169:;
-	if (v504 <= 3) { v381 = 3587; v382 = 0; v383 = 0; v384 = 0; goto L267; }
-	v369 = 0; v370 = 0; v371 = 0; v372 = 0; v373 = (u64)(v505+4); v374 = (ptr)(v504 - 4); v375 = 0; v376 = 0; v377 = at(v505, v504); v378 = 0; v379 = (u64)lu32(v505); v380 = 0; goto L266;
-L170:;
-	clear(v445, 48);
-	pcap_options_records_records_from_slice_7f02(v445, v505, v504);
-	u8 v726 = ld8(v445+8);
-	u8 v727 = ld8(v445+9);
-	u64 v728 = ld64(v445+16);
-	u16 v729 = ld16(v445+24);
-	u64 v730 = (u64)v729;
-	u8 v731 = (u8)v729;
-	u8 v732 = (u8)(v729 >> 8);
-	u8 v733 = ld8(v445);
-	clear(v441, 16);
-	u8 v734 = v733 == 0;
-	if (!v734) goto L171;
-	u64 v735 = (u64)ld_bytes(v445+10, 6) & 0xffffffffffffull;
-	copy(v440, v445+26, 6);
-	copy(v441, v445+32, 16);
-	v246 = v735 << 16; goto L172;
-L171:;
-	clear(v440, 6);
-	v246 = 0;
-L172:;
-	u64 v736 = (u64)v726;
-	u64 v737 = (u64)v727 << 8;
-	ptr v738 = (ptr)(v246 | v736 | v737);
-	copy(v443, v440, 6);
-	copy(v444, v441, 16);
-	if (!v734) { v287 = v737; v288 = v736; v289 = v728; v290 = v731; v291 = v732; goto L205; }
-	st16(v442, v729);
-	copy(v442+2, v443, 6);
-	copy(v442+8, v444, 16);
-	stp(v439, v421);
-	clear(v439+8, 16);
-	u64 v739 = (u64)v421;
-	u64 v740 = v739 >> 8;
-	u64 v741 = v739 >> 16;
-	if (v728 == 0) { v280 = v738; v281 = 0; v282 = 0; v283 = v741; v284 = 0; v285 = v739; v286 = v740; goto L204; }
-	v247 = v741; v248 = v739; v249 = 0; v250 = v740; v251 = v728; v252 = v738;
+	u64 v1697 = v146 - v148;
+	if (v1697) { v145 = at(v145, v148); v146 = v1697; goto L154; }
+	v149 = v1567;
+L160:
+	if (v149 < 4294967295u) { v6 = v149; goto L2; }
+	v206 = 2; v207 = v208 = v209 = v210 = v211 = v212 = v213 = v214 = v215 = v216 = v217 = v218 = 0; goto L170;
+L161:
+	st32(v1048, 0);
+	su64(v1048+4, v157);
+	v161 = ld64(v1048); v162 = v157; v163 = v158; v164 = v159; v165 = v160; v166 = v150; v167 = v151; v168 = v152; v169 = v153; v170 = v154; v171 = v155; v172 = v156; v173 = 4; v174 = 1;
+L162:
+	v175 = v173; v176 = v174; v177 = v161 >> 32; v178 = v162; v179 = v163; v180 = v164; v181 = v165; v182 = v166; v183 = v167; v184 = v168; v185 = v169; v186 = v170; v187 = v171; v188 = v172;
+L163:
+	v206 = v175; v207 = v176; v208 = (v178 & 0xffffffff00000000ull) | (v177 & 4294967295u); v209 = v179; v210 = v180; v211 = v181; v212 = v182; v213 = v183; v214 = v184; v215 = v185; v216 = v186; v217 = v187; v218 = v188; goto L170;
+L164:
+	v208 = ld64(v1060+8); v209 = ld64(v1060+16); v210 = ld64(v1060+24); v211 = ld64(v1060+32); v212 = ld64(v1060+40); v213 = ld64(v1060+48); v214 = ld64(v1060+56); v215 = ld64(v1060+64); v216 = ld64(v1060+72); v217 = ld64(v1060+80); v218 = ld64(v1060+88); v206 = 4; v207 = 1; goto L170;
+L165:
+	switch (v1068) {
+	case 0: goto L166;
+	case 1: goto L167;
+	case 5: v204 = v1068; v189 = v190 = v191 = v192 = v193 = v194 = v195 = v196 = v197 = v198 = v199 = v200 = v201 = v202 = v203 = v205 = 0; goto L169;
+	case 2: case 3: case 4: case 6: goto L168;
+	default: goto L171;
+	}
+L166:
+	v194 = 0x7470616320656874ull; v195 = 0x65646e6520657275ull; v196 = 0x2e796c7261652064ull; v197 = 0x2e2e2e2e2e2e2e2eull; v198 = 0x2e2e2e2e2e2e2e2eull; v199 = 0x2e2e2e2e2e2e2e2eull; v200 = 0x2e2e2e2e2e2e2e2eull; v201 = 0x2e2e2e2e2e2e2e2eull; v202 = 0x2e2e2e2e2e2e2e2eull; v203 = 0x2e2e2e2e2e2e2e2eull; v189 = 3; v190 = 37; v191 = 23; v192 = v193 = 0; v204 = 4; v205 = 1; goto L169;
+L167:
+	v189 = v1069; v190 = v1070; v191 = v1071; v192 = v1072; v193 = v1073; v194 = v1074; v195 = v1075; v196 = v1076; v197 = v1077; v198 = v1078; v199 = v1079; v200 = v1080; v201 = v1081; v202 = v1082; v203 = v1083; v205 = v1068; v204 = 4; goto L169;
+L168:
+	v189 = v1069; v190 = v1070; v191 = v1071; v192 = v1072; v193 = v1073; v194 = v1074; v195 = v1075; v196 = v1076; v197 = v1077; v198 = v1078; v199 = v1079; v200 = v1080; v201 = v1081; v202 = v1082; v203 = v1083; v205 = v1068; v204 = 1;
+L169:
+	v206 = v204; v207 = v205; v208 = ((u64)v193 << 32) | ((u64)v192 << 24) | ((u64)v191 << 16) | ((u64)v190 << 8) | (u64)v189; v209 = v194; v210 = v195; v211 = v196; v212 = v197; v213 = v198; v214 = v199; v215 = v200; v216 = v201; v217 = v202; v218 = v203;
+L170:
+	v928 = v208; v929 = v209; v930 = v210; v931 = v211; v932 = v212; v933 = v213; v934 = v214; v935 = v215; v936 = v216; v937 = v217; v938 = v218; v939 = v206; v940 = v207; goto L518;
+L171:
+	__builtin_trap();
+L172:
+	if ((((u64)lu32(v1065+2) << 32) | (u64)lu32(v1065)) != 0x736b636f636f6c62ull) goto M0;
+	clear(v986, 64);
+	clear(v987, 7);
+	clear(v988, 112);
+	clear(v989, 192);
+	clear(v990, 192);
+	clear(v991, 24);
+	clear(v985, 7);
+	stp(v984, v941);
+	clear(v984+8, 24);
+	clear(v982, 7);
+	clear(v983, 7);
+	v219 = v220 = v221 = 0; v222 = 12;
 L173:;
-	if (v251 < 4) { v267 = 4099; v268 = 0; v269 = 0; v270 = 0; goto L200; }
-	u16 v742 = lu16(v252);
-	u64 v743 = v251 - 4;
-	u16 v744 = lu16(v252+2);
-	if (v742 == 0) { v274 = v249; v275 = v247; v276 = v252+4; v277 = v743; v278 = v248; v279 = v250; goto L203; }
-	u64 v745 = (u64)v744;
-	u64 v746 = ((0ull - v745) & 3) + v745;
-	if (v743 < v746) { v267 = 4355; v268 = 0; v269 = 0; v270 = 0; goto L200; }
-	ptr v747 = at(v252+4, v746);
-	u64 v748 = v743 - v746;
-	switch (v742) {
-	case 1: goto L174;
-	case 2: goto L176;
-	case 3: goto L178;
-	case 4: goto L179;
-	case 2988: case 19372: goto L180;
-	case 2989: case 19373: goto L183;
-	default: v260 = v252+4; v261 = v745; v262 = v744; v263 = 6; v264 = v742; v265 = 0; v266 = 0; goto L186;
-	}
+	u64 v1698 = v222 < 65536 ? v222 : 65536, v1699 = v1698 + v221;
+	if (v220 >= v1699) goto L176;
+	u64 v1700 = v1699 - v220;
+	if (v1700 <= v219 - v220) { v223 = v219; v224 = v220; goto L174; }
+	u8 v1701 = std_alloc_vec_Vec_grow_amortized_56a3(v984, v1700);
+	if (!v1701) { v548 = (ptr)0; v552 = (ptr)0; v549 = v550 = v551 = v553 = v554 = v555 = v556 = v557 = v558 = 0; v559 = 5; goto L389; }
+	v223 = ld64(v984+16); v224 = ld64(v984+8);
 L174:;
-	clear(v437, 24);
-	core_str_utf8_from_utf8(v437, v252+4, v745);
-	u64 v749 = ld64(v437+8);
-	if (ld8(v437) != 0) goto L175;
-	v260 = (ptr)ld64(v437+16); v261 = 0; v262 = 0; v263 = 0; v264 = 0; v265 = 0; v266 = v749; goto L186;
-L175:;
-	v256 = 2; v257 = v749; v258 = v749 & 0xffffffff00000000ull; v259 = (u64)ld16(v437+16); goto L184;
-L176:;
-	clear(v436, 24);
-	core_str_utf8_from_utf8(v436, v252+4, v745);
-	u64 v750 = ld64(v436+8);
-	if (ld8(v436) != 0) goto L177;
-	v260 = (ptr)ld64(v436+16); v261 = 0; v262 = 0; v263 = 1; v264 = 0; v265 = 0; v266 = v750; goto L186;
-L177:;
-	v256 = 2; v257 = v750; v258 = v750 & 0xffffffff00000000ull; v259 = (u64)ld16(v436+16); goto L184;
+	u64 v1702 = v224 + v1700;
+	ptr v1703 = ldp(v984);
+	if (v224 >= v1702) goto L175;
+	clear(at(v1703, v224), v1700);
+L175:
+	st64(v984+8, v1702);
+	st64(v984+16, v223);
+	v225 = v223; v226 = v1702; v227 = ld64(v984+24); v228 = v1703; goto L177;
+L176:
+	v225 = v219; v226 = v220; v227 = v221; v228 = ldp(v984);
+L177:
+	clear(v980, 96);
+	std_io_buffered_BufReaderRead_read_e988(v980, v4, at(v228, v227), v1698);
+	u64 v1704 = ld64(v980+8);
+	if (ld8(v980)) { v548 = ldp(v980+64); v549 = ld64(v980+72); v550 = ld64(v980+80); v551 = ld64(v980+88); v552 = ldp(v980+40); v553 = ld64(v980+48); v554 = ld64(v980+56); v555 = ld64(v980+16); v556 = ld64(v980+24); v557 = ld64(v980+32); v558 = v1704; v559 = 1; goto L389; }
+	u64 v1705 = v1704 + v227;
+	st64(v984+24, v1705);
+	if (v1704) goto L178;
+	if (!v1705) { v589 = v225; v596 = 0x6572747320656874ull; v597 = 0x6465646e65206d61ull; v598 = 0x2e2e796c72616520ull; v599 = (ptr)0x2e2e2e2e2e2e2e2eull; v600 = 0x2e2e2e2e2e2e2e2eull; v601 = 0x2e2e2e2e2e2e2e2eull; v602 = (ptr)0x2e2e2e2e2e2e2e2eull; v603 = 0x2e2e2e2e2e2e2e2eull; v604 = 0x2e2e2e2e2e2e2e2eull; v605 = 0x2e2e2e2e2e2e2e2eull; v590 = 1; v591 = 3; v592 = 37; v593 = 22; v594 = v595 = 0; goto L392; }
+	v560 = (ptr)0x2e2e2e2e2e2e2e2eull; v561 = 0x2e2e2e2e2e2e2e2eull; v562 = 0x2e2e2e2e2e2e2e2eull; v563 = 0x2e2e2e2e2e2e2e2eull; v564 = (ptr)0x2e2e2e2e2e2e2e2eull; v565 = 0x2e2e2e2e2e2e2e2eull; v566 = 0x2e2e2e2e2e2e2e2eull; v571 = 0x6572747320656874ull; v572 = 0x6465646e65206d61ull; v573 = 0x2e2e796c72616520ull; v567 = 37; v568 = 22; v569 = v570 = 0; v574 = 3; v575 = 1; goto L390;
 L178:;
-	if (v744 == 4) { v260 = (ptr)4ull; v261 = 0; v262 = 0; v263 = 2; v264 = 0; v265 = 0; v266 = (u64)(v252+4); goto L186; }
-	v256 = 7939; v257 = 0; v258 = 0; v259 = 0; goto L184;
-L179:;
-	if (v744 == 16) { v260 = (ptr)16ull; v261 = 0; v262 = 0; v263 = 3; v264 = 0; v265 = 0; v266 = (u64)(v252+4); goto L186; }
-	v256 = 8195; v257 = 0; v258 = 0; v259 = 0; goto L184;
-L180:;
-	if (v744 < 4) { v253 = 0; v254 = 0; v255 = 1; goto L182; }
-	u32 v751 = lu32(v252+4);
-	clear(v435, 24);
-	core_str_utf8_from_utf8(v435, v252+8, v745 - 4);
-	u64 v752 = ld64(v435+8);
-	if (ld8(v435) != 0) goto L181;
-	v260 = (ptr)v752; v261 = ld64(v435+16); v262 = 0; v263 = 5; v264 = v742; v265 = v751; v266 = 0; goto L186;
-L181:;
-	v253 = (u64)ld16(v435+16); v254 = v752; v255 = 2;
-L182:;
-	v256 = v255; v257 = v254; v258 = v254 & 0xffffffff00000000ull; v259 = v253; goto L184;
+	u64 v1706 = v222 - v1704;
+	if (v1706) { v219 = v225; v220 = v226; v221 = v1705; v222 = v1706; goto L173; }
+	ptr v1707 = ldp(v984);
+	u32 v1708 = lu32(v1707), v1709 = (u32)__builtin_bswap32(v1708);
+	if (v1708 != 168627466) goto L181;
+	switch ((u32)__builtin_bswap32(lu32(v1707+8))) {
+	case 439041101: goto L179;
+	case 1295788826: goto L180;
+	default: v546 = (ptr)static_15; v547 = 40; goto L388;
+	}
+L179:
+	v231 = (u32)__builtin_bswap32(lu32(v1707+4)); v229 = 1; v230 = 0; goto L182;
+L180:
+	v231 = lu32(v1707+4); v229 = 0; v230 = 1; goto L182;
+L181:
+	v231 = (u32)__builtin_bswap32(lu32(v1707+4)); v229 = 1; v230 = 0;
+L182:
+	if (v231 & 3) { v546 = (ptr)static_16; v547 = 29; goto L388; }
+	if (v231 < 12) { v546 = (ptr)static_17; v547 = 23; goto L388; }
+	u64 v1710 = (u64)v231, v1711 = v1710 - 12;
+	if (!v1711) { v242 = v225; goto L189; }
+	v232 = v225; v233 = v226; v234 = v1705; v235 = v1711;
 L183:;
-	if (v744 >= 4) goto L185;
-	v256 = 1; v257 = 0; v258 = 0; v259 = 0;
+	u64 v1712 = v235 < 65536 ? v235 : 65536, v1713 = v1712 + v234;
+	if (v233 >= v1713) goto L186;
+	u64 v1714 = v1713 - v233;
+	if (v1714 <= v232 - v233) { v236 = v232; v237 = v233; goto L184; }
+	u8 v1715 = std_alloc_vec_Vec_grow_amortized_56a3(v984, v1714);
+	if (!v1715) { v534 = (ptr)0; v543 = (ptr)0; v535 = v536 = v537 = v538 = v539 = v540 = v541 = v542 = v544 = 0; v545 = 5; goto L387; }
+	v236 = ld64(v984+16); v237 = ld64(v984+8);
 L184:;
-	v267 = v256; v268 = (v257 & 4294967295u) | v258; v269 = (u8)v259; v270 = (u8)(v259 >> 8); goto L200;
-L185:;
-	v260 = v252+8; v261 = v745 - 4; v262 = 0; v263 = 4; v264 = v742; v265 = lu32(v252+4); v266 = 0;
-L186:;
-	u64 v753 = (u64)v260;
-	u64 v754 = (u64)v263;
-	if (v249 != 0) goto L192;
-	t_64_64 v755 = allocate(384, 8);
-	if (!(v755.f0 & 1)) goto L187;
-	copy(v438, v439, 24);
-	stp(v439, (ptr)v755.f1);
-	st64(v439+16, 8);
-	std_alloc_vec_Vec_drop_0f0e(v438);
-	su64((ptr)v755.f1, v754);
-	su16((ptr)v755.f1+8, v264);
-	su16((ptr)v755.f1+10, v262);
-	su32((ptr)v755.f1+12, v265);
-	su64((ptr)v755.f1+16, v266);
-	su64((ptr)v755.f1+24, v753);
-	su64((ptr)v755.f1+32, v261);
-	su64((ptr)v755.f1+40, 0);
-	v272 = v755.f1; v273 = 1; goto L202;
-L187:;
-	u8 v756 = (u8)v264;
-	switch (v263) {
-	case 0: goto L188;
-	case 1: goto L189;
-	case 2: goto L190;
-	case 3: goto L191;
-	case 4: case 5: case 6: goto L199;
-	default: goto L259;
-	}
+	u64 v1716 = v237 + v1714;
+	ptr v1717 = ldp(v984);
+	if (v237 >= v1716) goto L185;
+	clear(at(v1717, v237), v1714);
+L185:
+	st64(v984+8, v1716);
+	st64(v984+16, v236);
+	v238 = v236; v239 = v1716; v240 = ld64(v984+24); v241 = v1717; goto L187;
+L186:
+	v238 = v232; v239 = v233; v240 = v234; v241 = ldp(v984);
+L187:
+	clear(v981, 96);
+	std_io_buffered_BufReaderRead_read_e988(v981, v4, at(v241, v240), v1712);
+	u64 v1718 = ld64(v981+8);
+	if (ld8(v981)) { v534 = ldp(v981+40); v535 = ld64(v981+48); v536 = ld64(v981+56); v537 = ld64(v981+16); v538 = ld64(v981+24); v539 = ld64(v981+32); v540 = ld64(v981+88); v541 = ld64(v981+80); v542 = ld64(v981+72); v543 = ldp(v981+64); v544 = v1718; v545 = 1; goto L387; }
+	u64 v1719 = v1718 + v240;
+	st64(v984+24, v1719);
+	if (v1718) goto L188;
+	if (!v1719) { v242 = v238; goto L189; }
+	v576 = (ptr)0x2e2e2e2e2e2e2e2eull; v577 = 0x2e2e2e2e2e2e2e2eull; v578 = 0x2e2e2e2e2e2e2e2eull; v579 = 0x2e2e2e2e2e2e2e2eull; v580 = (ptr)0x2e2e2e2e2e2e2e2eull; v581 = 0x2e2e2e2e2e2e2e2eull; v582 = 0x2e2e2e2e2e2e2e2eull; v584 = 0x6572747320656874ull; v585 = 0x6465646e65206d61ull; v586 = 0x2e2e796c72616520ull; v587 = 1451267; v583 = 0; v588 = 1; goto L391;
 L188:;
-	if ((v756 == 0) || (v261 == 0)) goto L199;
-	goto L198;
+	u64 v1720 = v235 - v1718;
+	if (v1720) { v232 = v238; v233 = v239; v234 = v1719; v235 = v1720; goto L183; }
+	v242 = v238;
 L189:;
-	if ((v756 == 0) || (v261 == 0)) goto L199;
-	goto L198;
-L190:;
-	if ((v756 == 0) || (v261 == 0)) goto L199;
-	goto L198;
-L191:;
-	if ((v756 == 0) || (v261 == 0)) goto L199;
-	goto L198;
-L192:;
-	if (ld64(v439+16) != v249) { v271 = v249; goto L201; }
-	u8 v757 = std_alloc_vec_Vec_grow_amortized_35f1(v439);
-	if (!v757) goto L193;
-	v271 = ld64(v439+8); goto L201;
-L193:;
-	u8 v758 = (u8)v264;
-	switch (v263) {
-	case 0: goto L194;
-	case 1: goto L195;
-	case 2: goto L196;
-	case 3: goto L197;
-	case 4: case 5: case 6: goto L199;
-	default: goto L259;
+	ptr v1721 = ldp(v984);
+	clear(v978, 7);
+	u32 v1722 = lu32(at(v1721+8, v1711));
+	if ((v229 ? (u32)__builtin_bswap32(v1722) : v1722) != v231) goto L273;
+	switch (v1709) {
+	case 168627466: v243 = v244 = 0; goto L198;
+	case 1: goto L190;
+	case 2: goto L191;
+	case 3: goto L192;
+	case 4: goto L193;
+	case 5: goto L194;
+	case 6: goto L195;
+	case 9: goto L196;
+	default: goto L197;
 	}
-L194:;
-	if ((v758 == 0) || (v261 == 0)) goto L199;
-	goto L198;
-L195:;
-	if ((v758 == 0) || (v261 == 0)) goto L199;
-	goto L198;
-L196:;
-	if ((v758 == 0) || (v261 == 0)) goto L199;
-	goto L198;
-L197:;
-	if ((v758 == 0) || (v261 == 0)) goto L199;
-L198:;
-	deallocate((ptr)v266);
+L190:
+	v243 = 1; v244 = 0; goto L198;
+L191:
+	v243 = 2; v244 = 0; goto L198;
+L192:
+	v243 = 3; v244 = 0; goto L198;
+L193:
+	v243 = 4; v244 = 0; goto L198;
+L194:
+	v243 = 5; v244 = 0; goto L198;
+L195:
+	v243 = 6; v244 = 0; goto L198;
+L196:
+	v243 = 7; v244 = 0; goto L198;
+L197:
+	v244 = v1709; v243 = 8;
+L198:
+	st8(v979, v243);
+	st_bytes(v979+1, 0, 3);
+	st32(v979+4, v244);
+	stp(v979+8, (ptr)v1710);
+	st64(v979+16, 0);
+	stp(v979+24, v1721+8);
+	st64(v979+32, v1711);
+	st64(v979+40, 0);
+	st32(v979+48, v231);
+	st8(v979+52, v230);
+	st_bytes(v979+53, 0, 3);
+	clear(v976, 104);
+	clear(v974, 104);
+	pcap_ng_pcapng_block_Block_parsed(v974, v979);
+	u8 v1723 = ld8(v974+8);
+	u64 v1724 = ld64(v974+48), v1725 = ld64(v974+56), v1726 = ld64(v974+64);
+	ptr v1727 = ldp(v974+72);
+	u64 v1728 = ld64(v974+80), v1729 = ld64(v974+88);
+	if (ld8(v974)) goto L270;
+	u64 v1730 = ld64(v974+16), v1731 = ld64(v974+24), v1732 = ld64(v974+32), v1733 = ld64(v974+40);
+	u8 v1734 = (u8)v1733;
+	if (v1723) goto L200;
+	st64(v977, v1730);
+	st64(v977+8, v1731);
+	st64(v977+16, v1732);
+	st64(v977+24, v1733);
+	st64(v977+32, v1724);
+	pcap_blocks_section_header_SectionHeaderBlock_into_owned(v976, v977);
+	u8 v1735 = ld8(v976+8);
+	if (ld8(v976)) goto L199;
+	u64 v1736 = (u64)ld_bytes(v976+17, 7) & 0xffffffffffffffull;
+	u8 v1737 = ld8(v976+16), v1738 = ld8(v976+24);
+	u64 v1739 = (u64)ld_bytes(v976+25, 7) & 0xffffffffffffffull;
+	u8 v1740 = ld8(v976+32);
+	u64 v1741 = (u64)ld_bytes(v976+33, 7) & 0xffffffffffffffull, v1742 = ld64(v976+40);
+	copy(v978, v976+9, 7);
+	copy(v983, v978, 7);
+	copy(v973, v983, 7);
+	v296 = v941; v297 = v1742; v298 = v1741; v299 = v1740; v300 = v1739; v301 = v1738; v302 = (u8)v1736; v303 = (u8)(v1736 >> 8); v304 = (u8)(v1736 >> 16); v305 = (u32)(v1736 >> 24); v306 = v1737; v307 = v1735; v308 = (ptr)0; v293 = 1; v294 = v295 = v309 = v310 = v311 = 0; goto L274;
 L199:;
-	v267 = 0; v268 = 0; v269 = 0; v270 = 0;
+	u64 v1743 = (u64)ld_bytes(v976+17, 7) & 0xffffffffffffffull;
+	v275 = v1735; v276 = ld8(v976+16); v277 = (u8)v1743; v278 = (u8)(v1743 >> 8); v279 = (u8)(v1743 >> 16); v280 = (u32)(v1743 >> 24); v281 = ld8(v976+24); v282 = (u64)ld_bytes(v976+25, 7) & 0xffffffffffffffull; v283 = ld8(v976+32); v284 = (u64)ld_bytes(v976+33, 7) & 0xffffffffffffffull; v285 = ld64(v976+40); v286 = ldp(v976+48); v287 = ld64(v976+56); v288 = ld64(v976+64); v289 = ldp(v976+72); v290 = ld64(v976+80); v291 = ld64(v976+88); v292 = ld64(v976+96); goto L272;
 L200:;
-	std_alloc_vec_Vec_drop_0f0e(v439);
-	std_alloc_vec_Vec_drop_fe8c(v442);
-	v287 = (u64)(v267 & 65280); v288 = (u64)(v267 & 255); v289 = v268; v290 = v269; v291 = v270; goto L205;
-L201:;
-	ptr v759 = ldp(v439);
-	ptr v760 = at(v759, v271 * 48);
-	su64(v760, v754);
-	su16(v760+8, v264);
-	su16(v760+10, v262);
-	su32(v760+12, v265);
-	su64(v760+16, v266);
-	su64(v760+24, v753);
-	su64(v760+32, v261);
-	su64(v760+40, 0);
-	v272 = (u64)v759; v273 = v271 + 1;
-L202:;
-	u64 v761 = v272 >> 16;
-	u64 v762 = v272 >> 8;
-	st64(v439+8, v273);
-	if (v748 != 0) { v247 = v761; v248 = v272; v249 = v273; v250 = v762; v251 = v748; v252 = v747; goto L173; }
-	v274 = v273; v275 = v761; v276 = v747; v277 = 0; v278 = v272; v279 = v762;
-L203:;
-	v280 = v276; v281 = ld64(v439+16); v282 = v274; v283 = v275; v284 = v277; v285 = v278; v286 = v279;
+	u64 v1744 = (u64)(ptr)static_19 >> 8;
+	switch (v1723) {
+	case 1: goto L201;
+	case 2: goto L202;
+	case 3: goto L214;
+	case 4: goto L215;
+	case 5: goto L245;
+	case 6: goto L255;
+	case 7: goto L267;
+	case 8: goto L268;
+	default: goto L269;
+	}
+L201:
+	st64(v975, v1732);
+	st64(v975+8, v1733);
+	st64(v975+16, v1724);
+	std_alloc_vec_Vec_drop_37c7(v975);
+	v258 = (u64)(ptr)static_19; v259 = (u8)v1744; v260 = (u8)((u64)(ptr)static_19 >> 16); v261 = (u8)((u64)(ptr)static_19 >> 24); v262 = (u32)((u64)(ptr)static_19 >> 32); v268 = (ptr)0; v271 = (ptr)0; v257 = 2; v263 = 21; v264 = v265 = v266 = v267 = v269 = v270 = v272 = v273 = v274 = 0; goto L271;
+L202:
+	if (v1734 != 1 || !v1726) goto L203;
+	deallocate((ptr)v1724);
+L203:
+	if (!v1728) goto L212;
+	v245 = 0;
 L204:;
-	u64 v763 = ld64(v442+8);
-	u64 v764 = ld64(v442+16);
-	u64 v765 = (((u64)ld_bytes(v442+2, 6) & 0xffffffffffffull) << 16) | v730;
-	copy(v453, v457, 6);
-	v369 = 0; v370 = 0; v371 = 0; v372 = 0; v373 = v764; v374 = (ptr)((v285 & 255) | ((v286 << 8) & 65280) | (v283 << 16)); v375 = v282; v376 = v281; v377 = v280; v378 = v284; v379 = v765; v380 = v763; goto L266;
-L205:;
-	v381 = v288 | v287; v382 = v289; v383 = v290; v384 = v291; goto L267;
-L206:;
-	if (v504 < 12) { v381 = 3843; v382 = 0; v383 = 0; v384 = 0; goto L267; }
-	u32 v766 = lu32(v505);
-	u64 v767 = v504 - 12;
-	u64 v768 = ((u64)lu32(v505+4) << 32) | (u64)lu32(v505+8);
-	stp(v434, v421);
-	clear(v434+8, 16);
-	u64 v769 = (u64)v421;
-	u64 v770 = v769 >> 8;
-	u64 v771 = v769 >> 16;
-	if (v767 == 0) { v322 = 0; v323 = (ptr)0; v324 = v771; v325 = v505+12; v326 = 0; v327 = v769; v328 = v770; goto L232; }
-	v292 = (ptr)0; v293 = v771; v294 = v769; v295 = 0; v296 = v770; v297 = v767; v298 = v505+12;
-L207:;
-	if (v297 < 4) { v310 = 4099; v311 = 0; v312 = 0; goto L228; }
-	u16 v772 = lu16(v298);
-	u64 v773 = v297 - 4;
-	u16 v774 = lu16(v298+2);
-	if (v772 == 0) { v316 = v292; v317 = v293; v318 = v298+4; v319 = v773; v320 = v294; v321 = v296; goto L231; }
-	u64 v775 = (u64)v774;
-	u64 v776 = ((0ull - v775) & 3) + v775;
-	if (v773 < v776) { v310 = 4355; v311 = 0; v312 = 0; goto L228; }
-	ptr v777 = at(v298+4, v776);
-	u64 v778 = v773 - v776;
-	switch (v772) {
-	case 1: goto L208;
-	case 2: goto L210;
-	case 3: goto L211;
-	case 4: goto L212;
-	case 5: goto L213;
-	case 6: goto L214;
-	case 7: goto L215;
-	case 8: goto L216;
-	case 2988: case 19372: goto L217;
-	case 2989: case 19373: goto L219;
-	default: v302 = v298+4; v303 = v775; v304 = 0; v305 = 0; v306 = v774; v307 = v772; v308 = 0; v309 = 10; goto L222;
+	ptr v1745 = at(v1727, v245 * 48);
+	u64 v1746 = lu64(v1745+16), v1747 = lu64(v1745+24), v1748 = lu64(v1745+32), v1749 = lu64(v1745+40);
+	u8 v1750 = (u8)lu16(v1745+8), v1751 = (u8)v1746;
+	switch (ld8(v1745)) {
+	case 0: goto L205;
+	case 1: goto L211;
+	case 2: goto L206;
+	case 3: goto L207;
+	case 4: goto L208;
+	case 5: goto L209;
+	default: goto L213;
 	}
-L208:;
-	clear(v432, 24);
-	core_str_utf8_from_utf8(v432, v298+4, v775);
-	u64 v779 = ld64(v432+8);
-	if (ld8(v432) != 0) goto L209;
-	v302 = (ptr)ld64(v432+16); v303 = 0; v304 = 0; v305 = v779; v306 = 0; v307 = 0; v308 = 1; v309 = 0; goto L222;
-L209:;
-	v299 = 2; v300 = v779; v301 = ld16(v432+16); goto L220;
-L210:;
-	if (v774 < 8) { v299 = 1; v300 = 0; v301 = 0; goto L220; }
-	u32 v780 = lu32(v298+8);
-	v302 = (ptr)0; v303 = 0; v304 = lu32(v298+4); v305 = 0; v306 = (u16)(v780 >> 16); v307 = (u16)v780; v308 = 0; v309 = 1; goto L222;
+L205:
+	if (!v1750 || !v1748) goto L211;
+	v246 = v1746; goto L210;
+L206:
+	if (!v1750 || !v1748) goto L211;
+	v246 = v1746; goto L210;
+L207:
+	if (!v1751 || !v1749) goto L211;
+	v246 = v1747; goto L210;
+L208:
+	if (!v1751 || !v1749) goto L211;
+	v246 = v1747; goto L210;
+L209:
+	if (!v1751 || !v1749) goto L211;
+	v246 = v1747;
+L210:
+	deallocate((ptr)v246);
 L211:;
-	if (v774 < 8) { v299 = 1; v300 = 0; v301 = 0; goto L220; }
-	u32 v781 = lu32(v298+8);
-	v302 = (ptr)0; v303 = 0; v304 = lu32(v298+4); v305 = 0; v306 = (u16)(v781 >> 16); v307 = (u16)v781; v308 = 0; v309 = 2; goto L222;
+	u64 v1752 = v245 + 1;
+	if (v1752 != v1728) { v245 = v1752; goto L204; }
 L212:;
-	if (v774 < 8) { v299 = 1; v300 = 0; v301 = 0; goto L220; }
-	u64 v782 = lu64(v298+4);
-	v302 = (ptr)0; v303 = 0; v304 = (u32)(v782 >> 32); v305 = 0; v306 = (u16)(v782 >> 16); v307 = (u16)v782; v308 = 0; v309 = 3; goto L222;
-L213:;
-	if (v774 < 8) { v299 = 1; v300 = 0; v301 = 0; goto L220; }
-	u64 v783 = lu64(v298+4);
-	v302 = (ptr)0; v303 = 0; v304 = (u32)(v783 >> 32); v305 = 0; v306 = (u16)(v783 >> 16); v307 = (u16)v783; v308 = 0; v309 = 4; goto L222;
+	u8 v1753 = (u8)v1744, v1754 = (u8)((u64)(ptr)static_19 >> 16);
+	u8 v1755 = (u8)((u64)(ptr)static_19 >> 24);
+	u32 v1756 = (u32)((u64)(ptr)static_19 >> 32);
+	if (!v1729) { M99: v258 = (u64)(ptr)static_19; v259 = v1753; v260 = v1754; v261 = v1755; v262 = v1756; v268 = (ptr)0; v271 = (ptr)0; v257 = 2; v263 = 21; v264 = v265 = v266 = v267 = v269 = v270 = v272 = v273 = v274 = 0; goto L271; }
+	deallocate(v1727);
+	goto M99;
+L213:
+	__builtin_trap();
 L214:;
-	if (v774 < 8) { v299 = 1; v300 = 0; v301 = 0; goto L220; }
-	u64 v784 = lu64(v298+4);
-	v302 = (ptr)0; v303 = 0; v304 = (u32)(v784 >> 32); v305 = 0; v306 = (u16)(v784 >> 16); v307 = (u16)v784; v308 = 0; v309 = 5; goto L222;
-L215:;
-	if (v774 < 8) { v299 = 1; v300 = 0; v301 = 0; goto L220; }
-	u64 v785 = lu64(v298+4);
-	v302 = (ptr)0; v303 = 0; v304 = (u32)(v785 >> 32); v305 = 0; v306 = (u16)(v785 >> 16); v307 = (u16)v785; v308 = 0; v309 = 6; goto L222;
+	u8 v1757 = (u8)v1744, v1758 = (u8)((u64)(ptr)static_19 >> 16);
+	u8 v1759 = (u8)((u64)(ptr)static_19 >> 24);
+	u32 v1760 = (u32)((u64)(ptr)static_19 >> 32);
+	if ((v1731 & 255) != 1 || !v1724) { M100: v258 = (u64)(ptr)static_19; v259 = v1757; v260 = v1758; v261 = v1759; v262 = v1760; v268 = (ptr)0; v271 = (ptr)0; v257 = 2; v263 = 21; v264 = v265 = v266 = v267 = v269 = v270 = v272 = v273 = v274 = 0; goto L271; }
+	deallocate((ptr)v1732);
+	goto M100;
+L215:
+	if (!v1731) goto L230;
+	v247 = 0;
 L216:;
-	if (v774 < 8) { v299 = 1; v300 = 0; v301 = 0; goto L220; }
-	u64 v786 = lu64(v298+4);
-	v302 = (ptr)0; v303 = 0; v304 = (u32)(v786 >> 32); v305 = 0; v306 = (u16)(v786 >> 16); v307 = (u16)v786; v308 = 0; v309 = 7; goto L222;
-L217:;
-	if (v774 < 4) { v299 = 1; v300 = 0; v301 = 0; goto L220; }
-	u32 v787 = lu32(v298+4);
-	clear(v431, 24);
-	core_str_utf8_from_utf8(v431, v298+8, v775 - 4);
-	u64 v788 = ld64(v431+8);
-	if (ld8(v431) != 0) goto L218;
-	v302 = (ptr)v788; v303 = ld64(v431+16); v304 = v787; v305 = 0; v306 = 0; v307 = v772; v308 = 0; v309 = 9; goto L222;
-L218:;
-	v299 = 2; v300 = v788; v301 = ld16(v431+16); goto L220;
+	ptr v1761 = at((ptr)v1730, v247 << 6);
+	u64 v1762 = lu64(v1761+16), v1763 = lu64(v1761+24), v1764 = lu64(v1761+32), v1765 = lu64(v1761+40);
+	u64 v1766 = lu64(v1761+48), v1767 = lu64(v1761+56);
+	u8 v1768 = (u8)lu16(v1761+8);
+	switch (ld8(v1761)) {
+	case 0: goto L229;
+	case 1: goto L217;
+	case 2: goto L222;
+	case 3: goto L227;
+	default: goto L244;
+	}
+L217:
+	if (!v1768 || !v1764) goto L218;
+	deallocate((ptr)v1762);
+L218:
+	if (!v1766) goto L221;
+	v248 = 0;
 L219:;
-	if (v774 >= 4) goto L221;
-	v299 = 1; v300 = 0; v301 = 0;
+	ptr v1769 = at((ptr)v1765, v248 << 5);
+	if (!ld8(v1769) || !lu64(v1769+24)) goto L220;
+	deallocate(lup(v1769+8));
 L220:;
-	v310 = v299; v311 = v300; v312 = (u32)v301; goto L228;
-L221:;
-	v302 = v298+8; v303 = v775 - 4; v304 = lu32(v298+4); v305 = 0; v306 = 0; v307 = v772; v308 = 0; v309 = 8;
-L222:;
-	u64 v789 = (u64)v307;
-	u64 v790 = ((u64)v306 << 16) | ((u64)v304 << 32) | v789;
-	u64 v791 = (u64)v302;
-	if (v295 != 0) goto L224;
-	t_64_64 v792 = allocate(384, 8);
-	if (!(v792.f0 & 1)) goto L223;
-	copy(v433, v434, 24);
-	stp(v434, (ptr)v792.f1);
-	st64(v434+16, 8);
-	std_alloc_vec_Vec_drop_15c9(v433);
-	su64((ptr)v792.f1, v309);
-	su64((ptr)v792.f1+8, v790);
-	su64((ptr)v792.f1+16, v305);
-	su64((ptr)v792.f1+24, v791);
-	su64((ptr)v792.f1+32, v303);
-	su64((ptr)v792.f1+40, 0);
-	v314 = v792.f1; v315 = 1; goto L230;
-L223:;
-	if (!v308) goto L227;
-	if (((v789 & 255) == 0) || (v303 == 0)) goto L227;
-	goto L226;
+	u64 v1770 = v248 + 1;
+	if (v1770 != v1766) { v248 = v1770; goto L219; }
+L221:
+	if (!v1767) goto L229;
+	v250 = (ptr)v1765; goto L228;
+L222:
+	if (!v1768 || !v1764) goto L223;
+	deallocate((ptr)v1762);
+L223:
+	if (!v1766) goto L226;
+	v249 = 0;
 L224:;
-	if (ld64(v434+16) != v295) { v313 = v295; goto L229; }
-	u8 v793 = std_alloc_vec_Vec_grow_amortized_35f1(v434);
-	if (!v793) goto L225;
-	v313 = ld64(v434+8); goto L229;
+	ptr v1771 = at((ptr)v1765, v249 << 5);
+	if (!ld8(v1771) || !lu64(v1771+24)) goto L225;
+	deallocate(lup(v1771+8));
 L225:;
-	if (!v308) goto L227;
-	if (((v789 & 255) == 0) || (v303 == 0)) goto L227;
-L226:;
-	deallocate((ptr)v305);
-L227:;
-	v310 = 0; v311 = 0; v312 = 0;
-L228:;
-	std_alloc_vec_Vec_drop_15c9(v434);
-	v381 = v310; v382 = v311; v383 = (u8)v312; v384 = (u8)(v312 >> 8); goto L267;
+	u64 v1772 = v249 + 1;
+	if (v1772 != v1766) { v249 = v1772; goto L224; }
+L226:
+	if (!v1767) goto L229;
+	v250 = (ptr)v1765; goto L228;
+L227:
+	if (!(v1762 & 255) || !v1765) goto L229;
+	v250 = (ptr)v1763;
+L228:
+	deallocate(v250);
 L229:;
-	ptr v794 = ldp(v434);
-	ptr v795 = at(v794, v313 * 48);
-	su64(v795, v309);
-	su64(v795+8, v790);
-	su64(v795+16, v305);
-	su64(v795+24, v791);
-	su64(v795+32, v303);
-	su64(v795+40, 0);
-	v314 = (u64)v794; v315 = v313 + 1;
-L230:;
-	u64 v796 = v314 >> 16;
-	u64 v797 = v314 >> 8;
-	st64(v434+8, v315);
-	if (v778 != 0) { v292 = (ptr)v315; v293 = v796; v294 = v314; v295 = v315; v296 = v797; v297 = v778; v298 = v777; goto L207; }
-	v316 = (ptr)v315; v317 = v796; v318 = v777; v319 = 0; v320 = v314; v321 = v797;
-L231:;
-	v322 = ld64(v434+16); v323 = v316; v324 = v317; v325 = v318; v326 = v319; v327 = v320; v328 = v321;
+	u64 v1773 = v247 + 1;
+	if (v1773 != v1731) { v247 = v1773; goto L216; }
+L230:
+	if (!v1732) goto L231;
+	deallocate((ptr)v1730);
+L231:
+	if (!v1724) goto L242;
+	v251 = 0;
 L232:;
-	copy(v453, v458, 6);
-	v369 = 0; v370 = 0; v371 = 0; v372 = 0; v373 = ((v328 << 8) & 65280) | (v324 << 16) | (v327 & 255); v374 = v323; v375 = v322; v376 = 0; v377 = v325; v378 = v326; v379 = (u64)v766; v380 = v768; goto L266;
-L233:;
-	clear(v430, 6);
-	if (v504 < 20) { v351 = 0; v352 = 0; v353 = 0; v354 = 3075; goto L258; }
-	u32 v798 = lu32(v505);
-	clear(v429, 6);
-	u32 v799 = lu32(v505+8);
-	u64 v800 = (u64)lu32(v505+4) << 32;
-	u64 v801 = lu64(v505+12);
-	u64 v802 = v504 - 20;
-	u64 v803 = v801 & 4294967295u;
-	u64 v804 = ((0ull - v801) & 3) + v803;
-	if (v802 < v804) { v348 = 0; v349 = 0; v350 = 3331; goto L257; }
-	ptr v805 = at(v505+20, v804);
-	u64 v806 = v802 - v804;
-	clear(v428, 6);
-	stp(v427, v421);
-	clear(v427+8, 16);
-	u64 v807 = (u64)v421;
-	u8 v808 = (u8)(v807 >> 8);
-	u8 v809 = (u8)v807;
-	if (v806 == 0) { v363 = 0; v364 = 0; v365 = v805; v366 = 0; v367 = v809; v368 = v808; goto L263; }
-	v329 = v809; v330 = 0; v331 = v808; v332 = v806; v333 = v805;
-L234:;
-	if (v332 < 4) { v345 = 4099; v346 = 0; v347 = 0; goto L256; }
-	u16 v810 = lu16(v333);
-	u64 v811 = v332 - 4;
-	u16 v812 = lu16(v333+2);
-	if (v810 == 0) { v358 = v330; v359 = v333+4; v360 = v811; v361 = v329; v362 = v331; goto L262; }
-	u64 v813 = (u64)v812;
-	u64 v814 = ((0ull - v813) & 3) + v813;
-	if (v811 < v814) { v345 = 4355; v346 = 0; v347 = 0; goto L256; }
-	ptr v815 = at(v333+4, v814);
-	u64 v816 = v811 - v814;
-	switch (v810) {
-	case 1: goto L235;
-	case 2: goto L237;
-	case 3: goto L238;
-	case 4: goto L239;
-	case 2988: case 19372: goto L240;
-	case 2989: case 19373: goto L242;
-	default: goto L245;
+	ptr v1774 = at((ptr)v1733, v251 * 48);
+	u64 v1775 = lu64(v1774+16), v1776 = lu64(v1774+24), v1777 = lu64(v1774+32), v1778 = lu64(v1774+40);
+	u8 v1779 = (u8)lu16(v1774+8), v1780 = (u8)v1775;
+	switch (ld8(v1774)) {
+	case 0: goto L233;
+	case 1: goto L234;
+	case 2: goto L235;
+	case 3: goto L236;
+	case 4: goto L237;
+	case 5: goto L238;
+	case 6: goto L239;
+	default: goto L243;
 	}
-L235:;
-	clear(v425, 24);
-	core_str_utf8_from_utf8(v425, v333+4, v813);
-	u64 v817 = ld64(v425+8);
-	if (ld8(v425) != 0) goto L236;
-	v337 = 0; v338 = 0; v339 = 0; v340 = 0; v341 = 0; v342 = ld64(v425+16); v343 = 0; v344 = v817; goto L246;
-L236:;
-	v334 = 2; v335 = v817; v336 = ld16(v425+16); goto L243;
-L237:;
-	if (v812 != 4) { v334 = 7171; v335 = 0; v336 = 0; goto L243; }
-	v337 = lu32(v333+4); v338 = 1; v339 = 0; v340 = 0; v341 = 0; v342 = 0; v343 = 0; v344 = 0; goto L246;
-L238:;
-	v337 = 0; v338 = 2; v339 = 0; v340 = 0; v341 = 0; v342 = v813; v343 = 0; v344 = (u64)(v333+4); goto L246;
-L239:;
-	if (v812 != 8) { v334 = 7427; v335 = 0; v336 = 0; goto L243; }
-	u64 v818 = lu64(v333+4);
-	v337 = 0; v338 = 3; v339 = (u16)v818; v340 = (u16)(v818 >> 16); v341 = (u32)(v818 >> 32); v342 = 0; v343 = 0; v344 = 0; goto L246;
-L240:;
-	if (v812 < 4) { v334 = 1; v335 = 0; v336 = 0; goto L243; }
-	u32 v819 = lu32(v333+4);
-	clear(v424, 24);
-	core_str_utf8_from_utf8(v424, v333+8, v813 - 4);
-	u64 v820 = ld64(v424+8);
-	if (ld8(v424) != 0) goto L241;
-	v337 = 0; v338 = 5; v339 = v810; v340 = 0; v341 = v819; v342 = v820; v343 = ld64(v424+16); v344 = 0; goto L246;
+L233:
+	if (!v1779 || !v1777) goto L241;
+	v252 = v1775; goto L240;
+L234:
+	if (!v1779 || !v1777) goto L241;
+	v252 = v1775; goto L240;
+L235:
+	if (!v1779 || !v1777) goto L241;
+	v252 = v1775; goto L240;
+L236:
+	if (!v1779 || !v1777) goto L241;
+	v252 = v1775; goto L240;
+L237:
+	if (!v1780 || !v1778) goto L241;
+	v252 = v1776; goto L240;
+L238:
+	if (!v1780 || !v1778) goto L241;
+	v252 = v1776; goto L240;
+L239:
+	if (!v1780 || !v1778) goto L241;
+	v252 = v1776;
+L240:
+	deallocate((ptr)v252);
 L241:;
-	v334 = 2; v335 = v820; v336 = ld16(v424+16); goto L243;
+	u64 v1781 = v251 + 1;
+	if (v1781 != v1724) { v251 = v1781; goto L232; }
 L242:;
-	if (v812 >= 4) goto L244;
-	v334 = 1; v335 = 0; v336 = 0;
-L243:;
-	v345 = v334; v346 = v335; v347 = (u32)v336; goto L256;
-L244:;
-	v337 = 0; v338 = 4; v339 = v810; v340 = 0; v341 = lu32(v333+4); v342 = (u64)(v333+8); v343 = v813 - 4; v344 = 0; goto L246;
-L245:;
-	v337 = 0; v338 = 6; v339 = v810; v340 = v812; v341 = 0; v342 = (u64)(v333+4); v343 = v813; v344 = 0;
+	u8 v1782 = (u8)v1744, v1783 = (u8)((u64)(ptr)static_19 >> 16);
+	u8 v1784 = (u8)((u64)(ptr)static_19 >> 24);
+	u32 v1785 = (u32)((u64)(ptr)static_19 >> 32);
+	if (!v1725) { M101: v258 = (u64)(ptr)static_19; v259 = v1782; v260 = v1783; v261 = v1784; v262 = v1785; v268 = (ptr)0; v271 = (ptr)0; v257 = 2; v263 = 21; v264 = v265 = v266 = v267 = v269 = v270 = v272 = v273 = v274 = 0; goto L271; }
+	deallocate((ptr)v1733);
+	goto M101;
+L243:
+	__builtin_trap();
+L244:
+	__builtin_trap();
+L245:
+	if (!v1733) goto L253;
+	v253 = 0;
 L246:;
-	u64 v821 = ((u64)v341 << 32) | ((u64)v340 << 16) | (u64)v339;
-	u32 v822 = (u32)v338;
-	if (v330 != 0) goto L250;
-	t_64_64 v823 = allocate(384, 8);
-	if (!(v823.f0 & 1)) goto L247;
-	copy(v426, v427, 24);
-	stp(v427, (ptr)v823.f1);
-	st64(v427+16, 8);
-	std_alloc_vec_Vec_drop_4750(v426);
-	su32((ptr)v823.f1, v822);
-	su32((ptr)v823.f1+4, v337);
-	su64((ptr)v823.f1+8, v821);
-	su64((ptr)v823.f1+16, v344);
-	su64((ptr)v823.f1+24, v342);
-	su64((ptr)v823.f1+32, v343);
-	su64((ptr)v823.f1+40, 0);
-	v356 = v823.f1; v357 = 1; goto L261;
-L247:;
-	u8 v824 = (u8)v339;
-	switch (v338) {
-	case 0: goto L248;
-	case 1: case 3: case 4: case 5: case 6: goto L255;
-	case 2: goto L249;
-	default: goto L259;
+	ptr v1786 = at((ptr)v1732, v253 * 48);
+	u64 v1787 = lu64(v1786+16), v1788 = lu64(v1786+24), v1789 = lu64(v1786+40);
+	u8 v1790 = (u8)v1787;
+	switch (ld8(v1786)) {
+	case 0: goto L247;
+	case 1: case 2: case 3: case 4: case 5: case 6: case 7: goto L252;
+	case 8: goto L248;
+	case 9: goto L249;
+	case 10: goto L250;
+	default: goto L254;
 	}
-L248:;
-	if ((v824 == 0) || (v343 == 0)) goto L255;
-	goto L254;
-L249:;
-	if ((v824 == 0) || (v343 == 0)) goto L255;
-	goto L254;
-L250:;
-	if (ld64(v427+16) != v330) { v355 = v330; goto L260; }
-	u8 v825 = std_alloc_vec_Vec_grow_amortized_35f1(v427);
-	if (!v825) goto L251;
-	v355 = ld64(v427+8); goto L260;
-L251:;
-	u8 v826 = (u8)v339;
-	switch (v338) {
-	case 0: goto L252;
-	case 1: case 3: case 4: case 5: case 6: goto L255;
-	case 2: goto L253;
-	default: goto L259;
-	}
+L247:
+	if (!(lu64(v1786+8) & 255) || !lu64(v1786+32)) goto L252;
+	v254 = v1787; goto L251;
+L248:
+	if (!v1790 || !v1789) goto L252;
+	v254 = v1788; goto L251;
+L249:
+	if (!v1790 || !v1789) goto L252;
+	v254 = v1788; goto L251;
+L250:
+	if (!v1790 || !v1789) goto L252;
+	v254 = v1788;
+L251:
+	deallocate((ptr)v254);
 L252:;
-	if ((v826 == 0) || (v343 == 0)) goto L255;
-	goto L254;
+	u64 v1791 = v253 + 1;
+	if (v1791 != v1733) { v253 = v1791; goto L246; }
 L253:;
-	if ((v826 == 0) || (v343 == 0)) goto L255;
-L254:;
-	deallocate((ptr)v344);
-L255:;
-	v345 = 0; v346 = 0; v347 = 0;
-L256:;
-	std_alloc_vec_Vec_drop_4750(v427);
-	v348 = v346; v349 = v347; v350 = v345;
+	u8 v1792 = (u8)v1744, v1793 = (u8)((u64)(ptr)static_19 >> 16);
+	u8 v1794 = (u8)((u64)(ptr)static_19 >> 24);
+	u32 v1795 = (u32)((u64)(ptr)static_19 >> 32);
+	if (!v1724) { M102: v258 = (u64)(ptr)static_19; v259 = v1792; v260 = v1793; v261 = v1794; v262 = v1795; v268 = (ptr)0; v271 = (ptr)0; v257 = 2; v263 = 21; v264 = v265 = v266 = v267 = v269 = v270 = v272 = v273 = v274 = 0; goto L271; }
+	deallocate((ptr)v1732);
+	goto M102;
+L254:
+	__builtin_trap();
+L255:
+	if (v1734 != 1 || !v1726) goto L256;
+	deallocate((ptr)v1724);
+L256:
+	if (!v1728) goto L265;
+	v255 = 0;
 L257:;
-	v351 = v348; v352 = (u8)v349; v353 = (u8)(v349 >> 8); v354 = v350;
-L258:;
-	v381 = v354; v382 = v351; v383 = v352; v384 = v353; goto L267;
-L259:;
-	__builtin_trap();
-L260:;
-	ptr v827 = ldp(v427);
-	ptr v828 = at(v827, v355 * 48);
-	su32(v828, v822);
-	su32(v828+4, v337);
-	su64(v828+8, v821);
-	su64(v828+16, v344);
-	su64(v828+24, v342);
-	su64(v828+32, v343);
-	su64(v828+40, 0);
-	v356 = (u64)v827; v357 = v355 + 1;
-L261:;
-	u8 v829 = (u8)v356;
-	u8 v830 = (u8)(v356 >> 8);
-	st64(v427+8, v357);
-	if (v816 != 0) { v329 = v829; v330 = v357; v331 = v830; v332 = v816; v333 = v815; goto L234; }
-	v358 = v357; v359 = v815; v360 = 0; v361 = v829; v362 = v830;
-L262:;
-	v363 = ld64(v427+16); v364 = v358; v365 = v359; v366 = v360; v367 = v361; v368 = v362;
-L263:;
-	copy(v428, v427+2, 6);
-	copy(v429, v428, 6);
-	copy(v430, v429, 6);
-	copy(v459, v430, 6);
-	copy(v453, v459, 6);
-	v369 = v364; v370 = v363; v371 = v367; v372 = v368; v373 = v801; v374 = (ptr)0; v375 = (u64)(v505+20); v376 = v803; v377 = v365; v378 = v366; v379 = (u64)v798; v380 = v800 | (u64)(v799 & 4294967040u) | (u64)(v799 & 255); goto L266;
+	ptr v1796 = at(v1727, v255 * 48);
+	u64 v1797 = lu64(v1796+16), v1798 = lu64(v1796+24), v1799 = lu64(v1796+32), v1800 = lu64(v1796+40);
+	u8 v1801 = (u8)lu64(v1796+8), v1802 = (u8)v1797;
+	switch (ld8(v1796)) {
+	case 0: goto L258;
+	case 1: case 3: goto L264;
+	case 2: goto L259;
+	case 4: goto L260;
+	case 5: goto L261;
+	case 6: goto L262;
+	default: goto L266;
+	}
+L258:
+	if (!v1801 || !v1799) goto L264;
+	v256 = v1797; goto L263;
+L259:
+	if (!v1801 || !v1799) goto L264;
+	v256 = v1797; goto L263;
+L260:
+	if (!v1802 || !v1800) goto L264;
+	v256 = v1798; goto L263;
+L261:
+	if (!v1802 || !v1800) goto L264;
+	v256 = v1798; goto L263;
+L262:
+	if (!v1802 || !v1800) goto L264;
+	v256 = v1798;
+L263:
+	deallocate((ptr)v256);
 L264:;
-	v369 = 0; v370 = 0; v371 = 0; v372 = 0; v373 = v504; v374 = (ptr)0; v375 = 0; v376 = 0; v377 = at(v505, v504); v378 = 0; v379 = 0; v380 = (u64)v505; goto L266;
+	u64 v1803 = v255 + 1;
+	if (v1803 != v1728) { v255 = v1803; goto L257; }
 L265:;
-	if (v504 >= 0x100000000ull) { v381 = 9987; v382 = 0; v383 = 0; v384 = 0; goto L267; }
-	v369 = 0; v370 = 0; v371 = 0; v372 = 0; v373 = 0; v374 = v505; v375 = v504; v376 = 0; v377 = v505; v378 = v504; v379 = ((u64)v503 << 32) | 8; v380 = v504;
-L266:;
-	copy(v461, v453, 6);
-	v385 = 0; v386 = (u8)(u64)v377; v387 = v378; v388 = (u64)v502; v389 = v379; v390 = v380; v391 = v373; v392 = v374; v393 = v375; v394 = v376; v395 = 0; v396 = v371; v397 = v461; v398 = v372; v399 = v369; v400 = v370; goto L268;
+	u8 v1804 = (u8)v1744, v1805 = (u8)((u64)(ptr)static_19 >> 16);
+	u8 v1806 = (u8)((u64)(ptr)static_19 >> 24);
+	u32 v1807 = (u32)((u64)(ptr)static_19 >> 32);
+	if (!v1729) { M103: v258 = (u64)(ptr)static_19; v259 = v1804; v260 = v1805; v261 = v1806; v262 = v1807; v268 = (ptr)0; v271 = (ptr)0; v257 = 2; v263 = 21; v264 = v265 = v266 = v267 = v269 = v270 = v272 = v273 = v274 = 0; goto L271; }
+	deallocate(v1727);
+	goto M103;
+L266:
+	__builtin_trap();
 L267:;
-	clear(v422, 96);
-	clear(v423, 24);
-	st16(v423, (u16)v381);
-	st64(v423+8, v382);
-	st8(v423+16, v383);
-	st8(v423+17, v384);
-	pcap_options_refusal_PcapErrorFromRefusal_from(v422, v423);
-	u8 v831 = ld8(v422);
-	u64 v832 = ld64(v422+8);
-	u64 v833 = ld64(v422+16);
-	u64 v834 = ld64(v422+24);
-	u64 v835 = ld64(v422+32);
-	u64 v836 = ld64(v422+40);
-	ptr v837 = ldp(v422+48);
-	u64 v838 = ld64(v422+56);
-	u64 v839 = ld64(v422+64);
-	u64 v840 = ld64(v422+72);
-	u8 v841 = ld8(v422+80);
-	u8 v842 = ld8(v422+81);
-	copy(v460, v422+82, 6);
-	v385 = 1; v386 = v831; v387 = v832; v388 = v833; v389 = v834; v390 = v835; v391 = v836; v392 = v837; v393 = v838; v394 = v839; v395 = v840; v396 = v841; v397 = v460; v398 = v842; v399 = ld64(v422+88); v400 = 0;
+	u8 v1808 = (u8)v1744, v1809 = (u8)((u64)(ptr)static_19 >> 16);
+	u8 v1810 = (u8)((u64)(ptr)static_19 >> 24);
+	u32 v1811 = (u32)((u64)(ptr)static_19 >> 32);
+	if ((v1730 & 255) != 1 || !v1733) { M104: v258 = (u64)(ptr)static_19; v259 = v1808; v260 = v1809; v261 = v1810; v262 = v1811; v268 = (ptr)0; v271 = (ptr)0; v257 = 2; v263 = 21; v264 = v265 = v266 = v267 = v269 = v270 = v272 = v273 = v274 = 0; goto L271; }
+	deallocate((ptr)v1731);
+	goto M104;
 L268:;
-	v401 = (u64)ld_bytes(v397, 6) & 0xffffffffffffull; v402 = v385; v403 = v386; v404 = v387; v405 = v388; v406 = v389; v407 = v390; v408 = v391; v409 = v392; v410 = v393; v411 = v394; v412 = v395; v413 = v396; v414 = v398; v415 = v399; v416 = v400;
-L269:;
-	if (v402 != 0) goto L270;
-	su64(v1, 0);
-	st8(v1+8, (u8)v405);
-	su64(v1+16, v406);
-	su64(v1+24, v407);
-	su64(v1+32, v408);
-	sup(v1+40, v409);
-	su64(v1+48, v410);
-	su64(v1+56, v411);
-	st8(v1+72, v413);
-	st8(v1+73, v414);
-	st_bytes(v1+74, v401, 6);
-	v417 = v412; v418 = v415; v419 = v416; v420 = 0; goto L271;
+	u8 v1812 = (u8)v1744, v1813 = (u8)((u64)(ptr)static_19 >> 16);
+	u8 v1814 = (u8)((u64)(ptr)static_19 >> 24);
+	u32 v1815 = (u32)((u64)(ptr)static_19 >> 32);
+	if ((v1732 & 255) != 1 || !v1725) { M105: v258 = (u64)(ptr)static_19; v259 = v1812; v260 = v1813; v261 = v1814; v262 = v1815; v268 = (ptr)0; v271 = (ptr)0; v257 = 2; v263 = 21; v264 = v265 = v266 = v267 = v269 = v270 = v272 = v273 = v274 = 0; goto L271; }
+	deallocate((ptr)v1733);
+	goto M105;
+L269:
+	__builtin_trap();
 L270:;
-	su64(v1, 1);
-	st8(v1+8, v403);
-	su64(v1+16, v404);
-	su64(v1+24, v405);
-	su64(v1+32, v406);
-	sup(v1+40, (ptr)v407);
-	su64(v1+48, v408);
-	su64(v1+56, (u64)v409);
-	su64(v1+72, v411);
-	v417 = v410; v418 = v412; v419 = ((u64)v414 << 8) | (u64)v413 | (v401 << 16); v420 = v415;
-L271:;
-	su64(v1+64, v417);
-	su64(v1+80, v418);
-	su64(v1+88, v419);
-	su64(v1+96, v420);
-	return;
-L272:;
+	u32 v1816 = (u32)ld_bytes(v974+17, 3) & 16777215;
+	u64 v1817 = (u64)v1816;
+	v257 = v1723; v258 = ld8(v974+16); v259 = (u8)v1816; v260 = (u8)(v1817 >> 8); v261 = (u8)(v1817 >> 16); v262 = ld32(v974+20); v263 = ld8(v974+24); v264 = (u64)ld_bytes(v974+25, 7) & 0xffffffffffffffull; v265 = ld8(v974+32); v266 = (u64)ld_bytes(v974+33, 7) & 0xffffffffffffffull; v267 = ld64(v974+40); v268 = (ptr)v1724; v269 = v1725; v270 = v1726; v271 = v1727; v272 = v1728; v273 = v1729; v274 = ld64(v974+96);
+L271:
+	v275 = v257; v276 = v258; v277 = v259; v278 = v260; v279 = v261; v280 = v262; v281 = v263; v282 = v264; v283 = v265; v284 = v266; v285 = v267; v286 = v268; v287 = v269; v288 = v270; v289 = v271; v290 = v272; v291 = v273; v292 = v274;
+L272:
+	clear(v973, 7);
+	v294 = v288; v295 = v287; v296 = v286; v297 = v285; v298 = v284; v299 = v283; v300 = v282; v301 = v281; v302 = v277; v303 = v278; v304 = v279; v305 = v280; v306 = v276; v307 = v275; v308 = v289; v309 = v290; v310 = v291; v311 = v292; v293 = 0; goto L274;
+L273:
+	clear(v973, 7);
+	v296 = (ptr)0; v302 = (u8)((u64)(ptr)static_18 >> 8); v303 = (u8)((u64)(ptr)static_18 >> 16); v304 = (u8)((u64)(ptr)static_18 >> 24); v305 = (u32)((u64)(ptr)static_18 >> 32); v306 = (u64)(ptr)static_18; v308 = (ptr)0; v293 = v294 = v295 = v297 = v298 = v299 = v300 = v309 = v310 = v311 = 0; v301 = 38; v307 = 2;
+L274:
+	copy(v982, v973, 7);
+	u64 v1818 = (v300 << 8) | (u64)v301, v1819 = (v298 << 8) | (u64)v299;
+	if (!v293) { v589 = v242; v590 = v307; v591 = v306; v592 = v302; v593 = v303; v594 = v304; v595 = v305; v596 = v1818; v597 = v1819; v598 = v297; v599 = v296; v600 = v295; v601 = v294; v602 = v308; v603 = v309; v604 = v310; v605 = v311; goto L392; }
+	copy(v985, v982, 7);
+	if (!v242) goto L275;
+	deallocate(v1721);
+L275:
+	copy(v987, v985, 7);
+	st8(v986, v307);
+	copy(v986+1, v987, 7);
+	st8(v986+8, v306);
+	st8(v986+9, v302);
+	st8(v986+10, v303);
+	st8(v986+11, v304);
+	st32(v986+12, v305);
+	st64(v986+16, v1818);
+	st64(v986+24, v1819);
+	st64(v986+32, v297);
+	st64(v986+40, (u64)v296);
+	st64(v986+48, v295);
+	st64(v986+56, v294);
+	capcopy_run_blocks_write_section_ce79(v988, v5, v986);
+	u8 v1820 = ld8(v988+16);
+	if (ld8(v988)) goto L384;
+	clear(v989, 126);
+	copy(v989+128, v986, 64);
+	copy(v990, v989, 192);
+	u32 v1821 = (u32)((u64)(ptr)static_18 >> 32);
+	v312 = 0;
+L276:
+	clear(v972, 96);
+	std_io_buffered_BufWriter_flush_buf_9d90(v972, v5);
+	if (ld8(v972)) goto L379;
+	u64 v1822 = ld64(v4+24), v1823 = ld64(v4+32);
+	if (v1822 < v1823) { v313 = v1823; v314 = v1822; goto L277; }
+	clear(v4+24, 16);
+	ptr v1824 = ldp(v4);
+	u64 v1825 = ld64(v4+8);
+	clear(v971, 96);
+	capcopy_run_uninterrupted_UninterruptedRead_read_f128(v971, v1824, v1825);
+	u64 v1826 = ld64(v971+8), v1827 = ld64(v971+16), v1828 = ld64(v971+24), v1829 = ld64(v971+32);
+	u64 v1830 = ld64(v971+40), v1831 = ld64(v971+48), v1832 = ld64(v971+56), v1833 = ld64(v971+64);
+	u64 v1834 = ld64(v971+72), v1835 = ld64(v971+80), v1836 = ld64(v971+88);
+	if (ld8(v971)) goto L378;
+	st64(v4+32, v1826);
+	v313 = v1826; v314 = ld64(v4+24);
+L277:;
+	u64 v1837 = v313 - v314;
+	u8 v1838 = v1837 == 0;
+	if (v1838) { v518 = v1838; v521 = (ptr)0; v519 = v520 = v522 = v523 = v524 = v525 = v526 = v527 = v528 = v529 = v530 = v531 = 0; goto L380; }
+	ptr v1839 = at(ldp(v4), v314);
+	clear(v969, 56);
+	clear(v970, 112);
+	v315 = v312; v316 = v1839; v317 = v1837;
+L278:;
+	u8 v1840 = ld32(v990+128) != 439041101;
+	if (v317 < 12) goto L307;
+	u32 v1841 = lu32(v316), v1842 = v1840 ? v1841 : (u32)__builtin_bswap32(v1841);
+	if (v1842 != 168627466) goto L281;
+	switch ((u32)__builtin_bswap32(lu32(v316+8))) {
+	case 439041101: goto L279;
+	case 1295788826: goto L280;
+	default: goto L307;
+	}
+L279:
+	v319 = (u32)__builtin_bswap32(lu32(v316+4)); v318 = 0; goto L282;
+L280:
+	v319 = lu32(v316+4); v318 = 1; goto L282;
+L281:;
+	u32 v1843 = lu32(v316+4);
+	v318 = v1840; v319 = v1840 ? v1843 : (u32)__builtin_bswap32(v1843);
+L282:
+	if ((v319 < 12) | ((v319 & 3) != 0)) goto L307;
+	u64 v1844 = (u64)v319;
+	if (v317 < v1844) goto L307;
+	u64 v1845 = v1844 - 12;
+	ptr v1846 = at(v316+8, v1845);
+	u32 v1847 = lu32(v1846);
+	u64 v1848 = v317 - v1844;
+	if ((!v318 ? (u32)__builtin_bswap32(v1847) : v1847) != v319) goto L307;
+	switch (v1842) {
+	case 168627466: v320 = 0; goto L291;
+	case 1: goto L283;
+	case 2: goto L284;
+	case 3: goto L285;
+	case 4: goto L286;
+	case 5: goto L287;
+	case 6: goto L288;
+	case 9: goto L289;
+	default: goto L290;
+	}
+L283:
+	v320 = 1; goto L291;
+L284:
+	v320 = 2; goto L291;
+L285:
+	v320 = 3; goto L291;
+L286:
+	v320 = 4; goto L291;
+L287:
+	v320 = 5; goto L291;
+L288:
+	v320 = 6; goto L291;
+L289:
+	v320 = 7; goto L291;
+L290:
+	v320 = ((u64)v1842 << 32) | 8;
+L291:
+	st64(v968, v320);
+	st32(v968+8, v319);
+	st32(v968+12, 0);
+	st64(v968+16, 0);
+	stp(v968+24, v316+8);
+	st64(v968+32, v1845);
+	st64(v968+40, 0);
+	st32(v968+48, v319);
+	st8(v968+52, v318);
+	clear(v968+53, 3);
+	clear(v965, 104);
+	clear(v966, 40);
+	clear(v967, 40);
+	clear(v964, 104);
+	switch ((u8)v320) {
+	case 0: goto L292;
+	case 1: goto L293;
+	case 2: case 3: case 4: case 5: case 6: case 7: case 8: goto L301;
+	default: goto L306;
+	}
+L292:
+	pcap_ng_pcapng_block_Block_new_section(v964, v316+8, v1845);
+	goto L294;
+L293:
+	pcap_ng_pcapng_block_Block_new_interface(v964, v968);
+L294:;
+	u8 v1849 = ld8(v964+8);
+	u64 v1850 = ld64(v964+16), v1851 = ld64(v964+24);
+	u32 v1852 = ld32(v964+32), v1853 = ld32(v964+36);
+	u64 v1854 = ld64(v964+40);
+	ptr v1855 = ldp(v964+48);
+	if (ld8(v964)) goto L299;
+	switch (v1849) {
+	case 0: goto L295;
+	case 1: goto L296;
+	case 2: goto L302;
+	default: goto L298;
+	}
+L295:
+	st64(v966, v1850);
+	st64(v966+8, v1851);
+	st32(v966+16, v1852);
+	st32(v966+20, v1853);
+	st64(v966+24, v1854);
+	stp(v966+32, v1855);
+	pcap_ng_pcapng_state_InForce_begin_section(v965, v990+128, v966);
+	goto L297;
+L296:
+	st64(v967, v1850);
+	st64(v967+8, v1851);
+	st32(v967+16, v1852);
+	st32(v967+20, v1853);
+	st64(v967+24, v1854);
+	stp(v967+32, v1855);
+	pcap_ng_pcapng_state_InForce_add_interface(v965, v990+128, v967);
+L297:
+	if (!ld8(v965)) goto L303;
+	v321 = ld8(v965+8); v322 = ld32(v965+36); v323 = ld32(v965+32); v324 = ld64(v965+16); goto L300;
+L298:
 	__builtin_trap();
-}
-static void pcap_blocks_section_header_SectionHeaderBlock_read(ptr v1, ptr v2, u64 v3) {
-	u8 v4, v6, v19, v31, v32, v34, v35, v38, v39, v44, v45, v46, v48, v61, v73, v74, v76, v77, v80, v81, v86, v87, v89, v90, v93, v94, v99, v100;
-	u64 v5, v7, v10, v13, v14, v17, v22, v24, v26, v27, v28, v30, v33, v36, v37, v43, v47, v49, v52, v55, v56, v59, v64, v66, v68, v69, v70, v72, v75, v78, v79, v85, v88, v91, v92, v98;
-	ptr v8, v16, v29, v50, v58, v71;
-	u32 v9, v15, v21, v25, v51, v57, v63, v67;
-	u16 v11, v12, v18, v20, v23, v40, v41, v42, v53, v54, v60, v62, v65, v82, v83, v84, v95, v96, v97;
-	_Alignas(8) u8 v101[1], v102[24], v103[24], v104[24], v105[24], v106[24], v107[24], v108[24], v110[24], v111[24], v112[24], v113[24], v114[24], v115[24], v116[24], v119[16];
-	_Alignas(2) u8 v109[22], v117[22], v118[6];
-	clear(v118, 6);
-	clear(v119, 16);
-	if (v3 >= 16) goto L0;
-	su64(v1, 1);
-	st8(v1+8, 3);
-	st8(v1+9, 10);
-	clear(v1+10, 54);
-	goto L73;
-L0:;
-	switch ((u32)__builtin_bswap32(lu32(v2))) {
-	case 439041101: goto L1;
-	case 1295788826: goto L36;
-	default: v88 = 1; v89 = 3; v90 = 5; v91 = 0; v92 = 0; v93 = 0; v94 = 0; v95 = 0; v96 = 0; v97 = 0; v98 = 0; v99 = 0; v100 = 0; goto L72;
-	}
-L1:;
-	clear(v117, 22);
-	u16 v120 = (u16)__builtin_bswap16(lu16(v2+4));
-	u16 v121 = (u16)__builtin_bswap16(lu16(v2+6));
-	u64 v122 = v3 - 16;
-	u64 v123 = (u64)__builtin_bswap64(lu64(v2+8));
-	stp(v116, v101);
-	clear(v116+8, 16);
-	u64 v124 = (u64)v101;
-	u8 v125 = (u8)(v124 >> 8);
-	u8 v126 = (u8)v124;
-	if (v122 == 0) { v29 = v2+16; v30 = 0; v31 = v126; v32 = v125; goto L34; }
-	v4 = v126; v5 = 0; v6 = v125; v7 = v122; v8 = v2+16;
-L2:;
-	if (v7 < 4) { v23 = 4099; v24 = 0; v25 = 0; goto L31; }
-	u16 v127 = lu16(v8);
-	u16 v128 = (u16)__builtin_bswap16(v127);
-	u64 v129 = v7 - 4;
-	u16 v130 = (u16)__builtin_bswap16(lu16(v8+2));
-	if (v127 == 0) { v29 = v8+4; v30 = v129; v31 = v4; v32 = v6; goto L34; }
-	u64 v131 = (u64)v130;
-	u64 v132 = ((0ull - v131) & 3) + v131;
-	if (v129 < v132) { v23 = 4355; v24 = 0; v25 = 0; goto L31; }
-	ptr v133 = at(v8+4, v132);
-	u64 v134 = v129 - v132;
-	switch (v128) {
-	case 1: goto L3;
-	case 2: goto L5;
-	case 3: goto L7;
-	case 4: goto L9;
-	case 2988: case 19372: goto L11;
-	case 2989: case 19373: goto L14;
-	default: v16 = v8+4; v17 = v131; v18 = v130; v19 = 6; v20 = v128; v21 = 0; v22 = 0; goto L17;
-	}
-L3:;
-	clear(v114, 24);
-	core_str_utf8_from_utf8(v114, v8+4, v131);
-	u64 v135 = ld64(v114+8);
-	if (ld8(v114) != 0) goto L4;
-	v16 = (ptr)ld64(v114+16); v17 = 0; v18 = 0; v19 = 0; v20 = 0; v21 = 0; v22 = v135; goto L17;
-L4:;
-	v12 = 2; v13 = v135; v14 = v135 & 0xffffffff00000000ull; v15 = (u32)ld16(v114+16); goto L15;
-L5:;
-	clear(v113, 24);
-	core_str_utf8_from_utf8(v113, v8+4, v131);
-	u64 v136 = ld64(v113+8);
-	if (ld8(v113) != 0) goto L6;
-	v16 = (ptr)ld64(v113+16); v17 = 0; v18 = 0; v19 = 1; v20 = 0; v21 = 0; v22 = v136; goto L17;
-L6:;
-	v12 = 2; v13 = v136; v14 = v136 & 0xffffffff00000000ull; v15 = (u32)ld16(v113+16); goto L15;
-L7:;
-	clear(v112, 24);
-	core_str_utf8_from_utf8(v112, v8+4, v131);
-	u64 v137 = ld64(v112+8);
-	if (ld8(v112) != 0) goto L8;
-	v16 = (ptr)ld64(v112+16); v17 = 0; v18 = 0; v19 = 2; v20 = 0; v21 = 0; v22 = v137; goto L17;
-L8:;
-	v12 = 2; v13 = v137; v14 = v137 & 0xffffffff00000000ull; v15 = (u32)ld16(v112+16); goto L15;
-L9:;
-	clear(v111, 24);
-	core_str_utf8_from_utf8(v111, v8+4, v131);
-	u64 v138 = ld64(v111+8);
-	if (ld8(v111) != 0) goto L10;
-	v16 = (ptr)ld64(v111+16); v17 = 0; v18 = 0; v19 = 3; v20 = 0; v21 = 0; v22 = v138; goto L17;
-L10:;
-	v12 = 2; v13 = v138; v14 = v138 & 0xffffffff00000000ull; v15 = (u32)ld16(v111+16); goto L15;
-L11:;
-	if (v130 < 4) { v9 = 0; v10 = 0; v11 = 1; goto L13; }
-	u32 v139 = lu32(v8+4);
-	clear(v110, 24);
-	core_str_utf8_from_utf8(v110, v8+8, v131 - 4);
-	u64 v140 = ld64(v110+8);
-	if (ld8(v110) != 0) goto L12;
-	v16 = (ptr)v140; v17 = ld64(v110+16); v18 = 0; v19 = 5; v20 = v128; v21 = (u32)__builtin_bswap32(v139); v22 = 0; goto L17;
-L12:;
-	v9 = (u32)ld16(v110+16); v10 = v140; v11 = 2;
-L13:;
-	v12 = v11; v13 = v10; v14 = v10 & 0xffffffff00000000ull; v15 = v9; goto L15;
-L14:;
-	if (v130 >= 4) goto L16;
-	v12 = 1; v13 = 0; v14 = 0; v15 = 0;
-L15:;
-	v23 = v12; v24 = (v13 & 4294967295u) | v14; v25 = v15; goto L31;
-L16:;
-	v16 = v8+8; v17 = v131 - 4; v18 = 0; v19 = 4; v20 = v128; v21 = (u32)__builtin_bswap32(lu32(v8+4)); v22 = 0;
-L17:;
-	u64 v141 = (u64)v16;
-	u64 v142 = (u64)v19;
-	if (v5 != 0) goto L23;
-	t_64_64 v143 = allocate(384, 8);
-	if (!(v143.f0 & 1)) goto L18;
-	copy(v115, v116, 24);
-	stp(v116, (ptr)v143.f1);
-	st64(v116+16, 8);
-	std_alloc_vec_Vec_drop_0f0e(v115);
-	su64((ptr)v143.f1, v142);
-	su16((ptr)v143.f1+8, v20);
-	su16((ptr)v143.f1+10, v18);
-	su32((ptr)v143.f1+12, v21);
-	su64((ptr)v143.f1+16, v22);
-	su64((ptr)v143.f1+24, v141);
-	su64((ptr)v143.f1+32, v17);
-	su64((ptr)v143.f1+40, 0);
-	v27 = v143.f1; v28 = 1; goto L33;
-L18:;
-	u8 v144 = (u8)v20;
-	switch (v19) {
-	case 0: goto L19;
-	case 1: goto L20;
-	case 2: goto L21;
-	case 3: goto L22;
-	case 4: case 5: case 6: goto L30;
-	default: goto L67;
-	}
-L19:;
-	if ((v144 == 0) || (v17 == 0)) goto L30;
-	goto L29;
-L20:;
-	if ((v144 == 0) || (v17 == 0)) goto L30;
-	goto L29;
-L21:;
-	if ((v144 == 0) || (v17 == 0)) goto L30;
-	goto L29;
-L22:;
-	if ((v144 == 0) || (v17 == 0)) goto L30;
-	goto L29;
-L23:;
-	if (ld64(v116+16) != v5) { v26 = v5; goto L32; }
-	u8 v145 = std_alloc_vec_Vec_grow_amortized_35f1(v116);
-	if (!v145) goto L24;
-	v26 = ld64(v116+8); goto L32;
-L24:;
-	u8 v146 = (u8)v20;
-	switch (v19) {
-	case 0: goto L25;
-	case 1: goto L26;
-	case 2: goto L27;
-	case 3: goto L28;
-	case 4: case 5: case 6: goto L30;
-	default: goto L67;
-	}
-L25:;
-	if ((v146 == 0) || (v17 == 0)) goto L30;
-	goto L29;
-L26:;
-	if ((v146 == 0) || (v17 == 0)) goto L30;
-	goto L29;
-L27:;
-	if ((v146 == 0) || (v17 == 0)) goto L30;
-	goto L29;
-L28:;
-	if ((v146 == 0) || (v17 == 0)) goto L30;
-L29:;
-	deallocate((ptr)v22);
-L30:;
-	v23 = 0; v24 = 0; v25 = 0;
-L31:;
-	std_alloc_vec_Vec_drop_0f0e(v116);
-	clear(v118, 6);
-	clear(v119, 16);
-	v33 = 1; v34 = (u8)v23; v35 = (u8)(v23 >> 8); v36 = 0; v37 = v24; v38 = (u8)v25; v39 = (u8)(v25 >> 8); v40 = 0; v41 = 0; v42 = 0; v43 = 0; v44 = 0; v45 = 0; goto L35;
-L32:;
-	ptr v147 = ldp(v116);
-	ptr v148 = at(v147, v26 * 48);
-	su64(v148, v142);
-	su16(v148+8, v20);
-	su16(v148+10, v18);
-	su32(v148+12, v21);
-	su64(v148+16, v22);
-	su64(v148+24, v141);
-	su64(v148+32, v17);
-	su64(v148+40, 0);
-	v27 = (u64)v147; v28 = v26 + 1;
-L33:;
-	u8 v149 = (u8)v27;
-	u8 v150 = (u8)(v27 >> 8);
-	st64(v116+8, v28);
-	if (v134 != 0) { v4 = v149; v5 = v28; v6 = v150; v7 = v134; v8 = v133; goto L2; }
-	v29 = v133; v30 = 0; v31 = v149; v32 = v150;
-L34:;
-	copy(v117, v116+2, 22);
-	u64 v151 = (u64)v29;
-	copy(v118, v117, 6);
-	copy(v119, v117+6, 16);
-	v33 = 0; v34 = (u8)v151; v35 = (u8)(v151 >> 8); v36 = (v151 >> 16) & 0xffffffffffffull; v37 = v30; v38 = 77; v39 = 60; v40 = 6699; v41 = v120; v42 = v121; v43 = v123; v44 = v31; v45 = v32;
-L35:;
-	v88 = v33; v89 = v34; v90 = v35; v91 = v36; v92 = v37; v93 = v38; v94 = v39; v95 = v40; v96 = v41; v97 = v42; v98 = v43; v99 = v44; v100 = v45; goto L72;
-L36:;
-	clear(v109, 22);
-	u16 v152 = lu16(v2+4);
-	u16 v153 = lu16(v2+6);
-	u64 v154 = v3 - 16;
-	u64 v155 = lu64(v2+8);
-	stp(v108, v101);
-	clear(v108+8, 16);
-	u64 v156 = (u64)v101;
-	u8 v157 = (u8)(v156 >> 8);
-	u8 v158 = (u8)v156;
-	if (v154 == 0) { v71 = v2+16; v72 = 0; v73 = v158; v74 = v157; goto L70; }
-	v46 = v158; v47 = 0; v48 = v157; v49 = v154; v50 = v2+16;
-L37:;
-	if (v49 < 4) { v65 = 4099; v66 = 0; v67 = 0; goto L66; }
-	u16 v159 = lu16(v50);
-	u64 v160 = v49 - 4;
-	u16 v161 = lu16(v50+2);
-	if (v159 == 0) { v71 = v50+4; v72 = v160; v73 = v46; v74 = v48; goto L70; }
-	u64 v162 = (u64)v161;
-	u64 v163 = ((0ull - v162) & 3) + v162;
-	if (v160 < v163) { v65 = 4355; v66 = 0; v67 = 0; goto L66; }
-	ptr v164 = at(v50+4, v163);
-	u64 v165 = v160 - v163;
-	switch (v159) {
-	case 1: goto L38;
-	case 2: goto L40;
-	case 3: goto L42;
-	case 4: goto L44;
-	case 2988: case 19372: goto L46;
-	case 2989: case 19373: goto L49;
-	default: v58 = v50+4; v59 = v162; v60 = v161; v61 = 6; v62 = v159; v63 = 0; v64 = 0; goto L52;
-	}
-L38:;
-	clear(v106, 24);
-	core_str_utf8_from_utf8(v106, v50+4, v162);
-	u64 v166 = ld64(v106+8);
-	if (ld8(v106) != 0) goto L39;
-	v58 = (ptr)ld64(v106+16); v59 = 0; v60 = 0; v61 = 0; v62 = 0; v63 = 0; v64 = v166; goto L52;
-L39:;
-	v54 = 2; v55 = v166; v56 = v166 & 0xffffffff00000000ull; v57 = (u32)ld16(v106+16); goto L50;
-L40:;
-	clear(v105, 24);
-	core_str_utf8_from_utf8(v105, v50+4, v162);
-	u64 v167 = ld64(v105+8);
-	if (ld8(v105) != 0) goto L41;
-	v58 = (ptr)ld64(v105+16); v59 = 0; v60 = 0; v61 = 1; v62 = 0; v63 = 0; v64 = v167; goto L52;
-L41:;
-	v54 = 2; v55 = v167; v56 = v167 & 0xffffffff00000000ull; v57 = (u32)ld16(v105+16); goto L50;
-L42:;
-	clear(v104, 24);
-	core_str_utf8_from_utf8(v104, v50+4, v162);
-	u64 v168 = ld64(v104+8);
-	if (ld8(v104) != 0) goto L43;
-	v58 = (ptr)ld64(v104+16); v59 = 0; v60 = 0; v61 = 2; v62 = 0; v63 = 0; v64 = v168; goto L52;
-L43:;
-	v54 = 2; v55 = v168; v56 = v168 & 0xffffffff00000000ull; v57 = (u32)ld16(v104+16); goto L50;
-L44:;
-	clear(v103, 24);
-	core_str_utf8_from_utf8(v103, v50+4, v162);
-	u64 v169 = ld64(v103+8);
-	if (ld8(v103) != 0) goto L45;
-	v58 = (ptr)ld64(v103+16); v59 = 0; v60 = 0; v61 = 3; v62 = 0; v63 = 0; v64 = v169; goto L52;
-L45:;
-	v54 = 2; v55 = v169; v56 = v169 & 0xffffffff00000000ull; v57 = (u32)ld16(v103+16); goto L50;
-L46:;
-	if (v161 < 4) { v51 = 0; v52 = 0; v53 = 1; goto L48; }
-	u32 v170 = lu32(v50+4);
-	clear(v102, 24);
-	core_str_utf8_from_utf8(v102, v50+8, v162 - 4);
-	u64 v171 = ld64(v102+8);
-	if (ld8(v102) != 0) goto L47;
-	v58 = (ptr)v171; v59 = ld64(v102+16); v60 = 0; v61 = 5; v62 = v159; v63 = v170; v64 = 0; goto L52;
-L47:;
-	v51 = (u32)ld16(v102+16); v52 = v171; v53 = 2;
-L48:;
-	v54 = v53; v55 = v52; v56 = v52 & 0xffffffff00000000ull; v57 = v51; goto L50;
-L49:;
-	if (v161 >= 4) goto L51;
-	v54 = 1; v55 = 0; v56 = 0; v57 = 0;
-L50:;
-	v65 = v54; v66 = (v55 & 4294967295u) | v56; v67 = v57; goto L66;
-L51:;
-	v58 = v50+8; v59 = v162 - 4; v60 = 0; v61 = 4; v62 = v159; v63 = lu32(v50+4); v64 = 0;
-L52:;
-	u64 v172 = (u64)v58;
-	u64 v173 = (u64)v61;
-	if (v47 != 0) goto L58;
-	t_64_64 v174 = allocate(384, 8);
-	if (!(v174.f0 & 1)) goto L53;
-	copy(v107, v108, 24);
-	stp(v108, (ptr)v174.f1);
-	st64(v108+16, 8);
-	std_alloc_vec_Vec_drop_0f0e(v107);
-	su64((ptr)v174.f1, v173);
-	su16((ptr)v174.f1+8, v62);
-	su16((ptr)v174.f1+10, v60);
-	su32((ptr)v174.f1+12, v63);
-	su64((ptr)v174.f1+16, v64);
-	su64((ptr)v174.f1+24, v172);
-	su64((ptr)v174.f1+32, v59);
-	su64((ptr)v174.f1+40, 0);
-	v69 = v174.f1; v70 = 1; goto L69;
-L53:;
-	u8 v175 = (u8)v62;
-	switch (v61) {
-	case 0: goto L54;
-	case 1: goto L55;
-	case 2: goto L56;
-	case 3: goto L57;
-	case 4: case 5: case 6: goto L65;
-	default: goto L67;
-	}
-L54:;
-	if ((v175 == 0) || (v59 == 0)) goto L65;
-	goto L64;
-L55:;
-	if ((v175 == 0) || (v59 == 0)) goto L65;
-	goto L64;
-L56:;
-	if ((v175 == 0) || (v59 == 0)) goto L65;
-	goto L64;
-L57:;
-	if ((v175 == 0) || (v59 == 0)) goto L65;
-	goto L64;
-L58:;
-	if (ld64(v108+16) != v47) { v68 = v47; goto L68; }
-	u8 v176 = std_alloc_vec_Vec_grow_amortized_35f1(v108);
-	if (!v176) goto L59;
-	v68 = ld64(v108+8); goto L68;
-L59:;
-	u8 v177 = (u8)v62;
-	switch (v61) {
-	case 0: goto L60;
-	case 1: goto L61;
-	case 2: goto L62;
-	case 3: goto L63;
-	case 4: case 5: case 6: goto L65;
-	default: goto L67;
-	}
-L60:;
-	if ((v177 == 0) || (v59 == 0)) goto L65;
-	goto L64;
-L61:;
-	if ((v177 == 0) || (v59 == 0)) goto L65;
-	goto L64;
-L62:;
-	if ((v177 == 0) || (v59 == 0)) goto L65;
-	goto L64;
-L63:;
-	if ((v177 == 0) || (v59 == 0)) goto L65;
-L64:;
-	deallocate((ptr)v64);
-L65:;
-	v65 = 0; v66 = 0; v67 = 0;
-L66:;
-	std_alloc_vec_Vec_drop_0f0e(v108);
-	clear(v118, 6);
-	clear(v119, 16);
-	v75 = 1; v76 = (u8)v65; v77 = (u8)(v65 >> 8); v78 = 0; v79 = v66; v80 = (u8)v67; v81 = (u8)(v67 >> 8); v82 = 0; v83 = 0; v84 = 0; v85 = 0; v86 = 0; v87 = 0; goto L71;
-L67:;
+L299:
+	v321 = v1849; v322 = v1853; v323 = v1852; v324 = v1850;
+L300:
+	if (v321 == 5) { v325 = (ptr)0; v326 = v327 = v328 = v329 = v330 = v331 = v332 = v333 = v334 = v335 = v337 = 0; v336 = 5; goto L305; }
+	if (v321 != 4 || (v323 | v322) == 0) { M114: v338 = v315; v339 = v317; goto L308; }
+	deallocate((ptr)v324);
+	goto M114;
+L301:
+L302:
+L303:
+	st64(v969, v320);
+	st64(v969+8, v1844);
+	st64(v969+16, 0);
+	stp(v969+24, v316+8);
+	st64(v969+32, v1845);
+	st64(v969+40, 0);
+	st32(v969+48, v319);
+	st8(v969+52, v318);
+	clear(v969+53, 3);
+	u64 v1856 = v315 + 1;
+	capcopy_run_blocks_KindLinesBlockLine_write_line_ce79(v970, v990, v5, v1856, v969);
+	if (ld8(v970)) goto L304;
+	if (v315 < 4294967294u) { v315 = v1856; v316 = v1846+4; v317 = v1848; goto L278; }
+	v338 = v1856; v339 = v1848; goto L308;
+L304:
+	v325 = ldp(v970+24); v326 = ld64(v970+32); v327 = ld64(v970+40); v328 = ld64(v970+48); v329 = ld64(v970+56); v330 = ld64(v970+64); v331 = ld64(v970+72); v332 = ld64(v970+80); v333 = ld64(v970+88); v334 = ld64(v970+96); v335 = ld64(v970+104); v336 = ld8(v970+8); v337 = ld8(v970+16);
+L305:
+	v519 = v336; v520 = v337; v521 = v325; v522 = v326; v523 = v327; v524 = v328; v525 = v329; v526 = v330; v527 = v331; v528 = v332; v529 = v333; v530 = v334; v531 = v335; v518 = 0; goto L380;
+L306:
 	__builtin_trap();
-L68:;
-	ptr v178 = ldp(v108);
-	ptr v179 = at(v178, v68 * 48);
-	su64(v179, v173);
-	su16(v179+8, v62);
-	su16(v179+10, v60);
-	su32(v179+12, v63);
-	su64(v179+16, v64);
-	su64(v179+24, v172);
-	su64(v179+32, v59);
-	su64(v179+40, 0);
-	v69 = (u64)v178; v70 = v68 + 1;
-L69:;
-	u8 v180 = (u8)v69;
-	u8 v181 = (u8)(v69 >> 8);
-	st64(v108+8, v70);
-	if (v165 != 0) { v46 = v180; v47 = v70; v48 = v181; v49 = v165; v50 = v164; goto L37; }
-	v71 = v164; v72 = 0; v73 = v180; v74 = v181;
-L70:;
-	copy(v109, v108+2, 22);
-	u64 v182 = (u64)v71;
-	copy(v118, v109, 6);
-	copy(v119, v109+6, 16);
-	v75 = 0; v76 = (u8)v182; v77 = (u8)(v182 >> 8); v78 = (v182 >> 16) & 0xffffffffffffull; v79 = v72; v80 = 26; v81 = 43; v82 = 19772; v83 = v152; v84 = v153; v85 = v155; v86 = v73; v87 = v74;
-L71:;
-	v88 = v75; v89 = v76; v90 = v77; v91 = v78; v92 = v79; v93 = v80; v94 = v81; v95 = v82; v96 = v83; v97 = v84; v98 = v85; v99 = v86; v100 = v87;
-L72:;
-	su64(v1, v88);
-	st8(v1+8, v89);
-	st8(v1+9, v90);
-	st_bytes(v1+10, v91, 6);
-	su64(v1+16, v92);
-	st8(v1+24, v93);
-	st8(v1+25, v94);
-	su16(v1+26, v95);
-	su16(v1+28, v96);
-	su16(v1+30, v97);
-	su64(v1+32, v98);
-	st8(v1+40, v99);
-	st8(v1+41, v100);
-	copy(v1+42, v118, 6);
-	copy(v1+48, v119, 16);
-L73:;
-	return;
-}
-static void blocks_interface_description_InterfaceDescriptionBlock_read_4da0(ptr v1, ptr v2, u64 v3) {
-	u8 v4, v6, v12, v13, v20, v21, v37, v38;
-	u64 v5, v7, v9, v10, v14, v16, v18, v25, v26, v27, v30, v32, v33, v34, v36;
-	ptr v8, v17, v28, v35;
-	u16 v11, v15, v22, v23, v29;
-	u32 v19, v24, v31;
-	_Alignas(8) u8 v39[1], v40[48], v41[48], v42[48], v43[24], v44[24], v45[24], v46[24], v47[24], v48[24], v49[48], v50[24];
-	_Alignas(2) u8 v51[22];
-	clear(v51, 22);
-	if (v3 >= 8) goto L0;
-	su64(v1, 1);
-	st8(v1+8, 3);
-	st8(v1+9, 11);
-	clear(v1+10, 54);
-	goto L42;
-L0:;
-	u16 v52 = (u16)__builtin_bswap16(lu16(v2));
-	u16 v53 = (u16)__builtin_bswap16(lu16(v2+2));
-	u64 v54 = v3 - 8;
-	u32 v55 = (u32)__builtin_bswap32(lu32(v2+4));
-	stp(v50, v39);
-	clear(v50+8, 16);
-	u64 v56 = (u64)v39;
-	u8 v57 = (u8)(v56 >> 8);
-	u8 v58 = (u8)v56;
-	if (v54 == 0) { v35 = v2+8; v36 = 0; v37 = v58; v38 = v57; goto L41; }
-	v4 = v58; v5 = 0; v6 = v57; v7 = v54; v8 = v2+8;
-L1:;
-	if (v7 < 4) { v12 = 0; v13 = 0; v14 = 0; v15 = 4099; goto L26; }
-	u16 v59 = lu16(v8);
-	u16 v60 = (u16)__builtin_bswap16(v59);
-	u64 v61 = v7 - 4;
-	u16 v62 = lu16(v8+2);
-	u16 v63 = (u16)__builtin_bswap16(v62);
-	if (v59 == 0) { v35 = v8+4; v36 = v61; v37 = v4; v38 = v6; goto L41; }
-	u64 v64 = (u64)v63;
-	u64 v65 = ((0ull - v64) & 3) + v64;
-	if (v61 < v65) { v12 = 0; v13 = 0; v14 = 0; v15 = 4355; goto L26; }
-	ptr v66 = at(v8+4, v65);
-	u64 v67 = v61 - v65;
-	switch (v60) {
-	case 1: goto L2;
-	case 2: goto L4;
-	case 3: goto L6;
-	case 4: goto L8;
-	case 5: goto L9;
-	case 6: goto L10;
-	case 7: goto L11;
-	case 8: goto L12;
-	case 9: goto L13;
-	case 10: goto L14;
-	case 11: goto L15;
-	case 12: goto L16;
-	case 13: goto L18;
-	case 14: goto L19;
-	case 15: goto L20;
-	case 2988: case 19372: goto L22;
-	case 2989: case 19373: goto L25;
-	default: v17 = v8+4; v18 = v64; v19 = 0; v20 = 17; v21 = 0; v22 = v60; v23 = v63; v24 = 0; v25 = 0; goto L31;
+L307:
+	v338 = v315; v339 = v317;
+L308:;
+	u64 v1857 = ld64(v4+24), v1858 = v1837 - v339, v1859 = ld64(v4+32) - v1857;
+	st64(v4+24, (v1858 < v1859 ? v1858 : v1859) + v1857);
+	if (v312 < v338) { v487 = v338; goto L368; }
+	clear(v962, 56);
+	clear(v963, 112);
+	clear(v961+8, 24);
+	stp(v961, v941);
+	clear(v960, 56);
+	u8 v1860 = ld32(v990+128) != 439041101;
+	clear(v958, 3);
+	clear(v959, 3);
+	clear(v953, 3);
+	clear(v954, 3);
+	clear(v952, 3);
+	v340 = v941; v341 = v342 = 0; v343 = 12;
+L309:
+	clear(v951, 3);
+	u64 v1861 = v343 < 65536 ? v343 : 65536, v1862 = v1861 + v342;
+	if (v341 >= v1862) { v346 = v342; v347 = v340; v348 = v341; goto L313; }
+	u64 v1863 = v1862 - v341, v1864 = ld64(v961+16);
+	if (v1863 <= v1864 - v341) { v344 = v1864; v345 = v341; goto L311; }
+	u8 v1865 = std_alloc_vec_Vec_grow_amortized_56a3(v961, v1863);
+	if (!v1865) goto L310;
+	v344 = ld64(v961+16); v345 = ld64(v961+8); goto L311;
+L310:
+	clear(v952, 3);
+	v408 = v409 = v410 = v411 = v413 = v414 = v415 = v416 = v417 = v418 = v419 = v420 = 0; v412 = 5; goto L361;
+L311:;
+	u64 v1866 = v345 + v1863;
+	ptr v1867 = ldp(v961);
+	if (v345 >= v1866) goto L312;
+	clear(at(v1867, v345), v1863);
+L312:
+	st64(v961+8, v1866);
+	st64(v961+16, v344);
+	v346 = ld64(v961+24); v347 = v1867; v348 = v1866;
+L313:
+	clear(v949, 96);
+	std_io_buffered_BufReaderRead_read_e988(v949, v4, at(v347, v346), v1861);
+	u64 v1868 = ld64(v949+8), v1869 = ld64(v949+16), v1870 = ld64(v949+24), v1871 = ld64(v949+32);
+	u64 v1872 = ld64(v949+40);
+	u32 v1873 = ld32(v949+48);
+	u8 v1874 = ld8(v949+52), v1875 = ld8(v949);
+	copy(v950, v949+53, 3);
+	u64 v1876 = ld64(v949+56), v1877 = ld64(v949+64), v1878 = ld64(v949+72), v1879 = ld64(v949+80);
+	u64 v1880 = ld64(v949+88);
+	if (v1875) goto L360;
+	u64 v1881 = v1868 + v346;
+	st64(v961+24, v1881);
+	copy(v952, v951, 3);
+	if (v1868) goto L315;
+	if (v1881) goto L314;
+	v470 = v471 = v472 = v473 = v474 = v476 = v477 = v478 = v479 = v480 = v481 = v482 = v483 = v484 = v485 = v486 = 0; v475 = 1; goto L365;
+L314:
+	fill(v954, 46, 3);
+	v421 = 0x2e2e2e2e2e2e2e2eull; v422 = 0x2e2e2e2e2e2e2e2eull; v423 = 0x2e2e2e2e2e2e2e2eull; v424 = 0x2e2e2e2e2e2e2e2eull; v425 = 0x2e2e2e2e2e2e2e2eull; v426 = 774778414; v428 = 0x2e2e2e2e2e2e2e2eull; v434 = 0x6572747320656874ull; v435 = 0x6465646e65206d61ull; v436 = 0x2e2e796c72616520ull; v427 = 46; v429 = 3; v430 = 37; v431 = 22; v432 = v433 = 0; v437 = 1; goto L362;
+L315:;
+	u64 v1882 = v343 - v1868;
+	if (v1882) { v340 = v347; v341 = v348; v342 = v1881; v343 = v1882; goto L309; }
+	u32 v1883 = lu32(v347), v1884 = v1860 ? v1883 : (u32)__builtin_bswap32(v1883);
+	if (v1884 != 168627466) goto L318;
+	switch ((u32)__builtin_bswap32(lu32(v347+8))) {
+	case 439041101: goto L316;
+	case 1295788826: goto L317;
+	default: v406 = (ptr)static_15; v407 = 40; goto L359;
 	}
-L2:;
-	clear(v48, 24);
-	core_str_utf8_from_utf8(v48, v8+4, v64);
-	u64 v68 = ld64(v48+8);
-	if (ld8(v48) != 0) goto L3;
-	v17 = (ptr)ld64(v48+16); v18 = 0; v19 = 0; v20 = 0; v21 = 0; v22 = 0; v23 = 0; v24 = 0; v25 = v68; goto L31;
-L3:;
-	v12 = ld8(v48+17); v13 = ld8(v48+16); v14 = v68; v15 = 2; goto L26;
-L4:;
-	clear(v47, 24);
-	core_str_utf8_from_utf8(v47, v8+4, v64);
-	u64 v69 = ld64(v47+8);
-	if (ld8(v47) != 0) goto L5;
-	v17 = (ptr)ld64(v47+16); v18 = 0; v19 = 0; v20 = 1; v21 = 0; v22 = 0; v23 = 0; v24 = 0; v25 = v69; goto L31;
-L5:;
-	v12 = ld8(v47+17); v13 = ld8(v47+16); v14 = v69; v15 = 2; goto L26;
-L6:;
-	clear(v46, 24);
-	core_str_utf8_from_utf8(v46, v8+4, v64);
-	u64 v70 = ld64(v46+8);
-	if (ld8(v46) != 0) goto L7;
-	v17 = (ptr)ld64(v46+16); v18 = 0; v19 = 0; v20 = 2; v21 = 0; v22 = 0; v23 = 0; v24 = 0; v25 = v70; goto L31;
-L7:;
-	v12 = ld8(v46+17); v13 = ld8(v46+16); v14 = v70; v15 = 2; goto L26;
-L8:;
-	if (v62 == 2048) { v17 = (ptr)8ull; v18 = 0; v19 = 0; v20 = 3; v21 = 0; v22 = 0; v23 = 0; v24 = 0; v25 = (u64)(v8+4); goto L31; }
-	v12 = 0; v13 = 0; v14 = 0; v15 = 4611; goto L26;
-L9:;
-	if (v62 == 4352) { v17 = (ptr)17ull; v18 = 0; v19 = 0; v20 = 4; v21 = 0; v22 = 0; v23 = 0; v24 = 0; v25 = (u64)(v8+4); goto L31; }
-	v12 = 0; v13 = 0; v14 = 0; v15 = 4867; goto L26;
-L10:;
-	if (v62 == 1536) { v17 = (ptr)6ull; v18 = 0; v19 = 0; v20 = 5; v21 = 0; v22 = 0; v23 = 0; v24 = 0; v25 = (u64)(v8+4); goto L31; }
-	v12 = 0; v13 = 0; v14 = 0; v15 = 5123; goto L26;
-L11:;
-	if (v62 != 2048) { v12 = 0; v13 = 0; v14 = 0; v15 = 5379; goto L26; }
-	u64 v71 = (u64)__builtin_bswap64(lu64(v8+4));
-	v17 = (ptr)0; v18 = 0; v19 = 0; v20 = 6; v21 = 0; v22 = (u16)v71; v23 = (u16)(v71 >> 16); v24 = (u32)(v71 >> 32); v25 = 0; goto L31;
-L12:;
-	if (v62 != 2048) { v12 = 0; v13 = 0; v14 = 0; v15 = 5635; goto L26; }
-	u64 v72 = (u64)__builtin_bswap64(lu64(v8+4));
-	v17 = (ptr)0; v18 = 0; v19 = 0; v20 = 7; v21 = 0; v22 = (u16)v72; v23 = (u16)(v72 >> 16); v24 = (u32)(v72 >> 32); v25 = 0; goto L31;
-L13:;
-	if (v62 != 256) { v12 = 0; v13 = 0; v14 = 0; v15 = 5891; goto L26; }
-	v17 = (ptr)0; v18 = 0; v19 = 0; v20 = 8; v21 = ld8(v8+4); v22 = 0; v23 = 0; v24 = 0; v25 = 0; goto L31;
-L14:;
-	if (v62 != 1024) { v12 = 0; v13 = 0; v14 = 0; v15 = 6147; goto L26; }
-	v17 = (ptr)0; v18 = 0; v19 = (u32)__builtin_bswap32(lu32(v8+4)); v20 = 9; v21 = 0; v22 = 0; v23 = 0; v24 = 0; v25 = 0; goto L31;
-L15:;
-	if (v62 == 0) { v12 = 0; v13 = 0; v14 = 0; v15 = 6403; goto L26; }
-	v17 = (ptr)v64; v18 = 0; v19 = 0; v20 = 10; v21 = 0; v22 = 0; v23 = 0; v24 = 0; v25 = (u64)(v8+4); goto L31;
-L16:;
-	clear(v45, 24);
-	core_str_utf8_from_utf8(v45, v8+4, v64);
-	u64 v73 = ld64(v45+8);
-	if (ld8(v45) != 0) goto L17;
-	v17 = (ptr)ld64(v45+16); v18 = 0; v19 = 0; v20 = 11; v21 = 0; v22 = 0; v23 = 0; v24 = 0; v25 = v73; goto L31;
-L17:;
-	v12 = ld8(v45+17); v13 = ld8(v45+16); v14 = v73; v15 = 2; goto L26;
-L18:;
-	if (v62 != 256) { v12 = 0; v13 = 0; v14 = 0; v15 = 6659; goto L26; }
-	v17 = (ptr)0; v18 = 0; v19 = 0; v20 = 12; v21 = ld8(v8+4); v22 = 0; v23 = 0; v24 = 0; v25 = 0; goto L31;
-L19:;
-	if (v62 != 2048) { v12 = 0; v13 = 0; v14 = 0; v15 = 6915; goto L26; }
-	u64 v74 = (u64)__builtin_bswap64(lu64(v8+4));
-	v17 = (ptr)0; v18 = 0; v19 = 0; v20 = 13; v21 = 0; v22 = (u16)v74; v23 = (u16)(v74 >> 16); v24 = (u32)(v74 >> 32); v25 = 0; goto L31;
-L20:;
-	clear(v44, 24);
-	core_str_utf8_from_utf8(v44, v8+4, v64);
-	u64 v75 = ld64(v44+8);
-	if (ld8(v44) != 0) goto L21;
-	v17 = (ptr)ld64(v44+16); v18 = 0; v19 = 0; v20 = 14; v21 = 0; v22 = 0; v23 = 0; v24 = 0; v25 = v75; goto L31;
-L21:;
-	v12 = ld8(v44+17); v13 = ld8(v44+16); v14 = v75; v15 = 2; goto L26;
-L22:;
-	if (v63 < 4) { v9 = 0; v10 = 0; v11 = 1; goto L24; }
-	u32 v76 = lu32(v8+4);
-	clear(v43, 24);
-	core_str_utf8_from_utf8(v43, v8+8, v64 - 4);
-	u64 v77 = ld64(v43+8);
-	if (ld8(v43) != 0) goto L23;
-	v17 = (ptr)v77; v18 = ld64(v43+16); v19 = 0; v20 = 16; v21 = 0; v22 = v60; v23 = 0; v24 = (u32)__builtin_bswap32(v76); v25 = 0; goto L31;
-L23:;
-	v9 = (u64)ld16(v43+16); v10 = v77; v11 = 2;
-L24:;
-	v12 = (u8)(v9 >> 8); v13 = (u8)v9; v14 = v10; v15 = v11; goto L26;
-L25:;
-	if (v63 >= 4) goto L30;
-	v12 = 0; v13 = 0; v14 = 0; v15 = 1;
-L26:;
-	ptr v78 = ldp(v50);
-	u64 v79 = ld64(v50+16);
-	if (v5 == 0) goto L28;
-	v16 = 0;
-L27:;
-	ptr v80 = at(v78, v16 * 48);
-	u8 v81 = ld8(v80);
-	u8 v82 = ld8(v80+1);
-	u32 v83 = lu32(v80+4);
-	u64 v84 = lu64(v80+8);
-	st64(v42, 0);
-	st8(v42, v81);
-	st8(v42+1, v82);
-	st32(v42+4, v83);
-	st64(v42+8, v84);
-	copy(v42+16, v80+16, 32);
-	ptions_interface_option_InterfaceDescriptionOption_Destruct_drop(v42);
-	u64 v85 = v16 + 1;
-	if (v85 != v5) { v16 = v85; goto L27; }
-L28:;
-	if (v79 == 0) goto L29;
-	deallocate(v78);
-L29:;
-	v29 = v15; v30 = v14; v31 = ((u32)v12 << 8) | (u32)v13; goto L38;
-L30:;
-	v17 = v8+8; v18 = v64 - 4; v19 = 0; v20 = 15; v21 = 0; v22 = v60; v23 = 0; v24 = (u32)__builtin_bswap32(lu32(v8+4)); v25 = 0;
-L31:;
-	u64 v86 = ((u64)v24 << 32) | ((u64)v23 << 16) | (u64)v22;
-	st64(v49, 0);
-	if (v5 != 0) goto L34;
-	t_64_64 v87 = allocate(384, 8);
-	if (!(v87.f0 & 1)) goto L33;
-	ptr v88 = ldp(v50);
-	u64 v89 = ld64(v50+16);
-	stp(v50, (ptr)v87.f1);
-	st64(v50+8, 0);
-	st64(v50+16, 8);
-	if (v89 == 0) goto L32;
-	deallocate(v88);
-L32:;
-	st8((ptr)v87.f1, v20);
-	st8((ptr)v87.f1+1, v21);
-	su32((ptr)v87.f1+4, v19);
-	su64((ptr)v87.f1+8, v86);
-	su64((ptr)v87.f1+16, v25);
-	sup((ptr)v87.f1+24, v17);
-	su64((ptr)v87.f1+32, v18);
-	su64((ptr)v87.f1+40, 0);
-	v33 = v87.f1; v34 = 1; goto L40;
-L33:;
-	st8(v49, v20);
-	st8(v49+1, v21);
-	st32(v49+4, v19);
-	st64(v49+8, v86);
-	st64(v49+16, v25);
-	stp(v49+24, v17);
-	st64(v49+32, v18);
-	st64(v49+40, 0);
-	ptions_interface_option_InterfaceDescriptionOption_Destruct_drop(v49);
-	v27 = ld64(v50+16); v28 = ldp(v50); goto L37;
-L34:;
-	if (ld64(v50+16) != v5) { v32 = v5; goto L39; }
-	u8 v90 = std_alloc_vec_Vec_grow_amortized_35f1(v50);
-	if (!v90) goto L35;
-	v32 = ld64(v50+8); goto L39;
-L35:;
-	st64(v41+16, v25);
-	stp(v41+24, v17);
-	st64(v41+32, v18);
-	st64(v41+40, 0);
-	st64(v41, 0);
-	st8(v41, v20);
-	st8(v41+1, v21);
-	st32(v41+4, v19);
-	st64(v41+8, v86);
-	ptions_interface_option_InterfaceDescriptionOption_Destruct_drop(v41);
-	u64 v91 = ld64(v50+8);
-	ptr v92 = ldp(v50);
-	u64 v93 = ld64(v50+16);
-	if (v91 == 0) { v27 = v93; v28 = v92; goto L37; }
-	v26 = 0;
-L36:;
-	ptr v94 = at(v92, v26 * 48);
-	u8 v95 = ld8(v94);
-	u8 v96 = ld8(v94+1);
-	u32 v97 = lu32(v94+4);
-	u64 v98 = lu64(v94+8);
-	st64(v40, 0);
-	st8(v40, v95);
-	st8(v40+1, v96);
-	st32(v40+4, v97);
-	st64(v40+8, v98);
-	copy(v40+16, v94+16, 32);
-	ptions_interface_option_InterfaceDescriptionOption_Destruct_drop(v40);
-	u64 v99 = v26 + 1;
-	if (v99 != v91) { v26 = v99; goto L36; }
-	v27 = v93; v28 = v92;
-L37:;
-	if (v27 == 0) { v29 = 0; v30 = 0; v31 = 0; goto L38; }
-	deallocate(v28);
-	v29 = 0; v30 = 0; v31 = 0;
-L38:;
-	su64(v1, 1);
-	su16(v1+8, v29);
-	st_bytes(v1+10, 0, 6);
-	su64(v1+16, v30);
-	su32(v1+24, v31);
-	clear(v1+28, 36);
-	goto L42;
-L39:;
-	ptr v100 = ldp(v50);
-	ptr v101 = at(v100, v32 * 48);
-	st8(v101, v20);
-	st8(v101+1, v21);
-	su32(v101+4, v19);
-	su64(v101+8, v86);
-	su64(v101+16, v25);
-	sup(v101+24, v17);
-	su64(v101+32, v18);
-	su64(v101+40, 0);
-	v33 = (u64)v100; v34 = v32 + 1;
-L40:;
-	u8 v102 = (u8)(v33 >> 8);
-	st64(v50+8, v34);
-	if (v67 != 0) { v4 = (u8)v33; v5 = v34; v6 = v102; v7 = v67; v8 = v66; goto L1; }
-	v35 = v66; v36 = 0; v37 = (u8)v33; v38 = v102;
-L41:;
-	copy(v51, v50+2, 22);
-	t_8_32 v103 = pcap_core_link_DataLinkFromU32_from((u32)v52);
-	su64(v1, 0);
-	su64(v1+8, (u64)v35);
-	su64(v1+16, v36);
-	su32(v1+24, (u32)v103.f0);
-	su32(v1+28, v103.f1);
-	su16(v1+32, v53);
-	su16(v1+34, 0);
-	su32(v1+36, v55);
-	st8(v1+40, v37);
-	st8(v1+41, v38);
-	copy(v1+42, v51, 6);
-	copy(v1+48, v51+6, 16);
-L42:;
-	return;
-}
-static void ptions_interface_option_InterfaceDescriptionOption_Destruct_drop(ptr v1) {
-	u64 v2;
-	u8 v3 = ld8(v1+8);
-	u64 v4 = lu64(v1+16);
-	u8 v5 = (u8)v4;
-	u64 v6 = lu64(v1+24);
-	u64 v7 = lu64(v1+32);
-	u64 v8 = lu64(v1+40);
-	switch (ld8(v1)) {
-	case 0: goto L0;
-	case 1: goto L1;
-	case 2: goto L2;
-	case 3: goto L3;
-	case 4: goto L4;
-	case 5: goto L5;
-	case 6: case 7: case 8: case 9: case 12: case 13: goto L13;
-	case 10: goto L6;
-	case 11: goto L7;
-	case 14: goto L8;
-	case 15: goto L9;
-	case 16: goto L10;
-	case 17: goto L11;
-	default: goto L14;
+L316:
+	v350 = (u32)__builtin_bswap32(lu32(v347+4)); v349 = 0; goto L319;
+L317:
+	v350 = lu32(v347+4); v349 = 1; goto L319;
+L318:;
+	u32 v1885 = lu32(v347+4);
+	v349 = v1860; v350 = v1860 ? v1885 : (u32)__builtin_bswap32(v1885);
+L319:
+	if (v350 & 3) { v406 = (ptr)static_16; v407 = 29; goto L359; }
+	if (v350 < 12) { v406 = (ptr)static_17; v407 = 23; goto L359; }
+	u64 v1886 = (u64)v350 - 12;
+	copy(v958, v953, 3);
+	u8 v1887 = v1886 == 0;
+	if (!v1887) goto L320;
+	v358 = ldp(v961); goto L328;
+L320:
+	v351 = ld64(v961+8); v352 = v1881; v353 = v1886;
+L321:;
+	u64 v1888 = v353 < 65536 ? v353 : 65536, v1889 = v1888 + v352;
+	if (v351 >= v1889) { v356 = v352; v357 = v351; goto L325; }
+	u64 v1890 = v1889 - v351, v1891 = ld64(v961+16);
+	if (v1890 <= v1891 - v351) { v354 = v1891; v355 = v351; goto L323; }
+	u8 v1892 = std_alloc_vec_Vec_grow_amortized_56a3(v961, v1890);
+	if (!v1892) goto L322;
+	v354 = ld64(v961+16); v355 = ld64(v961+8); goto L323;
+L322:
+	clear(v957, 3);
+	v379 = v380 = v381 = v382 = v384 = v385 = v386 = v387 = v388 = v389 = v390 = v391 = 0; v383 = 5; goto L357;
+L323:;
+	u64 v1893 = v355 + v1890;
+	if (v355 >= v1893) goto L324;
+	clear(at(ldp(v961), v355), v1890);
+L324:
+	st64(v961+8, v1893);
+	st64(v961+16, v354);
+	v356 = ld64(v961+24); v357 = v1893;
+L325:;
+	ptr v1894 = ldp(v961);
+	clear(v955, 96);
+	std_io_buffered_BufReaderRead_read_e988(v955, v4, at(v1894, v356), v1888);
+	u64 v1895 = ld64(v955+8), v1896 = ld64(v955+16), v1897 = ld64(v955+24), v1898 = ld64(v955+32);
+	u64 v1899 = ld64(v955+40);
+	u32 v1900 = ld32(v955+48);
+	u8 v1901 = ld8(v955+52), v1902 = ld8(v955);
+	copy(v956, v955+53, 3);
+	u64 v1903 = ld64(v955+56), v1904 = ld64(v955+64), v1905 = ld64(v955+72), v1906 = ld64(v955+80);
+	u64 v1907 = ld64(v955+88);
+	if (v1902) goto L356;
+	u64 v1908 = v1895 + v356;
+	st64(v961+24, v1908);
+	clear(v957, 3);
+	if (v1895) goto L326;
+	if (!v1908) goto L327;
+	fill(v959, 46, 3);
+	v392 = 0x2e2e2e2e2e2e2e2eull; v393 = 0x2e2e2e2e2e2e2e2eull; v394 = 0x2e2e2e2e2e2e2e2eull; v395 = 0x2e2e2e2e2e2e2e2eull; v396 = 0x2e2e2e2e2e2e2e2eull; v397 = 774778414; v399 = 0x2e2e2e2e2e2e2e2eull; v400 = 1451267; v402 = 0x6572747320656874ull; v403 = 0x6465646e65206d61ull; v404 = 0x2e2e796c72616520ull; v398 = 46; v401 = 0; v405 = 1; goto L358;
+L326:;
+	u64 v1909 = v353 - v1895;
+	if (v1909) { v351 = v357; v352 = v1908; v353 = v1909; goto L321; }
+L327:
+	v358 = v1894;
+L328:;
+	u32 v1910 = lu32(at(v358+8, v1886));
+	if ((!v349 ? (u32)__builtin_bswap32(v1910) : v1910) != v350) goto L355;
+	switch (v1884) {
+	case 168627466: v359 = v360 = 0; goto L337;
+	case 1: goto L329;
+	case 2: goto L330;
+	case 3: goto L331;
+	case 4: goto L332;
+	case 5: goto L333;
+	case 6: goto L334;
+	case 9: goto L335;
+	default: goto L336;
 	}
-L0:;
-	if ((v3 == 0) || (v7 == 0)) goto L13;
-	v2 = v4; goto L12;
-L1:;
-	if ((v3 == 0) || (v7 == 0)) goto L13;
-	v2 = v4; goto L12;
-L2:;
-	if ((v3 == 0) || (v7 == 0)) goto L13;
-	v2 = v4; goto L12;
-L3:;
-	if ((v3 == 0) || (v7 == 0)) goto L13;
-	v2 = v4; goto L12;
-L4:;
-	if ((v3 == 0) || (v7 == 0)) goto L13;
-	v2 = v4; goto L12;
-L5:;
-	if ((v3 == 0) || (v7 == 0)) goto L13;
-	v2 = v4; goto L12;
-L6:;
-	if ((v3 == 0) || (v7 == 0)) goto L13;
-	v2 = v4; goto L12;
-L7:;
-	if ((v3 == 0) || (v7 == 0)) goto L13;
-	v2 = v4; goto L12;
-L8:;
-	if ((v3 == 0) || (v7 == 0)) goto L13;
-	v2 = v4; goto L12;
-L9:;
-	if ((v5 == 0) || (v8 == 0)) goto L13;
-	v2 = v6; goto L12;
-L10:;
-	if ((v5 == 0) || (v8 == 0)) goto L13;
-	v2 = v6; goto L12;
-L11:;
-	if ((v5 == 0) || (v8 == 0)) goto L13;
-	v2 = v6;
-L12:;
-	deallocate((ptr)v2);
-L13:;
-	return;
-L14:;
+L329:
+	v359 = 1; v360 = 0; goto L337;
+L330:
+	v359 = 2; v360 = 0; goto L337;
+L331:
+	v359 = 3; v360 = 0; goto L337;
+L332:
+	v359 = 4; v360 = 0; goto L337;
+L333:
+	v359 = 5; v360 = 0; goto L337;
+L334:
+	v359 = 6; v360 = 0; goto L337;
+L335:
+	v359 = 7; v360 = 0; goto L337;
+L336:
+	v360 = v1884; v359 = 8;
+L337:
+	if (v1887) { v361 = v941; goto L338; }
+	t_64_64 v1911 = allocate(v1886, 1);
+	if (!(v1911.f0 & 1)) { v470 = v471 = v472 = v473 = v474 = v475 = v477 = v478 = v479 = v480 = v481 = v482 = v483 = v484 = v485 = v486 = 0; v476 = 5; goto L365; }
+	v361 = (ptr)v1911.f1;
+L338:
+	if ((u64)v361 - (u64)(v358+8) >= v1886) goto L340;
+	v362 = 0;
+L339:
+	st8(at(v361, v362), ld8(at(v358+8, v362)));
+	u64 v1912 = v362 + 1;
+	if (v1912 == v1886) goto L341;
+	v362 = v1912; goto L339;
+L340:
+	move(v361, v358+8, v1886);
+L341:
+	st8(v960, v359);
+	st_bytes(v960+1, 0, 3);
+	st32(v960+4, v360);
+	st32(v960+8, v350);
+	st32(v960+12, 0);
+	st64(v960+16, 1);
+	stp(v960+24, v361);
+	st64(v960+32, v1886);
+	st64(v960+40, v1886);
+	st32(v960+48, v350);
+	st8(v960+52, v349);
+	clear(v960+53, 3);
+	clear(v946, 104);
+	clear(v945, 104);
+	u64 v1913 = (u64)v361;
+	u32 v1914 = (u32)v1886;
+	switch (v359) {
+	case 0: goto L342;
+	case 1: goto L343;
+	case 2: case 3: case 4: case 5: case 6: case 7: case 8: goto L351;
+	default: goto L354;
+	}
+L342:
+	pcap_ng_pcapng_block_Block_new_section(v945, v361, v1886);
+	goto L344;
+L343:
+	pcap_ng_pcapng_block_Block_new_interface(v945, v960);
+L344:;
+	u8 v1915 = ld8(v945+8);
+	u32 v1916 = ld32(v945+56);
+	u8 v1917 = ld8(v945+60);
+	u64 v1918 = ld64(v945+64);
+	u32 v1919 = ld32(v945+16), v1920 = ld32(v945+20), v1921 = ld32(v945+24), v1922 = ld32(v945+28);
+	u64 v1923 = ld64(v945+32), v1924 = ld64(v945+40), v1925 = ld64(v945+48);
+	u32 v1926 = (u32)ld_bytes(v945+61, 3) & 16777215;
+	u64 v1927 = ld64(v945+72), v1928 = ld64(v945+80), v1929 = ld64(v945+88), v1930 = ld64(v945+96);
+	if (ld8(v945)) goto L349;
+	switch (v1915) {
+	case 0: goto L345;
+	case 1: goto L346;
+	case 2: goto L352;
+	default: goto L348;
+	}
+L345:
+	st32(v947, v1919);
+	st32(v947+4, v1920);
+	st32(v947+8, v1921);
+	st32(v947+12, v1922);
+	st64(v947+16, v1923);
+	st64(v947+24, v1924);
+	st64(v947+32, v1925);
+	pcap_ng_pcapng_state_InForce_begin_section(v946, v990+128, v947);
+	goto L347;
+L346:
+	st32(v948, v1919);
+	st32(v948+4, v1920);
+	st32(v948+8, v1921);
+	st32(v948+12, v1922);
+	st64(v948+16, v1923);
+	st64(v948+24, v1924);
+	st64(v948+32, v1925);
+	pcap_ng_pcapng_state_InForce_add_interface(v946, v990+128, v948);
+L347:
+	if (!ld8(v946)) goto L353;
+	v363 = (u32)ld_bytes(v946+61, 3) & 16777215; v364 = ld64(v946+72); v365 = ld64(v946+80); v366 = ld64(v946+88); v367 = ld64(v946+96); v368 = ld8(v946+8); v369 = ld32(v946+16); v370 = ld32(v946+20); v371 = ld32(v946+24); v372 = ld32(v946+28); v373 = ld64(v946+32); v374 = ld64(v946+40); v375 = ld64(v946+48); v376 = ld32(v946+56); v377 = ld8(v946+60); v378 = ld64(v946+64); goto L350;
+L348:
 	__builtin_trap();
-}
-static void std_alloc_vec_Vec_drop_e82e(ptr v1) {
-	u64 v2, v3;
-	ptr v4 = lup(v1);
-	u64 v5 = lu64(v1+8);
-	u64 v6 = lu64(v1+16);
-	if (v5 == 0) goto L8;
-	v2 = 0;
-L0:;
-	ptr v7 = at(v4, v2 * 48);
-	u64 v8 = lu64(v7+16);
-	u64 v9 = lu64(v7+24);
-	u64 v10 = lu64(v7+32);
-	u64 v11 = lu64(v7+40);
-	u8 v12 = (u8)lu16(v7+8);
-	u8 v13 = (u8)v8;
-	switch (ld8(v7)) {
-	case 0: goto L1;
-	case 1: goto L7;
-	case 2: goto L2;
-	case 3: goto L3;
-	case 4: goto L4;
-	case 5: goto L5;
-	default: goto L10;
+L349:
+	v363 = v1926; v364 = v1927; v365 = v1928; v366 = v1929; v367 = v1930; v368 = v1915; v369 = v1919; v370 = v1920; v371 = v1921; v372 = v1922; v373 = v1923; v374 = v1924; v375 = v1925; v376 = v1916; v377 = v1917; v378 = v1918;
+L350:
+	if (v1887) { M145: v470 = v363; v471 = v364; v472 = v365; v473 = v366; v474 = v367; v476 = v368; v477 = v369; v478 = v370; v479 = v371; v480 = v372; v481 = v373; v482 = v374; v483 = v375; v484 = v376; v485 = v377; v486 = v378; v475 = 0; goto L365; }
+	deallocate(v361);
+	goto M145;
+L351:
+L352:
+L353:
+	v477 = ld32(v960); v478 = v360; v479 = v350; v482 = v1913; v483 = v1886; v484 = v1914; v486 = ld64(v960+48); v470 = v471 = v472 = v473 = v474 = v480 = v485 = 0; v475 = v476 = v481 = 1; goto L365;
+L354:
+	__builtin_trap();
+L355:
+	st8(v944, 38);
+	st_bytes(v944+1, 0, 7);
+	v477 = (u64)(ptr)static_18; v478 = v1821; v479 = ld32(v944); v470 = v471 = v472 = v473 = v474 = v475 = v480 = v481 = v482 = v483 = v484 = v485 = v486 = 0; v476 = 2; goto L365;
+L356:
+	copy(v957, v956, 3);
+	v379 = v1904; v380 = v1905; v381 = v1906; v382 = v1907; v384 = v1895; v385 = v1898; v386 = v1897; v387 = v1896; v388 = v1903; v389 = v1901; v390 = v1900; v391 = v1899; v383 = 1;
+L357:
+	copy(v959, v957, 3);
+	v392 = v379; v393 = v380; v394 = v381; v395 = v382; v396 = v391; v397 = v390; v398 = v389; v399 = v388; v400 = (u32)v384; v401 = (u32)(v384 >> 32); v402 = v387; v403 = v386; v404 = v385; v405 = v383;
+L358:
+	v455 = v959; v456 = v393; v457 = v394; v458 = v395; v459 = v392; v460 = v396; v461 = v397; v462 = v398; v463 = v399; v464 = v401; v465 = v402; v466 = v403; v467 = v404; v468 = v400; v469 = v405; goto L364;
+L359:;
+	u64 v1931 = (u64)v406;
+	clear(v958, 3);
+	v446 = (u32)(v1931 >> 8); v447 = (u32)(v1931 >> 16); v448 = (u32)(v1931 >> 24); v449 = (u32)(v1931 >> 32); v450 = v407; v453 = (u32)v1931; v438 = v439 = v440 = v441 = v442 = v443 = v444 = v445 = v451 = v452 = 0; v454 = 2; goto L363;
+L360:
+	copy(v952, v950, 3);
+	v408 = v1880; v409 = v1879; v410 = v1878; v411 = v1877; v413 = v1868; v414 = v1871; v415 = v1870; v416 = v1869; v417 = v1876; v418 = v1874; v419 = v1873; v420 = v1872; v412 = 1;
+L361:
+	copy(v954, v952, 3);
+	v421 = v411; v422 = v410; v423 = v409; v424 = v408; v425 = v420; v426 = v419; v427 = v418; v428 = v417; v429 = (u32)v413; v430 = (u32)(v413 >> 8); v431 = (u32)(v413 >> 16); v432 = (u32)(v413 >> 24); v433 = (u32)(v413 >> 32); v434 = v416; v435 = v415; v436 = v414; v437 = v412;
+L362:
+	copy(v958, v954, 3);
+	v438 = v421; v439 = v422; v440 = v423; v441 = v424; v442 = v425; v443 = v426; v444 = v427; v445 = v428; v446 = v430; v447 = v431; v448 = v432; v449 = v433; v450 = v434; v451 = v435; v452 = v436; v453 = v429; v454 = v437;
+L363:
+	v455 = v958; v456 = v439; v457 = v440; v458 = v441; v459 = v438; v460 = v442; v461 = v443; v462 = v444; v463 = v445; v464 = v449; v465 = v450; v466 = v451; v467 = v452; v468 = (v453 & 255) | (((v446 << 8) & 65280) | ((v447 << 16) & 16711680) | (v448 << 24)); v469 = v454;
+L364:
+	v470 = (u32)ld_bytes(v455, 3) & 16777215; v471 = v459; v472 = v456; v473 = v457; v474 = v458; v476 = v469; v477 = v468; v478 = v464; v479 = (u32)v465; v480 = (u32)(v465 >> 32); v481 = v466; v482 = v467; v483 = v460; v484 = v461; v485 = v462; v486 = v463; v475 = 0;
+L365:
+	if (!ld64(v961+16)) goto L366;
+	deallocate(ldp(v961));
+L366:
+	if (!v475) goto L371;
+	if (v476 != 1) goto L370;
+	u64 v1932 = ((u64)v485 << 32) | (u64)v484 | ((u64)v470 << 40);
+	st32(v962, v477);
+	st32(v962+4, v478);
+	st64(v962+8, ((u64)v480 << 32) | (u64)v479);
+	st64(v962+16, v481);
+	st64(v962+24, v482);
+	st64(v962+32, v483);
+	st64(v962+40, v1932);
+	st64(v962+48, v486);
+	u64 v1933 = v338 + 1;
+	capcopy_run_blocks_KindLinesBlockLine_write_line_ce79(v963, v990, v5, v1933, v962);
+	u8 v1934 = ld8(v963+16), v1935 = (u8)v481;
+	if (ld8(v963)) goto L369;
+	if (v1935 != 1 || !v1932) goto L367;
+	deallocate((ptr)v482);
+L367:
+	v487 = v1933;
+L368:
+	if (v487 < 4294967295u) { v312 = v487; goto L276; }
+	v518 = v1838; v521 = (ptr)0; v519 = 2; v520 = v522 = v523 = v524 = v525 = v526 = v527 = v528 = v529 = v530 = v531 = 0; goto L380;
+L369:;
+	u8 v1936 = ld8(v963+8);
+	u64 v1937 = ld64(v963+24), v1938 = ld64(v963+32), v1939 = ld64(v963+40), v1940 = ld64(v963+48);
+	u64 v1941 = ld64(v963+56), v1942 = ld64(v963+64), v1943 = ld64(v963+72), v1944 = ld64(v963+80);
+	u64 v1945 = ld64(v963+88), v1946 = ld64(v963+96), v1947 = ld64(v963+104);
+	if (v1935 != 1 || !v1932) { M151: v505 = v1936; v506 = v1934; v507 = v1937; v508 = v1938; v509 = v1939; v510 = v1940; v511 = v1941; v512 = v1942; v513 = v1943; v514 = v1944; v515 = v1945; v516 = v1946; v517 = v1947; goto L376; }
+	deallocate((ptr)v482);
+	goto M151;
+L370:
+	v521 = (ptr)0; v518 = 1; v519 = v520 = v522 = v523 = v524 = v525 = v526 = v527 = v528 = v529 = v530 = v531 = 0; goto L380;
+L371:;
+	u64 v1948 = ((u64)v480 << 32) | (u64)v479;
+	u64 v1949 = ((u64)v485 << 32) | (u64)v484 | ((u64)v470 << 40);
+	u8 v1950 = (u8)v477, v1951 = (u8)(v477 >> 8), v1952 = (u8)(v477 >> 16), v1953 = (u8)(v477 >> 24);
+	switch (v476) {
+	case 0: goto L372;
+	case 1: goto L373;
+	case 5: v503 = v476; v488 = v489 = v490 = v491 = v492 = v493 = v494 = v495 = v496 = v497 = v498 = v499 = v500 = v501 = v502 = v504 = 0; goto L375;
+	case 2: case 3: case 4: case 6: goto L374;
+	default: goto L377;
 	}
-L1:;
-	if ((v12 == 0) || (v10 == 0)) goto L7;
-	v3 = v8; goto L6;
-L2:;
-	if ((v12 == 0) || (v10 == 0)) goto L7;
-	v3 = v8; goto L6;
-L3:;
-	if ((v13 == 0) || (v11 == 0)) goto L7;
-	v3 = v9; goto L6;
-L4:;
-	if ((v13 == 0) || (v11 == 0)) goto L7;
-	v3 = v9; goto L6;
-L5:;
-	if ((v13 == 0) || (v11 == 0)) goto L7;
-	v3 = v9;
-L6:;
-	deallocate((ptr)v3);
-L7:;
-	u64 v14 = v2 + 1;
-	if (v14 != v5) { v2 = v14; goto L0; }
-L8:;
-	if (v6 == 0) goto L9;
-	deallocate(v4);
-L9:;
+L372:
+	v493 = 0x7470616320656874ull; v494 = 0x65646e6520657275ull; v495 = 0x2e796c7261652064ull; v496 = 0x2e2e2e2e2e2e2e2eull; v497 = 0x2e2e2e2e2e2e2e2eull; v498 = 0x2e2e2e2e2e2e2e2eull; v499 = 0x2e2e2e2e2e2e2e2eull; v500 = 0x2e2e2e2e2e2e2e2eull; v501 = 0x2e2e2e2e2e2e2e2eull; v502 = 0x2e2e2e2e2e2e2e2eull; v488 = 3; v489 = 37; v490 = 23; v491 = v492 = 0; v503 = 4; v504 = 1; goto L375;
+L373:
+	v488 = v1950; v489 = v1951; v490 = v1952; v491 = v1953; v492 = v478; v493 = v1948; v494 = v481; v495 = v482; v496 = v483; v497 = v1949; v498 = v486; v499 = v471; v500 = v472; v501 = v473; v502 = v474; v504 = v476; v503 = 4; goto L375;
+L374:
+	v488 = v1950; v489 = v1951; v490 = v1952; v491 = v1953; v492 = v478; v493 = v1948; v494 = v481; v495 = v482; v496 = v483; v497 = v1949; v498 = v486; v499 = v471; v500 = v472; v501 = v473; v502 = v474; v504 = v476; v503 = 1;
+L375:
+	v505 = v503; v506 = v504; v507 = ((u64)v489 << 8) | (u64)v488 | ((u64)v490 << 16) | ((u64)v491 << 24) | ((u64)v492 << 32); v508 = v493; v509 = v494; v510 = v495; v511 = v496; v512 = v497; v513 = v498; v514 = v499; v515 = v500; v516 = v501; v517 = v502;
+L376:
+	v519 = v505; v520 = v506; v521 = (ptr)v507; v522 = v508; v523 = v509; v524 = v510; v525 = v511; v526 = v512; v527 = v513; v528 = v514; v529 = v515; v530 = v516; v531 = v517; v518 = 0; goto L380;
+L377:
+	__builtin_trap();
+L378:
+	v521 = (ptr)v1826; v522 = v1827; v523 = v1828; v524 = v1829; v525 = v1830; v526 = v1831; v527 = v1832; v528 = v1833; v529 = v1834; v530 = v1835; v531 = v1836; v518 = 0; v519 = 4; v520 = 1; goto L380;
+L379:
+	v521 = ldp(v972+8); v522 = ld64(v972+16); v523 = ld64(v972+24); v524 = ld64(v972+32); v525 = ld64(v972+40); v526 = ld64(v972+48); v527 = ld64(v972+56); v528 = ld64(v972+64); v529 = ld64(v972+72); v530 = ld64(v972+80); v531 = ld64(v972+88); v518 = 0; v519 = 4; v520 = 1;
+L380:;
+	ptr v1954 = ldp(v990+168);
+	u64 v1955 = ld64(v990+176), v1956 = ld64(v990+184);
+	copy(v991, v990+144, 24);
+	std_alloc_vec_Vec_drop_0f0e(v991);
+	if (!v1955) goto L382;
+	v532 = 0;
+L381:
+	copy(v943, at(v1954, v532 * 40)+16, 24);
+	std_alloc_vec_Vec_drop_37c7(v943);
+	u64 v1957 = v532 + 1;
+	if (v1957 != v1955) { v532 = v1957; goto L381; }
+L382:
+	if (!v1956) goto L383;
+	deallocate(v1954);
+L383:
+	if (v518) { v928 = v929 = v930 = v931 = v932 = v933 = v934 = v935 = v936 = v937 = v938 = v939 = v940 = 0; goto L518; }
+	v636 = v519; v637 = v531; v638 = v530; v639 = v529; v640 = v528; v641 = v527; v642 = v526; v643 = v525; v644 = v524; v645 = v523; v646 = v522; v647 = v521; v648 = v520; goto L399;
+L384:;
+	u8 v1958 = ld8(v988+8);
+	ptr v1959 = ldp(v988+24);
+	u64 v1960 = ld64(v988+32), v1961 = ld64(v988+40), v1962 = ld64(v988+48), v1963 = ld64(v988+56);
+	u64 v1964 = ld64(v988+64), v1965 = ld64(v988+72), v1966 = ld64(v988+80), v1967 = ld64(v988+88);
+	u64 v1968 = ld64(v988+96), v1969 = ld64(v988+104);
+	std_alloc_vec_Vec_drop_0f0e(v986+16);
+	if (!v295) goto L386;
+	v533 = 0;
+L385:
+	copy(v942, at(v296, v533 * 40)+16, 24);
+	std_alloc_vec_Vec_drop_37c7(v942);
+	u64 v1970 = v533 + 1;
+	if (v1970 != v295) { v533 = v1970; goto L385; }
+L386:
+	if (!v294) { M159: v623 = v1958; v624 = v1820; v625 = v1959; v626 = v1960; v627 = v1961; v628 = v1962; v629 = v1963; v630 = v1964; v631 = v1965; v632 = v1966; v633 = v1967; v634 = v1968; v635 = v1969; goto L398; }
+	deallocate(v296);
+	goto M159;
+L387:
+	v576 = v543; v577 = v542; v578 = v541; v579 = v540; v580 = v534; v581 = v535; v582 = v536; v583 = (u32)(v544 >> 32); v584 = v537; v585 = v538; v586 = v539; v587 = (u32)v544; v588 = v545; goto L391;
+L388:;
+	u64 v1971 = (u64)v546;
+	v560 = (ptr)0; v564 = (ptr)0; v567 = (u32)(v1971 >> 8); v568 = (u32)(v1971 >> 16); v569 = (u32)(v1971 >> 24); v570 = (u32)(v1971 >> 32); v571 = v547; v574 = (u32)v1971; v561 = v562 = v563 = v565 = v566 = v572 = v573 = 0; v575 = 2; goto L390;
+L389:
+	v560 = v548; v561 = v549; v562 = v550; v563 = v551; v564 = v552; v565 = v553; v566 = v554; v567 = (u32)(v558 >> 8); v568 = (u32)(v558 >> 16); v569 = (u32)(v558 >> 24); v570 = (u32)(v558 >> 32); v571 = v555; v572 = v556; v573 = v557; v574 = (u32)v558; v575 = v559;
+L390:
+	v576 = v560; v577 = v561; v578 = v562; v579 = v563; v580 = v564; v581 = v565; v582 = v566; v583 = v570; v584 = v571; v585 = v572; v586 = v573; v587 = (v574 & 255) | (((v567 << 8) & 65280) | ((v568 << 16) & 16711680) | (v569 << 24)); v588 = v575;
+L391:
+	v589 = ld64(v984+16); v590 = v588; v591 = (u8)v587; v592 = (u8)(v587 >> 8); v593 = (u8)(v587 >> 16); v594 = (u8)(v587 >> 24); v595 = v583; v596 = v584; v597 = v585; v598 = v586; v599 = v580; v600 = v581; v601 = v582; v602 = v576; v603 = v577; v604 = v578; v605 = v579;
+L392:
+	if (!v589) goto L393;
+	deallocate(ldp(v984));
+L393:;
+	u64 v1972 = (u64)v599, v1973 = (u64)v602;
+	switch (v590) {
+	case 0: goto L394;
+	case 1: goto L395;
+	case 5: v621 = v590; v606 = v607 = v608 = v609 = v610 = v611 = v612 = v613 = v614 = v615 = v616 = v617 = v618 = v619 = v620 = v622 = 0; goto L397;
+	case 2: case 3: case 4: case 6: goto L396;
+	default: goto L400;
+	}
+L394:
+	v611 = 0x7470616320656874ull; v612 = 0x65646e6520657275ull; v613 = 0x2e796c7261652064ull; v614 = 0x2e2e2e2e2e2e2e2eull; v615 = 0x2e2e2e2e2e2e2e2eull; v616 = 0x2e2e2e2e2e2e2e2eull; v617 = 0x2e2e2e2e2e2e2e2eull; v618 = 0x2e2e2e2e2e2e2e2eull; v619 = 0x2e2e2e2e2e2e2e2eull; v620 = 0x2e2e2e2e2e2e2e2eull; v606 = 3; v607 = 37; v608 = 23; v609 = v610 = 0; v621 = 4; v622 = 1; goto L397;
+L395:
+	v606 = v591; v607 = v592; v608 = v593; v609 = v594; v610 = v595; v611 = v596; v612 = v597; v613 = v598; v614 = v1972; v615 = v600; v616 = v601; v617 = v1973; v618 = v603; v619 = v604; v620 = v605; v622 = v590; v621 = 4; goto L397;
+L396:
+	v606 = v591; v607 = v592; v608 = v593; v609 = v594; v610 = v595; v611 = v596; v612 = v597; v613 = v598; v614 = v1972; v615 = v600; v616 = v601; v617 = v1973; v618 = v603; v619 = v604; v620 = v605; v622 = v590; v621 = 1;
+L397:;
+	ptr v1974 = (ptr)(((u64)v607 << 8) | (u64)v606 | ((u64)v608 << 16) | ((u64)v609 << 24) | ((u64)v610 << 32));
+	v623 = v621; v624 = v622; v625 = v1974; v626 = v611; v627 = v612; v628 = v613; v629 = v614; v630 = v615; v631 = v616; v632 = v617; v633 = v618; v634 = v619; v635 = v620;
+L398:
+	v636 = v623; v637 = v635; v638 = v634; v639 = v633; v640 = v632; v641 = v631; v642 = v630; v643 = v629; v644 = v628; v645 = v627; v646 = v626; v647 = v625; v648 = v624;
+L399:
+	v928 = (u64)v647; v929 = v646; v930 = v645; v931 = v644; v932 = v643; v933 = v642; v934 = v641; v935 = v640; v936 = v639; v937 = v638; v938 = v637; v939 = v636; v940 = v648; goto L518;
+L400:
+	__builtin_trap();
+L401:
+	if (v3 == 2) goto M0;
+	if (lu64(v2+8) != 4) goto M0;
+	u64 v1975 = (u64)lu32(lup(v2));
+	if (((v1975 << 32) | v1975) != 0x79706f6379706f63ull) goto M0;
+	ptr v1976 = lup(v2+16);
+	switch (lu64(v2+24)) {
+	case 3: goto L402;
+	case 6: goto L405;
+	default: goto M0;
+	}
+L402:
+	if ((((u64)ld8(v1976+1) << 8) | ((u64)ld8(v1976) << 16) | (u64)ld8(v1976+2)) != 6449511) goto M0;
+	ptr v1977 = lup(v2+32);
+	switch (lu64(v2+40)) {
+	case 5: goto L403;
+	case 4: goto L404;
+	default: goto M0;
+	}
+L403:
+	if ((((u64)lu32(v1977+1) << 32) | (u64)lu32(v1977)) == 0x6f7263697263696dull) { v649 = v650 = 1; goto L407; }
+	goto M0;
+L404:;
+	u64 v1978 = (u64)lu32(v1977);
+	if (((v1978 << 32) | v1978) == 0x6f6e616e6f6e616eull) { v649 = 1; v650 = 0; goto L407; }
+	goto M0;
+L405:
+	if ((((u64)lu32(v1976+2) << 32) | (u64)lu32(v1976)) != 0x656c74747474696cull) goto M0;
+	ptr v1979 = lup(v2+32);
+	u64 v1980 = lu64(v2+40);
+	if (v1980 != 5) goto L406;
+	if ((((u64)lu32(v1979+1) << 32) | (u64)lu32(v1979)) == 0x6f7263697263696dull) { v649 = 0; v650 = 1; goto L407; }
+L406:;
+	u8 v1981 = core_lang_str_eq(v1979, v1980, (ptr)static_5, 4);
+	if (!v1981) goto M0;
+	v649 = v650 = 0;
+L407:
+	clear(v1041, 56);
+	clear(v1042, 16);
+	stp(v1043, v941);
+	clear(v1043+8, 24);
+	clear(v1040, 104);
+	pcap_classic_pcap_header_read_header_67f8(v1040, v4, v1042+8);
+	u32 v1982 = ld32(v1040+4);
+	u8 v1983 = ld8(v1040+8);
+	if (ld8(v1040)) goto L510;
+	ptr v1984 = ldp(v1040+16);
+	u64 v1985 = ld64(v1040+24);
+	u32 v1986 = (u32)ld_bytes(v1040+9, 3) & 16777215;
+	st32(v1039, ld32(v1040+12));
+	sup(v1039+4, v1984);
+	u32 v1987 = v1064 ? v1982 : (v649 ? (v650 ? 2712847316u : 2712812621u) : (v650 ? 3569595041u : 1295823521u));
+	u32 v1988 = (v1986 << 8) | (u32)v1983;
+	u64 v1989 = (u64)v1988 << 32, v1990 = ld64(v1039);
+	u32 v1991 = (u32)((u64)v1984 >> 32);
+	u8 v1992 = (u8)v1985;
+	u32 v1993 = (u32)(v1985 >> 32), v1994 = (u32)((v1985 >> 8) & 16777215);
+	u32 v1995 = (u32)__builtin_bswap32(v1987);
+	switch (v1987) {
+	case 2712847316u: case 2712812621u: goto L408;
+	default: goto L415;
+	}
+L408:;
+	u32 v1996 = core_convert_AnyInto_into_d3a8(v1992, v1993);
+	st32(v1037, v1995);
+	st16(v1037+4, (u16)__builtin_bswap16((u16)v1988));
+	st16(v1037+6, (u16)__builtin_bswap16((u16)(v1986 >> 8)));
+	st32(v1037+8, (u32)__builtin_bswap32((u32)v1990));
+	st32(v1037+12, (u32)__builtin_bswap32((u32)(v1990 >> 32)));
+	st32(v1037+16, (u32)__builtin_bswap32(v1991));
+	st32(v1037+20, (u32)__builtin_bswap32(v1996));
+	v651 = v1037; v652 = 24;
+L409:
+	clear(v1036, 96);
+	u64 v1997 = ld64(v5+16), v1998 = ld64(v5+8);
+	if (v652 >= v1997 - v1998) goto L413;
+	u64 v1999 = v1998 + v652;
+	ptr v2000 = ldp(v5), v2001 = at(v2000, v1998);
+	if ((u64)v2001 - (u64)v651 >= v652) goto L411;
+	v653 = 0;
+L410:
+	st8(at(v2001, v653), ld8(at(v651, v653)));
+	u64 v2002 = v653 + 1;
+	if (v2002 == v652) goto L412;
+	v653 = v2002; goto L410;
+L411:
+	move(v2001, v651, v652);
+L412:
+	stp(v5, v2000);
+	st64(v5+8, v1999);
+	st64(v5+16, v1997);
+	v654 = v652; goto L414;
+L413:
+	std_io_buffered_BufWriter_write_cold_9d90(v1036, v5, v651, v652);
+	u64 v2003 = ld64(v1036+8);
+	if (ld8(v1036)) { v864 = (u32)ld_bytes(v1036+45, 3) & 16777215; v865 = ld32(v1036+52); v866 = ld64(v1036+56); v867 = ld64(v1036+64); v868 = ld64(v1036+72); v869 = ld64(v1036+80); v870 = ld64(v1036+88); v871 = ld32(v1036+48); v872 = ld8(v1036+44); v873 = ld32(v1036+40); v874 = v2003; v875 = ld64(v1036+16); v876 = ld64(v1036+24); v877 = ld64(v1036+32); goto L509; }
+	if (!v2003) { M169: v864 = 3026478; v865 = 774778414; v866 = 0x2e2e2e2e2e2e2e2eull; v867 = 0x2e2e2e2e2e2e2e2eull; v868 = 0x2e2e2e2e2e2e2e2eull; v869 = 0x2e2e2e2e2e2e2e2eull; v870 = 0x2e2e2e2e2e2e2e2eull; v871 = 774778414; v873 = 774778414; v874 = 1513219; v875 = 0x7469727720656874ull; v876 = 0x206b6f6f74207265ull; v877 = 0x2e676e6968746f6eull; v872 = 46; goto L509; }
+	v654 = v2003;
+L414:;
+	u64 v2004 = v652 - v654;
+	if (!v2004) goto L422;
+	v651 = at(v651, v654); v652 = v2004; goto L409;
+L415:;
+	u32 v2005 = core_convert_AnyInto_into_d3a8(v1992, v1993);
+	st32(v1038, v1995);
+	st32(v1038+4, v1988);
+	su64(v1038+8, v1990);
+	st32(v1038+16, v1991);
+	st32(v1038+20, v2005);
+	v655 = v1038; v656 = 24;
+L416:
+	clear(v1035, 96);
+	u64 v2006 = ld64(v5+16), v2007 = ld64(v5+8);
+	if (v656 >= v2006 - v2007) goto L420;
+	u64 v2008 = v2007 + v656;
+	ptr v2009 = ldp(v5), v2010 = at(v2009, v2007);
+	if ((u64)v2010 - (u64)v655 >= v656) goto L418;
+	v657 = 0;
+L417:
+	st8(at(v2010, v657), ld8(at(v655, v657)));
+	u64 v2011 = v657 + 1;
+	if (v2011 == v656) goto L419;
+	v657 = v2011; goto L417;
+L418:
+	move(v2010, v655, v656);
+L419:
+	stp(v5, v2009);
+	st64(v5+8, v2008);
+	st64(v5+16, v2006);
+	v658 = v656; goto L421;
+L420:
+	std_io_buffered_BufWriter_write_cold_9d90(v1035, v5, v655, v656);
+	u64 v2012 = ld64(v1035+8);
+	if (ld8(v1035)) { v864 = (u32)ld_bytes(v1035+45, 3) & 16777215; v865 = ld32(v1035+52); v866 = ld64(v1035+56); v867 = ld64(v1035+64); v868 = ld64(v1035+72); v869 = ld64(v1035+80); v870 = ld64(v1035+88); v871 = ld32(v1035+48); v872 = ld8(v1035+44); v873 = ld32(v1035+40); v874 = v2012; v875 = ld64(v1035+16); v876 = ld64(v1035+24); v877 = ld64(v1035+32); goto L509; }
+	if (!v2012) goto M169;
+	v658 = v2012;
+L421:;
+	u64 v2013 = v656 - v658;
+	if (v2013) { v655 = at(v655, v658); v656 = v2013; goto L416; }
+L422:
+	copy(v1044, v1040+9, 7);
+	st32(v1041, v1982);
+	st8(v1041+4, v1983);
+	copy(v1041+5, v1044, 7);
+	sup(v1041+12, v1984);
+	su64(v1041+20, v1985);
+	su64(v1041+28, v1989 | (u64)v1987);
+	su64(v1041+36, v1990);
+	st32(v1041+44, v1991);
+	st8(v1041+48, v1992);
+	st_bytes(v1041+49, v1994, 3);
+	st32(v1041+52, v1993);
+	clear(v1034, 3);
+	u64 v2014 = ld64(v1042);
+	if (v2014 >= 4294967295u) { v847 = v848 = v849 = v850 = v851 = v852 = v853 = v854 = v855 = v856 = v857 = v858 = v859 = v860 = v861 = v862 = v863 = 0; goto L506; }
+	v661 = v1982; v662 = v2014; v659 = v660 = 0;
+L423:
+	clear(v1010, 56);
+	clear(v1011, 3);
+	u64 v2015 = ld64(v4+24), v2016 = ld64(v4+32);
+	if (v2015 < v2016) { v663 = v2016; v664 = v2015; goto L424; }
+	clear(v4+24, 16);
+	ptr v2017 = ldp(v4);
+	u64 v2018 = ld64(v4+8);
+	clear(v1007, 96);
+	capcopy_run_uninterrupted_UninterruptedRead_read_f128(v1007, v2017, v2018);
+	u64 v2019 = ld64(v1007+8), v2020 = ld64(v1007+16), v2021 = ld64(v1007+24), v2022 = ld64(v1007+32);
+	u8 v2023 = ld8(v1007);
+	copy(v1008, v1007+40, 56);
+	if (v2023) goto L503;
+	st64(v4+32, v2019);
+	v663 = v2019; v664 = ld64(v4+24);
+L424:;
+	ptr v2024 = at(ldp(v4), v664);
+	u64 v2025 = v663 - v664;
+	clear(v1009, 56);
+	if (v2025) goto L425;
+	M174: v847 = v659; v848 = v849 = v850 = v851 = v852 = v853 = v854 = v855 = v856 = v857 = v858 = v859 = v860 = v861 = v862 = v863 = 0; goto L506;
+L425:;
+	u64 v2026 = v662 ^ 4294967295u;
+	clear(v1006, 56);
+	clear(v1005, 56);
+	if (v661 != v1987) goto L436;
+	clear(v1001, 24);
+	clear(v1003, 24);
+	clear(v1004, 24);
+	pcap_classic_run_stretch_whole_packets(v1001, v1041, v2024, v2025, v2026);
+	u64 v2027 = ld64(v1001), v2028 = ld64(v1001+16), v2029 = v2025 - v2028;
+	if (!v2029) goto L432;
+	v665 = v2024; v666 = v2029;
+L426:
+	clear(v999, 96);
+	u64 v2030 = ld64(v5+16), v2031 = ld64(v5+8);
+	if (v666 >= v2030 - v2031) goto L430;
+	u64 v2032 = v2031 + v666;
+	ptr v2033 = ldp(v5);
+	clear(v5+8, 16);
+	ptr v2034 = at(v2033, v2031);
+	if ((u64)v2034 - (u64)v665 >= v666) goto L428;
+	v667 = 0;
+L427:
+	st8(at(v2034, v667), ld8(at(v665, v667)));
+	u64 v2035 = v667 + 1;
+	if (v2035 == v666) goto L429;
+	v667 = v2035; goto L427;
+L428:
+	move(v2034, v665, v666);
+L429:
+	stp(v5, v2033);
+	st64(v5+8, v2032);
+	st64(v5+16, v2030);
+	clear(v1000, 56);
+	v668 = v666; goto L431;
+L430:
+	std_io_buffered_BufWriter_write_cold_9d90(v999, v5, v665, v666);
+	u64 v2036 = ld64(v999+8), v2037 = ld64(v999+16), v2038 = ld64(v999+24), v2039 = ld64(v999+32);
+	u8 v2040 = ld8(v999);
+	copy(v1000, v999+40, 56);
+	if (v2040) goto L433;
+	if (v2036) { v668 = v2036; goto L431; }
+	st8(v1042+9, 1);
+	fill(v1002, 46, 56);
+	v669 = 1513219; v670 = 0x7469727720656874ull; v671 = 0x206b6f6f74207265ull; v672 = 0x2e676e6968746f6eull; goto L434;
+L431:;
+	u64 v2041 = v666 - v668;
+	if (v2041) { v665 = at(v665, v668); v666 = v2041; goto L426; }
+L432:
+	clear(v1002, 56);
+	v677 = v2028; v678 = v2027; v673 = v674 = v675 = v676 = v679 = 0; goto L435;
+L433:
+	st8(v1042+9, 1);
+	copy(v1002, v1000, 56);
+	v669 = v2036; v670 = v2037; v671 = v2038; v672 = v2039;
+L434:;
+	u64 v2042 = v2029 - v666;
+	pcap_classic_run_stretch_whole_packets(v1003, v1041, v2024, v2042, v2026);
+	u64 v2043 = v2042 - ld64(v1003+16), v2044 = ld64(v1003);
+	pcap_classic_run_stretch_whole_packets(v1004, v1041, at(v2024, v2043), v2025 - v2043, 1);
+	v673 = v669; v674 = v670; v675 = v671; v676 = v672; v677 = ld64(v1004+16); v678 = v2044; v679 = 1;
+L435:
+	copy(v1005, v1002, 56);
+	v699 = v662; v700 = v678; v701 = v677; v702 = v679; v703 = v679; v704 = v673; v705 = v674; v706 = v675; v707 = v676; goto L448;
+L436:
+	clear(v996, 56);
+	clear(v997, 48);
+	clear(v998, 104);
+	u8 v2045 = v661 == 2712847316u;
+	v680 = v2025; v681 = v2024; v682 = 0;
+L437:;
+	u8 v2046 = v680 < 16;
+	switch (v661) {
+	case 2712847316u: case 2712812621u: goto L438;
+	default: goto L440;
+	}
+L438:
+	if (v2046) goto L443;
+	u32 v2047 = (u32)__builtin_bswap32(lu32(v681)), v2048 = (u32)__builtin_bswap32(lu32(v681+4));
+	u32 v2049 = lu32(v681+8), v2050 = (u32)__builtin_bswap32(v2049);
+	u64 v2051 = v680 - 16;
+	u32 v2052 = lu32(v681+12), v2053 = (u32)__builtin_bswap32(v2052);
+	if (!v2045) { v683 = v2048; goto L439; }
+	if (v2048 > 4294967) goto L443;
+	v683 = v2048 * 1000;
+L439:
+	if ((v2050 > 262144) | (v2053 > 262144) || v2053 < v2050) goto L443;
+	u64 v2054 = (u64)__builtin_bswap64(((u64)v2049 << 32) | (u64)v2052), v2055 = v2054 & 4294967295u;
+	if (v2051 < v2055) goto L443;
+	v685 = v2055; v686 = at(v681+16, v2055); v687 = v2051 - v2055; v688 = ((u64)v683 << 32) | (u64)v2047; v689 = v2054 >> 32; v690 = v681+16; goto L445;
+L440:
+	if (v2046) goto L443;
+	u32 v2056 = lu32(v681), v2057 = lu32(v681+4);
+	u64 v2058 = lu64(v681+8);
+	u32 v2059 = (u32)v2058;
+	u64 v2060 = v680 - 16, v2061 = v2058 >> 32;
+	u32 v2062 = (u32)v2061;
+	switch (v661) {
+	case 3569595041u: case 2712847316u: goto L441;
+	default: v684 = v2057; goto L442;
+	}
+L441:
+	if (v2057 > 4294967) goto L443;
+	v684 = v2057 * 1000;
+L442:
+	if ((v2058 > 0x40000ffffffffull) | (v2059 > 262144) || v2062 < v2059) goto L443;
+	u64 v2063 = v2058 & 524287;
+	if (v2060 >= v2063) goto L444;
+L443:
+	clear(v996, 56);
+	v695 = v682; v696 = v680; v691 = v692 = v693 = v694 = v697 = v698 = 0; goto L447;
+L444:
+	v685 = v2063; v686 = at(v681+16, v2063); v687 = v2060 - v2063; v688 = ((u64)v684 << 32) | (u64)v2056; v689 = v2061; v690 = v681+16;
+L445:
+	st64(v997, v688);
+	st64(v997+8, (v689 << 32) | v685);
+	st64(v997+16, 0);
+	st64(v997+24, (u64)v690);
+	st64(v997+32, v685);
+	st64(v997+40, 0);
+	pcap_classic_pcap_writer_put_packet_ce79(v998, v5, v1042+9, v1987, v997);
+	if (ld8(v998) != 1) goto L446;
+	u8 v2064 = ld8(v998+8);
+	u64 v2065 = ld64(v998+16), v2066 = ld64(v998+24), v2067 = ld64(v998+32), v2068 = ld64(v998+40);
+	copy(v996, v998+48, 56);
+	v691 = v2065; v692 = v2066; v693 = v2067; v694 = v2068; v695 = v682; v696 = v687; v698 = v2064; v697 = 1; goto L447;
+L446:;
+	u64 v2069 = v682 + 1;
+	if (v2069 != v2026) { v680 = v687; v681 = v686; v682 = v2069; goto L437; }
+	clear(v996, 56);
+	v695 = v2026; v696 = v687; v691 = v692 = v693 = v694 = v697 = v698 = 0;
+L447:
+	copy(v1005, v996, 56);
+	v699 = ld64(v1042); v700 = v695; v701 = v696; v702 = v697; v703 = v698; v704 = v691; v705 = v692; v706 = v693; v707 = v694;
+L448:
+	copy(v1006, v1005, 56);
+	copy(v1010, v1006, 56);
+	u64 v2070 = ld64(v4+24), v2071 = v2025 - v701, v2072 = ld64(v4+32) - v2070;
+	st64(v4+24, (v2071 < v2072 ? v2071 : v2072) + v2070);
+	u64 v2073 = v700 + v699;
+	st64(v1042, v2073);
+	if (v702) { v821 = v1010+4; v822 = v1010+5; v823 = v1010+8; v824 = v1010+12; v825 = v1010; v826 = v707; v827 = v706; v828 = v705; v829 = v704; v830 = v703; goto L504; }
+	copy(v1033, v1011, 3);
+	if (v2073 == 4294967295u) goto M174;
+	clear(v1030, 3);
+	clear(v1031, 56);
+	clear(v1032, 56);
+	clear(v1027, 56);
+	clear(v1028, 56);
+	clear(v1029, 56);
+	clear(v1024, 56);
+	clear(v1025, 56);
+	clear(v1026, 56);
+	switch (v661) {
+	case 1295823521: case 2712812621u: case 2712847316u: case 3569595041u: goto L449;
+	default: v708 = 1; goto L450;
+	}
+L449:
+	v708 = 16;
+L450:
+	clear(v1022, 56);
+	clear(v1023, 56);
+	v709 = v659; v710 = v660; v711 = v660; v713 = v708; v712 = 0;
+L451:
+	clear(v1016, 56);
+	clear(v1017, 56);
+	u64 v2074 = v713 < 65536 ? v713 : 65536, v2075 = v2074 + v712;
+	if (v711 >= v2075) goto L455;
+	u64 v2076 = v2075 - v711;
+	if (v2076 <= v709 - v711) { v714 = v709; v715 = v711; goto L453; }
+	u8 v2077 = std_alloc_vec_Vec_grow_amortized_56a3(v1043, v2076);
+	if (!v2077) goto L452;
+	v714 = ld64(v1043+16); v715 = ld64(v1043+8); goto L453;
+L452:
+	clear(v1023, 56);
+	v780 = 5; v781 = v782 = v783 = v784 = 0; goto L498;
+L453:;
+	u64 v2078 = v715 + v2076;
+	ptr v2079 = ldp(v1043);
+	if (v715 >= v2078) goto L454;
+	clear(at(v2079, v715), v2076);
+L454:
+	st64(v1043+8, v2078);
+	st64(v1043+16, v714);
+	v716 = v714; v717 = v2078; v718 = v2078; v719 = ld64(v1043+24); v720 = v2079; goto L456;
+L455:
+	v716 = v709; v717 = v710; v718 = v711; v719 = v712; v720 = ldp(v1043);
+L456:
+	clear(v1015, 96);
+	std_io_buffered_BufReaderRead_read_e988(v1015, v4, at(v720, v719), v2074);
+	u64 v2080 = ld64(v1015+8), v2081 = ld64(v1015+16), v2082 = ld64(v1015+24), v2083 = ld64(v1015+32);
+	u8 v2084 = ld8(v1015);
+	copy(v1016, v1015+40, 56);
+	if (v2084) goto L497;
+	u64 v2085 = v2080 + v719;
+	st64(v1043+24, v2085);
+	copy(v1023, v1017, 56);
+	if (v2080) goto L458;
+	if (v2085) goto L457;
+	v847 = v716; v848 = v849 = v850 = v851 = v852 = v853 = v854 = v855 = v856 = v857 = v858 = v859 = v860 = v861 = v862 = v863 = 0; goto L506;
+L457:
+	fill(v1025, 46, 56);
+	v786 = 9472; v787 = 1441792; v790 = 0x6572747320656874ull; v791 = 0x6465646e65206d61ull; v792 = 0x2e2e796c72616520ull; v785 = 3; v788 = v789 = 0; v793 = 1; goto L499;
+L458:;
+	u64 v2086 = v713 - v2080;
+	if (v2086) { v709 = v716; v710 = v717; v711 = v718; v712 = v2085; v713 = v2086; goto L451; }
+	copy(v1025, v1022, 56);
+	ptr v2087 = ldp(v1043);
+	u32 v2088 = ld32(v1041);
+	switch (v2088) {
+	case 2712847316u: v721 = 0; goto L460;
+	case 2712812621u: goto L459;
+	case 3569595041u: goto L465;
+	case 1295823521: goto L466;
+	default: v777 = (u64)(ptr)static_10; v778 = 29; v779 = 2; goto L496;
+	}
+L459:
+	v721 = 1;
+L460:
+	if (v2085 >= 16) goto L461;
+	M192: v777 = 16ull - v2085; v778 = v779 = 0; goto L496;
+L461:;
+	u32 v2089 = (u32)__builtin_bswap32(lu32(v2087)), v2090 = (u32)__builtin_bswap32(lu32(v2087+4));
+	u32 v2091 = lu32(v2087+8), v2092 = (u32)__builtin_bswap32(v2091), v2093 = lu32(v2087+12);
+	u32 v2094 = (u32)__builtin_bswap32(v2093);
+	if (v721) { v722 = v2090; goto L462; }
+	if (v2090 > 4294967) { v724 = (ptr)static_11; v723 = 40; goto L463; }
+	v722 = v2090 * 1000;
+L462:
+	if (v2092 > 262144) { v724 = (ptr)static_12; v723 = 31; goto L463; }
+	if (v2094 > 262144) { v724 = (ptr)static_13; v723 = 31; goto L463; }
+	if (v2094 >= v2092) goto L464;
+	v724 = (ptr)static_14; v723 = 32;
+L463:
+	v777 = (u64)v724; v778 = v723; v779 = 2; goto L496;
+L464:
+	v728 = v722; v729 = v2089; v730 = (u64)__builtin_bswap64(((u64)v2091 << 32) | (u64)v2093); goto L471;
+L465:
+	if (v2085 < 16) goto L467;
+	u32 v2095 = lu32(v2087+4);
+	if (v2095 > 4294967) { v727 = (ptr)static_11; v726 = 40; goto L470; }
+	v725 = v2095 * 1000; goto L469;
+L466:
+	if (v2085 >= 16) goto L468;
+L467:
+	goto M192;
+L468:
+	v725 = lu32(v2087+4);
+L469:;
+	u32 v2096 = lu32(v2087);
+	u64 v2097 = lu64(v2087+8);
+	u32 v2098 = (u32)v2097, v2099 = (u32)(v2097 >> 32);
+	if (v2098 > 262144) { v727 = (ptr)static_12; v726 = 31; goto L470; }
+	if (v2097 > 0x40000ffffffffull) { v727 = (ptr)static_13; v726 = 31; goto L470; }
+	if (v2099 >= v2098) { v728 = v725; v729 = v2096; v730 = v2097; goto L471; }
+	v727 = (ptr)static_14; v726 = 32;
+L470:
+	v777 = (u64)v727; v778 = v726; v779 = 2; goto L496;
+L471:;
+	u64 v2100 = v730 & 4294967295u;
+	copy(v1028, v1024, 56);
+	if (!v2100) { v743 = v716; v744 = v717; v745 = v2088; v746 = v2085; v747 = v2087; goto L480; }
+	clear(v1021, 56);
+	v731 = v716; v732 = v717; v733 = v718; v734 = v2085; v735 = v2100;
+L472:
+	clear(v1019, 56);
+	clear(v1020, 56);
+	u64 v2101 = v735 < 65536 ? v735 : 65536, v2102 = v2101 + v734;
+	if (v733 >= v2102) goto L476;
+	u64 v2103 = v2102 - v733;
+	if (v2103 <= v731 - v733) { v736 = v731; v737 = v733; goto L474; }
+	u8 v2104 = std_alloc_vec_Vec_grow_amortized_56a3(v1043, v2103);
+	if (!v2104) goto L473;
+	v736 = ld64(v1043+16); v737 = ld64(v1043+8); goto L474;
+L473:
+	clear(v1021, 56);
+	v767 = 5; v768 = v769 = v770 = v771 = 0; goto L494;
+L474:;
+	u64 v2105 = v737 + v2103;
+	ptr v2106 = ldp(v1043);
+	if (v737 >= v2105) goto L475;
+	clear(at(v2106, v737), v2103);
+L475:
+	st64(v1043+8, v2105);
+	st64(v1043+16, v736);
+	v738 = v736; v739 = v2105; v740 = v2105; v741 = ld64(v1043+24); v742 = v2106; goto L477;
+L476:
+	v738 = v731; v739 = v732; v740 = v733; v741 = v734; v742 = ldp(v1043);
+L477:
+	clear(v1018, 96);
+	std_io_buffered_BufReaderRead_read_e988(v1018, v4, at(v742, v741), v2101);
+	u64 v2107 = ld64(v1018+8), v2108 = ld64(v1018+16), v2109 = ld64(v1018+24), v2110 = ld64(v1018+32);
+	u8 v2111 = ld8(v1018);
+	copy(v1019, v1018+40, 56);
+	if (v2111) goto L493;
+	u64 v2112 = v2107 + v741;
+	st64(v1043+24, v2112);
+	copy(v1021, v1020, 56);
+	if (v2107) goto L478;
+	if (!v2112) goto L479;
+	fill(v1029, 46, 56);
+	v773 = 1451267; v774 = 0x6572747320656874ull; v775 = 0x6465646e65206d61ull; v776 = 0x2e2e796c72616520ull; v772 = 1; goto L495;
+L478:;
+	u64 v2113 = v735 - v2107;
+	if (v2113) { v731 = v738; v732 = v739; v733 = v740; v734 = v2112; v735 = v2113; goto L472; }
+L479:
+	v743 = v738; v744 = v739; v745 = ld32(v1041); v746 = v2112; v747 = ldp(v1043);
+L480:
+	copy(v1031, v1027, 56);
+	clear(v1012, 104);
+	if (v745 != v1987) goto L491;
+	clear(v995, 56);
+	if (!v746) goto L487;
+	v748 = v747; v749 = v746;
+L481:
+	clear(v992, 96);
+	u64 v2114 = ld64(v5+16), v2115 = ld64(v5+8);
+	if (v749 >= v2114 - v2115) goto L485;
+	u64 v2116 = v2115 + v749;
+	ptr v2117 = ldp(v5);
+	clear(v5+8, 16);
+	ptr v2118 = at(v2117, v2115);
+	if ((u64)v2118 - (u64)v748 >= v749) goto L483;
+	v750 = 0;
+L482:
+	st8(at(v2118, v750), ld8(at(v748, v750)));
+	u64 v2119 = v750 + 1;
+	if (v2119 == v749) goto L484;
+	v750 = v2119; goto L482;
+L483:
+	move(v2118, v748, v749);
+L484:
+	stp(v5, v2117);
+	st64(v5+8, v2116);
+	st64(v5+16, v2114);
+	clear(v993, 56);
+	v751 = v749; goto L486;
+L485:
+	std_io_buffered_BufWriter_write_cold_9d90(v992, v5, v748, v749);
+	u64 v2120 = ld64(v992+8), v2121 = ld64(v992+16), v2122 = ld64(v992+24), v2123 = ld64(v992+32);
+	u8 v2124 = ld8(v992);
+	copy(v993, v992+40, 56);
+	if (v2124) goto L488;
+	if (v2120) { v751 = v2120; goto L486; }
+	fill(v994, 46, 56);
+	v752 = 1513219; v753 = 0x7469727720656874ull; v754 = 0x206b6f6f74207265ull; v755 = 0x2e676e6968746f6eull; goto L489;
+L486:;
+	u64 v2125 = v749 - v751;
+	if (v2125) { v748 = at(v748, v751); v749 = v2125; goto L481; }
+L487:
+	v756 = v757 = v758 = v759 = v760 = 0; goto L490;
+L488:
+	copy(v994, v993, 56);
+	v752 = v2120; v753 = v2121; v754 = v2122; v755 = v2123;
+L489:
+	copy(v995, v994, 56);
+	v757 = v752; v758 = v753; v759 = v754; v760 = v755; v756 = 1;
+L490:
+	copy(v1012+48, v995, 56);
+	v761 = v760; v762 = v759; v763 = v758; v764 = v757; v765 = v756; v766 = v756; goto L492;
+L491:
+	st32(v1014, v729);
+	st32(v1014+4, v728);
+	st64(v1014+8, v730);
+	st64(v1014+16, 0);
+	stp(v1014+24, v747+16);
+	st64(v1014+32, v746 - 16);
+	st64(v1014+40, 0);
+	pcap_classic_pcap_writer_put_packet_ce79(v1012, v5, v1013, v1987, v1014);
+	v761 = ld64(v1012+40); v762 = ld64(v1012+32); v763 = ld64(v1012+24); v764 = ld64(v1012+16); v765 = ld8(v1012+8); v766 = ld8(v1012);
+L492:
+	copy(v1032, v1012+48, 56);
+	if (v766 == 1) { v810 = v743; v811 = v1032+4; v812 = v1032+5; v813 = v1032+8; v814 = v1032+12; v815 = v1032; v816 = v761; v817 = v762; v818 = v763; v819 = v764; v820 = v765; goto L502; }
+	st64(v1043+24, 0);
+	u64 v2126 = ld64(v1042) + 1;
+	st64(v1042, v2126);
+	copy(v1034, v1030, 3);
+	if (v2126 < 4294967295u) { v659 = v743; v660 = v744; v661 = v745; v662 = v2126; goto L423; }
+	v847 = v743; v848 = v849 = v850 = v851 = v852 = v853 = v854 = v855 = v856 = v857 = v858 = v859 = v860 = v861 = v862 = v863 = 0; goto L506;
+L493:
+	copy(v1021, v1019, 56);
+	v768 = v2107; v769 = v2110; v770 = v2109; v771 = v2108; v767 = 1;
+L494:
+	copy(v1029, v1021, 56);
+	v772 = v767; v773 = v768; v774 = v771; v775 = v770; v776 = v769;
+L495:
+	v804 = v1029; v805 = v774; v806 = v775; v807 = v776; v808 = v773; v809 = v772; goto L501;
+L496:
+	clear(v1026, 56);
+	v794 = v1026; v795 = v777; v796 = v777; v797 = v777; v798 = v777 & 0xffffffff00000000ull; v799 = v778; v802 = v777; v803 = v779; v800 = v801 = 0; goto L500;
+L497:
+	copy(v1023, v1016, 56);
+	v781 = v2080; v782 = v2083; v783 = v2082; v784 = v2081; v780 = 1;
+L498:
+	copy(v1025, v1023, 56);
+	v785 = v781; v786 = v781; v787 = v781; v788 = v781; v789 = v781 & 0xffffffff00000000ull; v790 = v784; v791 = v783; v792 = v782; v793 = v780;
+L499:
+	v794 = v1025; v795 = v786; v796 = v787; v797 = v788; v798 = v789; v799 = v790; v800 = v791; v801 = v792; v802 = v785; v803 = v793;
+L500:
+	copy(v1028, v794, 56);
+	v804 = v1028; v805 = v799; v806 = v800; v807 = v801; v808 = (v796 & 16711680) | (v795 & 65280) | (v797 & 4278190080u) | v798 | (v802 & 255); v809 = v803;
+L501:
+	copy(v1031, v804, 56);
+	v810 = ld64(v1043+16); v811 = v1031+4; v812 = v1031+5; v813 = v1031+8; v814 = v1031+12; v815 = v1031; v816 = v807; v817 = v806; v818 = v805; v819 = v808; v820 = v809;
+L502:;
+	u32 v2127 = lu32(v815);
+	u8 v2128 = ld8(v811);
+	copy(v1034, v812, 3);
+	v831 = v810; v832 = v1034; v833 = lu64(v814+4); v834 = lu64(v814+12); v835 = lu64(v814+20); v836 = lu64(v814+28); v837 = lu64(v814+36); v838 = lu32(v814); v839 = v2127; v840 = v2128; v841 = lu32(v813); v842 = v820; v843 = v819; v844 = v818; v845 = v817; v846 = v816; goto L505;
+L503:
+	copy(v1009, v1008, 56);
+	v821 = v1009+4; v822 = v1009+5; v823 = v1009+8; v824 = v1009+12; v825 = v1009; v826 = v2022; v827 = v2021; v828 = v2020; v829 = v2019; v830 = 1;
+L504:;
+	u32 v2129 = ld32(v825);
+	u8 v2130 = ld8(v821);
+	copy(v1033, v822, 3);
+	v831 = v659; v832 = v1033; v833 = lu64(v824+4); v834 = lu64(v824+12); v835 = lu64(v824+20); v836 = lu64(v824+28); v837 = lu64(v824+36); v838 = ld32(v824); v839 = v2129; v840 = v2130; v841 = ld32(v823); v842 = v830; v843 = v829; v844 = v828; v845 = v827; v846 = v826;
+L505:
+	v847 = v831; v848 = (u32)ld_bytes(v832, 3) & 16777215; v849 = v838; v850 = v833; v851 = v834; v852 = v835; v853 = v836; v854 = v837; v855 = v843; v856 = v844; v857 = v845; v858 = v846; v859 = v839; v860 = v840; v861 = v841; v863 = v842; v862 = 1;
+L506:;
+	u64 v2131 = ld64(v1042);
+	if (v847) goto L507;
+	if (v862) { M219: v896 = v848; v897 = v849; v898 = v850; v899 = v851; v900 = v852; v901 = v853; v902 = v854; v903 = v855; v904 = v856; v905 = v857; v906 = v858; v907 = v859; v908 = v860; v909 = v861; v910 = v863; goto L512; }
+	goto L508;
+L507:
+	deallocate(ldp(v1043));
+	if (v862) goto M219;
+L508:
+	v939 = v2131 == 4294967295u ? 2u : 0u; v928 = v929 = v930 = v931 = v932 = v933 = v934 = v935 = v936 = v937 = v938 = v940 = 0; goto L518;
+L509:
+	v878 = v864; v879 = v865; v880 = v866; v881 = v867; v882 = v868; v883 = v869; v884 = v870; v886 = v874; v887 = v875; v888 = (u32)v876; v889 = (u16)(v876 >> 32); v890 = (u16)(v876 >> 48); v891 = (u32)v877; v892 = (u32)(v877 >> 32); v893 = v873; v894 = v872; v895 = v871; v885 = 1; goto L511;
+L510:
+	v878 = (u32)ld_bytes(v1040+53, 3) & 16777215; v879 = ld32(v1040+60); v880 = ld64(v1040+64); v881 = ld64(v1040+72); v882 = ld64(v1040+80); v883 = ld64(v1040+88); v884 = ld64(v1040+96); v885 = v1983; v886 = (u64)ldp(v1040+16); v887 = ld64(v1040+24); v888 = ld32(v1040+32); v889 = ld16(v1040+36); v890 = ld16(v1040+38); v891 = ld32(v1040+40); v892 = ld32(v1040+44); v893 = ld32(v1040+48); v894 = ld8(v1040+52); v895 = ld32(v1040+56);
+L511:
+	v896 = v878; v897 = v879; v898 = v880; v899 = v881; v900 = v882; v901 = v883; v902 = v884; v903 = v886; v904 = v887; v905 = ((u64)v890 << 48) | ((u64)v889 << 32) | (u64)v888; v906 = ((u64)v892 << 32) | (u64)v891; v907 = v893; v908 = v894; v909 = v895; v910 = v885;
+L512:;
+	u64 v2132 = v903 >> 8, v2133 = v903 >> 16, v2134 = v903 >> 24, v2135 = v903 >> 32;
+	u64 v2136 = ((u64)v908 << 32) | ((u64)v896 << 40) | (u64)v907;
+	u64 v2137 = ((u64)v897 << 32) | (u64)v909;
+	switch (v910) {
+	case 0: goto L513;
+	case 1: goto L514;
+	case 5: v926 = v910; v911 = v912 = v913 = v914 = v915 = v916 = v917 = v918 = v919 = v920 = v921 = v922 = v923 = v924 = v925 = v927 = 0; goto L516;
+	case 2: case 3: case 4: case 6: goto L515;
+	default: goto L517;
+	}
+L513:
+	v916 = 0x7470616320656874ull; v917 = 0x65646e6520657275ull; v918 = 0x2e796c7261652064ull; v919 = 0x2e2e2e2e2e2e2e2eull; v920 = 0x2e2e2e2e2e2e2e2eull; v921 = 0x2e2e2e2e2e2e2e2eull; v922 = 0x2e2e2e2e2e2e2e2eull; v923 = 0x2e2e2e2e2e2e2e2eull; v924 = 0x2e2e2e2e2e2e2e2eull; v925 = 0x2e2e2e2e2e2e2e2eull; v911 = 3; v912 = 37; v913 = 23; v914 = v915 = 0; v926 = 4; v927 = 1; goto L516;
+L514:
+	v911 = v903; v912 = v2132; v913 = v2133; v914 = v2134; v915 = v2135; v916 = v904; v917 = v905; v918 = v906; v919 = v2136; v920 = v2137; v921 = v898; v922 = v899; v923 = v900; v924 = v901; v925 = v902; v927 = v910; v926 = 4; goto L516;
+L515:
+	v911 = v903; v912 = v2132; v913 = v2133; v914 = v2134; v915 = v2135; v916 = v904; v917 = v905; v918 = v906; v919 = v2136; v920 = v2137; v921 = v898; v922 = v899; v923 = v900; v924 = v901; v925 = v902; v927 = v910; v926 = 1;
+L516:;
+	u64 v2138 = (v915 << 32) | ((v914 << 24) & 4278190080u) | ((v913 << 16) & 16711680) | ((v912 << 8) & 65280);
+	v928 = v2138 | (v911 & 255); v929 = v916; v930 = v917; v931 = v918; v932 = v919; v933 = v920; v934 = v921; v935 = v922; v936 = v923; v937 = v924; v938 = v925; v939 = v926; v940 = v927; goto L518;
+L517:
+	__builtin_trap();
+L518:
+	su64(v1, (u64)v939);
+	st8(v1+8, v940);
+	su64(v1+16, v928);
+	su64(v1+24, v929);
+	su64(v1+32, v930);
+	su64(v1+40, v931);
+	su64(v1+48, v932);
+	su64(v1+56, v933);
+	su64(v1+64, v934);
+	su64(v1+72, v935);
+	su64(v1+80, v936);
+	su64(v1+88, v937);
+	su64(v1+96, v938);
 	return;
-L10:;
-	__builtin_trap();
-}
-static __attribute__((noinline)) void pcap_options_records_records_from_slice_4da0(ptr v1, ptr v2, u64 v3) {
-	u64 v4, v7, v8, v10, v11, v12, v13, v16;
-	ptr v5, v6, v9;
-	u8 v14, v15;
-	_Alignas(8) u8 v17[1], v18[64], v19[64], v20[64], v21[72], v22[24], v23[16];
-	clear(v23, 16);
-	stp(v22, v17);
-	clear(v22+8, 16);
-	clear(v21+8, 64);
-	if (v3 < 4) { v12 = 1; v13 = 0; v14 = 0; v15 = 0; goto L22; }
-	v4 = v3; v5 = v2; v6 = v17;
-L0:;
-	u64 v24 = v4 - 4;
-	u16 v25 = (u16)__builtin_bswap16(lu16(v5+2));
-	u64 v26 = (u64)v25;
-	if (v24 < v26) { v12 = 8451; v13 = 0; v14 = 0; v15 = 0; goto L22; }
-	pcap_options_record_Record_from_value(v21, (u16)__builtin_bswap16(lu16(v5)), v25, v5+4, v26);
-	u16 v27 = ld16(v21+8);
-	u64 v28 = ld64(v21+16);
-	u16 v29 = (u16)v28;
-	u16 v30 = (u16)(v28 >> 16);
-	u16 v31 = ld16(v21+24);
-	u8 v32 = (u8)v31;
-	u16 v33 = v31 >> 8;
-	if (ld8(v21) != 0) goto L21;
-	u64 v34 = (u64)ld_bytes(v21+26, 6) & 0xffffffffffffull;
-	u64 v35 = ld64(v21+32);
-	u64 v36 = ld64(v21+40);
-	u64 v37 = ld64(v21+48);
-	u64 v38 = ((0ull - v26) & 3) + v26;
-	if (v24 >= v38) goto L14;
-	u8 v39 = (u8)v28;
-	u8 v40 = (u8)v27;
-	switch (v40) {
-	case 1: goto L1;
-	case 2: goto L6;
-	case 3: goto L11;
-	case 0: v12 = 9731; v13 = 0; v14 = v40; v15 = v40; goto L22;
-	default: goto L13;
-	}
-L1:;
-	if ((v39 != 1) || (v36 == 0)) goto L2;
-	deallocate((ptr)((v34 << 16) | (u64)v31));
-L2:;
-	u64 v41 = ld64(v21+56);
-	u64 v42 = ld64(v21+64);
-	if (v41 == 0) goto L5;
-	v7 = 0;
-L3:;
-	ptr v43 = at((ptr)v37, v7 << 5);
-	if ((ld8(v43) == 0) || (lu64(v43+24) == 0)) goto L4;
-	deallocate(lup(v43+8));
-L4:;
-	u64 v44 = v7 + 1;
-	if (v44 != v41) { v7 = v44; goto L3; }
-L5:;
-	if (v42 == 0) { v12 = 9731; v13 = 0; v14 = 0; v15 = 0; goto L22; }
-	v9 = (ptr)v37; goto L12;
-L6:;
-	if ((v39 != 1) || (v36 == 0)) goto L7;
-	deallocate((ptr)((v34 << 16) | (u64)v31));
-L7:;
-	u64 v45 = ld64(v21+56);
-	u64 v46 = ld64(v21+64);
-	if (v45 == 0) goto L10;
-	v8 = 0;
-L8:;
-	ptr v47 = at((ptr)v37, v8 << 5);
-	if ((ld8(v47) == 0) || (lu64(v47+24) == 0)) goto L9;
-	deallocate(lup(v47+8));
-L9:;
-	u64 v48 = v8 + 1;
-	if (v48 != v45) { v8 = v48; goto L8; }
-L10:;
-	if (v46 == 0) { v12 = 9731; v13 = 0; v14 = 0; v15 = 0; goto L22; }
-	v9 = (ptr)v37; goto L12;
-L11:;
-	if ((v32 != 1) || (v37 == 0)) { v12 = 9731; v13 = 0; v14 = 0; v15 = 0; goto L22; }
-	v9 = (ptr)v35;
-L12:;
-	deallocate(v9);
-	v12 = 9731; v13 = 0; v14 = 0; v15 = 0; goto L22;
-L13:;
-	__builtin_trap();
-L14:;
-	ptr v49 = at(v5+4, v38);
-	u64 v50 = v24 - v38;
-	u64 v51 = ((v34 << 8) & 0xffffffffffffffull) | (u64)v33;
-	copy(v23, v21+56, 16);
-	if ((v27 & 255) != 0) goto L15;
-	u8 v52 = ld8(v22);
-	su64(v1, 0);
-	sup(v1+8, v49);
-	su64(v1+16, v50);
-	st8(v1+24, v52);
-	st8(v1+25, (u8)((u64)v6 >> 8));
-	copy(v1+26, v22+2, 22);
-	goto L26;
-L15:;
-	u64 v53 = (u64)(v27 & 255);
-	u64 v54 = ld64(v22+8);
-	if (ld64(v22+16) != v54) { v11 = v54; goto L20; }
-	u8 v55 = std_alloc_vec_Vec_grow_amortized_8416(v22);
-	if (!v55) goto L16;
-	v11 = ld64(v22+8); goto L20;
-L16:;
-	st64(v19+8, 0);
-	st64(v19, v53);
-	st16(v19+8, v29);
-	st16(v19+10, v30);
-	st8(v19+16, v32);
-	st_bytes(v19+17, v51, 7);
-	st64(v19+24, v35);
-	st64(v19+32, v36);
-	st64(v19+40, v37);
-	copy(v19+48, v23, 16);
-	pcap_options_pcap_options_record_Record_Destruct_drop(v19);
-	ptr v56 = ldp(v22);
-	u64 v57 = ld64(v22+8);
-	u64 v58 = ld64(v22+16);
-	if (v57 == 0) goto L18;
-	v10 = 0;
-L17:;
-	ptr v59 = at(v56, v10 << 6);
-	u64 v60 = (u64)ld8(v59);
-	u16 v61 = lu16(v59+8);
-	u16 v62 = lu16(v59+10);
-	st64(v18+8, 0);
-	st64(v18, v60);
-	st16(v18+8, v61);
-	st16(v18+10, v62);
-	copy(v18+16, v59+16, 48);
-	pcap_options_pcap_options_record_Record_Destruct_drop(v18);
-	u64 v63 = v10 + 1;
-	if (v63 != v57) { v10 = v63; goto L17; }
-L18:;
-	if (v58 == 0) goto L19;
-	deallocate(v56);
-L19:;
-	su64(v1, 1);
-	clear(v1+8, 40);
-	goto L26;
-L20:;
-	ptr v64 = ldp(v22);
-	ptr v65 = at(v64, v11 << 6);
-	su64(v65, v53);
-	su16(v65+8, v29);
-	su16(v65+10, v30);
-	st8(v65+16, v32);
-	st_bytes(v65+17, v51, 7);
-	su64(v65+24, v35);
-	su64(v65+32, v36);
-	su64(v65+40, v37);
-	copy(v65+48, v23, 16);
-	st64(v22+8, v11 + 1);
-	clear(v21+8, 64);
-	if (v50 < 4) { v12 = 1; v13 = 0; v14 = 0; v15 = 0; goto L22; }
-	v4 = v50; v5 = v49; v6 = v64; goto L0;
-L21:;
-	v12 = (u64)v27; v13 = v28; v14 = v32; v15 = (u8)v33;
-L22:;
-	ptr v66 = ldp(v22);
-	u64 v67 = ld64(v22+8);
-	u64 v68 = ld64(v22+16);
-	if (v67 == 0) goto L24;
-	v16 = 0;
-L23:;
-	ptr v69 = at(v66, v16 << 6);
-	u64 v70 = (u64)ld8(v69);
-	u16 v71 = lu16(v69+8);
-	u16 v72 = lu16(v69+10);
-	st64(v20+8, 0);
-	st64(v20, v70);
-	st16(v20+8, v71);
-	st16(v20+10, v72);
-	copy(v20+16, v69+16, 48);
-	pcap_options_pcap_options_record_Record_Destruct_drop(v20);
-	u64 v73 = v16 + 1;
-	if (v73 != v67) { v16 = v73; goto L23; }
-L24:;
-	if (v68 == 0) goto L25;
-	deallocate(v66);
-L25:;
-	su64(v1, 1);
-	sup(v1+8, (ptr)v12);
-	su64(v1+16, v13);
-	st8(v1+24, v14);
-	st8(v1+25, v15);
-	clear(v1+26, 22);
-L26:;
-	return;
-}
-static void pcap_options_record_Record_from_value(ptr v1, u16 v2, u16 v3, ptr v4, u64 v5) {
-	u16 v6, v9;
-	u64 v7, v8, v10, v11, v12, v16, v17, v18, v21, v22, v23;
-	u8 v13, v14, v19, v20;
-	ptr v15;
-	_Alignas(8) u8 v24[32], v25[32];
-	_Alignas(2) u8 v26[6], v27[6], v28[6], v29[6];
-	clear(v27, 6);
-	switch (v2) {
-	case 0: goto L0;
-	case 1: goto L1;
-	case 2: goto L4;
-	default: goto L7;
-	}
-L0:;
-	u8 v30 = v5 != 0;
-	copy(v26, v27, 6);
-	v12 = 0; v13 = 0; v14 = 0; v15 = (ptr)0; v16 = 0; v17 = 0; v18 = (u64)v30; v19 = v30 ? 3u : 0u; v20 = v30 ? 34u : 0u; v21 = 0; v22 = 0; v23 = 0; goto L8;
-L1:;
-	clear(v25, 32);
-	if (v5 < 6) { v6 = 8963; v7 = 0; v8 = 0; goto L3; }
-	pcap_options_names_names_from_slice(v25, v4+4, v5 - 4);
-	u64 v31 = ld64(v25+16);
-	if (ld8(v25) != 0) goto L2;
-	u64 v32 = (u64)v4;
-	u64 v33 = ld64(v25+8);
-	u8 v34 = ld8(v25+25);
-	u8 v35 = ld8(v25+24);
-	copy(v28, v25+26, 6);
-	copy(v26, v28, 6);
-	v12 = v31; v13 = v35; v14 = v34; v15 = (ptr)4ull; v16 = 0; v17 = v33; v18 = 0; v19 = 1; v20 = 0; v21 = 0; v22 = v32; v23 = v32 & 0xffffffffffff0000ull; goto L8;
-L2:;
-	v6 = ld16(v25+8); v7 = v31; v8 = (u64)ld16(v25+24);
-L3:;
-	su64(v1, 1);
-	su16(v1+8, v6);
-	su64(v1+16, v7);
-	su64(v1+24, v8);
-	clear(v1+32, 40);
-	goto L9;
-L4:;
-	clear(v24, 32);
-	if (v5 < 18) { v9 = 9219; v10 = 0; v11 = 0; goto L6; }
-	pcap_options_names_names_from_slice(v24, v4+16, v5 - 16);
-	u64 v36 = ld64(v24+16);
-	if (ld8(v24) != 0) goto L5;
-	u64 v37 = (u64)v4;
-	u64 v38 = ld64(v24+8);
-	u8 v39 = ld8(v24+25);
-	u8 v40 = ld8(v24+24);
-	copy(v29, v24+26, 6);
-	copy(v26, v29, 6);
-	v12 = v36; v13 = v40; v14 = v39; v15 = (ptr)16ull; v16 = 0; v17 = v38; v18 = 0; v19 = 2; v20 = 0; v21 = 0; v22 = v37; v23 = v37 & 0xffffffffffff0000ull; goto L8;
-L5:;
-	v9 = ld16(v24+8); v10 = v36; v11 = (u64)ld16(v24+24);
-L6:;
-	su64(v1, 1);
-	su16(v1+8, v9);
-	su64(v1+16, v10);
-	su64(v1+24, v11);
-	clear(v1+32, 40);
-	goto L9;
-L7:;
-	clear(v26, 6);
-	v12 = 0; v13 = 0; v14 = 0; v15 = v4; v16 = v5; v17 = 0; v18 = 0; v19 = 3; v20 = 0; v21 = ((u64)v3 << 16) | (u64)v2; v22 = 0; v23 = 0;
-L8:;
-	su64(v1, v18);
-	st8(v1+8, v19);
-	st8(v1+9, v20);
-	su64(v1+16, v21);
-	su64(v1+24, (v22 & 65535) | v23);
-	sup(v1+32, v15);
-	su64(v1+40, v16);
-	su64(v1+48, v17);
-	su64(v1+56, v12);
-	st8(v1+64, v13);
-	st8(v1+65, v14);
-	copy(v1+66, v26, 6);
-L9:;
-	return;
-}
-static __attribute__((noinline)) void pcap_options_names_names_from_slice(ptr v1, ptr v2, u64 v3) {
-	ptr v4, v6, v9;
-	u64 v5, v7, v8, v10, v11, v17, v18;
-	u8 v12, v13, v15, v16;
-	u16 v14;
-	_Alignas(8) u8 v19[1], v20[24], v23[24];
-	_Alignas(2) u8 v21[6], v22[6];
-	stp(v23, v19);
-	clear(v23+8, 16);
-	if (v3 != 0) goto L0;
-	u64 v24 = (u64)v19;
-	v11 = ld64(v23+8); v12 = (u8)(v24 >> 8); v13 = (u8)v24; goto L9;
-L0:;
-	v4 = v19; v5 = v3; v6 = v2;
-L1:;
-	v7 = 0;
-L2:;
-	if (ld8(at(v6, v7)) != 0) goto L11;
-	clear(v20, 24);
-	core_str_utf8_from_utf8(v20, v6, v7);
-	if (ld8(v20) != 0) goto L10;
-	u8 v25 = ld8(v20+8);
-	u8 v26 = ld8(v20+9);
-	u64 v27 = ld64(v20+16);
-	u64 v28 = (u64)ld_bytes(v20+10, 6) & 0xffffffffffffull;
-	u64 v29 = v5 + ~v7;
-	u64 v30 = ld64(v23+8);
-	if (ld64(v23+16) != v30) { v9 = v4; v10 = v30; goto L8; }
-	u8 v31 = std_alloc_vec_Vec_grow_amortized_2044(v23);
-	if (!v31) goto L3;
-	v9 = ldp(v23); v10 = ld64(v23+8); goto L8;
-L3:;
-	ptr v32 = ldp(v23);
-	u64 v33 = ld64(v23+8);
-	u64 v34 = ld64(v23+16);
-	if (v33 == 0) goto L6;
-	v8 = 0;
-L4:;
-	ptr v35 = at(v32, v8 << 5);
-	if ((ld8(v35) == 0) || (lu64(v35+24) == 0)) goto L5;
-	deallocate(lup(v35+8));
-L5:;
-	u64 v36 = v8 + 1;
-	if (v36 != v33) { v8 = v36; goto L4; }
-L6:;
-	if (v34 == 0) goto L7;
-	deallocate(v32);
-L7:;
-	su64(v1, 1);
-	clear(v1+8, 24);
-	goto L17;
-L8:;
-	ptr v37 = at(v9, v10 << 5);
-	su64(v37, 0);
-	st8(v37+8, v25);
-	st8(v37+9, v26);
-	st_bytes(v37+10, v28, 6);
-	su64(v37+16, v27);
-	su64(v37+24, 0);
-	u64 v38 = v10 + 1;
-	st64(v23+8, v38);
-	if (v29 != 0) { v4 = v9; v5 = v29; v6 = at(v6, v7)+1; goto L1; }
-	v11 = v38; v12 = ld8(v23+1); v13 = ld8(v23);
-L9:;
-	u8 v39 = ld8(v23+16);
-	u8 v40 = ld8(v23+17);
-	su64(v1, 0);
-	st8(v1+8, v13);
-	st8(v1+9, v12);
-	copy(v1+10, v23+2, 6);
-	su64(v1+16, v11);
-	st8(v1+24, v39);
-	st8(v1+25, v40);
-	copy(v1+26, v23+18, 6);
-	goto L17;
-L10:;
-	v14 = 2; v15 = ld8(v20+17); v16 = ld8(v20+16); v17 = ld64(v20+8); goto L12;
-L11:;
-	u64 v41 = v7 + 1;
-	if (v41 != v5) { v7 = v41; goto L2; }
-	v14 = 9475; v15 = 0; v16 = 0; v17 = 0;
-L12:;
-	clear(v21, 6);
-	clear(v22, 6);
-	u64 v42 = ld64(v23+8);
-	u64 v43 = ld64(v23+16);
-	if (v42 == 0) goto L15;
-	v18 = 0;
-L13:;
-	ptr v44 = at(v4, v18 << 5);
-	if ((ld8(v44) == 0) || (lu64(v44+24) == 0)) goto L14;
-	deallocate(lup(v44+8));
-L14:;
-	u64 v45 = v18 + 1;
-	if (v45 != v42) { v18 = v45; goto L13; }
-L15:;
-	if (v43 == 0) goto L16;
-	deallocate(v4);
-L16:;
-	su64(v1, 1);
-	su16(v1+8, v14);
-	copy(v1+10, v21, 6);
-	su64(v1+16, v17);
-	st8(v1+24, v16);
-	st8(v1+25, v15);
-	copy(v1+26, v22, 6);
-L17:;
-	return;
-}
-static __attribute__((noinline, cold)) u8 std_alloc_vec_Vec_grow_amortized_2044(ptr v1) {
-	t_64_64 v2;
-	u8 v3;
-	u64 v4 = ld64(v1+8);
-	if (v4 == ~0ull) { v3 = 0; goto L2; }
-	u64 v5 = ld64(v1+16);
-	u64 v6 = (v4 > 3 ? v4 : 3) + 1;
-	u64 v7 = v5 << 1;
-	u64 v8 = v6 > v7 ? v6 : v7;
-	u64 v9 = v5 < 0x4000000000000000ull ? v8 : v6;
-	if (v9 >= 0x400000000000000ull) { v3 = 0; goto L2; }
-	if (v5 != 0) goto L0;
-	t_64_64 v10 = allocate(v8 << 5, 8);
-	if (v10.f0 & 1) { v2 = v10; goto L1; }
-	v3 = 0; goto L2;
-L0:;
-	t_64_64 v11 = reallocate(ldp(v1), v4 << 5, v9 << 5, 8);
-	if (!(v11.f0 & 1)) { v3 = 0; goto L2; }
-	v2 = v11;
-L1:;
-	stp(v1, (ptr)v2.f1);
-	st64(v1+16, v9);
-	v3 = 1;
-L2:;
-	return v3;
-}
-static __attribute__((noinline, cold)) u8 std_alloc_vec_Vec_grow_amortized_8416(ptr v1) {
-	t_64_64 v2;
-	u8 v3;
-	u64 v4 = ld64(v1+8);
-	if (v4 == ~0ull) { v3 = 0; goto L2; }
-	u64 v5 = ld64(v1+16);
-	u64 v6 = (v4 > 3 ? v4 : 3) + 1;
-	u64 v7 = v5 << 1;
-	u64 v8 = v6 > v7 ? v6 : v7;
-	u64 v9 = v5 < 0x4000000000000000ull ? v8 : v6;
-	if (v9 >= 0x200000000000000ull) { v3 = 0; goto L2; }
-	if (v5 != 0) goto L0;
-	t_64_64 v10 = allocate(v8 << 6, 8);
-	if (v10.f0 & 1) { v2 = v10; goto L1; }
-	v3 = 0; goto L2;
-L0:;
-	t_64_64 v11 = reallocate(ldp(v1), v4 << 6, v9 << 6, 8);
-	if (!(v11.f0 & 1)) { v3 = 0; goto L2; }
-	v2 = v11;
-L1:;
-	stp(v1, (ptr)v2.f1);
-	st64(v1+16, v9);
-	v3 = 1;
-L2:;
-	return v3;
-}
-static void pcap_options_pcap_options_record_Record_Destruct_drop(ptr v1) {
-	u64 v2, v3;
-	ptr v4;
-	u8 v5 = ld8(v1+8);
-	u64 v6 = lu64(v1+16);
-	u64 v7 = lu64(v1+32);
-	u64 v8 = lu64(v1+40);
-	u64 v9 = lu64(v1+48);
-	u64 v10 = lu64(v1+56);
-	switch (ld8(v1)) {
-	case 0: goto L12;
-	case 1: goto L0;
-	case 2: goto L5;
-	case 3: goto L10;
-	default: goto L13;
-	}
-L0:;
-	if ((v5 == 0) || (v7 == 0)) goto L1;
-	deallocate((ptr)v6);
-L1:;
-	if (v9 == 0) goto L4;
-	v2 = 0;
-L2:;
-	ptr v11 = at((ptr)v8, v2 << 5);
-	if ((ld8(v11) == 0) || (lu64(v11+24) == 0)) goto L3;
-	deallocate(lup(v11+8));
-L3:;
-	u64 v12 = v2 + 1;
-	if (v12 != v9) { v2 = v12; goto L2; }
-L4:;
-	if (v10 == 0) goto L12;
-	v4 = (ptr)v8; goto L11;
-L5:;
-	if ((v5 == 0) || (v7 == 0)) goto L6;
-	deallocate((ptr)v6);
-L6:;
-	if (v9 == 0) goto L9;
-	v3 = 0;
-L7:;
-	ptr v13 = at((ptr)v8, v3 << 5);
-	if ((ld8(v13) == 0) || (lu64(v13+24) == 0)) goto L8;
-	deallocate(lup(v13+8));
-L8:;
-	u64 v14 = v3 + 1;
-	if (v14 != v9) { v3 = v14; goto L7; }
-L9:;
-	if (v10 == 0) goto L12;
-	v4 = (ptr)v8; goto L11;
-L10:;
-	if (((v6 & 255) == 0) || (v8 == 0)) goto L12;
-	v4 = (ptr)lu64(v1+24);
-L11:;
-	deallocate(v4);
-L12:;
-	return;
-L13:;
-	__builtin_trap();
-}
-static __attribute__((noinline, cold)) u8 std_alloc_vec_Vec_grow_amortized_35f1(ptr v1) {
-	t_64_64 v2;
-	u8 v3;
-	u64 v4 = ld64(v1+8);
-	if (v4 == ~0ull) { v3 = 0; goto L2; }
-	u64 v5 = ld64(v1+16);
-	u64 v6 = (v4 > 3 ? v4 : 3) + 1;
-	u64 v7 = v5 << 1;
-	u64 v8 = v6 > v7 ? v6 : v7;
-	u64 v9 = v5 < 0x4000000000000000ull ? v8 : v6;
-	if (v9 >= 0x2aaaaaaaaaaaaabull) { v3 = 0; goto L2; }
-	if (v5 != 0) goto L0;
-	t_64_64 v10 = allocate(v8 * 48, 8);
-	if (v10.f0 & 1) { v2 = v10; goto L1; }
-	v3 = 0; goto L2;
-L0:;
-	t_64_64 v11 = reallocate(ldp(v1), v4 * 48, v9 * 48, 8);
-	if (!(v11.f0 & 1)) { v3 = 0; goto L2; }
-	v2 = v11;
-L1:;
-	stp(v1, (ptr)v2.f1);
-	st64(v1+16, v9);
-	v3 = 1;
-L2:;
-	return v3;
-}
-static void std_alloc_vec_Vec_drop_fe8c(ptr v1) {
-	u64 v2, v3, v4;
-	ptr v5;
-	ptr v6 = lup(v1);
-	u64 v7 = lu64(v1+8);
-	u64 v8 = lu64(v1+16);
-	if (v7 == 0) goto L14;
-	v2 = 0;
-L0:;
-	ptr v9 = at(v6, v2 << 6);
-	u64 v10 = lu64(v9+16);
-	u64 v11 = lu64(v9+24);
-	u64 v12 = lu64(v9+32);
-	u64 v13 = lu64(v9+40);
-	u64 v14 = lu64(v9+48);
-	u64 v15 = lu64(v9+56);
-	u8 v16 = (u8)lu16(v9+8);
-	switch (ld8(v9)) {
-	case 0: goto L13;
-	case 1: goto L1;
-	case 2: goto L6;
-	case 3: goto L11;
-	default: goto L16;
-	}
-L1:;
-	if ((v16 == 0) || (v12 == 0)) goto L2;
-	deallocate((ptr)v10);
-L2:;
-	if (v14 == 0) goto L5;
-	v3 = 0;
-L3:;
-	ptr v17 = at((ptr)v13, v3 << 5);
-	if ((ld8(v17) == 0) || (lu64(v17+24) == 0)) goto L4;
-	deallocate(lup(v17+8));
-L4:;
-	u64 v18 = v3 + 1;
-	if (v18 != v14) { v3 = v18; goto L3; }
-L5:;
-	if (v15 == 0) goto L13;
-	v5 = (ptr)v13; goto L12;
-L6:;
-	if ((v16 == 0) || (v12 == 0)) goto L7;
-	deallocate((ptr)v10);
-L7:;
-	if (v14 == 0) goto L10;
-	v4 = 0;
-L8:;
-	ptr v19 = at((ptr)v13, v4 << 5);
-	if ((ld8(v19) == 0) || (lu64(v19+24) == 0)) goto L9;
-	deallocate(lup(v19+8));
-L9:;
-	u64 v20 = v4 + 1;
-	if (v20 != v14) { v4 = v20; goto L8; }
-L10:;
-	if (v15 == 0) goto L13;
-	v5 = (ptr)v13; goto L12;
-L11:;
-	if (((v10 & 255) == 0) || (v13 == 0)) goto L13;
-	v5 = (ptr)v11;
-L12:;
-	deallocate(v5);
-L13:;
-	u64 v21 = v2 + 1;
-	if (v21 != v7) { v2 = v21; goto L0; }
-L14:;
-	if (v8 == 0) goto L15;
-	deallocate(v6);
-L15:;
-	return;
-L16:;
-	__builtin_trap();
-}
-static void std_alloc_vec_Vec_drop_15c9(ptr v1) {
-	u64 v2, v3;
-	ptr v4 = lup(v1);
-	u64 v5 = lu64(v1+8);
-	u64 v6 = lu64(v1+16);
-	if (v5 == 0) goto L7;
-	v2 = 0;
-L0:;
-	ptr v7 = at(v4, v2 * 48);
-	u64 v8 = lu64(v7+16);
-	u64 v9 = lu64(v7+24);
-	u64 v10 = lu64(v7+40);
-	u8 v11 = (u8)v8;
-	switch (ld8(v7)) {
-	case 0: goto L1;
-	case 1: case 2: case 3: case 4: case 5: case 6: case 7: goto L6;
-	case 8: goto L2;
-	case 9: goto L3;
-	case 10: goto L4;
-	default: goto L9;
-	}
-L1:;
-	if (((lu64(v7+8) & 255) == 0) || (lu64(v7+32) == 0)) goto L6;
-	v3 = v8; goto L5;
-L2:;
-	if ((v11 == 0) || (v10 == 0)) goto L6;
-	v3 = v9; goto L5;
-L3:;
-	if ((v11 == 0) || (v10 == 0)) goto L6;
-	v3 = v9; goto L5;
-L4:;
-	if ((v11 == 0) || (v10 == 0)) goto L6;
-	v3 = v9;
-L5:;
-	deallocate((ptr)v3);
-L6:;
-	u64 v12 = v2 + 1;
-	if (v12 != v5) { v2 = v12; goto L0; }
-L7:;
-	if (v6 == 0) goto L8;
-	deallocate(v4);
-L8:;
-	return;
-L9:;
-	__builtin_trap();
-}
-static void std_alloc_vec_Vec_drop_4750(ptr v1) {
-	u64 v2, v3;
-	ptr v4 = lup(v1);
-	u64 v5 = lu64(v1+8);
-	u64 v6 = lu64(v1+16);
-	if (v5 == 0) goto L8;
-	v2 = 0;
-L0:;
-	ptr v7 = at(v4, v2 * 48);
-	u64 v8 = lu64(v7+16);
-	u64 v9 = lu64(v7+24);
-	u64 v10 = lu64(v7+32);
-	u64 v11 = lu64(v7+40);
-	u8 v12 = (u8)lu64(v7+8);
-	u8 v13 = (u8)v8;
-	switch (ld8(v7)) {
-	case 0: goto L1;
-	case 1: case 3: goto L7;
-	case 2: goto L2;
-	case 4: goto L3;
-	case 5: goto L4;
-	case 6: goto L5;
-	default: goto L10;
-	}
-L1:;
-	if ((v12 == 0) || (v10 == 0)) goto L7;
-	v3 = v8; goto L6;
-L2:;
-	if ((v12 == 0) || (v10 == 0)) goto L7;
-	v3 = v8; goto L6;
-L3:;
-	if ((v13 == 0) || (v11 == 0)) goto L7;
-	v3 = v9; goto L6;
-L4:;
-	if ((v13 == 0) || (v11 == 0)) goto L7;
-	v3 = v9; goto L6;
-L5:;
-	if ((v13 == 0) || (v11 == 0)) goto L7;
-	v3 = v9;
-L6:;
-	deallocate((ptr)v3);
-L7:;
-	u64 v14 = v2 + 1;
-	if (v14 != v5) { v2 = v14; goto L0; }
-L8:;
-	if (v6 == 0) goto L9;
-	deallocate(v4);
-L9:;
-	return;
-L10:;
-	__builtin_trap();
-}
-static void pcap_options_refusal_PcapErrorFromRefusal_from(ptr v1, ptr v2) {
-	u8 v3, v7;
-	u64 v4, v5, v6, v8;
-	_Alignas(8) u8 v14[72];
-	u8 v9 = ld8(v2);
-	u8 v10 = ld8(v2+1);
-	u64 v11 = lu64(v2+8);
-	u8 v12 = ld8(v2+16);
-	u8 v13 = ld8(v2+17);
-	clear(v14, 72);
-	switch (v9) {
-	case 0: v3 = 5; v4 = 0; v5 = 0; v6 = 0; v7 = v9; v8 = 0; goto L3;
-	case 1: goto L0;
-	case 2: goto L1;
-	case 3: goto L2;
-	default: goto L4;
-	}
-L0:;
-	v3 = 1; v4 = 1; v5 = 9472; v6 = 0; v7 = 0; v8 = 0; goto L3;
-L1:;
-	v3 = 3; v4 = v11; v5 = v11; v6 = v11 & 0xffffffffffff0000ull; v7 = v12; v8 = (u64)v13 << 8; goto L3;
-L2:;
-	ptr v15 = ldp(at((ptr)&switch_table_pcap_options_refusal_PcapErrorFromRefusal_from_252, (u64)v10 * 8));
-	u64 v16 = (u64)v15;
-	v3 = 2; v4 = v16; v5 = v16; v6 = v16 & 0xffffffffffff0000ull; v7 = ld8(at((ptr)switch_table_pcap_options_refusal_PcapErrorFromRefusal_from, (u64)v10)); v8 = 0;
-L3:;
-	st8(v1, v3);
-	su64(v1+8, (v5 & 65280) | (v4 & 255) | v6);
-	su64(v1+16, v8 | (u64)v7);
-	copy(v1+24, v14, 72);
-	return;
-L4:;
-	__builtin_trap();
-}
-static void blocks_interface_description_InterfaceDescriptionBlock_read_7f02(ptr v1, ptr v2, u64 v3) {
-	u8 v4, v6, v12, v13, v20, v21, v37, v38;
-	u64 v5, v7, v9, v10, v14, v16, v18, v25, v26, v27, v30, v32, v33, v34, v36;
-	ptr v8, v17, v28, v35;
-	u16 v11, v15, v22, v23, v29;
-	u32 v19, v24, v31;
-	_Alignas(8) u8 v39[1], v40[48], v41[48], v42[48], v43[24], v44[24], v45[24], v46[24], v47[24], v48[24], v49[48], v50[24];
-	_Alignas(2) u8 v51[22];
-	clear(v51, 22);
-	if (v3 >= 8) goto L0;
-	su64(v1, 1);
-	st8(v1+8, 3);
-	st8(v1+9, 11);
-	clear(v1+10, 54);
-	goto L42;
-L0:;
-	u16 v52 = lu16(v2);
-	u16 v53 = lu16(v2+2);
-	u64 v54 = v3 - 8;
-	u32 v55 = lu32(v2+4);
-	stp(v50, v39);
-	clear(v50+8, 16);
-	u64 v56 = (u64)v39;
-	u8 v57 = (u8)(v56 >> 8);
-	u8 v58 = (u8)v56;
-	if (v54 == 0) { v35 = v2+8; v36 = 0; v37 = v58; v38 = v57; goto L41; }
-	v4 = v58; v5 = 0; v6 = v57; v7 = v54; v8 = v2+8;
-L1:;
-	if (v7 < 4) { v12 = 0; v13 = 0; v14 = 0; v15 = 4099; goto L26; }
-	u16 v59 = lu16(v8);
-	u64 v60 = v7 - 4;
-	u16 v61 = lu16(v8+2);
-	if (v59 == 0) { v35 = v8+4; v36 = v60; v37 = v4; v38 = v6; goto L41; }
-	u64 v62 = (u64)v61;
-	u64 v63 = ((0ull - v62) & 3) + v62;
-	if (v60 < v63) { v12 = 0; v13 = 0; v14 = 0; v15 = 4355; goto L26; }
-	ptr v64 = at(v8+4, v63);
-	u64 v65 = v60 - v63;
-	switch (v59) {
-	case 1: goto L2;
-	case 2: goto L4;
-	case 3: goto L6;
-	case 4: goto L8;
-	case 5: goto L9;
-	case 6: goto L10;
-	case 7: goto L11;
-	case 8: goto L12;
-	case 9: goto L13;
-	case 10: goto L14;
-	case 11: goto L15;
-	case 12: goto L16;
-	case 13: goto L18;
-	case 14: goto L19;
-	case 15: goto L20;
-	case 2988: case 19372: goto L22;
-	case 2989: case 19373: goto L25;
-	default: v17 = v8+4; v18 = v62; v19 = 0; v20 = 17; v21 = 0; v22 = v59; v23 = v61; v24 = 0; v25 = 0; goto L31;
-	}
-L2:;
-	clear(v48, 24);
-	core_str_utf8_from_utf8(v48, v8+4, v62);
-	u64 v66 = ld64(v48+8);
-	if (ld8(v48) != 0) goto L3;
-	v17 = (ptr)ld64(v48+16); v18 = 0; v19 = 0; v20 = 0; v21 = 0; v22 = 0; v23 = 0; v24 = 0; v25 = v66; goto L31;
-L3:;
-	v12 = ld8(v48+17); v13 = ld8(v48+16); v14 = v66; v15 = 2; goto L26;
-L4:;
-	clear(v47, 24);
-	core_str_utf8_from_utf8(v47, v8+4, v62);
-	u64 v67 = ld64(v47+8);
-	if (ld8(v47) != 0) goto L5;
-	v17 = (ptr)ld64(v47+16); v18 = 0; v19 = 0; v20 = 1; v21 = 0; v22 = 0; v23 = 0; v24 = 0; v25 = v67; goto L31;
-L5:;
-	v12 = ld8(v47+17); v13 = ld8(v47+16); v14 = v67; v15 = 2; goto L26;
-L6:;
-	clear(v46, 24);
-	core_str_utf8_from_utf8(v46, v8+4, v62);
-	u64 v68 = ld64(v46+8);
-	if (ld8(v46) != 0) goto L7;
-	v17 = (ptr)ld64(v46+16); v18 = 0; v19 = 0; v20 = 2; v21 = 0; v22 = 0; v23 = 0; v24 = 0; v25 = v68; goto L31;
-L7:;
-	v12 = ld8(v46+17); v13 = ld8(v46+16); v14 = v68; v15 = 2; goto L26;
-L8:;
-	if (v61 == 8) { v17 = (ptr)8ull; v18 = 0; v19 = 0; v20 = 3; v21 = 0; v22 = 0; v23 = 0; v24 = 0; v25 = (u64)(v8+4); goto L31; }
-	v12 = 0; v13 = 0; v14 = 0; v15 = 4611; goto L26;
-L9:;
-	if (v61 == 17) { v17 = (ptr)17ull; v18 = 0; v19 = 0; v20 = 4; v21 = 0; v22 = 0; v23 = 0; v24 = 0; v25 = (u64)(v8+4); goto L31; }
-	v12 = 0; v13 = 0; v14 = 0; v15 = 4867; goto L26;
-L10:;
-	if (v61 == 6) { v17 = (ptr)6ull; v18 = 0; v19 = 0; v20 = 5; v21 = 0; v22 = 0; v23 = 0; v24 = 0; v25 = (u64)(v8+4); goto L31; }
-	v12 = 0; v13 = 0; v14 = 0; v15 = 5123; goto L26;
-L11:;
-	if (v61 != 8) { v12 = 0; v13 = 0; v14 = 0; v15 = 5379; goto L26; }
-	u64 v69 = lu64(v8+4);
-	v17 = (ptr)0; v18 = 0; v19 = 0; v20 = 6; v21 = 0; v22 = (u16)v69; v23 = (u16)(v69 >> 16); v24 = (u32)(v69 >> 32); v25 = 0; goto L31;
-L12:;
-	if (v61 != 8) { v12 = 0; v13 = 0; v14 = 0; v15 = 5635; goto L26; }
-	u64 v70 = lu64(v8+4);
-	v17 = (ptr)0; v18 = 0; v19 = 0; v20 = 7; v21 = 0; v22 = (u16)v70; v23 = (u16)(v70 >> 16); v24 = (u32)(v70 >> 32); v25 = 0; goto L31;
-L13:;
-	if (v61 != 1) { v12 = 0; v13 = 0; v14 = 0; v15 = 5891; goto L26; }
-	v17 = (ptr)0; v18 = 0; v19 = 0; v20 = 8; v21 = ld8(v8+4); v22 = 0; v23 = 0; v24 = 0; v25 = 0; goto L31;
-L14:;
-	if (v61 != 4) { v12 = 0; v13 = 0; v14 = 0; v15 = 6147; goto L26; }
-	v17 = (ptr)0; v18 = 0; v19 = lu32(v8+4); v20 = 9; v21 = 0; v22 = 0; v23 = 0; v24 = 0; v25 = 0; goto L31;
-L15:;
-	if (v61 == 0) { v12 = 0; v13 = 0; v14 = 0; v15 = 6403; goto L26; }
-	v17 = (ptr)v62; v18 = 0; v19 = 0; v20 = 10; v21 = 0; v22 = 0; v23 = 0; v24 = 0; v25 = (u64)(v8+4); goto L31;
-L16:;
-	clear(v45, 24);
-	core_str_utf8_from_utf8(v45, v8+4, v62);
-	u64 v71 = ld64(v45+8);
-	if (ld8(v45) != 0) goto L17;
-	v17 = (ptr)ld64(v45+16); v18 = 0; v19 = 0; v20 = 11; v21 = 0; v22 = 0; v23 = 0; v24 = 0; v25 = v71; goto L31;
-L17:;
-	v12 = ld8(v45+17); v13 = ld8(v45+16); v14 = v71; v15 = 2; goto L26;
-L18:;
-	if (v61 != 1) { v12 = 0; v13 = 0; v14 = 0; v15 = 6659; goto L26; }
-	v17 = (ptr)0; v18 = 0; v19 = 0; v20 = 12; v21 = ld8(v8+4); v22 = 0; v23 = 0; v24 = 0; v25 = 0; goto L31;
-L19:;
-	if (v61 != 8) { v12 = 0; v13 = 0; v14 = 0; v15 = 6915; goto L26; }
-	u64 v72 = lu64(v8+4);
-	v17 = (ptr)0; v18 = 0; v19 = 0; v20 = 13; v21 = 0; v22 = (u16)v72; v23 = (u16)(v72 >> 16); v24 = (u32)(v72 >> 32); v25 = 0; goto L31;
-L20:;
-	clear(v44, 24);
-	core_str_utf8_from_utf8(v44, v8+4, v62);
-	u64 v73 = ld64(v44+8);
-	if (ld8(v44) != 0) goto L21;
-	v17 = (ptr)ld64(v44+16); v18 = 0; v19 = 0; v20 = 14; v21 = 0; v22 = 0; v23 = 0; v24 = 0; v25 = v73; goto L31;
-L21:;
-	v12 = ld8(v44+17); v13 = ld8(v44+16); v14 = v73; v15 = 2; goto L26;
-L22:;
-	if (v61 < 4) { v9 = 0; v10 = 0; v11 = 1; goto L24; }
-	u32 v74 = lu32(v8+4);
-	clear(v43, 24);
-	core_str_utf8_from_utf8(v43, v8+8, v62 - 4);
-	u64 v75 = ld64(v43+8);
-	if (ld8(v43) != 0) goto L23;
-	v17 = (ptr)v75; v18 = ld64(v43+16); v19 = 0; v20 = 16; v21 = 0; v22 = v59; v23 = 0; v24 = v74; v25 = 0; goto L31;
-L23:;
-	v9 = (u64)ld16(v43+16); v10 = v75; v11 = 2;
-L24:;
-	v12 = (u8)(v9 >> 8); v13 = (u8)v9; v14 = v10; v15 = v11; goto L26;
-L25:;
-	if (v61 >= 4) goto L30;
-	v12 = 0; v13 = 0; v14 = 0; v15 = 1;
-L26:;
-	ptr v76 = ldp(v50);
-	u64 v77 = ld64(v50+16);
-	if (v5 == 0) goto L28;
-	v16 = 0;
-L27:;
-	ptr v78 = at(v76, v16 * 48);
-	u8 v79 = ld8(v78);
-	u8 v80 = ld8(v78+1);
-	u32 v81 = lu32(v78+4);
-	u64 v82 = lu64(v78+8);
-	st64(v42, 0);
-	st8(v42, v79);
-	st8(v42+1, v80);
-	st32(v42+4, v81);
-	st64(v42+8, v82);
-	copy(v42+16, v78+16, 32);
-	ptions_interface_option_InterfaceDescriptionOption_Destruct_drop(v42);
-	u64 v83 = v16 + 1;
-	if (v83 != v5) { v16 = v83; goto L27; }
-L28:;
-	if (v77 == 0) goto L29;
-	deallocate(v76);
-L29:;
-	v29 = v15; v30 = v14; v31 = ((u32)v12 << 8) | (u32)v13; goto L38;
-L30:;
-	v17 = v8+8; v18 = v62 - 4; v19 = 0; v20 = 15; v21 = 0; v22 = v59; v23 = 0; v24 = lu32(v8+4); v25 = 0;
-L31:;
-	u64 v84 = ((u64)v24 << 32) | ((u64)v23 << 16) | (u64)v22;
-	st64(v49, 0);
-	if (v5 != 0) goto L34;
-	t_64_64 v85 = allocate(384, 8);
-	if (!(v85.f0 & 1)) goto L33;
-	ptr v86 = ldp(v50);
-	u64 v87 = ld64(v50+16);
-	stp(v50, (ptr)v85.f1);
-	st64(v50+8, 0);
-	st64(v50+16, 8);
-	if (v87 == 0) goto L32;
-	deallocate(v86);
-L32:;
-	st8((ptr)v85.f1, v20);
-	st8((ptr)v85.f1+1, v21);
-	su32((ptr)v85.f1+4, v19);
-	su64((ptr)v85.f1+8, v84);
-	su64((ptr)v85.f1+16, v25);
-	sup((ptr)v85.f1+24, v17);
-	su64((ptr)v85.f1+32, v18);
-	su64((ptr)v85.f1+40, 0);
-	v33 = v85.f1; v34 = 1; goto L40;
-L33:;
-	st8(v49, v20);
-	st8(v49+1, v21);
-	st32(v49+4, v19);
-	st64(v49+8, v84);
-	st64(v49+16, v25);
-	stp(v49+24, v17);
-	st64(v49+32, v18);
-	st64(v49+40, 0);
-	ptions_interface_option_InterfaceDescriptionOption_Destruct_drop(v49);
-	v27 = ld64(v50+16); v28 = ldp(v50); goto L37;
-L34:;
-	if (ld64(v50+16) != v5) { v32 = v5; goto L39; }
-	u8 v88 = std_alloc_vec_Vec_grow_amortized_35f1(v50);
-	if (!v88) goto L35;
-	v32 = ld64(v50+8); goto L39;
-L35:;
-	st64(v41+16, v25);
-	stp(v41+24, v17);
-	st64(v41+32, v18);
-	st64(v41+40, 0);
-	st64(v41, 0);
-	st8(v41, v20);
-	st8(v41+1, v21);
-	st32(v41+4, v19);
-	st64(v41+8, v84);
-	ptions_interface_option_InterfaceDescriptionOption_Destruct_drop(v41);
-	u64 v89 = ld64(v50+8);
-	ptr v90 = ldp(v50);
-	u64 v91 = ld64(v50+16);
-	if (v89 == 0) { v27 = v91; v28 = v90; goto L37; }
-	v26 = 0;
-L36:;
-	ptr v92 = at(v90, v26 * 48);
-	u8 v93 = ld8(v92);
-	u8 v94 = ld8(v92+1);
-	u32 v95 = lu32(v92+4);
-	u64 v96 = lu64(v92+8);
-	st64(v40, 0);
-	st8(v40, v93);
-	st8(v40+1, v94);
-	st32(v40+4, v95);
-	st64(v40+8, v96);
-	copy(v40+16, v92+16, 32);
-	ptions_interface_option_InterfaceDescriptionOption_Destruct_drop(v40);
-	u64 v97 = v26 + 1;
-	if (v97 != v89) { v26 = v97; goto L36; }
-	v27 = v91; v28 = v90;
-L37:;
-	if (v27 == 0) { v29 = 0; v30 = 0; v31 = 0; goto L38; }
-	deallocate(v28);
-	v29 = 0; v30 = 0; v31 = 0;
-L38:;
-	su64(v1, 1);
-	su16(v1+8, v29);
-	st_bytes(v1+10, 0, 6);
-	su64(v1+16, v30);
-	su32(v1+24, v31);
-	clear(v1+28, 36);
-	goto L42;
-L39:;
-	ptr v98 = ldp(v50);
-	ptr v99 = at(v98, v32 * 48);
-	st8(v99, v20);
-	st8(v99+1, v21);
-	su32(v99+4, v19);
-	su64(v99+8, v84);
-	su64(v99+16, v25);
-	sup(v99+24, v17);
-	su64(v99+32, v18);
-	su64(v99+40, 0);
-	v33 = (u64)v98; v34 = v32 + 1;
-L40:;
-	u8 v100 = (u8)(v33 >> 8);
-	st64(v50+8, v34);
-	if (v65 != 0) { v4 = (u8)v33; v5 = v34; v6 = v100; v7 = v65; v8 = v64; goto L1; }
-	v35 = v64; v36 = 0; v37 = (u8)v33; v38 = v100;
-L41:;
-	copy(v51, v50+2, 22);
-	t_8_32 v101 = pcap_core_link_DataLinkFromU32_from((u32)v52);
-	su64(v1, 0);
-	su64(v1+8, (u64)v35);
-	su64(v1+16, v36);
-	su32(v1+24, (u32)v101.f0);
-	su32(v1+28, v101.f1);
-	su16(v1+32, v53);
-	su16(v1+34, 0);
-	su32(v1+36, v55);
-	st8(v1+40, v37);
-	st8(v1+41, v38);
-	copy(v1+42, v51, 6);
-	copy(v1+48, v51+6, 16);
-L42:;
-	return;
-}
-static __attribute__((noinline)) void pcap_options_records_records_from_slice_7f02(ptr v1, ptr v2, u64 v3) {
-	u64 v4, v7, v8, v10, v11, v12, v13, v16;
-	ptr v5, v6, v9;
-	u8 v14, v15;
-	_Alignas(8) u8 v17[1], v18[64], v19[64], v20[64], v21[72], v22[24], v23[16];
-	clear(v23, 16);
-	stp(v22, v17);
-	clear(v22+8, 16);
-	clear(v21+8, 64);
-	if (v3 < 4) { v12 = 1; v13 = 0; v14 = 0; v15 = 0; goto L22; }
-	v4 = v3; v5 = v2; v6 = v17;
-L0:;
-	u64 v24 = v4 - 4;
-	u16 v25 = lu16(v5+2);
-	u64 v26 = (u64)v25;
-	if (v24 < v26) { v12 = 8451; v13 = 0; v14 = 0; v15 = 0; goto L22; }
-	pcap_options_record_Record_from_value(v21, lu16(v5), v25, v5+4, v26);
-	u16 v27 = ld16(v21+8);
-	u64 v28 = ld64(v21+16);
-	u16 v29 = (u16)v28;
-	u16 v30 = (u16)(v28 >> 16);
-	u16 v31 = ld16(v21+24);
-	u8 v32 = (u8)v31;
-	u16 v33 = v31 >> 8;
-	if (ld8(v21) != 0) goto L21;
-	u64 v34 = (u64)ld_bytes(v21+26, 6) & 0xffffffffffffull;
-	u64 v35 = ld64(v21+32);
-	u64 v36 = ld64(v21+40);
-	u64 v37 = ld64(v21+48);
-	u64 v38 = ((0ull - v26) & 3) + v26;
-	if (v24 >= v38) goto L14;
-	u8 v39 = (u8)v28;
-	u8 v40 = (u8)v27;
-	switch (v40) {
-	case 1: goto L1;
-	case 2: goto L6;
-	case 3: goto L11;
-	case 0: v12 = 9731; v13 = 0; v14 = v40; v15 = v40; goto L22;
-	default: goto L13;
-	}
-L1:;
-	if ((v39 != 1) || (v36 == 0)) goto L2;
-	deallocate((ptr)((v34 << 16) | (u64)v31));
-L2:;
-	u64 v41 = ld64(v21+56);
-	u64 v42 = ld64(v21+64);
-	if (v41 == 0) goto L5;
-	v7 = 0;
-L3:;
-	ptr v43 = at((ptr)v37, v7 << 5);
-	if ((ld8(v43) == 0) || (lu64(v43+24) == 0)) goto L4;
-	deallocate(lup(v43+8));
-L4:;
-	u64 v44 = v7 + 1;
-	if (v44 != v41) { v7 = v44; goto L3; }
-L5:;
-	if (v42 == 0) { v12 = 9731; v13 = 0; v14 = 0; v15 = 0; goto L22; }
-	v9 = (ptr)v37; goto L12;
-L6:;
-	if ((v39 != 1) || (v36 == 0)) goto L7;
-	deallocate((ptr)((v34 << 16) | (u64)v31));
-L7:;
-	u64 v45 = ld64(v21+56);
-	u64 v46 = ld64(v21+64);
-	if (v45 == 0) goto L10;
-	v8 = 0;
-L8:;
-	ptr v47 = at((ptr)v37, v8 << 5);
-	if ((ld8(v47) == 0) || (lu64(v47+24) == 0)) goto L9;
-	deallocate(lup(v47+8));
-L9:;
-	u64 v48 = v8 + 1;
-	if (v48 != v45) { v8 = v48; goto L8; }
-L10:;
-	if (v46 == 0) { v12 = 9731; v13 = 0; v14 = 0; v15 = 0; goto L22; }
-	v9 = (ptr)v37; goto L12;
-L11:;
-	if ((v32 != 1) || (v37 == 0)) { v12 = 9731; v13 = 0; v14 = 0; v15 = 0; goto L22; }
-	v9 = (ptr)v35;
-L12:;
-	deallocate(v9);
-	v12 = 9731; v13 = 0; v14 = 0; v15 = 0; goto L22;
-L13:;
-	__builtin_trap();
-L14:;
-	ptr v49 = at(v5+4, v38);
-	u64 v50 = v24 - v38;
-	u64 v51 = ((v34 << 8) & 0xffffffffffffffull) | (u64)v33;
-	copy(v23, v21+56, 16);
-	if ((v27 & 255) != 0) goto L15;
-	u8 v52 = ld8(v22);
-	su64(v1, 0);
-	sup(v1+8, v49);
-	su64(v1+16, v50);
-	st8(v1+24, v52);
-	st8(v1+25, (u8)((u64)v6 >> 8));
-	copy(v1+26, v22+2, 22);
-	goto L26;
-L15:;
-	u64 v53 = (u64)(v27 & 255);
-	u64 v54 = ld64(v22+8);
-	if (ld64(v22+16) != v54) { v11 = v54; goto L20; }
-	u8 v55 = std_alloc_vec_Vec_grow_amortized_8416(v22);
-	if (!v55) goto L16;
-	v11 = ld64(v22+8); goto L20;
-L16:;
-	st64(v19+8, 0);
-	st64(v19, v53);
-	st16(v19+8, v29);
-	st16(v19+10, v30);
-	st8(v19+16, v32);
-	st_bytes(v19+17, v51, 7);
-	st64(v19+24, v35);
-	st64(v19+32, v36);
-	st64(v19+40, v37);
-	copy(v19+48, v23, 16);
-	pcap_options_pcap_options_record_Record_Destruct_drop(v19);
-	ptr v56 = ldp(v22);
-	u64 v57 = ld64(v22+8);
-	u64 v58 = ld64(v22+16);
-	if (v57 == 0) goto L18;
-	v10 = 0;
-L17:;
-	ptr v59 = at(v56, v10 << 6);
-	u64 v60 = (u64)ld8(v59);
-	u16 v61 = lu16(v59+8);
-	u16 v62 = lu16(v59+10);
-	st64(v18+8, 0);
-	st64(v18, v60);
-	st16(v18+8, v61);
-	st16(v18+10, v62);
-	copy(v18+16, v59+16, 48);
-	pcap_options_pcap_options_record_Record_Destruct_drop(v18);
-	u64 v63 = v10 + 1;
-	if (v63 != v57) { v10 = v63; goto L17; }
-L18:;
-	if (v58 == 0) goto L19;
-	deallocate(v56);
-L19:;
-	su64(v1, 1);
-	clear(v1+8, 40);
-	goto L26;
-L20:;
-	ptr v64 = ldp(v22);
-	ptr v65 = at(v64, v11 << 6);
-	su64(v65, v53);
-	su16(v65+8, v29);
-	su16(v65+10, v30);
-	st8(v65+16, v32);
-	st_bytes(v65+17, v51, 7);
-	su64(v65+24, v35);
-	su64(v65+32, v36);
-	su64(v65+40, v37);
-	copy(v65+48, v23, 16);
-	st64(v22+8, v11 + 1);
-	clear(v21+8, 64);
-	if (v50 < 4) { v12 = 1; v13 = 0; v14 = 0; v15 = 0; goto L22; }
-	v4 = v50; v5 = v49; v6 = v64; goto L0;
-L21:;
-	v12 = (u64)v27; v13 = v28; v14 = v32; v15 = (u8)v33;
-L22:;
-	ptr v66 = ldp(v22);
-	u64 v67 = ld64(v22+8);
-	u64 v68 = ld64(v22+16);
-	if (v67 == 0) goto L24;
-	v16 = 0;
-L23:;
-	ptr v69 = at(v66, v16 << 6);
-	u64 v70 = (u64)ld8(v69);
-	u16 v71 = lu16(v69+8);
-	u16 v72 = lu16(v69+10);
-	st64(v20+8, 0);
-	st64(v20, v70);
-	st16(v20+8, v71);
-	st16(v20+10, v72);
-	copy(v20+16, v69+16, 48);
-	pcap_options_pcap_options_record_Record_Destruct_drop(v20);
-	u64 v73 = v16 + 1;
-	if (v73 != v67) { v16 = v73; goto L23; }
-L24:;
-	if (v68 == 0) goto L25;
-	deallocate(v66);
-L25:;
-	su64(v1, 1);
-	sup(v1+8, (ptr)v12);
-	su64(v1+16, v13);
-	st8(v1+24, v14);
-	st8(v1+25, v15);
-	clear(v1+26, 22);
-L26:;
-	return;
-}
-static void std_alloc_vec_Vec_drop_37c7(ptr v1) {
-	u64 v2, v3;
-	ptr v4 = lup(v1);
-	u64 v5 = lu64(v1+8);
-	u64 v6 = lu64(v1+16);
-	if (v5 == 0) goto L15;
-	v2 = 0;
-L0:;
-	ptr v7 = at(v4, v2 * 48);
-	u64 v8 = lu64(v7+16);
-	u64 v9 = lu64(v7+24);
-	u64 v10 = lu64(v7+32);
-	u64 v11 = lu64(v7+40);
-	u8 v12 = (u8)lu64(v7+8);
-	u8 v13 = (u8)v8;
-	switch (ld8(v7)) {
-	case 0: goto L1;
-	case 1: goto L2;
-	case 2: goto L3;
-	case 3: goto L4;
-	case 4: goto L5;
-	case 5: goto L6;
-	case 6: case 7: case 8: case 9: case 12: case 13: goto L14;
-	case 10: goto L7;
-	case 11: goto L8;
-	case 14: goto L9;
-	case 15: goto L10;
-	case 16: goto L11;
-	case 17: goto L12;
-	default: goto L17;
-	}
-L1:;
-	if ((v12 == 0) || (v10 == 0)) goto L14;
-	v3 = v8; goto L13;
-L2:;
-	if ((v12 == 0) || (v10 == 0)) goto L14;
-	v3 = v8; goto L13;
-L3:;
-	if ((v12 == 0) || (v10 == 0)) goto L14;
-	v3 = v8; goto L13;
-L4:;
-	if ((v12 == 0) || (v10 == 0)) goto L14;
-	v3 = v8; goto L13;
-L5:;
-	if ((v12 == 0) || (v10 == 0)) goto L14;
-	v3 = v8; goto L13;
-L6:;
-	if ((v12 == 0) || (v10 == 0)) goto L14;
-	v3 = v8; goto L13;
-L7:;
-	if ((v12 == 0) || (v10 == 0)) goto L14;
-	v3 = v8; goto L13;
-L8:;
-	if ((v12 == 0) || (v10 == 0)) goto L14;
-	v3 = v8; goto L13;
-L9:;
-	if ((v12 == 0) || (v10 == 0)) goto L14;
-	v3 = v8; goto L13;
-L10:;
-	if ((v13 == 0) || (v11 == 0)) goto L14;
-	v3 = v9; goto L13;
-L11:;
-	if ((v13 == 0) || (v11 == 0)) goto L14;
-	v3 = v9; goto L13;
-L12:;
-	if ((v13 == 0) || (v11 == 0)) goto L14;
-	v3 = v9;
-L13:;
-	deallocate((ptr)v3);
-L14:;
-	u64 v14 = v2 + 1;
-	if (v14 != v5) { v2 = v14; goto L0; }
-L15:;
-	if (v6 == 0) goto L16;
-	deallocate(v4);
-L16:;
-	return;
-L17:;
-	__builtin_trap();
-}
-static void pcap_blocks_section_header_SectionHeaderBlock_into_owned(ptr v1, ptr v2) {
-	ptr v3, v7, v9, v11, v13, v15, v17, v19, v21, v23, v25, v27, v29, v37, v39;
-	u64 v4, v5, v6, v8, v10, v12, v14, v16, v18, v20, v22, v24, v26, v28, v30, v31, v35, v36, v38;
-	u16 v32, v33;
-	u32 v34;
-	_Alignas(8) u8 v40[1], v41[24], v42[24], v43[40], v44[40], v45[40], v55[24];
-	_Alignas(1) u8 v46[31], v47[56];
-	u32 v48 = lu32(v2);
-	u16 v49 = lu16(v2+4);
-	u16 v50 = lu16(v2+6);
-	u64 v51 = lu64(v2+8);
-	ptr v52 = lup(v2+16);
-	u64 v53 = lu64(v2+24);
-	u64 v54 = lu64(v2+32);
-	clear(v47, 56);
-	clear(v46, 7);
-	clear(v41, 24);
-	clear(v43, 40);
-	clear(v44, 40);
-	if (v53 != 0) goto L0;
-	stp(v41, v40);
-	goto L48;
-L0:;
-	if (v53 >= 0x2aaaaaaaaaaaaabull) goto L50;
-	t_64_64 v56 = allocate(v53 * 48, 8);
-	if (!(v56.f0 & 1)) goto L50;
-	stp(v41, (ptr)v56.f1);
-	st64(v41+8, 0);
-	st64(v41+16, v53);
-	v3 = (ptr)v56.f1; v4 = 0; v5 = 0; v6 = v53;
-L1:;
-	u64 v57 = v5 + 1;
-	u64 v58 = v6 - 1;
-	ptr v59 = at(v52, v5 * 48);
-	u8 v60 = ld8(v59);
-	u16 v61 = lu16(v59+8);
-	u16 v62 = lu16(v59+10);
-	u32 v63 = lu32(v59+12);
-	u8 v64 = ld8(v59+16);
-	u64 v65 = (u64)ld_bytes(v59+17, 7) & 0xffffffffffffffull;
-	u64 v66 = lu64(v59+24);
-	u64 v67 = lu64(v59+32);
-	u64 v68 = lu64(v59+40);
-	u8 v69 = (u8)v61;
-	switch (v60) {
-	case 0: goto L2;
-	case 1: goto L7;
-	case 2: goto L12;
-	case 3: goto L17;
-	case 4: goto L22;
-	case 5: goto L26;
-	case 6: goto L30;
-	default: goto L49;
-	}
-L2:;
-	u64 v70 = (v65 << 8) | (u64)v64;
-	if (v69 != 0) { v9 = (ptr)v70; v10 = v67; goto L6; }
-	if (v66 == 0) { v7 = v40; goto L3; }
-	if ((s64)v66 <= -1) goto L34;
-	t_64_64 v71 = allocate(v66, 1);
-	if (!(v71.f0 & 1)) goto L34;
-	v7 = (ptr)v71.f1;
-L3:;
-	if (((u64)v7 - v70) >= v66) goto L5;
-	v8 = 0;
-L4:;
-	st8(at(v7, v8), ld8(at((ptr)v70, v8)));
-	u64 v72 = v8 + 1;
-	if (v72 == v66) { v9 = v7; v10 = v66; goto L6; }
-	v8 = v72; goto L4;
-L5:;
-	move(v7, (ptr)v70, v66);
-	v9 = v7; v10 = v66;
-L6:;
-	v29 = (ptr)v66; v30 = v10; v31 = 0; v32 = 1; v33 = 0; v34 = 0; v35 = (u64)v9; goto L35;
-L7:;
-	u64 v73 = (v65 << 8) | (u64)v64;
-	if (v69 != 0) { v13 = (ptr)v73; v14 = v67; goto L11; }
-	if (v66 == 0) { v11 = v40; goto L8; }
-	if ((s64)v66 <= -1) goto L34;
-	t_64_64 v74 = allocate(v66, 1);
-	if (!(v74.f0 & 1)) goto L34;
-	v11 = (ptr)v74.f1;
-L8:;
-	if (((u64)v11 - v73) >= v66) goto L10;
-	v12 = 0;
-L9:;
-	st8(at(v11, v12), ld8(at((ptr)v73, v12)));
-	u64 v75 = v12 + 1;
-	if (v75 == v66) { v13 = v11; v14 = v66; goto L11; }
-	v12 = v75; goto L9;
-L10:;
-	move(v11, (ptr)v73, v66);
-	v13 = v11; v14 = v66;
-L11:;
-	v29 = (ptr)v66; v30 = v14; v31 = 0; v32 = 1; v33 = 0; v34 = 0; v35 = (u64)v13; goto L35;
-L12:;
-	u64 v76 = (v65 << 8) | (u64)v64;
-	if (v69 != 0) { v17 = (ptr)v76; v18 = v67; goto L16; }
-	if (v66 == 0) { v15 = v40; goto L13; }
-	if ((s64)v66 <= -1) goto L34;
-	t_64_64 v77 = allocate(v66, 1);
-	if (!(v77.f0 & 1)) goto L34;
-	v15 = (ptr)v77.f1;
-L13:;
-	if (((u64)v15 - v76) >= v66) goto L15;
-	v16 = 0;
-L14:;
-	st8(at(v15, v16), ld8(at((ptr)v76, v16)));
-	u64 v78 = v16 + 1;
-	if (v78 == v66) { v17 = v15; v18 = v66; goto L16; }
-	v16 = v78; goto L14;
-L15:;
-	move(v15, (ptr)v76, v66);
-	v17 = v15; v18 = v66;
-L16:;
-	v29 = (ptr)v66; v30 = v18; v31 = 0; v32 = 1; v33 = 0; v34 = 0; v35 = (u64)v17; goto L35;
-L17:;
-	u64 v79 = (v65 << 8) | (u64)v64;
-	if (v69 != 0) { v21 = (ptr)v79; v22 = v67; goto L21; }
-	if (v66 == 0) { v19 = v40; goto L18; }
-	if ((s64)v66 <= -1) goto L34;
-	t_64_64 v80 = allocate(v66, 1);
-	if (!(v80.f0 & 1)) goto L34;
-	v19 = (ptr)v80.f1;
-L18:;
-	if (((u64)v19 - v79) >= v66) goto L20;
-	v20 = 0;
-L19:;
-	st8(at(v19, v20), ld8(at((ptr)v79, v20)));
-	u64 v81 = v20 + 1;
-	if (v81 == v66) { v21 = v19; v22 = v66; goto L21; }
-	v20 = v81; goto L19;
-L20:;
-	move(v19, (ptr)v79, v66);
-	v21 = v19; v22 = v66;
-L21:;
-	v29 = (ptr)v66; v30 = v22; v31 = 0; v32 = 1; v33 = 0; v34 = 0; v35 = (u64)v21; goto L35;
-L22:;
-	if (v64 != 0) { v29 = (ptr)v66; v30 = v67; v31 = v68; v32 = v61; v33 = 0; v34 = v63; v35 = 1; goto L35; }
-	if (v67 == 0) { v23 = v40; goto L23; }
-	if ((s64)v67 <= -1) goto L34;
-	t_64_64 v82 = allocate(v67, 1);
-	if (!(v82.f0 & 1)) goto L34;
-	v23 = (ptr)v82.f1;
-L23:;
-	if (((u64)v23 - v66) >= v67) goto L25;
-	v24 = 0;
-L24:;
-	st8(at(v23, v24), ld8(at((ptr)v66, v24)));
-	u64 v83 = v24 + 1;
-	if (v83 == v67) { v29 = v23; v30 = v67; v31 = v67; v32 = v61; v33 = 0; v34 = v63; v35 = 1; goto L35; }
-	v24 = v83; goto L24;
-L25:;
-	move(v23, (ptr)v66, v67);
-	v29 = v23; v30 = v67; v31 = v67; v32 = v61; v33 = 0; v34 = v63; v35 = 1; goto L35;
-L26:;
-	if (v64 != 0) { v29 = (ptr)v66; v30 = v67; v31 = v68; v32 = v61; v33 = 0; v34 = v63; v35 = 1; goto L35; }
-	if (v67 == 0) { v25 = v40; goto L27; }
-	if ((s64)v67 <= -1) goto L34;
-	t_64_64 v84 = allocate(v67, 1);
-	if (!(v84.f0 & 1)) goto L34;
-	v25 = (ptr)v84.f1;
-L27:;
-	if (((u64)v25 - v66) >= v67) goto L29;
-	v26 = 0;
-L28:;
-	st8(at(v25, v26), ld8(at((ptr)v66, v26)));
-	u64 v85 = v26 + 1;
-	if (v85 == v67) { v29 = v25; v30 = v67; v31 = v67; v32 = v61; v33 = 0; v34 = v63; v35 = 1; goto L35; }
-	v26 = v85; goto L28;
-L29:;
-	move(v25, (ptr)v66, v67);
-	v29 = v25; v30 = v67; v31 = v67; v32 = v61; v33 = 0; v34 = v63; v35 = 1; goto L35;
-L30:;
-	if (v64 != 0) { v29 = (ptr)v66; v30 = v67; v31 = v68; v32 = v61; v33 = v62; v34 = 0; v35 = 1; goto L35; }
-	if (v67 == 0) { v27 = v40; goto L31; }
-	if ((s64)v67 <= -1) goto L34;
-	t_64_64 v86 = allocate(v67, 1);
-	if (!(v86.f0 & 1)) goto L34;
-	v27 = (ptr)v86.f1;
-L31:;
-	if (((u64)v27 - v66) >= v67) goto L33;
-	v28 = 0;
-L32:;
-	st8(at(v27, v28), ld8(at((ptr)v66, v28)));
-	u64 v87 = v28 + 1;
-	if (v87 == v67) { v29 = v27; v30 = v67; v31 = v67; v32 = v61; v33 = v62; v34 = 0; v35 = 1; goto L35; }
-	v28 = v87; goto L32;
-L33:;
-	move(v27, (ptr)v66, v67);
-	v29 = v27; v30 = v67; v31 = v67; v32 = v61; v33 = v62; v34 = 0; v35 = 1; goto L35;
-L34:;
-	stp(v43, v52);
-	st64(v43+8, v58);
-	st64(v43+16, v54);
-	st64(v43+24, v57);
-	st64(v43+32, 0);
-	std_alloc_vec_deque_VecDeque_drop_0fd4(v43);
-	v39 = v41; goto L51;
-L35:;
-	u64 v88 = (u64)v60;
-	if (ld64(v41+16) != v4) { v37 = v3; v38 = v4; goto L47; }
-	u8 v89 = std_alloc_vec_Vec_grow_amortized_35f1(v41);
-	if (!v89) goto L36;
-	v37 = ldp(v41); v38 = ld64(v41+8); goto L47;
-L36:;
-	u64 v90 = (u64)v29;
-	u8 v91 = (u8)v32;
-	u8 v92 = (u8)v35;
-	switch (v60) {
-	case 0: goto L37;
-	case 1: goto L38;
-	case 2: goto L39;
-	case 3: goto L40;
-	case 4: goto L41;
-	case 5: goto L42;
-	case 6: goto L43;
-	default: goto L46;
-	}
-L37:;
-	if ((v91 == 0) || (v30 == 0)) goto L45;
-	v36 = v35; goto L44;
-L38:;
-	if ((v91 == 0) || (v30 == 0)) goto L45;
-	v36 = v35; goto L44;
-L39:;
-	if ((v91 == 0) || (v30 == 0)) goto L45;
-	v36 = v35; goto L44;
-L40:;
-	if ((v91 == 0) || (v30 == 0)) goto L45;
-	v36 = v35; goto L44;
-L41:;
-	if ((v92 == 0) || (v31 == 0)) goto L45;
-	v36 = v90; goto L44;
-L42:;
-	if ((v92 == 0) || (v31 == 0)) goto L45;
-	v36 = v90; goto L44;
-L43:;
-	if ((v92 == 0) || (v31 == 0)) goto L45;
-	v36 = v90;
-L44:;
-	deallocate((ptr)v36);
-L45:;
-	stp(v44, v52);
-	st64(v44+8, v58);
-	st64(v44+16, v54);
-	st64(v44+24, v57);
-	st64(v44+32, 0);
-	std_alloc_vec_deque_VecDeque_drop_0fd4(v44);
-	v39 = v41; goto L51;
-L46:;
-	__builtin_trap();
-L47:;
-	ptr v93 = at(v37, v38 * 48);
-	su64(v93, v88);
-	su16(v93+8, v32);
-	su16(v93+10, v33);
-	su32(v93+12, v34);
-	su64(v93+16, v35);
-	sup(v93+24, v29);
-	su64(v93+32, v30);
-	su64(v93+40, v31);
-	u64 v94 = v38 + 1;
-	st64(v41+8, v94);
-	if (v58 != 0) { v3 = v37; v4 = v94; v5 = v57; v6 = v58; goto L1; }
-L48:;
-	stp(v45, v52);
-	st64(v45+8, 0);
-	st64(v45+16, v54);
-	st64(v45+24, v53);
-	st64(v45+32, 0);
-	std_alloc_vec_deque_VecDeque_drop_0fd4(v45);
-	copy(v46+7, v41, 24);
-	copy(v55, v46+7, 24);
-	su64(v1, 0);
-	su32(v1+8, v48);
-	su16(v1+12, v49);
-	su16(v1+14, v50);
-	su64(v1+16, v51);
-	copy(v1+24, v55, 24);
-	copy(v1+48, v47, 56);
-	goto L52;
-L49:;
-	__builtin_trap();
-L50:;
-	stp(v42, v52);
-	st64(v42+8, v53);
-	st64(v42+16, v54);
-	v39 = v42;
-L51:;
-	std_alloc_vec_Vec_drop_0f0e(v39);
-	su64(v1, 1);
-	st8(v1+8, 5);
-	clear(v1+9, 95);
-L52:;
-	return;
-}
-static void std_alloc_vec_deque_VecDeque_drop_0fd4(ptr v1) {
-	u64 v2, v3, v4, v5;
-	ptr v6 = lup(v1);
-	u64 v7 = lu64(v1+8);
-	u64 v8 = lu64(v1+16);
-	u64 v9 = lu64(v1+32);
-	if (v7 == 0) goto L22;
-	u64 v10 = lu64(v1+24);
-	u64 v11 = v10 + (v7 - v9);
-	if (v10 >= v11) goto L11;
-	v2 = v10;
-L0:;
-	ptr v12 = at(v6, v2 * 48);
-	u64 v13 = lu64(v12+16);
-	u64 v14 = lu64(v12+24);
-	u64 v15 = lu64(v12+32);
-	u64 v16 = lu64(v12+40);
-	u8 v17 = (u8)lu16(v12+8);
-	u8 v18 = (u8)v13;
-	switch (ld8(v12)) {
-	case 0: goto L1;
-	case 1: goto L2;
-	case 2: goto L3;
-	case 3: goto L4;
-	case 4: goto L5;
-	case 5: goto L6;
-	case 6: goto L7;
-	default: goto L10;
-	}
-L1:;
-	if ((v17 == 0) || (v15 == 0)) goto L9;
-	v3 = v13; goto L8;
-L2:;
-	if ((v17 == 0) || (v15 == 0)) goto L9;
-	v3 = v13; goto L8;
-L3:;
-	if ((v17 == 0) || (v15 == 0)) goto L9;
-	v3 = v13; goto L8;
-L4:;
-	if ((v17 == 0) || (v15 == 0)) goto L9;
-	v3 = v13; goto L8;
-L5:;
-	if ((v18 == 0) || (v16 == 0)) goto L9;
-	v3 = v14; goto L8;
-L6:;
-	if ((v18 == 0) || (v16 == 0)) goto L9;
-	v3 = v14; goto L8;
-L7:;
-	if ((v18 == 0) || (v16 == 0)) goto L9;
-	v3 = v14;
-L8:;
-	deallocate((ptr)v3);
-L9:;
-	u64 v19 = v2 + 1;
-	if (v19 == v11) goto L11;
-	v2 = v19; goto L0;
-L10:;
-	__builtin_trap();
-L11:;
-	if (v9 == 0) goto L22;
-	v4 = 0;
-L12:;
-	ptr v20 = at(v6, v4 * 48);
-	u64 v21 = lu64(v20+16);
-	u64 v22 = lu64(v20+24);
-	u64 v23 = lu64(v20+32);
-	u64 v24 = lu64(v20+40);
-	u8 v25 = (u8)lu16(v20+8);
-	u8 v26 = (u8)v21;
-	switch (ld8(v20)) {
-	case 0: goto L13;
-	case 1: goto L14;
-	case 2: goto L15;
-	case 3: goto L16;
-	case 4: goto L17;
-	case 5: goto L18;
-	case 6: goto L19;
-	default: goto L24;
-	}
-L13:;
-	if ((v25 == 0) || (v23 == 0)) goto L21;
-	v5 = v21; goto L20;
-L14:;
-	if ((v25 == 0) || (v23 == 0)) goto L21;
-	v5 = v21; goto L20;
-L15:;
-	if ((v25 == 0) || (v23 == 0)) goto L21;
-	v5 = v21; goto L20;
-L16:;
-	if ((v25 == 0) || (v23 == 0)) goto L21;
-	v5 = v21; goto L20;
-L17:;
-	if ((v26 == 0) || (v24 == 0)) goto L21;
-	v5 = v22; goto L20;
-L18:;
-	if ((v26 == 0) || (v24 == 0)) goto L21;
-	v5 = v22; goto L20;
-L19:;
-	if ((v26 == 0) || (v24 == 0)) goto L21;
-	v5 = v22;
-L20:;
-	deallocate((ptr)v5);
-L21:;
-	u64 v27 = v4 + 1;
-	if (v27 != v9) { v4 = v27; goto L12; }
-L22:;
-	if (v8 == 0) goto L23;
-	deallocate(v6);
-L23:;
-	return;
-L24:;
-	__builtin_trap();
-}
-static __attribute__((cold)) void capcopy_run_blocks_write_section_ce79(ptr v1, ptr v2, ptr v3) {
-	u64 v4, v6, v7, v8, v9, v10, v11, v12, v13, v14, v16, v17, v19, v20, v21, v23, v24, v25, v26, v27, v28, v29, v30, v31, v32, v33, v34, v36;
-	ptr v5, v15, v18, v35;
-	u8 v22;
-	_Alignas(1) u8 v37[1];
-	_Alignas(8) u8 v38[96], v39[64];
-	_Alignas(2) u8 v40[2], v41[2];
-	u8 v42 = ld32(v3) == 439041101;
-	u64 v43 = v42 ? 3ull : 6ull;
-	ptr v44 = v42 ? (ptr)static_3 : (ptr)static_6;
-	st16(v40, ld16(v3+4));
-	st16(v41, ld16(v3+6));
-	stp(v39, v37);
-	clear(v39+48, 16);
-	clear(v39+8, 16);
-	st32(v39+24, 32);
-	clear(v39+28, 12);
-	st64(v39+40, ~0ull);
-	u8 v45 = std_alloc_vec_Vec_grow_amortized_56a3(v39, 8);
-	if (!v45) goto L26;
-	u64 v46 = ld64(v39+8);
-	u64 v47 = ld64(v39+16);
-	u64 v48 = v46 + 8;
-	ptr v49 = ldp(v39);
-	ptr v50 = at(v49, v46);
-	if (((u64)v50 - (u64)(ptr)static_58) >= 8) goto L1;
-	v4 = 0;
-L0:;
-	st8(at(v50, v4), ld8(at((ptr)static_58, v4)));
-	u64 v51 = v4 + 1;
-	if (v51 == 8) goto L2;
-	v4 = v51; goto L0;
-L1:;
-	su64(v50, 0x206e6f6974636573ull);
-L2:;
-	st64(v39+8, v48);
-	st32(v39+24, 32);
-	clear(v39+28, 12);
-	st64(v39+40, ~0ull);
-	if (ld64(v39+48) != 0) goto L7;
-	if (v43 <= (v47 - v48)) { v5 = v49; v6 = v47; v7 = v48; goto L3; }
-	u8 v52 = std_alloc_vec_Vec_grow_amortized_56a3(v39, v43);
-	if (!v52) goto L26;
-	v5 = ldp(v39); v6 = ld64(v39+16); v7 = ld64(v39+8);
-L3:;
-	u64 v53 = v7 + v43;
-	ptr v54 = at(v5, v7);
-	if (((u64)v54 - (u64)v44) >= v43) goto L5;
-	v8 = 0;
-L4:;
-	st8(at(v54, v8), ld8(at(v44, v8)));
-	u64 v55 = v8 + 1;
-	if (v55 == v43) goto L6;
-	v8 = v55; goto L4;
-L5:;
-	copy(v54, v44, v43);
-L6:;
-	stp(v39, v5);
-	st64(v39+8, v53);
-	st64(v39+16, v6);
-	goto L8;
-L7:;
-	u8 v56 = core_fmt_formatter_Formatter_write_indented_1a69(v39, v44, v43);
-	if (v56 != 0) goto L26;
-L8:;
-	st32(v39+24, 32);
-	clear(v39+28, 12);
-	st64(v39+40, ~0ull);
-	if (ld64(v39+48) != 0) goto L10;
-	u64 v57 = ld64(v39+16);
-	u64 v58 = ld64(v39+8);
-	if (v57 != v58) { v9 = v57; v10 = v58; goto L9; }
-	u8 v59 = std_alloc_vec_Vec_grow_amortized_56a3(v39, 1);
-	if (!v59) goto L26;
-	v9 = ld64(v39+16); v10 = ld64(v39+8);
-L9:;
-	st8(at(ldp(v39), v10), 32);
-	st64(v39+8, v10 + 1);
-	st64(v39+16, v9);
-	goto L11;
-L10:;
-	u8 v60 = core_fmt_formatter_Formatter_write_indented_1a69(v39, (ptr)static_59, 1);
-	if (v60 != 0) goto L26;
-L11:;
-	u8 v61 = core_fmt_formatter_Formatter_write_piece_7520(v39, v40);
-	if (v61 != 0) goto L26;
-	st32(v39+24, 32);
-	clear(v39+28, 12);
-	st64(v39+40, ~0ull);
-	if (ld64(v39+48) != 0) goto L13;
-	u64 v62 = ld64(v39+16);
-	u64 v63 = ld64(v39+8);
-	if (v62 != v63) { v11 = v62; v12 = v63; goto L12; }
-	u8 v64 = std_alloc_vec_Vec_grow_amortized_56a3(v39, 1);
-	if (!v64) goto L26;
-	v11 = ld64(v39+16); v12 = ld64(v39+8);
-L12:;
-	st8(at(ldp(v39), v12), 46);
-	st64(v39+8, v12 + 1);
-	st64(v39+16, v11);
-	goto L14;
-L13:;
-	u8 v65 = core_fmt_formatter_Formatter_write_indented_1a69(v39, (ptr)static_60, 1);
-	if (v65 != 0) goto L26;
-L14:;
-	u8 v66 = core_fmt_formatter_Formatter_write_piece_7520(v39, v41);
-	if (v66 != 0) goto L26;
-	st32(v39+24, 32);
-	clear(v39+28, 12);
-	st64(v39+40, ~0ull);
-	if (ld64(v39+48) != 0) goto L16;
-	u64 v67 = ld64(v39+16);
-	u64 v68 = ld64(v39+8);
-	if (v67 != v68) { v13 = v67; v14 = v68; goto L15; }
-	u8 v69 = std_alloc_vec_Vec_grow_amortized_56a3(v39, 1);
-	if (!v69) goto L26;
-	v13 = ld64(v39+16); v14 = ld64(v39+8);
-L15:;
-	ptr v70 = ldp(v39);
-	st8(at(v70, v14), 10);
-	v15 = v70; v16 = v14 + 1; v17 = v13; goto L17;
-L16:;
-	u8 v71 = core_fmt_formatter_Formatter_write_indented_1a69(v39, (ptr)static_61, 1);
-	ptr v72 = ldp(v39);
-	u64 v73 = ld64(v39+16);
-	if (v71 != 0) { v35 = v72; v36 = v73; goto L27; }
-	v15 = v72; v16 = ld64(v39+8); v17 = v73;
-L17:;
-	if (v16 == 0) { v22 = 0; v23 = 0; v24 = 0; v25 = 0; v26 = 0; v27 = 0; v28 = 0; v29 = 0; v30 = 0; v31 = 0; v32 = 0; v33 = 0; v34 = 0; goto L24; }
-	v18 = v15; v19 = v16;
-L18:;
-	clear(v38, 96);
-	u64 v74 = ld64(v2+16);
-	u64 v75 = ld64(v2+8);
-	if (v19 >= (v74 - v75)) goto L22;
-	u64 v76 = v75 + v19;
-	ptr v77 = ldp(v2);
-	clear(v2+8, 16);
-	ptr v78 = at(v77, v75);
-	if (((u64)v78 - (u64)v18) >= v19) goto L20;
-	v20 = 0;
-L19:;
-	st8(at(v78, v20), ld8(at(v18, v20)));
-	u64 v79 = v20 + 1;
-	if (v79 == v19) goto L21;
-	v20 = v79; goto L19;
-L20:;
-	move(v78, v18, v19);
-L21:;
-	stp(v2, v77);
-	st64(v2+8, v76);
-	st64(v2+16, v74);
-	v21 = v19; goto L23;
-L22:;
-	std_io_buffered_BufWriter_write_cold_9d90(v38, v2, v18, v19);
-	u64 v80 = ld64(v38+8);
-	if (ld8(v38) != 0) { v22 = 1; v23 = 4; v24 = v80; v25 = ld64(v38+16); v26 = ld64(v38+24); v27 = ld64(v38+32); v28 = ld64(v38+40); v29 = ld64(v38+48); v30 = ld64(v38+56); v31 = ld64(v38+64); v32 = ld64(v38+72); v33 = ld64(v38+80); v34 = ld64(v38+88); goto L24; }
-	if (v80 == 0) { v22 = 1; v23 = 4; v24 = 1513219; v25 = 0x7074756f20656874ull; v26 = 0x206b6f6f74207475ull; v27 = 0x2e676e6968746f6eull; v28 = 0x2e2e2e2e2e2e2e2eull; v29 = 0x2e2e2e2e2e2e2e2eull; v30 = 0x2e2e2e2e2e2e2e2eull; v31 = 0x2e2e2e2e2e2e2e2eull; v32 = 0x2e2e2e2e2e2e2e2eull; v33 = 0x2e2e2e2e2e2e2e2eull; v34 = 0x2e2e2e2e2e2e2e2eull; goto L24; }
-	v21 = v80;
-L23:;
-	u64 v81 = v19 - v21;
-	if (v81 != 0) { v18 = at(v18, v21); v19 = v81; goto L18; }
-	v22 = 0; v23 = 0; v24 = 0; v25 = 0; v26 = 0; v27 = 0; v28 = 0; v29 = 0; v30 = 0; v31 = 0; v32 = 0; v33 = 0; v34 = 0;
-L24:;
-	if (v17 == 0) goto L25;
-	deallocate(v15);
-L25:;
-	st8(v1, v22);
-	su64(v1+8, v23);
-	st8(v1+16, v22);
-	su64(v1+24, v24);
-	su64(v1+32, v25);
-	su64(v1+40, v26);
-	su64(v1+48, v27);
-	su64(v1+56, v28);
-	su64(v1+64, v29);
-	su64(v1+72, v30);
-	su64(v1+80, v31);
-	su64(v1+88, v32);
-	su64(v1+96, v33);
-	su64(v1+104, v34);
-	goto L29;
-L26:;
-	v35 = ldp(v39); v36 = ld64(v39+16);
-L27:;
-	if (v36 == 0) goto L28;
-	deallocate(v35);
-L28:;
-	st8(v1, 1);
-	su64(v1+8, 5);
-	st8(v1+16, 0);
-	clear(v1+24, 88);
-L29:;
-	return;
-}
-static __attribute__((noinline, cold)) u8 core_fmt_formatter_Formatter_write_indented_1a69(ptr v1, ptr v2, u64 v3) {
-	u64 v4, v5, v6, v7, v8;
-	u8 v9;
-	if (v3 == 0) { v9 = 0; goto L6; }
-	v4 = 0; v5 = 0;
-L0:;
-	u64 v10 = v5 + 1;
-	if (ld8(at(v2, v5)) != 10) { v7 = v4; goto L3; }
-	u64 v11 = v10 - v4;
-	ptr v12 = at(v2, v4 > v10 ? 0 : v4);
-	if (v4 > v5) { v7 = v10; goto L3; }
-	if (!(ld8(v1+56) & 1)) goto L2;
-	u64 v13 = ld64(v1+48);
-	if (v13 == 0) goto L2;
-	v6 = 0;
-L1:;
-	u8 v14 = core_fmt_formatter_Formatter_write_raw_1a69(v1, (ptr)static_62, 4);
-	if (v14 & 1) { v9 = 1; goto L6; }
-	u64 v15 = v6 + 1;
-	if (v15 != v13) { v6 = v15; goto L1; }
-L2:;
-	st8(v1+56, 1);
-	u8 v16 = core_fmt_formatter_Formatter_write_raw_1a69(v1, v12, v11);
-	if (v16 & 1) { v9 = 1; goto L6; }
-	v7 = v10;
-L3:;
-	if (v10 != v3) { v4 = v7; v5 = v10; goto L0; }
-	u64 v17 = v3 > v7 ? v3 - v7 : 0;
-	ptr v18 = at(v2, v7 > v3 ? 0 : v7);
-	if (v3 <= v7) { v9 = 0; goto L6; }
-	if (!(ld8(v1+56) & 1)) goto L5;
-	u64 v19 = ld64(v1+48);
-	if (v19 == 0) goto L5;
-	v8 = 0;
-L4:;
-	u8 v20 = core_fmt_formatter_Formatter_write_raw_1a69(v1, (ptr)static_62, 4);
-	if (v20 & 1) { v9 = 1; goto L6; }
-	u64 v21 = v8 + 1;
-	if (v21 != v19) { v8 = v21; goto L4; }
-L5:;
-	st8(v1+56, 0);
-	u8 v22 = core_fmt_formatter_Formatter_write_raw_1a69(v1, v18, v17);
-	v9 = v22;
-L6:;
-	return v9;
-}
-static u8 core_fmt_formatter_Formatter_write_raw_1a69(ptr v1, ptr v2, u64 v3) {
-	u64 v4, v5, v6, v7, v8;
-	u8 v9;
-	if (v3 == 0) goto L3;
-	v4 = 0;
-L0:;
-	u8 v10 = ld8(at(v2, v4));
-	u32 v11 = (u32)v10;
-	if ((s8)v10 > -1) { v5 = 1; goto L2; }
-	u64 v12 = v4 + 1;
-	if (v3 <= v12) { v9 = 1; goto L8; }
-	u8 v13 = ld8(at(v2, v12));
-	if ((s8)v13 > -1) { v9 = 1; goto L8; }
-	u8 v14 = (v13 < 192 ? v13 : 192) & 127;
-	u32 v15 = (u32)v14;
-	if ((v10 < 194) || (v14 > 63)) { v9 = 1; goto L8; }
-	if (v10 < 224) { v5 = 2; goto L2; }
-	u64 v16 = v4 + 2;
-	if (v3 <= v16) { v9 = 1; goto L8; }
-	if ((s8)ld8(at(v2, v16)) >= -64) { v9 = 1; goto L8; }
-	if (v10 >= 240) goto L1;
-	u32 v17 = (v15 << 6) | ((v11 << 12) - 917504);
-	if (v17 < 2048) { v9 = 1; goto L8; }
-	if ((v17 > 55295) && (v10 < 238)) { v9 = 1; goto L8; }
-	v5 = 3; goto L2;
-L1:;
-	u64 v18 = v4 + 3;
-	if (v3 <= v18) { v9 = 1; goto L8; }
-	if ((s8)ld8(at(v2, v18)) >= -64) { v9 = 1; goto L8; }
-	if (((v11 << 18) - 62980096 + (v15 << 12)) >= 1048576) { v9 = 1; goto L8; }
-	v5 = 4;
-L2:;
-	u64 v19 = v5 + v4;
-	if (v19 < v3) { v4 = v19; goto L0; }
-L3:;
-	u64 v20 = ld64(v1+16);
-	u64 v21 = ld64(v1+8);
-	if (v3 <= (v20 - v21)) { v6 = v20; v7 = v21; goto L4; }
-	u8 v22 = std_alloc_vec_Vec_grow_amortized_56a3(v1, v3);
-	if (!v22) { v9 = 1; goto L8; }
-	v6 = ld64(v1+16); v7 = ld64(v1+8);
-L4:;
-	u64 v23 = v7 + v3;
-	ptr v24 = ldp(v1);
-	clear(v1+8, 16);
-	ptr v25 = at(v24, v7);
-	if (((u64)v25 - (u64)v2) >= v3) goto L6;
-	v8 = 0;
-L5:;
-	st8(at(v25, v8), ld8(at(v2, v8)));
-	u64 v26 = v8 + 1;
-	if (v26 == v3) goto L7;
-	v8 = v26; goto L5;
-L6:;
-	move(v25, v2, v3);
-L7:;
-	stp(v1, v24);
-	st64(v1+8, v23);
-	st64(v1+16, v6);
-	v9 = 0;
-L8:;
-	return v9;
-}
-static u8 core_fmt_formatter_Formatter_write_piece_7520(ptr v1, ptr v2) {
-	u64 v3, v4, v5, v6, v7, v8, v9;
-	u8 v10;
-	_Alignas(1) u8 v11[24];
-	su32(v1+24, 32);
-	clear(v1+28, 12);
-	su64(v1+40, ~0ull);
-	u16 v12 = ld16(v2);
-	u64 v13 = (u64)v12;
-	clear(v11, 24);
-	if (v12 <= 99) { v5 = v13; v6 = 24; goto L1; }
-	v3 = 24; v4 = v13;
-L0:;
-	u8 v14 = (u8)(v4 % 100);
-	ptr v15 = at(v11, v3);
-	st8(v15-1, (v14 % 10) | 48);
-	st8(v15-2, (v14 / 10) | 48);
-	u64 v16 = v4 / 100;
-	u64 v17 = v3 - 2;
-	if (v4 > 9999) { v3 = v17; v4 = v16; goto L0; }
-	v5 = v16; v6 = v17;
-L1:;
-	u8 v18 = (u8)v5;
-	if (v5 <= 9) goto L2;
-	ptr v19 = at(v11, v6);
-	st8(v19-1, (v18 % 10) | 48);
-	st8(v19-2, (v18 / 10) | 48);
-	v7 = v6 - 2; goto L3;
-L2:;
-	u64 v20 = v6 - 1;
-	st8(at(v11, v20), v18 | 48);
-	v7 = v20;
-L3:;
-	ptr v21 = at(v11, v7);
-	st8(v21-1, 45);
-	u64 v22 = 24ull - v7;
-	if (ld64(v1+48) != 0) goto L5;
-	u64 v23 = ld64(v1+16);
-	u64 v24 = ld64(v1+8);
-	if (v22 <= (v23 - v24)) { v8 = v23; v9 = v24; goto L4; }
-	u8 v25 = std_alloc_vec_Vec_grow_amortized_56a3(v1, v22);
-	if (!v25) { v10 = 1; goto L6; }
-	v8 = ld64(v1+16); v9 = ld64(v1+8);
-L4:;
-	ptr v26 = ldp(v1);
-	copy(at(v26, v9), v21, v22);
-	stp(v1, v26);
-	st64(v1+8, v9 + v22);
-	st64(v1+16, v8);
-	v10 = 0; goto L6;
-L5:;
-	u8 v27 = core_fmt_formatter_Formatter_write_indented_1a69(v1, v21, v22);
-	v10 = v27;
-L6:;
-	return v10;
-}
-static __attribute__((noinline)) void pcap_ng_pcapng_block_Block_new_section(ptr v1, ptr v2, u64 v3) {
-	u64 v4, v5;
-	_Alignas(8) u8 v6[96], v7[24], v8[64], v9[40];
-	clear(v8, 64);
-	pcap_blocks_section_header_SectionHeaderBlock_read(v8, v2, v3);
-	u8 v10 = ld8(v8+24);
-	u8 v11 = ld8(v8+25);
-	if (ld8(v8) != 0) goto L0;
-	u64 v12 = (u64)ld_bytes(v8+26, 6) & 0xffffffffffffull;
-	u8 v13 = ld8(v8+32);
-	u8 v14 = ld8(v8+33);
-	u64 v15 = (u64)ld_bytes(v8+34, 6) & 0xffffffffffffull;
-	u8 v16 = ld8(v8+40);
-	u8 v17 = ld8(v8+41);
-	u64 v18 = (u64)ld_bytes(v8+42, 6) & 0xffffffffffffull;
-	u64 v19 = ld64(v8+48);
-	u64 v20 = ld64(v8+56);
-	su64(v1, 0);
-	st8(v1+8, 0);
-	st8(v1+16, v10);
-	st8(v1+17, v11);
-	st_bytes(v1+18, v12, 6);
-	st8(v1+24, v13);
-	st8(v1+25, v14);
-	st_bytes(v1+26, v15, 6);
-	st8(v1+32, v16);
-	st8(v1+33, v17);
-	st_bytes(v1+34, v18, 6);
-	su64(v1+40, v19);
-	clear(v1+64, 40);
-	v4 = v20; v5 = 0; goto L1;
-L0:;
-	u64 v21 = ld64(v8+16);
-	u8 v22 = ld8(v8+9);
-	u8 v23 = ld8(v8+8);
-	clear(v6, 96);
-	clear(v7, 24);
-	st8(v7, v23);
-	st8(v7+1, v22);
-	st64(v7+8, v21);
-	st8(v7+16, v10);
-	st8(v7+17, v11);
-	pcap_options_refusal_PcapErrorFromRefusal_from(v6, v7);
-	u8 v24 = ld8(v6);
-	u64 v25 = ld64(v6+8);
-	u8 v26 = ld8(v6+16);
-	u8 v27 = ld8(v6+17);
-	u64 v28 = (u64)ld_bytes(v6+18, 6) & 0xffffffffffffull;
-	u8 v29 = ld8(v6+24);
-	u8 v30 = ld8(v6+25);
-	u64 v31 = (u64)ld_bytes(v6+26, 6) & 0xffffffffffffull;
-	u8 v32 = ld8(v6+32);
-	u8 v33 = ld8(v6+33);
-	u64 v34 = (u64)ld_bytes(v6+34, 6) & 0xffffffffffffull;
-	u64 v35 = ld64(v6+40);
-	u64 v36 = ld64(v6+48);
-	copy(v9, v6+56, 40);
-	su64(v1, 1);
-	st8(v1+8, v24);
-	su64(v1+16, v25);
-	st8(v1+24, v26);
-	st8(v1+25, v27);
-	st_bytes(v1+26, v28, 6);
-	st8(v1+32, v29);
-	st8(v1+33, v30);
-	st_bytes(v1+34, v31, 6);
-	st8(v1+40, v32);
-	st8(v1+41, v33);
-	st_bytes(v1+42, v34, 6);
-	copy(v1+64, v9, 40);
-	v4 = v35; v5 = v36;
-L1:;
-	su64(v1+48, v4);
-	su64(v1+56, v5);
-	return;
-}
-static __attribute__((noinline)) void pcap_ng_pcapng_block_Block_new_interface(ptr v1, ptr v2) {
-	u64 v3, v6, v9, v10, v11, v14, v17, v20, v23, v24, v25, v28, v31, v34, v37, v38, v39, v42, v46, v47, v48;
-	u8 v4, v5, v7, v8, v12, v13, v15, v16, v18, v19, v21, v22, v26, v27, v29, v30, v32, v33, v35, v36, v40, v41, v43, v44, v45;
-	_Alignas(8) u8 v49[96], v50[24], v51[64], v52[96], v53[24], v54[64], v55[40], v56[40];
-	u64 v57 = ld64(v2+32);
-	ptr v58 = ldp(v2+24);
-	if (ld8(v2+52) != 0) goto L2;
-	clear(v54, 64);
-	blocks_interface_description_InterfaceDescriptionBlock_read_4da0(v54, v58, v57);
-	u8 v59 = ld8(v54+8);
-	u64 v60 = ld64(v54+16);
-	u8 v61 = ld8(v54+24);
-	u8 v62 = ld8(v54+25);
-	if (ld8(v54) != 0) goto L0;
-	u64 v63 = (u64)ld_bytes(v54+26, 6) & 0xffffffffffffull;
-	u8 v64 = ld8(v54+32);
-	u8 v65 = ld8(v54+33);
-	u64 v66 = (u64)ld_bytes(v54+34, 6) & 0xffffffffffffull;
-	u8 v67 = ld8(v54+40);
-	u8 v68 = ld8(v54+41);
-	u64 v69 = (u64)ld_bytes(v54+42, 6) & 0xffffffffffffull;
-	u64 v70 = ld64(v54+48);
-	u64 v71 = ld64(v54+56);
-	clear(v55, 40);
-	v3 = v63; v4 = v64; v5 = v65; v6 = v66; v7 = v67; v8 = v68; v9 = v69; v10 = v70; v11 = v71; v12 = 0; v13 = v59; v14 = v60; v15 = v61; v16 = v62; goto L1;
-L0:;
-	u8 v72 = ld8(v54+9);
-	clear(v52, 96);
-	clear(v53, 24);
-	st8(v53, v59);
-	st8(v53+1, v72);
-	st64(v53+8, v60);
-	st8(v53+16, v61);
-	st8(v53+17, v62);
-	pcap_options_refusal_PcapErrorFromRefusal_from(v52, v53);
-	u8 v73 = ld8(v52);
-	u64 v74 = ld64(v52+8);
-	u8 v75 = ld8(v52+16);
-	u8 v76 = ld8(v52+17);
-	u64 v77 = (u64)ld_bytes(v52+18, 6) & 0xffffffffffffull;
-	u8 v78 = ld8(v52+24);
-	u8 v79 = ld8(v52+25);
-	u64 v80 = (u64)ld_bytes(v52+26, 6) & 0xffffffffffffull;
-	u8 v81 = ld8(v52+32);
-	u8 v82 = ld8(v52+33);
-	u64 v83 = (u64)ld_bytes(v52+34, 6) & 0xffffffffffffull;
-	u64 v84 = ld64(v52+40);
-	u64 v85 = ld64(v52+48);
-	copy(v55, v52+56, 40);
-	v3 = v77; v4 = v78; v5 = v79; v6 = v80; v7 = v81; v8 = v82; v9 = v83; v10 = v84; v11 = v85; v12 = 1; v13 = v73; v14 = v74; v15 = v75; v16 = v76;
-L1:;
-	v31 = v3; v32 = v4; v33 = v5; v34 = v6; v35 = v7; v36 = v8; v37 = v9; v38 = v10; v39 = v11; v40 = v12; v41 = v13; v42 = v14; v43 = v15; v44 = v16; goto L5;
-L2:;
-	clear(v51, 64);
-	blocks_interface_description_InterfaceDescriptionBlock_read_7f02(v51, v58, v57);
-	u8 v86 = ld8(v51+8);
-	u64 v87 = ld64(v51+16);
-	u8 v88 = ld8(v51+24);
-	u8 v89 = ld8(v51+25);
-	if (ld8(v51) != 0) goto L3;
-	u64 v90 = (u64)ld_bytes(v51+26, 6) & 0xffffffffffffull;
-	u8 v91 = ld8(v51+32);
-	u8 v92 = ld8(v51+33);
-	u64 v93 = (u64)ld_bytes(v51+34, 6) & 0xffffffffffffull;
-	u8 v94 = ld8(v51+40);
-	u8 v95 = ld8(v51+41);
-	u64 v96 = (u64)ld_bytes(v51+42, 6) & 0xffffffffffffull;
-	u64 v97 = ld64(v51+48);
-	u64 v98 = ld64(v51+56);
-	clear(v55, 40);
-	v17 = v90; v18 = v91; v19 = v92; v20 = v93; v21 = v94; v22 = v95; v23 = v96; v24 = v97; v25 = v98; v26 = 0; v27 = v86; v28 = v87; v29 = v88; v30 = v89; goto L4;
-L3:;
-	u8 v99 = ld8(v51+9);
-	clear(v49, 96);
-	clear(v50, 24);
-	st8(v50, v86);
-	st8(v50+1, v99);
-	st64(v50+8, v87);
-	st8(v50+16, v88);
-	st8(v50+17, v89);
-	pcap_options_refusal_PcapErrorFromRefusal_from(v49, v50);
-	u8 v100 = ld8(v49);
-	u64 v101 = ld64(v49+8);
-	u8 v102 = ld8(v49+16);
-	u8 v103 = ld8(v49+17);
-	u64 v104 = (u64)ld_bytes(v49+18, 6) & 0xffffffffffffull;
-	u8 v105 = ld8(v49+24);
-	u8 v106 = ld8(v49+25);
-	u64 v107 = (u64)ld_bytes(v49+26, 6) & 0xffffffffffffull;
-	u8 v108 = ld8(v49+32);
-	u8 v109 = ld8(v49+33);
-	u64 v110 = (u64)ld_bytes(v49+34, 6) & 0xffffffffffffull;
-	u64 v111 = ld64(v49+40);
-	u64 v112 = ld64(v49+48);
-	copy(v55, v49+56, 40);
-	v17 = v104; v18 = v105; v19 = v106; v20 = v107; v21 = v108; v22 = v109; v23 = v110; v24 = v111; v25 = v112; v26 = 1; v27 = v100; v28 = v101; v29 = v102; v30 = v103;
-L4:;
-	v31 = v17; v32 = v18; v33 = v19; v34 = v20; v35 = v21; v36 = v22; v37 = v23; v38 = v24; v39 = v25; v40 = v26; v41 = v27; v42 = v28; v43 = v29; v44 = v30;
-L5:;
-	copy(v56, v55, 40);
-	if (v40 != 0) goto L6;
-	su64(v1, 0);
-	st8(v1+8, 1);
-	st8(v1+16, v43);
-	st8(v1+17, v44);
-	st_bytes(v1+18, v31, 6);
-	st8(v1+24, v32);
-	st8(v1+25, v33);
-	st_bytes(v1+26, v34, 6);
-	st8(v1+32, v35);
-	su64(v1+40, v38);
-	clear(v1+64, 40);
-	v45 = v36; v46 = v37; v47 = v39; v48 = 0; goto L7;
-L6:;
-	su64(v1, 1);
-	st8(v1+8, v41);
-	su64(v1+16, v42);
-	st8(v1+24, v43);
-	st8(v1+25, v44);
-	st_bytes(v1+26, v31, 6);
-	st8(v1+32, v32);
-	st8(v1+40, v35);
-	st8(v1+41, v36);
-	st_bytes(v1+42, v37, 6);
-	copy(v1+64, v56, 40);
-	v45 = v33; v46 = v34; v47 = v38; v48 = v39;
-L7:;
-	st8(v1+33, v45);
-	st_bytes(v1+34, v46, 6);
-	su64(v1+48, v47);
-	su64(v1+56, v48);
-	return;
-}
-static __attribute__((noinline)) void pcap_ng_pcapng_state_InForce_begin_section(ptr v1, ptr v2, ptr v3) {
-	u64 v4, v5, v6;
-	_Alignas(8) u8 v7[24], v10[104], v11[40];
-	_Alignas(1) u8 v8[95], v9[95];
-	clear(v10, 104);
-	copy(v11, v3, 40);
-	pcap_blocks_section_header_SectionHeaderBlock_into_owned(v10, v11);
-	u8 v12 = ld8(v10+8);
-	u8 v13 = ld8(v10);
-	clear(v8, 95);
-	if (v13 != 0) goto L15;
-	copy(v8, v10+9, 39);
-	copy(v9, v8, 95);
-	ptr v14 = lup(v2+16);
-	u64 v15 = lu64(v2+24);
-	u64 v16 = lu64(v2+32);
-	st8(v2, v12);
-	copy(v2+1, v9, 39);
-	if (v15 == 0) goto L10;
-	v4 = 0;
-L0:;
-	ptr v17 = at(v14, v4 * 48);
-	u64 v18 = lu64(v17+16);
-	u64 v19 = lu64(v17+24);
-	u64 v20 = lu64(v17+32);
-	u64 v21 = lu64(v17+40);
-	u8 v22 = (u8)lu16(v17+8);
-	u8 v23 = (u8)v18;
-	switch (ld8(v17)) {
-	case 0: goto L1;
-	case 1: goto L2;
-	case 2: goto L3;
-	case 3: goto L4;
-	case 4: goto L5;
-	case 5: goto L6;
-	case 6: goto L7;
-	default: goto L14;
-	}
-L1:;
-	if ((v22 == 0) || (v20 == 0)) goto L9;
-	v5 = v18; goto L8;
-L2:;
-	if ((v22 == 0) || (v20 == 0)) goto L9;
-	v5 = v18; goto L8;
-L3:;
-	if ((v22 == 0) || (v20 == 0)) goto L9;
-	v5 = v18; goto L8;
-L4:;
-	if ((v22 == 0) || (v20 == 0)) goto L9;
-	v5 = v18; goto L8;
-L5:;
-	if ((v23 == 0) || (v21 == 0)) goto L9;
-	v5 = v19; goto L8;
-L6:;
-	if ((v23 == 0) || (v21 == 0)) goto L9;
-	v5 = v19; goto L8;
-L7:;
-	if ((v23 == 0) || (v21 == 0)) goto L9;
-	v5 = v19;
-L8:;
-	deallocate((ptr)v5);
-L9:;
-	u64 v24 = v4 + 1;
-	if (v24 != v15) { v4 = v24; goto L0; }
-L10:;
-	if (v16 == 0) goto L11;
-	deallocate(v14);
-L11:;
-	u64 v25 = ld64(v2+48);
-	if (v25 == 0) goto L13;
-	ptr v26 = ldp(v2+40);
-	u64 v27 = ld64(v2+56);
-	clear(v2+48, 16);
-	v6 = 0;
-L12:;
-	copy(v7, at(v26, v6 * 40)+16, 24);
-	std_alloc_vec_Vec_drop_37c7(v7);
-	u64 v28 = v6 + 1;
-	if (v28 != v25) { v6 = v28; goto L12; }
-	stp(v2+40, v26);
-	st64(v2+48, 0);
-	st64(v2+56, v27);
-L13:;
-	st8(v1, 0);
-	st8(v1+8, 0);
-	clear(v1+16, 88);
-	goto L16;
-L14:;
-	__builtin_trap();
-L15:;
-	copy(v8+7, v10+16, 88);
-	copy(v9, v8, 95);
-	st8(v1, 1);
-	st8(v1+8, v12);
-	copy(v1+16, v9+7, 88);
-L16:;
-	return;
-}
-static __attribute__((noinline)) void pcap_ng_pcapng_state_InForce_add_interface(ptr v1, ptr v2, ptr v3) {
-	ptr v4, v8, v10, v12, v14, v16, v18, v20, v22, v24, v26, v28, v30, v32, v34, v36, v38, v40, v42, v44, v46, v48, v50, v52, v55, v58, v65;
-	u64 v5, v6, v7, v9, v11, v13, v15, v17, v19, v21, v23, v25, v27, v29, v31, v33, v35, v37, v39, v41, v43, v45, v47, v49, v51, v53, v54, v56, v57, v59, v60, v63, v64, v66, v67, v68;
-	u32 v61;
-	u8 v62;
-	_Alignas(8) u8 v69[1], v70[48], v71[48], v72[48], v73[48], v74[24], v75[40], v76[40], v77[40], v79[24], v89[24];
-	_Alignas(1) u8 v78[31], v80[24], v81[56];
-	u8 v82 = ld8(v3);
-	u32 v83 = lu32(v3+4);
-	u16 v84 = lu16(v3+8);
-	u32 v85 = lu32(v3+12);
-	ptr v86 = lup(v3+16);
-	u64 v87 = lu64(v3+24);
-	u64 v88 = lu64(v3+32);
-	clear(v80, 24);
-	clear(v81, 56);
-	clear(v89, 24);
-	clear(v79, 24);
-	clear(v78, 31);
-	clear(v74, 24);
-	clear(v75, 40);
-	clear(v76, 40);
-	clear(v77, 40);
-	if (v87 != 0) goto L0;
-	stp(v74, v69);
-	goto L72;
-L0:;
-	if (v87 >= 0x2aaaaaaaaaaaaabull) goto L76;
-	t_64_64 v90 = allocate(v87 * 48, 8);
-	if (!(v90.f0 & 1)) goto L76;
-	stp(v74, (ptr)v90.f1);
-	st64(v74+8, 0);
-	st64(v74+16, v87);
-	v4 = (ptr)v90.f1; v5 = 0; v6 = 0; v7 = v87;
-L1:;
-	u64 v91 = v6 + 1;
-	u64 v92 = v7 - 1;
-	ptr v93 = at(v86, v6 * 48);
-	u8 v94 = ld8(v93);
-	u64 v95 = lu64(v93+8);
-	u8 v96 = ld8(v93+16);
-	u64 v97 = (u64)ld_bytes(v93+17, 7) & 0xffffffffffffffull;
-	u64 v98 = lu64(v93+24);
-	u64 v99 = lu64(v93+32);
-	u64 v100 = lu64(v93+40);
-	switch (v94) {
-	case 0: goto L2;
-	case 1: goto L7;
-	case 2: goto L12;
-	case 3: goto L17;
-	case 4: goto L22;
-	case 5: goto L27;
-	case 6: case 7: case 13: v57 = 0; v58 = (ptr)0; v59 = 0; v60 = 0; v61 = 0; v62 = 0; v63 = v95; goto L67;
-	case 8: case 12: goto L32;
-	case 9: goto L33;
-	case 10: goto L34;
-	case 11: goto L39;
-	case 14: goto L44;
-	case 15: goto L49;
-	case 16: goto L54;
-	case 17: goto L59;
-	default: goto L75;
-	}
-L2:;
-	u64 v101 = (v97 << 8) | (u64)v96;
-	if ((v95 & 255) != 0) { v10 = (ptr)v101; v11 = v99; goto L6; }
-	if (v98 == 0) { v8 = v69; goto L3; }
-	if ((s64)v98 <= -1) goto L63;
-	t_64_64 v102 = allocate(v98, 1);
-	if (!(v102.f0 & 1)) goto L63;
-	v8 = (ptr)v102.f1;
-L3:;
-	if (((u64)v8 - v101) >= v98) goto L5;
-	v9 = 0;
-L4:;
-	st8(at(v8, v9), ld8(at((ptr)v101, v9)));
-	u64 v103 = v9 + 1;
-	if (v103 == v98) { v10 = v8; v11 = v98; goto L6; }
-	v9 = v103; goto L4;
-L5:;
-	move(v8, (ptr)v101, v98);
-	v10 = v8; v11 = v98;
-L6:;
-	v57 = (u64)v10; v58 = (ptr)v98; v59 = v11; v60 = 0; v61 = 0; v62 = 0; v63 = 1; goto L67;
-L7:;
-	u64 v104 = (v97 << 8) | (u64)v96;
-	if ((v95 & 255) != 0) { v14 = (ptr)v104; v15 = v99; goto L11; }
-	if (v98 == 0) { v12 = v69; goto L8; }
-	if ((s64)v98 <= -1) goto L63;
-	t_64_64 v105 = allocate(v98, 1);
-	if (!(v105.f0 & 1)) goto L63;
-	v12 = (ptr)v105.f1;
-L8:;
-	if (((u64)v12 - v104) >= v98) goto L10;
-	v13 = 0;
-L9:;
-	st8(at(v12, v13), ld8(at((ptr)v104, v13)));
-	u64 v106 = v13 + 1;
-	if (v106 == v98) { v14 = v12; v15 = v98; goto L11; }
-	v13 = v106; goto L9;
-L10:;
-	move(v12, (ptr)v104, v98);
-	v14 = v12; v15 = v98;
-L11:;
-	v57 = (u64)v14; v58 = (ptr)v98; v59 = v15; v60 = 0; v61 = 0; v62 = 0; v63 = 1; goto L67;
-L12:;
-	u64 v107 = (v97 << 8) | (u64)v96;
-	if ((v95 & 255) != 0) { v18 = (ptr)v107; v19 = v99; goto L16; }
-	if (v98 == 0) { v16 = v69; goto L13; }
-	if ((s64)v98 <= -1) goto L63;
-	t_64_64 v108 = allocate(v98, 1);
-	if (!(v108.f0 & 1)) goto L63;
-	v16 = (ptr)v108.f1;
-L13:;
-	if (((u64)v16 - v107) >= v98) goto L15;
-	v17 = 0;
-L14:;
-	st8(at(v16, v17), ld8(at((ptr)v107, v17)));
-	u64 v109 = v17 + 1;
-	if (v109 == v98) { v18 = v16; v19 = v98; goto L16; }
-	v17 = v109; goto L14;
-L15:;
-	move(v16, (ptr)v107, v98);
-	v18 = v16; v19 = v98;
-L16:;
-	v57 = (u64)v18; v58 = (ptr)v98; v59 = v19; v60 = 0; v61 = 0; v62 = 0; v63 = 1; goto L67;
-L17:;
-	u64 v110 = (v97 << 8) | (u64)v96;
-	if ((v95 & 255) != 0) { v22 = (ptr)v110; v23 = v99; goto L21; }
-	if (v98 == 0) { v20 = v69; goto L18; }
-	if ((s64)v98 <= -1) goto L63;
-	t_64_64 v111 = allocate(v98, 1);
-	if (!(v111.f0 & 1)) goto L63;
-	v20 = (ptr)v111.f1;
-L18:;
-	if (((u64)v20 - v110) >= v98) goto L20;
-	v21 = 0;
-L19:;
-	st8(at(v20, v21), ld8(at((ptr)v110, v21)));
-	u64 v112 = v21 + 1;
-	if (v112 == v98) { v22 = v20; v23 = v98; goto L21; }
-	v21 = v112; goto L19;
-L20:;
-	move(v20, (ptr)v110, v98);
-	v22 = v20; v23 = v98;
-L21:;
-	v57 = (u64)v22; v58 = (ptr)v98; v59 = v23; v60 = 0; v61 = 0; v62 = 0; v63 = 1; goto L67;
-L22:;
-	u64 v113 = (v97 << 8) | (u64)v96;
-	if ((v95 & 255) != 0) { v26 = (ptr)v113; v27 = v99; goto L26; }
-	if (v98 == 0) { v24 = v69; goto L23; }
-	if ((s64)v98 <= -1) goto L63;
-	t_64_64 v114 = allocate(v98, 1);
-	if (!(v114.f0 & 1)) goto L63;
-	v24 = (ptr)v114.f1;
-L23:;
-	if (((u64)v24 - v113) >= v98) goto L25;
-	v25 = 0;
-L24:;
-	st8(at(v24, v25), ld8(at((ptr)v113, v25)));
-	u64 v115 = v25 + 1;
-	if (v115 == v98) { v26 = v24; v27 = v98; goto L26; }
-	v25 = v115; goto L24;
-L25:;
-	move(v24, (ptr)v113, v98);
-	v26 = v24; v27 = v98;
-L26:;
-	v57 = (u64)v26; v58 = (ptr)v98; v59 = v27; v60 = 0; v61 = 0; v62 = 0; v63 = 1; goto L67;
-L27:;
-	u64 v116 = (v97 << 8) | (u64)v96;
-	if ((v95 & 255) != 0) { v30 = (ptr)v116; v31 = v99; goto L31; }
-	if (v98 == 0) { v28 = v69; goto L28; }
-	if ((s64)v98 <= -1) goto L63;
-	t_64_64 v117 = allocate(v98, 1);
-	if (!(v117.f0 & 1)) goto L63;
-	v28 = (ptr)v117.f1;
-L28:;
-	if (((u64)v28 - v116) >= v98) goto L30;
-	v29 = 0;
-L29:;
-	st8(at(v28, v29), ld8(at((ptr)v116, v29)));
-	u64 v118 = v29 + 1;
-	if (v118 == v98) { v30 = v28; v31 = v98; goto L31; }
-	v29 = v118; goto L29;
-L30:;
-	move(v28, (ptr)v116, v98);
-	v30 = v28; v31 = v98;
-L31:;
-	v57 = (u64)v30; v58 = (ptr)v98; v59 = v31; v60 = 0; v61 = 0; v62 = 0; v63 = 1; goto L67;
-L32:;
-	v57 = 0; v58 = (ptr)0; v59 = 0; v60 = 0; v61 = 0; v62 = ld8(v93+1); v63 = 0; goto L67;
-L33:;
-	v57 = 0; v58 = (ptr)0; v59 = 0; v60 = 0; v61 = lu32(v93+4); v62 = 0; v63 = 0; goto L67;
-L34:;
-	u64 v119 = (v97 << 8) | (u64)v96;
-	if ((v95 & 255) != 0) { v34 = (ptr)v119; v35 = v99; goto L38; }
-	if (v98 == 0) { v32 = v69; goto L35; }
-	if ((s64)v98 <= -1) goto L63;
-	t_64_64 v120 = allocate(v98, 1);
-	if (!(v120.f0 & 1)) goto L63;
-	v32 = (ptr)v120.f1;
-L35:;
-	if (((u64)v32 - v119) >= v98) goto L37;
-	v33 = 0;
-L36:;
-	st8(at(v32, v33), ld8(at((ptr)v119, v33)));
-	u64 v121 = v33 + 1;
-	if (v121 == v98) { v34 = v32; v35 = v98; goto L38; }
-	v33 = v121; goto L36;
-L37:;
-	move(v32, (ptr)v119, v98);
-	v34 = v32; v35 = v98;
-L38:;
-	v57 = (u64)v34; v58 = (ptr)v98; v59 = v35; v60 = 0; v61 = 0; v62 = 0; v63 = 1; goto L67;
-L39:;
-	u64 v122 = (v97 << 8) | (u64)v96;
-	if ((v95 & 255) != 0) { v38 = (ptr)v122; v39 = v99; goto L43; }
-	if (v98 == 0) { v36 = v69; goto L40; }
-	if ((s64)v98 <= -1) goto L63;
-	t_64_64 v123 = allocate(v98, 1);
-	if (!(v123.f0 & 1)) goto L63;
-	v36 = (ptr)v123.f1;
-L40:;
-	if (((u64)v36 - v122) >= v98) goto L42;
-	v37 = 0;
-L41:;
-	st8(at(v36, v37), ld8(at((ptr)v122, v37)));
-	u64 v124 = v37 + 1;
-	if (v124 == v98) { v38 = v36; v39 = v98; goto L43; }
-	v37 = v124; goto L41;
-L42:;
-	move(v36, (ptr)v122, v98);
-	v38 = v36; v39 = v98;
-L43:;
-	v57 = (u64)v38; v58 = (ptr)v98; v59 = v39; v60 = 0; v61 = 0; v62 = 0; v63 = 1; goto L67;
-L44:;
-	u64 v125 = (v97 << 8) | (u64)v96;
-	if ((v95 & 255) != 0) { v42 = (ptr)v125; v43 = v99; goto L48; }
-	if (v98 == 0) { v40 = v69; goto L45; }
-	if ((s64)v98 <= -1) goto L63;
-	t_64_64 v126 = allocate(v98, 1);
-	if (!(v126.f0 & 1)) goto L63;
-	v40 = (ptr)v126.f1;
-L45:;
-	if (((u64)v40 - v125) >= v98) goto L47;
-	v41 = 0;
-L46:;
-	st8(at(v40, v41), ld8(at((ptr)v125, v41)));
-	u64 v127 = v41 + 1;
-	if (v127 == v98) { v42 = v40; v43 = v98; goto L48; }
-	v41 = v127; goto L46;
-L47:;
-	move(v40, (ptr)v125, v98);
-	v42 = v40; v43 = v98;
-L48:;
-	v57 = (u64)v42; v58 = (ptr)v98; v59 = v43; v60 = 0; v61 = 0; v62 = 0; v63 = 1; goto L67;
-L49:;
-	if (v96 != 0) { v46 = (ptr)v98; v47 = v100; goto L53; }
-	if (v99 == 0) { v44 = v69; goto L50; }
-	if ((s64)v99 <= -1) goto L63;
-	t_64_64 v128 = allocate(v99, 1);
-	if (!(v128.f0 & 1)) goto L63;
-	v44 = (ptr)v128.f1;
-L50:;
-	if (((u64)v44 - v98) >= v99) goto L52;
-	v45 = 0;
-L51:;
-	st8(at(v44, v45), ld8(at((ptr)v98, v45)));
-	u64 v129 = v45 + 1;
-	if (v129 == v99) { v46 = v44; v47 = v99; goto L53; }
-	v45 = v129; goto L51;
-L52:;
-	move(v44, (ptr)v98, v99);
-	v46 = v44; v47 = v99;
-L53:;
-	v57 = 1; v58 = v46; v59 = v99; v60 = v47; v61 = 0; v62 = 0; v63 = v95 & 0xffffffff0000ffffull; goto L67;
-L54:;
-	if (v96 != 0) { v50 = (ptr)v98; v51 = v100; goto L58; }
-	if (v99 == 0) { v48 = v69; goto L55; }
-	if ((s64)v99 <= -1) goto L63;
-	t_64_64 v130 = allocate(v99, 1);
-	if (!(v130.f0 & 1)) goto L63;
-	v48 = (ptr)v130.f1;
-L55:;
-	if (((u64)v48 - v98) >= v99) goto L57;
-	v49 = 0;
-L56:;
-	st8(at(v48, v49), ld8(at((ptr)v98, v49)));
-	u64 v131 = v49 + 1;
-	if (v131 == v99) { v50 = v48; v51 = v99; goto L58; }
-	v49 = v131; goto L56;
-L57:;
-	move(v48, (ptr)v98, v99);
-	v50 = v48; v51 = v99;
-L58:;
-	v57 = 1; v58 = v50; v59 = v99; v60 = v51; v61 = 0; v62 = 0; v63 = v95 & 0xffffffff0000ffffull; goto L67;
-L59:;
-	if (v96 != 0) { v55 = (ptr)v98; v56 = v100; goto L66; }
-	if (v99 == 0) { v52 = v69; goto L60; }
-	if ((s64)v99 <= -1) goto L63;
-	t_64_64 v132 = allocate(v99, 1);
-	if (!(v132.f0 & 1)) goto L63;
-	v52 = (ptr)v132.f1;
-L60:;
-	if (((u64)v52 - v98) >= v99) goto L62;
-	v53 = 0;
-L61:;
-	st8(at(v52, v53), ld8(at((ptr)v98, v53)));
-	u64 v133 = v53 + 1;
-	if (v133 == v99) { v55 = v52; v56 = v99; goto L66; }
-	v53 = v133; goto L61;
-L62:;
-	move(v52, (ptr)v98, v99);
-	v55 = v52; v56 = v99; goto L66;
-L63:;
-	stp(v75, v86);
-	st64(v75+8, v92);
-	st64(v75+16, v88);
-	st64(v75+24, v91);
-	st64(v75+32, 0);
-	std_alloc_vec_deque_VecDeque_drop_af98(v75);
-	u64 v134 = ld64(v74+16);
-	if (v5 == 0) goto L65;
-	v54 = 0;
-L64:;
-	ptr v135 = at(v4, v54 * 48);
-	u8 v136 = ld8(v135);
-	u8 v137 = ld8(v135+1);
-	u32 v138 = lu32(v135+4);
-	u64 v139 = lu64(v135+8);
-	st64(v72, 0);
-	st8(v72, v136);
-	st8(v72+1, v137);
-	st32(v72+4, v138);
-	st64(v72+8, v139);
-	copy(v72+16, v135+16, 32);
-	ptions_interface_option_InterfaceDescriptionOption_Destruct_drop(v72);
-	u64 v140 = v54 + 1;
-	if (v140 != v5) { v54 = v140; goto L64; }
-L65:;
-	if (v134 == 0) goto L78;
-	deallocate(v4);
-	goto L78;
-L66:;
-	v57 = 1; v58 = v55; v59 = v99; v60 = v56; v61 = 0; v62 = 0; v63 = v95 & 4294967295u;
-L67:;
-	if (ld64(v74+16) != v5) { v65 = v4; v66 = v5; goto L71; }
-	u8 v141 = std_alloc_vec_Vec_grow_amortized_35f1(v74);
-	if (!v141) goto L68;
-	v65 = ldp(v74); v66 = ld64(v74+8); goto L71;
-L68:;
-	st64(v71+16, v57);
-	stp(v71+24, v58);
-	st64(v71+32, v59);
-	st64(v71+40, v60);
-	st64(v71, 0);
-	st8(v71, v94);
-	st8(v71+1, v62);
-	st32(v71+4, v61);
-	st64(v71+8, v63);
-	ptions_interface_option_InterfaceDescriptionOption_Destruct_drop(v71);
-	stp(v76, v86);
-	st64(v76+8, v92);
-	st64(v76+16, v88);
-	st64(v76+24, v91);
-	st64(v76+32, 0);
-	std_alloc_vec_deque_VecDeque_drop_af98(v76);
-	ptr v142 = ldp(v74);
-	u64 v143 = ld64(v74+8);
-	u64 v144 = ld64(v74+16);
-	if (v143 == 0) goto L70;
-	v64 = 0;
-L69:;
-	ptr v145 = at(v142, v64 * 48);
-	u8 v146 = ld8(v145);
-	u8 v147 = ld8(v145+1);
-	u32 v148 = lu32(v145+4);
-	u64 v149 = lu64(v145+8);
-	st64(v70, 0);
-	st8(v70, v146);
-	st8(v70+1, v147);
-	st32(v70+4, v148);
-	st64(v70+8, v149);
-	copy(v70+16, v145+16, 32);
-	ptions_interface_option_InterfaceDescriptionOption_Destruct_drop(v70);
-	u64 v150 = v64 + 1;
-	if (v150 != v143) { v64 = v150; goto L69; }
-L70:;
-	if (v144 == 0) goto L78;
-	deallocate(v142);
-	goto L78;
-L71:;
-	ptr v151 = at(v65, v66 * 48);
-	st8(v151, v94);
-	st8(v151+1, v62);
-	su32(v151+4, v61);
-	su64(v151+8, v63);
-	su64(v151+16, v57);
-	sup(v151+24, v58);
-	su64(v151+32, v59);
-	su64(v151+40, v60);
-	u64 v152 = v66 + 1;
-	st64(v74+8, v152);
-	if (v92 != 0) { v4 = v65; v5 = v152; v6 = v91; v7 = v92; goto L1; }
-L72:;
-	stp(v77, v86);
-	st64(v77+8, 0);
-	st64(v77+16, v88);
-	st64(v77+24, v87);
-	st64(v77+32, 0);
-	std_alloc_vec_deque_VecDeque_drop_af98(v77);
-	copy(v78+7, v74, 24);
-	copy(v79, v78+7, 24);
-	copy(v89, v79, 24);
-	u64 v153 = ld64(v2+48);
-	if (ld64(v2+56) != v153) { v67 = v153; goto L74; }
-	u8 v154 = std_alloc_vec_Vec_grow_amortized_1728(v2+40);
-	if (!v154) goto L73;
-	v67 = ld64(v2+48); goto L74;
-L73:;
-	std_alloc_vec_Vec_drop_37c7(v89);
-	st8(v1, 1);
-	st8(v1+8, 5);
-	clear(v1+16, 88);
-	goto L79;
-L74:;
-	ptr v155 = at(ldp(v2+40), v67 * 40);
-	st8(v155, v82);
-	st_bytes(v155+1, 0, 3);
-	su32(v155+4, v83);
-	su16(v155+8, v84);
-	su16(v155+10, 0);
-	su32(v155+12, v85);
-	copy(v155+16, v89, 24);
-	st64(v2+48, v67 + 1);
-	st8(v1, 0);
-	st8(v1+8, 0);
-	su64(v1+16, 0);
-	copy(v1+24, v80, 24);
-	copy(v1+48, v81, 56);
-	goto L79;
-L75:;
-	__builtin_trap();
-L76:;
-	v68 = 0;
-L77:;
-	ptr v156 = at(v86, v68 * 48);
-	u8 v157 = ld8(v156);
-	u8 v158 = ld8(v156+1);
-	u32 v159 = lu32(v156+4);
-	u64 v160 = lu64(v156+8);
-	st64(v73, 0);
-	st8(v73, v157);
-	st8(v73+1, v158);
-	st32(v73+4, v159);
-	st64(v73+8, v160);
-	copy(v73+16, v156+16, 32);
-	ptions_interface_option_InterfaceDescriptionOption_Destruct_drop(v73);
-	u64 v161 = v68 + 1;
-	if (v161 != v87) { v68 = v161; goto L77; }
-	if (v88 == 0) goto L78;
-	deallocate(v86);
-L78:;
-	st8(v1, 1);
-	st8(v1+8, 5);
-	clear(v1+16, 88);
-L79:;
-	return;
-}
-static void std_alloc_vec_deque_VecDeque_drop_af98(ptr v1) {
-	u64 v2, v3;
-	_Alignas(8) u8 v4[48], v5[48];
-	ptr v6 = lup(v1);
-	u64 v7 = lu64(v1+8);
-	u64 v8 = lu64(v1+16);
-	u64 v9 = lu64(v1+24);
-	u64 v10 = lu64(v1+32);
-	if (v7 == 0) goto L3;
-	u64 v11 = v7 - v10 + v9;
-	if (v9 >= v11) goto L1;
-	v2 = v9;
-L0:;
-	ptr v12 = at(v6, v2 * 48);
-	u8 v13 = ld8(v12);
-	u8 v14 = ld8(v12+1);
-	u32 v15 = lu32(v12+4);
-	u64 v16 = lu64(v12+8);
-	st64(v5, 0);
-	st8(v5, v13);
-	st8(v5+1, v14);
-	st32(v5+4, v15);
-	st64(v5+8, v16);
-	copy(v5+16, v12+16, 32);
-	ptions_interface_option_InterfaceDescriptionOption_Destruct_drop(v5);
-	u64 v17 = v2 + 1;
-	if (v17 != v11) { v2 = v17; goto L0; }
-L1:;
-	if (v10 == 0) goto L3;
-	v3 = 0;
-L2:;
-	ptr v18 = at(v6, v3 * 48);
-	u8 v19 = ld8(v18);
-	u8 v20 = ld8(v18+1);
-	u32 v21 = lu32(v18+4);
-	u64 v22 = lu64(v18+8);
-	st64(v4, 0);
-	st8(v4, v19);
-	st8(v4+1, v20);
-	st32(v4+4, v21);
-	st64(v4+8, v22);
-	copy(v4+16, v18+16, 32);
-	ptions_interface_option_InterfaceDescriptionOption_Destruct_drop(v4);
-	u64 v23 = v3 + 1;
-	if (v23 != v10) { v3 = v23; goto L2; }
-L3:;
-	if (v8 == 0) goto L4;
-	deallocate(v6);
-L4:;
-	return;
-}
-static __attribute__((noinline, cold)) u8 std_alloc_vec_Vec_grow_amortized_1728(ptr v1) {
-	t_64_64 v2;
-	u8 v3;
-	u64 v4 = ld64(v1+8);
-	if (v4 == ~0ull) { v3 = 0; goto L2; }
-	u64 v5 = ld64(v1+16);
-	u64 v6 = (v4 > 3 ? v4 : 3) + 1;
-	u64 v7 = v5 << 1;
-	u64 v8 = v6 > v7 ? v6 : v7;
-	u64 v9 = v5 < 0x4000000000000000ull ? v8 : v6;
-	if (v9 >= 0x333333333333334ull) { v3 = 0; goto L2; }
-	if (v5 != 0) goto L0;
-	t_64_64 v10 = allocate(v8 * 40, 8);
-	if (v10.f0 & 1) { v2 = v10; goto L1; }
-	v3 = 0; goto L2;
-L0:;
-	t_64_64 v11 = reallocate(ldp(v1), v4 * 40, v9 * 40, 8);
-	if (!(v11.f0 & 1)) { v3 = 0; goto L2; }
-	v2 = v11;
-L1:;
-	stp(v1, (ptr)v2.f1);
-	st64(v1+16, v9);
-	v3 = 1;
-L2:;
-	return v3;
-}
-static void capcopy_run_blocks_KindLinesBlockLine_write_line_ce79(ptr v1, ptr v2, ptr v3, u64 v4, ptr v5) {
-	u64 v6, v7, v8, v9, v10, v12, v13, v14, v15, v16, v17, v18, v19, v20, v21, v22, v23, v24, v25, v26, v27, v28, v29, v30, v31, v32, v33, v34, v35, v36, v37, v38, v39, v40, v41, v42, v43, v44, v45, v47, v48, v49, v51, v52, v53, v54, v55, v56, v57, v58, v59, v60, v61, v62;
-	ptr v11, v46;
-	u8 v50;
-	_Alignas(8) u8 v63[96], v64[104], v65[24], v66[24];
-	clear(v64, 104);
-	pcap_ng_pcapng_block_Block_parsed(v64, v5);
-	u8 v67 = ld8(v64);
-	u8 v68 = ld8(v64+8);
-	if (v67 != 0) goto L70;
-	u8 v69 = ld8(v64+16);
-	u64 v70 = ld64(v64+24);
-	u64 v71 = ld64(v64+32);
-	u64 v72 = ld64(v64+40);
-	u8 v73 = (u8)v72;
-	u64 v74 = ld64(v64+48);
-	u64 v75 = ld64(v64+56);
-	u64 v76 = ld64(v64+64);
-	switch (v68) {
-	case 0: goto L0;
-	case 1: goto L1;
-	case 2: goto L2;
-	case 3: goto L14;
-	case 4: goto L15;
-	case 5: goto L45;
-	case 6: goto L55;
-	case 7: goto L67;
-	case 8: goto L68;
-	default: goto L69;
-	}
-L0:;
-	st64(v65, v71);
-	st64(v65+8, v72);
-	st64(v65+16, v74);
-	std_alloc_vec_Vec_drop_0f0e(v65);
-	v18 = (u64)(ptr)static_66; v19 = 2; goto L72;
-L1:;
-	st64(v66, v71);
-	st64(v66+8, v72);
-	st64(v66+16, v74);
-	std_alloc_vec_Vec_drop_37c7(v66);
-	v18 = (u64)(ptr)static_66; v19 = 2; goto L72;
-L2:;
-	if ((v73 != 1) || (v76 == 0)) goto L3;
-	deallocate((ptr)v74);
-L3:;
-	ptr v77 = ldp(v64+72);
-	u64 v78 = ld64(v64+80);
-	u64 v79 = ld64(v64+88);
-	if (v78 == 0) goto L12;
-	v6 = 0;
-L4:;
-	ptr v80 = at(v77, v6 * 48);
-	u64 v81 = lu64(v80+16);
-	u64 v82 = lu64(v80+24);
-	u64 v83 = lu64(v80+32);
-	u64 v84 = lu64(v80+40);
-	u8 v85 = (u8)lu16(v80+8);
-	u8 v86 = (u8)v81;
-	switch (ld8(v80)) {
-	case 0: goto L5;
-	case 1: goto L11;
-	case 2: goto L6;
-	case 3: goto L7;
-	case 4: goto L8;
-	case 5: goto L9;
-	default: goto L13;
-	}
-L5:;
-	if ((v85 == 0) || (v83 == 0)) goto L11;
-	v7 = v81; goto L10;
-L6:;
-	if ((v85 == 0) || (v83 == 0)) goto L11;
-	v7 = v81; goto L10;
-L7:;
-	if ((v86 == 0) || (v84 == 0)) goto L11;
-	v7 = v82; goto L10;
-L8:;
-	if ((v86 == 0) || (v84 == 0)) goto L11;
-	v7 = v82; goto L10;
-L9:;
-	if ((v86 == 0) || (v84 == 0)) goto L11;
-	v7 = v82;
-L10:;
-	deallocate((ptr)v7);
-L11:;
-	u64 v87 = v6 + 1;
-	if (v87 != v78) { v6 = v87; goto L4; }
-L12:;
-	if (v79 == 0) { v18 = (u64)(ptr)static_66; v19 = 2; goto L72; }
-	deallocate(v77);
-	v18 = (u64)(ptr)static_66; v19 = 2; goto L72;
-L13:;
-	__builtin_trap();
-L14:;
-	if (((v70 & 255) != 1) || (v74 == 0)) { v18 = (u64)(ptr)static_66; v19 = 2; goto L72; }
-	deallocate((ptr)v71);
-	v18 = (u64)(ptr)static_66; v19 = 2; goto L72;
-L15:;
-	ptr v88 = (ptr)(((u64)ld32(v64+20) << 32) | (u64)v69 | ((u64)((u32)ld_bytes(v64+17, 3) & 16777215) << 8));
-	if (v70 == 0) goto L30;
-	v8 = 0;
-L16:;
-	ptr v89 = at(v88, v8 << 6);
-	u64 v90 = lu64(v89+16);
-	u64 v91 = lu64(v89+24);
-	u64 v92 = lu64(v89+32);
-	u64 v93 = lu64(v89+40);
-	u64 v94 = lu64(v89+48);
-	u64 v95 = lu64(v89+56);
-	u8 v96 = (u8)lu16(v89+8);
-	switch (ld8(v89)) {
-	case 0: goto L29;
-	case 1: goto L17;
-	case 2: goto L22;
-	case 3: goto L27;
-	default: goto L44;
-	}
-L17:;
-	if ((v96 == 0) || (v92 == 0)) goto L18;
-	deallocate((ptr)v90);
-L18:;
-	if (v94 == 0) goto L21;
-	v9 = 0;
-L19:;
-	ptr v97 = at((ptr)v93, v9 << 5);
-	if ((ld8(v97) == 0) || (lu64(v97+24) == 0)) goto L20;
-	deallocate(lup(v97+8));
-L20:;
-	u64 v98 = v9 + 1;
-	if (v98 != v94) { v9 = v98; goto L19; }
-L21:;
-	if (v95 == 0) goto L29;
-	v11 = (ptr)v93; goto L28;
-L22:;
-	if ((v96 == 0) || (v92 == 0)) goto L23;
-	deallocate((ptr)v90);
-L23:;
-	if (v94 == 0) goto L26;
-	v10 = 0;
-L24:;
-	ptr v99 = at((ptr)v93, v10 << 5);
-	if ((ld8(v99) == 0) || (lu64(v99+24) == 0)) goto L25;
-	deallocate(lup(v99+8));
-L25:;
-	u64 v100 = v10 + 1;
-	if (v100 != v94) { v10 = v100; goto L24; }
-L26:;
-	if (v95 == 0) goto L29;
-	v11 = (ptr)v93; goto L28;
-L27:;
-	if (((v90 & 255) == 0) || (v93 == 0)) goto L29;
-	v11 = (ptr)v91;
-L28:;
-	deallocate(v11);
-L29:;
-	u64 v101 = v8 + 1;
-	if (v101 != v70) { v8 = v101; goto L16; }
-L30:;
-	if (v71 == 0) goto L31;
-	deallocate(v88);
-L31:;
-	if (v74 == 0) goto L42;
-	v12 = 0;
-L32:;
-	ptr v102 = at((ptr)v72, v12 * 48);
-	u64 v103 = lu64(v102+16);
-	u64 v104 = lu64(v102+24);
-	u64 v105 = lu64(v102+32);
-	u64 v106 = lu64(v102+40);
-	u8 v107 = (u8)lu16(v102+8);
-	u8 v108 = (u8)v103;
-	switch (ld8(v102)) {
-	case 0: goto L33;
-	case 1: goto L34;
-	case 2: goto L35;
-	case 3: goto L36;
-	case 4: goto L37;
-	case 5: goto L38;
-	case 6: goto L39;
-	default: goto L43;
-	}
-L33:;
-	if ((v107 == 0) || (v105 == 0)) goto L41;
-	v13 = v103; goto L40;
-L34:;
-	if ((v107 == 0) || (v105 == 0)) goto L41;
-	v13 = v103; goto L40;
-L35:;
-	if ((v107 == 0) || (v105 == 0)) goto L41;
-	v13 = v103; goto L40;
-L36:;
-	if ((v107 == 0) || (v105 == 0)) goto L41;
-	v13 = v103; goto L40;
-L37:;
-	if ((v108 == 0) || (v106 == 0)) goto L41;
-	v13 = v104; goto L40;
-L38:;
-	if ((v108 == 0) || (v106 == 0)) goto L41;
-	v13 = v104; goto L40;
-L39:;
-	if ((v108 == 0) || (v106 == 0)) goto L41;
-	v13 = v104;
-L40:;
-	deallocate((ptr)v13);
-L41:;
-	u64 v109 = v12 + 1;
-	if (v109 != v74) { v12 = v109; goto L32; }
-L42:;
-	if (v75 == 0) { v18 = (u64)(ptr)static_66; v19 = 2; goto L72; }
-	deallocate((ptr)v72);
-	v18 = (u64)(ptr)static_66; v19 = 2; goto L72;
-L43:;
-	__builtin_trap();
-L44:;
-	__builtin_trap();
-L45:;
-	if (v72 == 0) goto L53;
-	v14 = 0;
-L46:;
-	ptr v110 = at((ptr)v71, v14 * 48);
-	u64 v111 = lu64(v110+16);
-	u64 v112 = lu64(v110+24);
-	u64 v113 = lu64(v110+40);
-	u8 v114 = (u8)v111;
-	switch (ld8(v110)) {
-	case 0: goto L47;
-	case 1: case 2: case 3: case 4: case 5: case 6: case 7: goto L52;
-	case 8: goto L48;
-	case 9: goto L49;
-	case 10: goto L50;
-	default: goto L54;
-	}
-L47:;
-	if (((lu64(v110+8) & 255) == 0) || (lu64(v110+32) == 0)) goto L52;
-	v15 = v111; goto L51;
-L48:;
-	if ((v114 == 0) || (v113 == 0)) goto L52;
-	v15 = v112; goto L51;
-L49:;
-	if ((v114 == 0) || (v113 == 0)) goto L52;
-	v15 = v112; goto L51;
-L50:;
-	if ((v114 == 0) || (v113 == 0)) goto L52;
-	v15 = v112;
-L51:;
-	deallocate((ptr)v15);
-L52:;
-	u64 v115 = v14 + 1;
-	if (v115 != v72) { v14 = v115; goto L46; }
-L53:;
-	if (v74 == 0) { v18 = (u64)(ptr)static_66; v19 = 2; goto L72; }
-	deallocate((ptr)v71);
-	v18 = (u64)(ptr)static_66; v19 = 2; goto L72;
-L54:;
-	__builtin_trap();
-L55:;
-	if ((v73 != 1) || (v76 == 0)) goto L56;
-	deallocate((ptr)v74);
-L56:;
-	ptr v116 = ldp(v64+72);
-	u64 v117 = ld64(v64+80);
-	u64 v118 = ld64(v64+88);
-	if (v117 == 0) goto L65;
-	v16 = 0;
-L57:;
-	ptr v119 = at(v116, v16 * 48);
-	u64 v120 = lu64(v119+16);
-	u64 v121 = lu64(v119+24);
-	u64 v122 = lu64(v119+32);
-	u64 v123 = lu64(v119+40);
-	u8 v124 = (u8)lu64(v119+8);
-	u8 v125 = (u8)v120;
-	switch (ld8(v119)) {
-	case 0: goto L58;
-	case 1: case 3: goto L64;
-	case 2: goto L59;
-	case 4: goto L60;
-	case 5: goto L61;
-	case 6: goto L62;
-	default: goto L66;
-	}
-L58:;
-	if ((v124 == 0) || (v122 == 0)) goto L64;
-	v17 = v120; goto L63;
-L59:;
-	if ((v124 == 0) || (v122 == 0)) goto L64;
-	v17 = v120; goto L63;
-L60:;
-	if ((v125 == 0) || (v123 == 0)) goto L64;
-	v17 = v121; goto L63;
-L61:;
-	if ((v125 == 0) || (v123 == 0)) goto L64;
-	v17 = v121; goto L63;
-L62:;
-	if ((v125 == 0) || (v123 == 0)) goto L64;
-	v17 = v121;
-L63:;
-	deallocate((ptr)v17);
-L64:;
-	u64 v126 = v16 + 1;
-	if (v126 != v117) { v16 = v126; goto L57; }
-L65:;
-	if (v118 == 0) { v18 = (u64)(ptr)static_66; v19 = 2; goto L72; }
-	deallocate(v116);
-	v18 = (u64)(ptr)static_66; v19 = 2; goto L72;
-L66:;
-	__builtin_trap();
-L67:;
-	if ((v69 != 1) || (v72 == 0)) { v18 = (u64)(ptr)static_66; v19 = 2; goto L72; }
-	deallocate((ptr)v70);
-	v18 = (u64)(ptr)static_66; v19 = 2; goto L72;
-L68:;
-	if (((v71 & 255) != 1) || (v75 == 0)) { v18 = (u64)(ptr)static_66; v19 = 2; goto L72; }
-	deallocate((ptr)v72);
-	v18 = (u64)(ptr)static_66; v19 = 2; goto L72;
-L69:;
-	__builtin_trap();
-L70:;
-	if (v68 != 5) goto L71;
-	st8(v1, 1);
-	su64(v1+8, 5);
-	st8(v1+16, 0);
-	clear(v1+24, 88);
-	goto L129;
-L71:;
-	if (v67 != 1) { v18 = (u64)(ptr)static_67; v19 = 7; goto L72; }
-	if ((v68 != 4) || (ld64(v64+32) == 0)) { v18 = (u64)(ptr)static_67; v19 = 7; goto L72; }
-	deallocate(ldp(v64+16));
-	v18 = (u64)(ptr)static_67; v19 = 7;
-L72:;
-	st8(v2+125, 10);
-	ptr v127 = at(v2, 125ull - v19);
-	if (((u64)v127 - v18) >= v19) goto L74;
-	v20 = 0;
-L73:;
-	st8(at(v127, v20), ld8(at((ptr)v18, v20)));
-	u64 v128 = v20 + 1;
-	if (v128 == v19) goto L75;
-	v20 = v128; goto L73;
-L74:;
-	move(v127, (ptr)v18, v19);
-L75:;
-	u64 v129 = 124ull - v19;
-	st8(at(v2, v129), 32);
-	u32 v130 = ld32(v5+8);
-	u64 v131 = (u64)v130;
-	if (v130 <= 9999) { v23 = v129; v24 = v131; goto L77; }
-	v21 = v131; v22 = v129;
-L76:;
-	u64 v132 = v21 / 10000;
-	u16 v133 = (u16)(v21 % 10000);
-	ptr v134 = at((ptr)static_51, (u64)(u16)((u32)(v133 % 100) << 1));
-	ptr v135 = at(v2, v22);
-	u8 v136 = ld8(v134+1);
-	st8(v135-2, ld8(v134));
-	st8(v135-1, v136);
-	u64 v137 = v22 - 4;
-	ptr v138 = at((ptr)static_51, (u64)(u16)((u32)(v133 / 100) << 1));
-	ptr v139 = at(v2, v137);
-	u8 v140 = ld8(v138+1);
-	st8(v139, ld8(v138));
-	st8(v139+1, v140);
-	if (v21 > 99999999) { v21 = v132; v22 = v137; goto L76; }
-	v23 = v137; v24 = v132;
-L77:;
-	if (v24 >= 100) goto L79;
-	if (v24 >= 10) goto L78;
-	u64 v141 = v23 - 1;
-	st8(at(v2, v141), (u8)v24 | 48);
-	v25 = v141; goto L81;
-L78:;
-	u64 v142 = v23 - 2;
-	ptr v143 = at((ptr)static_51, v24 << 1);
-	ptr v144 = at(v2, v142);
-	u8 v145 = ld8(v143+1);
-	st8(v144, ld8(v143));
-	st8(v144+1, v145);
-	v25 = v142; goto L81;
-L79:;
-	u16 v146 = (u16)v24;
-	ptr v147 = at((ptr)static_51, (u64)(u16)((u32)(v146 % 100) << 1));
-	ptr v148 = at(v2, v23);
-	u8 v149 = ld8(v147+1);
-	st8(v148-2, ld8(v147));
-	st8(v148-1, v149);
-	u16 v150 = v146 / 100;
-	if (v24 >= 1000) goto L80;
-	u64 v151 = v23 - 3;
-	st8(at(v2, v151), (u8)v150 | 48);
-	v25 = v151; goto L81;
-L80:;
-	u64 v152 = v23 - 4;
-	ptr v153 = at((ptr)static_51, (u64)(u16)((u32)v150 << 1));
-	ptr v154 = at(v2, v152);
-	u8 v155 = ld8(v153+1);
-	st8(v154, ld8(v153));
-	st8(v154+1, v155);
-	v25 = v152;
-L81:;
-	u64 v156 = v25 - 1;
-	st8(at(v2, v156), 32);
-	switch (ld8(v5)) {
-	case 0: goto L82;
-	case 1: goto L85;
-	case 2: goto L88;
-	case 3: goto L91;
-	case 4: goto L94;
-	case 5: goto L97;
-	case 6: goto L100;
-	case 7: goto L103;
-	case 8: goto L106;
-	default: goto L130;
-	}
-L82:;
-	u64 v157 = v25 - 8;
-	ptr v158 = at(v2, v157);
-	if (((u64)v158 - (u64)(ptr)static_68) >= 7) goto L84;
-	v26 = 0;
-L83:;
-	st8(at(v158, v26), ld8(at((ptr)static_68, v26)));
-	u64 v159 = v26 + 1;
-	if (v159 == 7) { v40 = v157; goto L115; }
-	v26 = v159; goto L83;
-L84:;
-	copy(v158, (ptr)static_68, 7);
-	v40 = v157; goto L115;
-L85:;
-	u64 v160 = v25 - 10;
-	ptr v161 = at(v2, v160);
-	if (((u64)v161 - (u64)(ptr)static_69) >= 9) goto L87;
-	v27 = 0;
-L86:;
-	st8(at(v161, v27), ld8(at((ptr)static_69, v27)));
-	u64 v162 = v27 + 1;
-	if (v162 == 9) { v40 = v160; goto L115; }
-	v27 = v162; goto L86;
-L87:;
-	copy(v161, (ptr)static_69, 9);
-	v40 = v160; goto L115;
-L88:;
-	u64 v163 = v25 - 7;
-	ptr v164 = at(v2, v163);
-	if (((u64)v164 - (u64)(ptr)static_70) >= 6) goto L90;
-	v28 = 0;
-L89:;
-	st8(at(v164, v28), ld8(at((ptr)static_70, v28)));
-	u64 v165 = v28 + 1;
-	if (v165 == 6) { v40 = v163; goto L115; }
-	v28 = v165; goto L89;
-L90:;
-	copy(v164, (ptr)static_70, 6);
-	v40 = v163; goto L115;
-L91:;
-	u64 v166 = v25 - 7;
-	ptr v167 = at(v2, v166);
-	if (((u64)v167 - (u64)(ptr)static_71) >= 6) goto L93;
-	v29 = 0;
-L92:;
-	st8(at(v167, v29), ld8(at((ptr)static_71, v29)));
-	u64 v168 = v29 + 1;
-	if (v168 == 6) { v40 = v166; goto L115; }
-	v29 = v168; goto L92;
-L93:;
-	copy(v167, (ptr)static_71, 6);
-	v40 = v166; goto L115;
-L94:;
-	u64 v169 = v25 - 6;
-	ptr v170 = at(v2, v169);
-	if (((u64)v170 - (u64)(ptr)static_72) >= 5) goto L96;
-	v30 = 0;
-L95:;
-	st8(at(v170, v30), ld8(at((ptr)static_72, v30)));
-	u64 v171 = v30 + 1;
-	if (v171 == 5) { v40 = v169; goto L115; }
-	v30 = v171; goto L95;
-L96:;
-	copy(v170, (ptr)static_72, 5);
-	v40 = v169; goto L115;
-L97:;
-	u64 v172 = v25 - 11;
-	ptr v173 = at(v2, v172);
-	if (((u64)v173 - (u64)(ptr)static_73) >= 10) goto L99;
-	v31 = 0;
-L98:;
-	st8(at(v173, v31), ld8(at((ptr)static_73, v31)));
-	u64 v174 = v31 + 1;
-	if (v174 == 10) { v40 = v172; goto L115; }
-	v31 = v174; goto L98;
-L99:;
-	copy(v173, (ptr)static_73, 10);
-	v40 = v172; goto L115;
-L100:;
-	u64 v175 = v25 - 9;
-	ptr v176 = at(v2, v175);
-	if (((u64)v176 - (u64)(ptr)static_74) >= 8) goto L102;
-	v32 = 0;
-L101:;
-	st8(at(v176, v32), ld8(at((ptr)static_74, v32)));
-	u64 v177 = v32 + 1;
-	if (v177 == 8) { v40 = v175; goto L115; }
-	v32 = v177; goto L101;
-L102:;
-	su64(v176, 0x6465636e61686e65ull);
-	v40 = v175; goto L115;
-L103:;
-	u64 v178 = v25 - 8;
-	ptr v179 = at(v2, v178);
-	if (((u64)v179 - (u64)(ptr)static_75) >= 7) goto L105;
-	v33 = 0;
-L104:;
-	st8(at(v179, v33), ld8(at((ptr)static_75, v33)));
-	u64 v180 = v33 + 1;
-	if (v180 == 7) { v40 = v178; goto L115; }
-	v33 = v180; goto L104;
-L105:;
-	copy(v179, (ptr)static_75, 7);
-	v40 = v178; goto L115;
-L106:;
-	u32 v181 = lu32(v5+4);
-	u64 v182 = (u64)v181;
-	if (v181 <= 9999) { v36 = v156; v37 = v182; goto L108; }
-	v34 = v182; v35 = v156;
-L107:;
-	u64 v183 = v34 / 10000;
-	u16 v184 = (u16)(v34 % 10000);
-	ptr v185 = at((ptr)static_51, (u64)(u16)((u32)(v184 % 100) << 1));
-	ptr v186 = at(v2, v35);
-	u8 v187 = ld8(v185+1);
-	st8(v186-2, ld8(v185));
-	st8(v186-1, v187);
-	u64 v188 = v35 - 4;
-	ptr v189 = at((ptr)static_51, (u64)(u16)((u32)(v184 / 100) << 1));
-	ptr v190 = at(v2, v188);
-	u8 v191 = ld8(v189+1);
-	st8(v190, ld8(v189));
-	st8(v190+1, v191);
-	if (v34 > 99999999) { v34 = v183; v35 = v188; goto L107; }
-	v36 = v188; v37 = v183;
-L108:;
-	if (v37 >= 100) goto L110;
-	if (v37 >= 10) goto L109;
-	u64 v192 = v36 - 1;
-	st8(at(v2, v192), (u8)v37 | 48);
-	v38 = v192; goto L112;
-L109:;
-	u64 v193 = v36 - 2;
-	ptr v194 = at((ptr)static_51, v37 << 1);
-	ptr v195 = at(v2, v193);
-	u8 v196 = ld8(v194+1);
-	st8(v195, ld8(v194));
-	st8(v195+1, v196);
-	v38 = v193; goto L112;
-L110:;
-	u16 v197 = (u16)v37;
-	ptr v198 = at((ptr)static_51, (u64)(u16)((u32)(v197 % 100) << 1));
-	ptr v199 = at(v2, v36);
-	u8 v200 = ld8(v198+1);
-	st8(v199-2, ld8(v198));
-	st8(v199-1, v200);
-	u16 v201 = v197 / 100;
-	if (v37 >= 1000) goto L111;
-	u64 v202 = v36 - 3;
-	st8(at(v2, v202), (u8)v201 | 48);
-	v38 = v202; goto L112;
-L111:;
-	u64 v203 = v36 - 4;
-	ptr v204 = at((ptr)static_51, (u64)(u16)((u32)v201 << 1));
-	ptr v205 = at(v2, v203);
-	u8 v206 = ld8(v204+1);
-	st8(v205, ld8(v204));
-	st8(v205+1, v206);
-	v38 = v203;
-L112:;
-	u64 v207 = v38 - 8;
-	ptr v208 = at(v2, v207);
-	if (((u64)v208 - (u64)(ptr)static_76) >= 8) goto L114;
-	v39 = 0;
-L113:;
-	st8(at(v208, v39), ld8(at((ptr)static_76, v39)));
-	u64 v209 = v39 + 1;
-	if (v209 == 8) { v40 = v207; goto L115; }
-	v39 = v209; goto L113;
-L114:;
-	su64(v208, 0x3a6e776f6e6b6e75ull);
-	v40 = v207;
-L115:;
-	u64 v210 = v40 - 1;
-	st8(at(v2, v210), 32);
-	if (v4 <= 9999) { v43 = v210; v44 = v4; goto L117; }
-	v41 = v4; v42 = v210;
-L116:;
-	u64 v211 = v41 / 10000;
-	u16 v212 = (u16)(v41 % 10000);
-	ptr v213 = at((ptr)static_51, (u64)(u16)((u32)(v212 % 100) << 1));
-	ptr v214 = at(v2, v42);
-	u8 v215 = ld8(v213+1);
-	st8(v214-2, ld8(v213));
-	st8(v214-1, v215);
-	u64 v216 = v42 - 4;
-	ptr v217 = at((ptr)static_51, (u64)(u16)((u32)(v212 / 100) << 1));
-	ptr v218 = at(v2, v216);
-	u8 v219 = ld8(v217+1);
-	st8(v218, ld8(v217));
-	st8(v218+1, v219);
-	if (v41 > 99999999) { v41 = v211; v42 = v216; goto L116; }
-	v43 = v216; v44 = v211;
-L117:;
-	if (v44 >= 100) goto L119;
-	if (v44 >= 10) goto L118;
-	u64 v220 = v43 - 1;
-	st8(at(v2, v220), (u8)v44 | 48);
-	v45 = v220; goto L121;
-L118:;
-	u64 v221 = v43 - 2;
-	ptr v222 = at((ptr)static_51, v44 << 1);
-	ptr v223 = at(v2, v221);
-	u8 v224 = ld8(v222+1);
-	st8(v223, ld8(v222));
-	st8(v223+1, v224);
-	v45 = v221; goto L121;
-L119:;
-	u16 v225 = (u16)v44;
-	ptr v226 = at((ptr)static_51, (u64)(u16)((u32)(v225 % 100) << 1));
-	ptr v227 = at(v2, v43);
-	u8 v228 = ld8(v226+1);
-	st8(v227-2, ld8(v226));
-	st8(v227-1, v228);
-	u16 v229 = v225 / 100;
-	if (v44 >= 1000) goto L120;
-	u64 v230 = v43 - 3;
-	st8(at(v2, v230), (u8)v229 | 48);
-	v45 = v230; goto L121;
-L120:;
-	u64 v231 = v43 - 4;
-	ptr v232 = at((ptr)static_51, (u64)(u16)((u32)v229 << 1));
-	ptr v233 = at(v2, v231);
-	u8 v234 = ld8(v232+1);
-	st8(v233, ld8(v232));
-	st8(v233+1, v234);
-	v45 = v231;
-L121:;
-	if (v45 == 126) { v50 = 0; v51 = 0; v52 = 0; v53 = 0; v54 = 0; v55 = 0; v56 = 0; v57 = 0; v58 = 0; v59 = 0; v60 = 0; v61 = 0; v62 = 0; goto L128; }
-	v46 = at(v2, v45); v47 = 126ull - v45;
-L122:;
-	clear(v63, 96);
-	u64 v235 = ld64(v3+16);
-	u64 v236 = ld64(v3+8);
-	if (v47 >= (v235 - v236)) goto L126;
-	u64 v237 = v236 + v47;
-	ptr v238 = ldp(v3);
-	clear(v3+8, 16);
-	ptr v239 = at(v238, v236);
-	if (((u64)v239 - (u64)v46) >= v47) goto L124;
-	v48 = 0;
-L123:;
-	st8(at(v239, v48), ld8(at(v46, v48)));
-	u64 v240 = v48 + 1;
-	if (v240 == v47) goto L125;
-	v48 = v240; goto L123;
-L124:;
-	move(v239, v46, v47);
-L125:;
-	stp(v3, v238);
-	st64(v3+8, v237);
-	st64(v3+16, v235);
-	v49 = v47; goto L127;
-L126:;
-	std_io_buffered_BufWriter_write_cold_9d90(v63, v3, v46, v47);
-	u64 v241 = ld64(v63+8);
-	if (ld8(v63) != 0) { v50 = 1; v51 = 4; v52 = v241; v53 = ld64(v63+16); v54 = ld64(v63+24); v55 = ld64(v63+32); v56 = ld64(v63+40); v57 = ld64(v63+48); v58 = ld64(v63+56); v59 = ld64(v63+64); v60 = ld64(v63+72); v61 = ld64(v63+80); v62 = ld64(v63+88); goto L128; }
-	if (v241 == 0) { v50 = 1; v51 = 4; v52 = 1513219; v53 = 0x7074756f20656874ull; v54 = 0x206b6f6f74207475ull; v55 = 0x2e676e6968746f6eull; v56 = 0x2e2e2e2e2e2e2e2eull; v57 = 0x2e2e2e2e2e2e2e2eull; v58 = 0x2e2e2e2e2e2e2e2eull; v59 = 0x2e2e2e2e2e2e2e2eull; v60 = 0x2e2e2e2e2e2e2e2eull; v61 = 0x2e2e2e2e2e2e2e2eull; v62 = 0x2e2e2e2e2e2e2e2eull; goto L128; }
-	v49 = v241;
-L127:;
-	u64 v242 = v47 - v49;
-	if (v242 != 0) { v46 = at(v46, v49); v47 = v242; goto L122; }
-	v50 = 0; v51 = 0; v52 = 0; v53 = 0; v54 = 0; v55 = 0; v56 = 0; v57 = 0; v58 = 0; v59 = 0; v60 = 0; v61 = 0; v62 = 0;
-L128:;
-	st8(v1, v50);
-	su64(v1+8, v51);
-	st8(v1+16, v50);
-	su64(v1+24, v52);
-	su64(v1+32, v53);
-	su64(v1+40, v54);
-	su64(v1+48, v55);
-	su64(v1+56, v56);
-	su64(v1+64, v57);
-	su64(v1+72, v58);
-	su64(v1+80, v59);
-	su64(v1+88, v60);
-	su64(v1+96, v61);
-	su64(v1+104, v62);
-L129:;
-	return;
-L130:;
-	__builtin_trap();
-}
-static void std_alloc_vec_Vec_drop_0f0e(ptr v1) {
-	u64 v2, v3;
-	ptr v4 = lup(v1);
-	u64 v5 = lu64(v1+8);
-	u64 v6 = lu64(v1+16);
-	if (v5 == 0) goto L10;
-	v2 = 0;
-L0:;
-	ptr v7 = at(v4, v2 * 48);
-	u64 v8 = lu64(v7+16);
-	u64 v9 = lu64(v7+24);
-	u64 v10 = lu64(v7+32);
-	u64 v11 = lu64(v7+40);
-	u8 v12 = (u8)lu16(v7+8);
-	u8 v13 = (u8)v8;
-	switch (ld8(v7)) {
-	case 0: goto L1;
-	case 1: goto L2;
-	case 2: goto L3;
-	case 3: goto L4;
-	case 4: goto L5;
-	case 5: goto L6;
-	case 6: goto L7;
-	default: goto L12;
-	}
-L1:;
-	if ((v12 == 0) || (v10 == 0)) goto L9;
-	v3 = v8; goto L8;
-L2:;
-	if ((v12 == 0) || (v10 == 0)) goto L9;
-	v3 = v8; goto L8;
-L3:;
-	if ((v12 == 0) || (v10 == 0)) goto L9;
-	v3 = v8; goto L8;
-L4:;
-	if ((v12 == 0) || (v10 == 0)) goto L9;
-	v3 = v8; goto L8;
-L5:;
-	if ((v13 == 0) || (v11 == 0)) goto L9;
-	v3 = v9; goto L8;
-L6:;
-	if ((v13 == 0) || (v11 == 0)) goto L9;
-	v3 = v9; goto L8;
-L7:;
-	if ((v13 == 0) || (v11 == 0)) goto L9;
-	v3 = v9;
-L8:;
-	deallocate((ptr)v3);
-L9:;
-	u64 v14 = v2 + 1;
-	if (v14 != v5) { v2 = v14; goto L0; }
-L10:;
-	if (v6 == 0) goto L11;
-	deallocate(v4);
-L11:;
-	return;
-L12:;
-	__builtin_trap();
-}
-static u8 core_fmt_formatter_Formatter_write_raw_bf26(ptr v1, ptr v2, u64 v3) {
-	u64 v4, v5, v6, v7, v9;
-	ptr v8;
-	u8 v10;
-	if (v3 == 0) { v10 = 0; goto L5; }
-	v4 = 0;
-L0:;
-	u8 v11 = ld8(at(v2, v4));
-	u32 v12 = (u32)v11;
-	if ((s8)v11 > -1) { v5 = 1; goto L2; }
-	u64 v13 = v4 + 1;
-	if (v3 <= v13) { v10 = 1; goto L5; }
-	u8 v14 = ld8(at(v2, v13));
-	if ((s8)v14 > -1) { v10 = 1; goto L5; }
-	u8 v15 = (v14 < 192 ? v14 : 192) & 127;
-	u32 v16 = (u32)v15;
-	if ((v11 < 194) || (v15 > 63)) { v10 = 1; goto L5; }
-	if (v11 < 224) { v5 = 2; goto L2; }
-	u64 v17 = v4 + 2;
-	if (v3 <= v17) { v10 = 1; goto L5; }
-	if ((s8)ld8(at(v2, v17)) >= -64) { v10 = 1; goto L5; }
-	if (v11 >= 240) goto L1;
-	u32 v18 = (v16 << 6) | ((v12 << 12) - 917504);
-	if (v18 < 2048) { v10 = 1; goto L5; }
-	if ((v18 > 55295) && (v11 < 238)) { v10 = 1; goto L5; }
-	v5 = 3; goto L2;
-L1:;
-	u64 v19 = v4 + 3;
-	if (v3 <= v19) { v10 = 1; goto L5; }
-	if ((s8)ld8(at(v2, v19)) >= -64) { v10 = 1; goto L5; }
-	if (((v12 << 18) - 62980096 + (v16 << 12)) >= 1048576) { v10 = 1; goto L5; }
-	v5 = 4;
-L2:;
-	u64 v20 = v5 + v4;
-	if (v20 < v3) { v4 = v20; goto L0; }
-	v6 = ld64(v1+1032); v7 = v3; v8 = v2;
-L3:;
-	u64 v21 = v7 - 1;
-	u8 v22 = ld8(v8);
-	if (v6 <= 1023) { v9 = v6; goto L4; }
-	u8 v23 = std_io_io_buffer_Buffer_flush(v1);
-	if (!v23) { v10 = 1; goto L5; }
-	u64 v24 = ld64(v1+1032);
-	if (v24 > 1023) { v10 = 1; goto L5; }
-	v9 = v24;
-L4:;
-	st8(at(v1+4, v9), v22);
-	u64 v25 = v9 + 1;
-	st64(v1+1032, v25);
-	if (v21 != 0) { v6 = v25; v7 = v21; v8 = v8+1; goto L3; }
-	v10 = 0;
-L5:;
-	return v10;
 }
 static u8 std_io_io_buffer_Buffer_flush(ptr v1) {
 	u64 v2, v3, v9, v10, v11, v12, v13, v14, v15, v16, v17, v18, v19, v20, v21, v22, v23, v24, v25, v26, v27, v28, v29;
@@ -11770,29 +10956,28 @@ static u8 std_io_io_buffer_Buffer_flush(ptr v1) {
 	if (v37 > 1024) { v35 = 0; goto L7; }
 	u32 v38 = ld32(v1);
 	u64 v39 = v37 + 63;
-	v2 = 0; v3 = 0;
+	v2 = v3 = 0;
 L0:;
 	u64 v40 = v3 + 1;
 	if (v37 <= v2) goto L6;
-	u64 v41 = v37 - v2;
-	u64 v42 = os_write(v38, at(v1+4, v2), v41);
+	u64 v41 = v37 - v2, v42 = os_write(v38, at(v1+4, v2), v41);
 	if ((s64)v42 >= 0) goto L1;
 	u32 v43 = os_errno();
 	if (v43 == 4) { v19 = v2; goto L4; }
 	std_io_io_error_Error_from_raw_os_error(v36, v43);
 	v4 = ld8(v36); v5 = ld8(v36+1); v6 = ld8(v36+2); v7 = ld8(v36+3); v8 = ld32(v36+4); v9 = ld64(v36+8); v10 = ld64(v36+16); v11 = ld64(v36+24); v12 = ld64(v36+32); v13 = ld64(v36+40); v14 = ld64(v36+48); v15 = ld64(v36+56); v16 = ld64(v36+64); v17 = ld64(v36+72); v18 = ld64(v36+80); goto L2;
-L1:;
-	if (v42 != 0) goto L3;
-	v4 = 2; v5 = 23; v6 = 28; v7 = 0; v8 = 0; v9 = 0x742064656c696166ull; v10 = 0x206574697277206full; v11 = 0x756220656c6f6877ull; v12 = 0x2e2e2e2e72656666ull; v13 = 0x2e2e2e2e2e2e2e2eull; v14 = 0x2e2e2e2e2e2e2e2eull; v15 = 0x2e2e2e2e2e2e2e2eull; v16 = 0x2e2e2e2e2e2e2e2eull; v17 = 0x2e2e2e2e2e2e2e2eull; v18 = 0x2e2e2e2e2e2e2e2eull;
-L2:;
+L1:
+	if (v42) goto L3;
+	v9 = 0x742064656c696166ull; v10 = 0x206574697277206full; v11 = 0x756220656c6f6877ull; v12 = 0x2e2e2e2e72656666ull; v13 = 0x2e2e2e2e2e2e2e2eull; v14 = 0x2e2e2e2e2e2e2e2eull; v15 = 0x2e2e2e2e2e2e2e2eull; v16 = 0x2e2e2e2e2e2e2e2eull; v17 = 0x2e2e2e2e2e2e2e2eull; v18 = 0x2e2e2e2e2e2e2e2eull; v4 = 2; v5 = 23; v6 = 28; v7 = v8 = 0;
+L2:
 	v20 = v18; v21 = v17; v22 = v16; v23 = v15; v24 = v14; v25 = v13; v26 = v12; v27 = v11; v28 = v10; v29 = v9; v30 = v8; v31 = v7; v32 = v6; v33 = v5; v34 = v4; goto L5;
-L3:;
+L3:
 	v19 = (v42 < v41 ? v42 : v41) + v2;
-L4:;
+L4:
 	if (v3 != v39) { v2 = v19; v3 = v40; goto L0; }
 	if (v37 <= v19) { v35 = 1; goto L7; }
-	v20 = 0; v21 = 0; v22 = 0; v23 = 0; v24 = 0; v25 = 0; v26 = 0; v27 = 0; v28 = 0; v29 = 0; v30 = 4; v31 = 0; v32 = 0; v33 = 35; v34 = 0;
-L5:;
+	v20 = v21 = v22 = v23 = v24 = v25 = v26 = v27 = v28 = v29 = v31 = v32 = v34 = 0; v30 = 4; v33 = 35;
+L5:
 	su64(v1+1040, 1);
 	st8(v1+1048, v34);
 	st8(v1+1049, v33);
@@ -11810,16 +10995,70 @@ L5:;
 	su64(v1+1120, v21);
 	su64(v1+1128, v20);
 	v35 = 0; goto L7;
-L6:;
+L6:
 	v35 = 1;
-L7:;
+L7:
 	return v35;
 }
-static __attribute__((noinline, cold)) u8 core_fmt_formatter_Formatter_write_indented_bf26(ptr v1, ptr v2, u64 v3) {
+static u8 core_fmt_formatter_Formatter_write_raw_bf26(ptr v1, ptr v2, u64 v3) {
+	u64 v4, v5, v6, v7, v9;
+	ptr v8;
+	u8 v10;
+	if (!v3) { v10 = 0; goto L5; }
+	v4 = 0;
+L0:;
+	u8 v11 = ld8(at(v2, v4));
+	u32 v12 = (u32)v11;
+	if ((s8)v11 > -1) { v5 = 1; goto L2; }
+	u64 v13 = v4 + 1;
+	if (v3 <= v13) { v10 = 1; goto L5; }
+	u8 v14 = ld8(at(v2, v13));
+	if ((s8)v14 > -1) { v10 = 1; goto L5; }
+	u8 v15 = (v14 < 192 ? v14 : 192) & 127;
+	u32 v16 = (u32)v15;
+	if (v11 < 194 || v15 > 63) { v10 = 1; goto L5; }
+	if (v11 < 224) { v5 = 2; goto L2; }
+	u64 v17 = v4 + 2;
+	if (v3 <= v17) { v10 = 1; goto L5; }
+	if ((s8)ld8(at(v2, v17)) >= -64) { v10 = 1; goto L5; }
+	if (v11 >= 240) goto L1;
+	u32 v18 = (v16 << 6) | ((v12 << 12) - 917504);
+	if (v18 < 2048) { v10 = 1; goto L5; }
+	if (v18 > 55295 && v11 < 238) { v10 = 1; goto L5; }
+	v5 = 3; goto L2;
+L1:;
+	u64 v19 = v4 + 3;
+	if (v3 <= v19) { v10 = 1; goto L5; }
+	if ((s8)ld8(at(v2, v19)) >= -64) { v10 = 1; goto L5; }
+	if ((v12 << 18) - 62980096 + (v16 << 12) >= 1048576) { v10 = 1; goto L5; }
+	v5 = 4;
+L2:;
+	u64 v20 = v5 + v4;
+	if (v20 < v3) { v4 = v20; goto L0; }
+	v6 = ld64(v1+1032); v7 = v3; v8 = v2;
+L3:;
+	u64 v21 = v7 - 1;
+	u8 v22 = ld8(v8);
+	if (v6 <= 1023) { v9 = v6; goto L4; }
+	u8 v23 = std_io_io_buffer_Buffer_flush(v1);
+	if (!v23) { v10 = 1; goto L5; }
+	u64 v24 = ld64(v1+1032);
+	if (v24 > 1023) { v10 = 1; goto L5; }
+	v9 = v24;
+L4:
+	st8(at(v1+4, v9), v22);
+	u64 v25 = v9 + 1;
+	st64(v1+1032, v25);
+	if (v21) { v6 = v25; v7 = v21; v8 = v8+1; goto L3; }
+	v10 = 0;
+L5:
+	return v10;
+}
+static APART RARE u8 core_fmt_formatter_Formatter_write_indented_bf26(ptr v1, ptr v2, u64 v3) {
 	u64 v4, v5, v6, v7, v8;
 	u8 v9;
-	if (v3 == 0) { v9 = 0; goto L6; }
-	v4 = 0; v5 = 0;
+	if (!v3) { v9 = 0; goto L6; }
+	v4 = v5 = 0;
 L0:;
 	u64 v10 = v5 + 1;
 	if (ld8(at(v2, v5)) != 10) { v7 = v4; goto L3; }
@@ -11828,37 +11067,37 @@ L0:;
 	if (v4 > v5) { v7 = v10; goto L3; }
 	if (!(ld8(v1+1168) & 1)) goto L2;
 	u64 v13 = ld64(v1+1160);
-	if (v13 == 0) goto L2;
+	if (!v13) goto L2;
 	v6 = 0;
 L1:;
 	u8 v14 = core_fmt_formatter_Formatter_write_raw_bf26(v1, (ptr)static_62, 4);
 	if (v14 & 1) { v9 = 1; goto L6; }
 	u64 v15 = v6 + 1;
 	if (v15 != v13) { v6 = v15; goto L1; }
-L2:;
+L2:
 	st8(v1+1168, 1);
 	u8 v16 = core_fmt_formatter_Formatter_write_raw_bf26(v1, v12, v11);
 	if (v16 & 1) { v9 = 1; goto L6; }
 	v7 = v10;
-L3:;
+L3:
 	if (v10 != v3) { v4 = v7; v5 = v10; goto L0; }
 	u64 v17 = v3 > v7 ? v3 - v7 : 0;
 	ptr v18 = at(v2, v7 > v3 ? 0 : v7);
 	if (v3 <= v7) { v9 = 0; goto L6; }
 	if (!(ld8(v1+1168) & 1)) goto L5;
 	u64 v19 = ld64(v1+1160);
-	if (v19 == 0) goto L5;
+	if (!v19) goto L5;
 	v8 = 0;
 L4:;
 	u8 v20 = core_fmt_formatter_Formatter_write_raw_bf26(v1, (ptr)static_62, 4);
 	if (v20 & 1) { v9 = 1; goto L6; }
 	u64 v21 = v8 + 1;
 	if (v21 != v19) { v8 = v21; goto L4; }
-L5:;
+L5:
 	st8(v1+1168, 0);
 	u8 v22 = core_fmt_formatter_Formatter_write_raw_bf26(v1, v18, v17);
 	v9 = v22;
-L6:;
+L6:
 	return v9;
 }
 int32_t program_main(void) {
@@ -11890,7 +11129,7 @@ int32_t program_main(void) {
 L0:;
 	u64 v130 = (s64)v128 > 0 ? v128 : 0;
 	core_str_utf8_from_utf8(v117, v121, v130 < 64 ? v130 : 64);
-	if (ld8(v117) != 0) goto L15;
+	if (ld8(v117)) goto L15;
 	copy(v118, v117+8, 16);
 	clear(v116, 24);
 	u64 v131 = os_arg(2, v122, 64);
@@ -11904,7 +11143,7 @@ L0:;
 L1:;
 	u64 v133 = (s64)v131 > 0 ? v131 : 0;
 	core_str_utf8_from_utf8(v116, v122, v133 < 64 ? v133 : 64);
-	if (ld8(v116) != 0) goto L11;
+	if (ld8(v116)) goto L11;
 	copy(v119, v116+8, 16);
 	clear(v115, 24);
 	u64 v134 = os_arg(3, v123, 64);
@@ -11918,7 +11157,7 @@ L1:;
 L2:;
 	u64 v136 = (s64)v134 > 0 ? v134 : 0;
 	core_str_utf8_from_utf8(v115, v123, v136 < 64 ? v136 : 64);
-	if (ld8(v115) != 0) goto L7;
+	if (ld8(v115)) goto L7;
 	copy(v120, v115+8, 16);
 	u64 v137 = os_arg(4, v95, 0);
 	os_set_errno((s64)v137 > -1 ? 0 : (v137 == ~0ull ? 22u : 36u));
@@ -11927,11 +11166,11 @@ L2:;
 	case 0: case 36: goto L3;
 	default: goto L4;
 	}
-L3:;
+L3:
 	clear(v124, 16);
 	clear(v125, 32);
-	v16 = (ptr)0; v17 = 0; v18 = 0; v19 = 3; v20 = 0; goto L18;
-L4:;
+	v16 = (ptr)0; v17 = v18 = v20 = 0; v19 = 3; goto L18;
+L4:
 	copy(v124, v118, 16);
 	copy(v125, v119, 16);
 	copy(v125+16, v120, 16);
@@ -11940,72 +11179,72 @@ L4:;
 	copy(v114+32, v125+16, 16);
 	clear(v107, 104);
 	t_64_64 v139 = allocate(262144, 1);
-	if (!(v139.f0 & 1)) { v1 = (ptr)0; v2 = 0; v3 = 0; v4 = 5; v5 = 0; goto L6; }
+	if (!(v139.f0 & 1)) { v1 = (ptr)0; v2 = v3 = v5 = 0; v4 = 5; goto L6; }
 	clear((ptr)v139.f1, 262144);
 	st64(v108, v139.f1);
 	st64(v108+8, 262144);
 	st64(v108+16, 262144);
 	clear(v108+24, 16);
 	capcopy_run_commands_run_0456(v107, v114, 3, v108, v126);
-	if (ld64(v108+16) == 0) goto L5;
+	if (!ld64(v108+16)) goto L5;
 	deallocate(ldp(v108));
-L5:;
+L5:
 	v1 = ldp(v107+16); v2 = ld64(v107+24); v3 = ld64(v107+32); v4 = ld8(v107); v5 = ld8(v107+8);
-L6:;
+L6:
 	v16 = v1; v17 = v2; v18 = v3; v19 = v4; v20 = v5; goto L18;
-L7:;
+L7:
 	goto L17;
-L8:;
+L8:
 	copy(v124, v118, 16);
 	copy(v125, v119, 16);
 	copy(v113, v124, 16);
 	copy(v113+16, v125, 16);
 	clear(v109, 104);
 	t_64_64 v140 = allocate(262144, 1);
-	if (!(v140.f0 & 1)) { v6 = (ptr)0; v7 = 0; v8 = 0; v9 = 5; v10 = 0; goto L10; }
+	if (!(v140.f0 & 1)) { v6 = (ptr)0; v7 = v8 = v10 = 0; v9 = 5; goto L10; }
 	clear((ptr)v140.f1, 262144);
 	st64(v110, v140.f1);
 	st64(v110+8, 262144);
 	st64(v110+16, 262144);
 	clear(v110+24, 16);
 	capcopy_run_commands_run_0456(v109, v113, 2, v110, v126);
-	if (ld64(v110+16) == 0) goto L9;
+	if (!ld64(v110+16)) goto L9;
 	deallocate(ldp(v110));
-L9:;
+L9:
 	v6 = ldp(v109+16); v7 = ld64(v109+24); v8 = ld64(v109+32); v9 = ld8(v109); v10 = ld8(v109+8);
-L10:;
+L10:
 	v16 = v6; v17 = v7; v18 = v8; v19 = v9; v20 = v10; goto L18;
-L11:;
+L11:
 	goto L17;
-L12:;
+L12:
 	copy(v124, v118, 16);
 	clear(v111, 104);
 	t_64_64 v141 = allocate(262144, 1);
-	if (!(v141.f0 & 1)) { v11 = (ptr)0; v12 = 0; v13 = 0; v14 = 5; v15 = 0; goto L14; }
+	if (!(v141.f0 & 1)) { v11 = (ptr)0; v12 = v13 = v15 = 0; v14 = 5; goto L14; }
 	clear((ptr)v141.f1, 262144);
 	st64(v112, v141.f1);
 	st64(v112+8, 262144);
 	st64(v112+16, 262144);
 	clear(v112+24, 16);
 	capcopy_run_commands_run_0456(v111, v124, 1, v112, v126);
-	if (ld64(v112+16) == 0) goto L13;
+	if (!ld64(v112+16)) goto L13;
 	deallocate(ldp(v112));
-L13:;
+L13:
 	v11 = ldp(v111+16); v12 = ld64(v111+24); v13 = ld64(v111+32); v14 = ld8(v111); v15 = ld8(v111+8);
-L14:;
+L14:
 	v16 = v11; v17 = v12; v18 = v13; v19 = v14; v20 = v15; goto L18;
-L15:;
+L15:
 	goto L17;
-L16:;
-L17:;
-	v16 = (ptr)0; v17 = 0; v18 = 0; v19 = 3; v20 = 0;
-L18:;
+L16:
+L17:
+	v16 = (ptr)0; v17 = v18 = v20 = 0; v19 = 3;
+L18:
 	clear(v106, 96);
 	std_io_buffered_BufWriter_flush_buf_9d90(v106, v126);
-	if (ld8(v106) != 0) goto L21;
+	if (ld8(v106)) goto L21;
 	copy(v104, v126, 24);
 	std_io_buffered_BufWriter_flush_buf_9d90(v105, v104);
-	if (ld64(v104+16) == 0) goto L19;
+	if (!ld64(v104+16)) goto L19;
 	deallocate(ldp(v104));
 L19:;
 	u64 v142 = (u64)v16;
@@ -12014,32 +11253,31 @@ L19:;
 	case 0: v94 = 0; goto L98;
 	default: v25 = v142; v26 = v18; v27 = v17; v28 = v16; v29 = v20; v30 = v19; goto L31;
 	}
-L20:;
+L20:
 	if (v20 == 1) { v21 = v16; v22 = v17; v23 = v18; v24 = v142; goto L27; }
 	v25 = v142; v26 = v18; v27 = v17; v28 = v16; v29 = v20; v30 = 4; goto L31;
 L21:;
 	ptr v143 = ldp(v106+8);
-	u64 v144 = ld64(v106+16);
-	u64 v145 = ld64(v106+24);
+	u64 v144 = ld64(v106+16), v145 = ld64(v106+24);
 	switch (v19) {
 	case 1: goto L22;
 	case 4: goto L23;
 	case 0: case 2: case 3: case 5: goto L25;
 	default: goto L29;
 	}
-L22:;
-	if ((v20 != 4) || (v18 == 0)) goto L25;
+L22:
+	if (v20 != 4 || !v18) goto L25;
 	goto L24;
-L23:;
-	if ((v20 != 4) || (v18 == 0)) goto L25;
-L24:;
+L23:
+	if (v20 != 4 || !v18) goto L25;
+L24:
 	deallocate(v16);
-L25:;
+L25:
 	copy(v102, v126, 24);
 	std_io_buffered_BufWriter_flush_buf_9d90(v103, v102);
-	if (ld64(v102+16) == 0) goto L26;
+	if (!ld64(v102+16)) goto L26;
 	deallocate(ldp(v102));
-L26:;
+L26:
 	v21 = v143; v22 = v144; v23 = v145; v24 = (u64)v143;
 L27:;
 	u64 v146 = v24 >> 8;
@@ -12086,14 +11324,14 @@ L27:;
 	st8(v101+40, 40);
 	if ((u8)v146 >= 41) goto L28;
 	if (ld8(at(v101, v146 & 63)) == 11) { v94 = 141; goto L98; }
-	v25 = v24; v26 = v23; v27 = v22; v28 = v21; v29 = 1; v30 = 4; goto L31;
-L28:;
-	v25 = v24; v26 = v23; v27 = v22; v28 = v21; v29 = 1; v30 = 4; goto L31;
-L29:;
+	M10: v25 = v24; v26 = v23; v27 = v22; v28 = v21; v29 = 1; v30 = 4; goto L31;
+L28:
+	goto M10;
+L29:
 	__builtin_trap();
-L30:;
-	v25 = 0; v26 = 0; v27 = 0; v28 = (ptr)0; v29 = 0; v30 = 5;
-L31:;
+L30:
+	v28 = (ptr)0; v25 = v26 = v27 = v29 = 0; v30 = 5;
+L31:
 	st32(v100, 2);
 	clear(v100+4, 1132);
 	st32(v100+1136, 32);
@@ -12105,11 +11343,11 @@ L31:;
 	clear(v100+1140, 12);
 	st64(v100+1152, ~0ull);
 	switch (v30) {
-	case 5: v31 = 0; v32 = 22; v33 = (ptr)static_82; goto L32;
-	case 1: v35 = 0; v36 = 9; v37 = (ptr)static_78; goto L34;
-	case 2: v81 = 0; v82 = 22; v83 = (ptr)static_79; goto L80;
-	case 3: v85 = 0; v86 = 59; v87 = (ptr)static_80; goto L82;
-	case 4: v89 = 0; v90 = 46; v91 = (ptr)static_81; goto L84;
+	case 5: v33 = (ptr)static_82; v31 = 0; v32 = 22; goto L32;
+	case 1: v37 = (ptr)static_78; v35 = 0; v36 = 9; goto L34;
+	case 2: v83 = (ptr)static_79; v81 = 0; v82 = 22; goto L80;
+	case 3: v87 = (ptr)static_80; v85 = 0; v86 = 59; goto L82;
+	case 4: v91 = (ptr)static_81; v89 = 0; v90 = 46; goto L84;
 	default: goto L100;
 	}
 L32:;
@@ -12118,13 +11356,13 @@ L32:;
 	if (v31 <= 1023) { v34 = v31; goto L33; }
 	u8 v149 = std_io_io_buffer_Buffer_flush(v100);
 	u64 v150 = ld64(v100+1032);
-	if (!(v149 && (v150 < 1024))) goto L85;
+	if (!(v149 && v150 < 1024)) goto L85;
 	v34 = v150;
-L33:;
+L33:
 	st8(at(v100+4, v34), v148);
 	u64 v151 = v34 + 1;
 	st64(v100+1032, v151);
-	if (v147 == 0) goto L87;
+	if (!v147) goto L87;
 	v31 = v151; v32 = v147; v33 = v33+1; goto L32;
 L34:;
 	u64 v152 = v36 - 1;
@@ -12132,13 +11370,13 @@ L34:;
 	if (v35 <= 1023) { v38 = v35; goto L35; }
 	u8 v154 = std_io_io_buffer_Buffer_flush(v100);
 	u64 v155 = ld64(v100+1032);
-	if (!(v154 && (v155 < 1024))) goto L75;
+	if (!(v154 && v155 < 1024)) goto L75;
 	v38 = v155;
-L35:;
+L35:
 	st8(at(v100+4, v38), v153);
 	u64 v156 = v38 + 1;
 	st64(v100+1032, v156);
-	if (v152 != 0) { v35 = v156; v36 = v152; v37 = v37+1; goto L34; }
+	if (v152) { v35 = v156; v36 = v152; v37 = v37+1; goto L34; }
 	st32(v100+1136, 32);
 	clear(v100+1140, 12);
 	st64(v100+1152, ~0ull);
@@ -12152,40 +11390,39 @@ L35:;
 	case 6: goto L73;
 	default: goto L79;
 	}
-L36:;
+L36:
 	if (!v157) goto L39;
-	v39 = v156; v40 = 14; v41 = (ptr)static_83;
+	v39 = v156; v41 = (ptr)static_83; v40 = 14;
 L37:;
 	u64 v158 = v40 - 1;
 	u8 v159 = ld8(v41);
 	if (v39 <= 1023) { v42 = v39; goto L38; }
 	u8 v160 = std_io_io_buffer_Buffer_flush(v100);
 	u64 v161 = ld64(v100+1032);
-	if (!(v160 && (v161 < 1024))) goto L75;
+	if (!(v160 && v161 < 1024)) goto L75;
 	v42 = v161;
-L38:;
+L38:
 	st8(at(v100+4, v42), v159);
 	u64 v162 = v42 + 1;
 	st64(v100+1032, v162);
-	if (v158 == 0) goto L40;
+	if (!v158) goto L40;
 	v39 = v162; v40 = v158; v41 = v41+1; goto L37;
 L39:;
 	u8 v163 = core_fmt_formatter_Formatter_write_indented_bf26(v100, (ptr)static_83, 14);
-	if (v163 != 0) goto L75;
-L40:;
+	if (v163) goto L75;
+L40:
 	st32(v100+1136, 32);
 	clear(v100+1140, 12);
 	st64(v100+1152, ~0ull);
 	clear(v97, 24);
 	if ((u64)v28 <= (u64)(ptr)99ull) { v45 = v25; v46 = 24; goto L42; }
-	v43 = 24; v44 = v25;
+	v44 = v25; v43 = 24;
 L41:;
 	u8 v164 = (u8)(v44 % 100);
 	ptr v165 = at(v97, v43);
 	st8(v165-1, (v164 % 10) | 48);
 	st8(v165-2, (v164 / 10) | 48);
-	u64 v166 = v44 / 100;
-	u64 v167 = v43 - 2;
+	u64 v166 = v44 / 100, v167 = v43 - 2;
 	if (v44 > 9999) { v43 = v167; v44 = v166; goto L41; }
 	v45 = v166; v46 = v167;
 L42:;
@@ -12203,7 +11440,7 @@ L44:;
 	ptr v171 = at(v97, v47);
 	st8(v171-1, 45);
 	u64 v172 = 24ull - v47;
-	if (ld64(v100+1160) != 0) goto L48;
+	if (ld64(v100+1160)) goto L48;
 	if (v47 == 24) goto L47;
 	v48 = ld64(v100+1032); v49 = v172; v50 = v171;
 L45:;
@@ -12212,87 +11449,87 @@ L45:;
 	if (v48 <= 1023) { v51 = v48; goto L46; }
 	u8 v175 = std_io_io_buffer_Buffer_flush(v100);
 	u64 v176 = ld64(v100+1032);
-	if (v175 && (v176 < 1024)) { v51 = v176; goto L46; }
+	if (v175 && v176 < 1024) { v51 = v176; goto L46; }
 	goto L75;
-L46:;
+L46:
 	st8(at(v100+4, v51), v174);
 	u64 v177 = v51 + 1;
 	st64(v100+1032, v177);
-	if (v173 != 0) { v48 = v177; v49 = v173; v50 = v50+1; goto L45; }
-L47:;
+	if (v173) { v48 = v177; v49 = v173; v50 = v50+1; goto L45; }
+L47:
 	goto L49;
 L48:;
 	u8 v178 = core_fmt_formatter_Formatter_write_indented_bf26(v100, v171, v172);
-	if (v178 != 0) goto L75;
-L49:;
+	if (v178) goto L75;
+L49:
 	st32(v100+1136, 32);
 	clear(v100+1140, 12);
 	st64(v100+1152, ~0ull);
-	if (ld64(v100+1160) != 0) goto L52;
-	v52 = ld64(v100+1032); v53 = 11; v54 = (ptr)static_84;
+	if (ld64(v100+1160)) goto L52;
+	v52 = ld64(v100+1032); v54 = (ptr)static_84; v53 = 11;
 L50:;
 	u64 v179 = v53 - 1;
 	u8 v180 = ld8(v54);
 	if (v52 <= 1023) { v55 = v52; goto L51; }
 	u8 v181 = std_io_io_buffer_Buffer_flush(v100);
 	u64 v182 = ld64(v100+1032);
-	if (!(v181 && (v182 < 1024))) goto L75;
+	if (!(v181 && v182 < 1024)) goto L75;
 	v55 = v182;
-L51:;
+L51:
 	st8(at(v100+4, v55), v180);
 	u64 v183 = v55 + 1;
 	st64(v100+1032, v183);
-	if (v179 == 0) goto L87;
+	if (!v179) goto L87;
 	v52 = v183; v53 = v179; v54 = v54+1; goto L50;
 L52:;
 	u8 v184 = core_fmt_formatter_Formatter_write_indented_bf26(v100, (ptr)static_84, 11);
 	v80 = v184; goto L78;
-L53:;
+L53:
 	if (!v157) goto L56;
-	v56 = v156; v57 = 19; v58 = (ptr)static_85;
+	v56 = v156; v58 = (ptr)static_85; v57 = 19;
 L54:;
 	u64 v185 = v57 - 1;
 	u8 v186 = ld8(v58);
 	if (v56 <= 1023) { v59 = v56; goto L55; }
 	u8 v187 = std_io_io_buffer_Buffer_flush(v100);
 	u64 v188 = ld64(v100+1032);
-	if (!(v187 && (v188 < 1024))) goto L75;
+	if (!(v187 && v188 < 1024)) goto L75;
 	v59 = v188;
-L55:;
+L55:
 	st8(at(v100+4, v59), v186);
 	u64 v189 = v59 + 1;
 	st64(v100+1032, v189);
-	if (v185 == 0) goto L87;
+	if (!v185) goto L87;
 	v56 = v189; v57 = v185; v58 = v58+1; goto L54;
 L56:;
 	u8 v190 = core_fmt_formatter_Formatter_write_indented_bf26(v100, (ptr)static_85, 19);
 	v80 = v190; goto L78;
-L57:;
+L57:
 	if (!v157) goto L60;
-	v60 = v156; v61 = 21; v62 = (ptr)static_86;
+	v60 = v156; v62 = (ptr)static_86; v61 = 21;
 L58:;
 	u64 v191 = v61 - 1;
 	u8 v192 = ld8(v62);
 	if (v60 <= 1023) { v63 = v60; goto L59; }
 	u8 v193 = std_io_io_buffer_Buffer_flush(v100);
 	u64 v194 = ld64(v100+1032);
-	if (!(v193 && (v194 < 1024))) goto L75;
+	if (!(v193 && v194 < 1024)) goto L75;
 	v63 = v194;
-L59:;
+L59:
 	st8(at(v100+4, v63), v192);
 	u64 v195 = v63 + 1;
 	st64(v100+1032, v195);
-	if (v191 == 0) goto L61;
+	if (!v191) goto L61;
 	v60 = v195; v61 = v191; v62 = v62+1; goto L58;
 L60:;
 	u8 v196 = core_fmt_formatter_Formatter_write_indented_bf26(v100, (ptr)static_86, 21);
-	if (v196 != 0) goto L75;
-L61:;
+	if (v196) goto L75;
+L61:
 	st32(v100+1136, 32);
 	clear(v100+1140, 12);
 	st64(v100+1152, ~0ull);
-	if (ld64(v100+1160) != 0) goto L64;
-	if (v27 == 0) goto L87;
+	if (ld64(v100+1160)) goto L64;
+	if (!v27) goto L87;
 	v64 = ld64(v100+1032); v65 = v27; v66 = v28;
 L62:;
 	u64 v197 = v65 - 1;
@@ -12300,84 +11537,84 @@ L62:;
 	if (v64 <= 1023) { v67 = v64; goto L63; }
 	u8 v199 = std_io_io_buffer_Buffer_flush(v100);
 	u64 v200 = ld64(v100+1032);
-	if (!(v199 && (v200 < 1024))) goto L75;
+	if (!(v199 && v200 < 1024)) goto L75;
 	v67 = v200;
-L63:;
+L63:
 	st8(at(v100+4, v67), v198);
 	u64 v201 = v67 + 1;
 	st64(v100+1032, v201);
-	if (v197 == 0) goto L87;
+	if (!v197) goto L87;
 	v64 = v201; v65 = v197; v66 = v66+1; goto L62;
 L64:;
 	u8 v202 = core_fmt_formatter_Formatter_write_indented_bf26(v100, v28, v27);
 	v80 = v202; goto L78;
-L65:;
+L65:
 	if (!v157) goto L68;
-	v68 = v156; v69 = 10; v70 = (ptr)static_89;
+	v68 = v156; v70 = (ptr)static_89; v69 = 10;
 L66:;
 	u64 v203 = v69 - 1;
 	u8 v204 = ld8(v70);
 	if (v68 <= 1023) { v71 = v68; goto L67; }
 	u8 v205 = std_io_io_buffer_Buffer_flush(v100);
 	u64 v206 = ld64(v100+1032);
-	if (!(v205 && (v206 < 1024))) goto L75;
+	if (!(v205 && v206 < 1024)) goto L75;
 	v71 = v206;
-L67:;
+L67:
 	st8(at(v100+4, v71), v204);
 	u64 v207 = v71 + 1;
 	st64(v100+1032, v207);
-	if (v203 == 0) goto L87;
+	if (!v203) goto L87;
 	v68 = v207; v69 = v203; v70 = v70+1; goto L66;
 L68:;
 	u8 v208 = core_fmt_formatter_Formatter_write_indented_bf26(v100, (ptr)static_89, 10);
 	v80 = v208; goto L78;
-L69:;
+L69:
 	if (!v157) goto L72;
-	v72 = v156; v73 = 13; v74 = (ptr)static_87;
+	v72 = v156; v74 = (ptr)static_87; v73 = 13;
 L70:;
 	u64 v209 = v73 - 1;
 	u8 v210 = ld8(v74);
 	if (v72 <= 1023) { v75 = v72; goto L71; }
 	u8 v211 = std_io_io_buffer_Buffer_flush(v100);
 	u64 v212 = ld64(v100+1032);
-	if (!(v211 && (v212 < 1024))) goto L75;
+	if (!(v211 && v212 < 1024)) goto L75;
 	v75 = v212;
-L71:;
+L71:
 	st8(at(v100+4, v75), v210);
 	u64 v213 = v75 + 1;
 	st64(v100+1032, v213);
-	if (v209 == 0) goto L87;
+	if (!v209) goto L87;
 	v72 = v213; v73 = v209; v74 = v74+1; goto L70;
 L72:;
 	u8 v214 = core_fmt_formatter_Formatter_write_indented_bf26(v100, (ptr)static_87, 13);
 	v80 = v214; goto L78;
-L73:;
+L73:
 	if (!v157) goto L77;
-	v76 = v156; v77 = 21; v78 = (ptr)static_88;
+	v76 = v156; v78 = (ptr)static_88; v77 = 21;
 L74:;
 	u64 v215 = v77 - 1;
 	u8 v216 = ld8(v78);
 	if (v76 <= 1023) { v79 = v76; goto L76; }
 	u8 v217 = std_io_io_buffer_Buffer_flush(v100);
 	u64 v218 = ld64(v100+1032);
-	if (v217 && (v218 < 1024)) { v79 = v218; goto L76; }
-L75:;
+	if (v217 && v218 < 1024) { v79 = v218; goto L76; }
+L75:
 	copy(v100+1136, v99, 24);
 	goto L92;
-L76:;
+L76:
 	st8(at(v100+4, v79), v216);
 	u64 v219 = v79 + 1;
 	st64(v100+1032, v219);
-	if (v215 == 0) goto L87;
+	if (!v215) goto L87;
 	v76 = v219; v77 = v215; v78 = v78+1; goto L74;
 L77:;
 	u8 v220 = core_fmt_formatter_Formatter_write_indented_bf26(v100, (ptr)static_88, 21);
 	v80 = v220;
-L78:;
+L78:
 	copy(v100+1136, v99, 24);
-	if (v80 == 0) goto L88;
+	if (!v80) goto L88;
 	goto L92;
-L79:;
+L79:
 	__builtin_trap();
 L80:;
 	u64 v221 = v82 - 1;
@@ -12385,13 +11622,13 @@ L80:;
 	if (v81 <= 1023) { v84 = v81; goto L81; }
 	u8 v223 = std_io_io_buffer_Buffer_flush(v100);
 	u64 v224 = ld64(v100+1032);
-	if (!(v223 && (v224 < 1024))) goto L85;
+	if (!(v223 && v224 < 1024)) goto L85;
 	v84 = v224;
-L81:;
+L81:
 	st8(at(v100+4, v84), v222);
 	u64 v225 = v84 + 1;
 	st64(v100+1032, v225);
-	if (v221 == 0) goto L87;
+	if (!v221) goto L87;
 	v81 = v225; v82 = v221; v83 = v83+1; goto L80;
 L82:;
 	u64 v226 = v86 - 1;
@@ -12399,13 +11636,13 @@ L82:;
 	if (v85 <= 1023) { v88 = v85; goto L83; }
 	u8 v228 = std_io_io_buffer_Buffer_flush(v100);
 	u64 v229 = ld64(v100+1032);
-	if (!(v228 && (v229 < 1024))) goto L85;
+	if (!(v228 && v229 < 1024)) goto L85;
 	v88 = v229;
-L83:;
+L83:
 	st8(at(v100+4, v88), v227);
 	u64 v230 = v88 + 1;
 	st64(v100+1032, v230);
-	if (v226 == 0) goto L87;
+	if (!v226) goto L87;
 	v85 = v230; v86 = v226; v87 = v87+1; goto L82;
 L84:;
 	u64 v231 = v90 - 1;
@@ -12413,38 +11650,38 @@ L84:;
 	if (v89 <= 1023) { v92 = v89; goto L86; }
 	u8 v233 = std_io_io_buffer_Buffer_flush(v100);
 	u64 v234 = ld64(v100+1032);
-	if (v233 && (v234 < 1024)) { v92 = v234; goto L86; }
-L85:;
+	if (v233 && v234 < 1024) { v92 = v234; goto L86; }
+L85:
 	copy(v100+1136, v99, 24);
 	goto L92;
-L86:;
+L86:
 	st8(at(v100+4, v92), v232);
 	u64 v235 = v92 + 1;
 	st64(v100+1032, v235);
-	if (v231 != 0) { v89 = v235; v90 = v231; v91 = v91+1; goto L84; }
-L87:;
+	if (v231) { v89 = v235; v90 = v231; v91 = v91+1; goto L84; }
+L87:
 	copy(v100+1136, v99, 24);
-L88:;
+L88:
 	copy(v98, v100+1136, 24);
 	st32(v100+1136, 32);
 	clear(v100+1140, 12);
 	st64(v100+1152, ~0ull);
-	if (ld64(v100+1160) != 0) goto L90;
+	if (ld64(v100+1160)) goto L90;
 	u64 v236 = ld64(v100+1032);
 	if (v236 <= 1023) { v93 = v236; goto L89; }
 	u8 v237 = std_io_io_buffer_Buffer_flush(v100);
 	u64 v238 = ld64(v100+1032);
-	if (!(v237 && (v238 < 1024))) goto L91;
+	if (!(v237 && v238 < 1024)) goto L91;
 	v93 = v238;
-L89:;
+L89:
 	st8(at(v100+4, v93), 10);
 	st64(v100+1032, v93 + 1);
 	goto L91;
-L90:;
+L90:
 	core_fmt_formatter_Formatter_write_indented_bf26(v100, (ptr)static_61, 1);
-L91:;
+L91:
 	copy(v100+1136, v98, 24);
-L92:;
+L92:
 	st32(v96, ld32(v100));
 	copy(v96+4, v100+4, 1132);
 	std_io_io_buffer_Buffer_flush(v96);
@@ -12457,25 +11694,25 @@ L92:;
 	case 2: goto L97;
 	default: goto L99;
 	}
-L93:;
+L93:
 	v94 = 4; goto L98;
-L94:;
-	if ((v29 != 4) || (v26 == 0)) { v94 = 3; goto L98; }
+L94:
+	if (v29 != 4 || !v26) { v94 = 3; goto L98; }
 	deallocate(v28);
 	v94 = 3; goto L98;
-L95:;
+L95:
 	v94 = 2; goto L98;
-L96:;
-	if ((v29 != 4) || (v26 == 0)) { v94 = 1; goto L98; }
+L96:
+	if (v29 != 4 || !v26) { v94 = 1; goto L98; }
 	deallocate(v28);
 	v94 = 1; goto L98;
-L97:;
+L97:
 	v94 = 1;
-L98:;
+L98:
 	return (int32_t)(v94);
-L99:;
+L99:
 	__builtin_trap();
-L100:;
+L100:
 	__builtin_trap();
 }
 #endif

@@ -7,13 +7,15 @@
  * Toolchain: rattle-kit-13f logic dac8208d650f15bf
  * Proof of the crate pcapfile_c: logic=proved functions=120 axioms=3 target=x86_64-unknown-linux-gnu cpu=x86-64-v2
  * sum=dac8208d650f15bf native=nat,char,string
- * Sources: sha256 7fae68cad80bdce667a95b7fdc1b27690c6e28b6ee8c1184c41536782956dd26
+ * Sources: sha256 3e9c21ad2fafdbcff5d982a2f75d0f93b79529b6431d5af8e824fe6a9e5526cf
  * (of src and specs of pcap_blocks, pcap_classic, pcap_core, pcap_items, pcap_ng, pcap_options, pcap_parts,
  * pcap_raw_options, pcap_times, pcap_tolerant, pcap_tolerant_blocks, pcap_tolerant_captures, pcap_written, pcapfile_c,
  * pcapfile_values)
  *
  * MIT licence: see LICENSE and NOTICE.
  * It holds parts of byteorder (MIT): see LICENSE.NAME of each, and NOTICE.
+ * It holds parts of the toolchain's core, libc, std, std_alloc, std_heap, std_io, which have no licence file: see
+ * NOTICE.
  */
 #if !defined __GNUC__
 #error "this file needs gcc or clang: it uses 128-bit integers and vectors"
@@ -48,7 +50,8 @@ typedef __int128 s128;
 typedef u8 *ptr;
 
 #define INLINE static inline __attribute__((always_inline, unused))
-#define APART static __attribute__((noinline, unused))
+#define APART __attribute__((noinline))
+#define RARE __attribute__((cold))
 
 /* Each access to memory copies bytes: ld and st where the address is aligned, lu and su where it may be any. */
 #define ACCESS(name, type) \
@@ -98,10 +101,10 @@ FUNNEL(64)
 
 /* Each operation is a function of its own, so that no compiler joins a product and a sum into one that rounds once. */
 #define REAL(type, bits) \
-	APART type type##_add(type x, type y) { return x + y; } \
-	APART type type##_sub(type x, type y) { return x - y; } \
-	APART type type##_mul(type x, type y) { return x * y; } \
-	APART type type##_div(type x, type y) { return x / y; } \
+	static APART type type##_add(type x, type y) { return x + y; } \
+	static APART type type##_sub(type x, type y) { return x - y; } \
+	static APART type type##_mul(type x, type y) { return x * y; } \
+	static APART type type##_div(type x, type y) { return x / y; } \
 	INLINE type type##_of(u##bits n) { type v; memcpy(&v, &n, sizeof v); return v; }
 REAL(float, 32)
 REAL(double, 64)
@@ -151,75 +154,6 @@ typedef struct { u8 f0; u32 f1; } t_8_32;
 typedef struct { ptr f0; u64 f1; } t_p_64;
 
 
-static u32 pcapfile_c_block_cuts_fill_cuts(ptr v1, u64 v2, u8 v3, u64 v4, ptr v5, ptr v6, ptr v7, u64 v8, ptr v9, ptr v10);
-static void pcap_parts_cut_ng_cut_ng_by(ptr v1, ptr v2, u64 v3, u8 v4, u64 v5);
-static void pcap_ng_pcapng_block_Block_from_slice(ptr v1, u8 v2, ptr v3, u64 v4);
-static void pcap_ng_pcapng_block_Block_first_section(ptr v1, ptr v2);
-static void pcap_blocks_parsed_block_ParsedBlock_from_slice_4da0(ptr v1, u8 v2, u32 v3, ptr v4, u64 v5);
-static void pcap_blocks_section_header_SectionHeaderBlock_read(ptr v1, ptr v2, u64 v3);
-static void core_str_utf8_from_utf8(ptr v1, ptr v2, u64 v3);
-static __attribute__((noinline)) u64 core_slice_words_skip_far_52f9(ptr v1, u64 v2, u64 v3);
-static void blocks_interface_description_InterfaceDescriptionBlock_read_4da0(ptr v1, ptr v2, u64 v3);
-static void ptions_interface_option_InterfaceDescriptionOption_Destruct_drop(ptr v1);
-static t_8_32 pcap_core_link_DataLinkFromU32_from(u32 v1);
-static __attribute__((noinline)) void pcap_options_records_records_from_slice_4da0(ptr v1, ptr v2, u64 v3);
-static void pcap_options_record_Record_from_value(ptr v1, u16 v2, u16 v3, ptr v4, u64 v5);
-static __attribute__((noinline)) void pcap_options_names_names_from_slice(ptr v1, ptr v2, u64 v3);
-static __attribute__((noinline, cold)) u8 std_alloc_vec_Vec_grow_amortized_2044(ptr v1);
-static __attribute__((noinline, cold)) u8 std_alloc_vec_Vec_grow_amortized_8416(ptr v1);
-static void pcap_options_pcap_options_record_Record_Destruct_drop(ptr v1);
-static void std_alloc_vec_Vec_drop_15c9(ptr v1);
-static void pcap_blocks_enhanced_packet_EnhancedPacketBlock_read_4da0(ptr v1, ptr v2, u64 v3);
-static void pcap_options_refusal_PcapErrorFromRefusal_from(ptr v1, ptr v2);
-static void pcap_blocks_parsed_block_ParsedBlock_from_slice_7f02(ptr v1, u8 v2, u32 v3, ptr v4, u64 v5);
-static void blocks_interface_description_InterfaceDescriptionBlock_read_7f02(ptr v1, ptr v2, u64 v3);
-static __attribute__((noinline)) void pcap_options_records_records_from_slice_7f02(ptr v1, ptr v2, u64 v3);
-static void pcap_blocks_enhanced_packet_EnhancedPacketBlock_read_7f02(ptr v1, ptr v2, u64 v3);
-static void std_alloc_vec_Vec_drop_37c7(ptr v1);
-static void pcap_blocks_section_header_SectionHeaderBlock_into_owned(ptr v1, ptr v2);
-static void std_alloc_vec_deque_VecDeque_drop_0fd4(ptr v1);
-static __attribute__((noinline)) void pcap_ng_pcapng_block_Block_new_section(ptr v1, ptr v2, u64 v3);
-static __attribute__((noinline)) void pcap_ng_pcapng_block_Block_new_interface(ptr v1, ptr v2);
-static __attribute__((noinline)) void pcap_ng_pcapng_state_InForce_begin_section(ptr v1, ptr v2, ptr v3);
-static __attribute__((noinline)) void pcap_ng_pcapng_state_InForce_add_interface(ptr v1, ptr v2, ptr v3);
-static void std_alloc_vec_deque_VecDeque_drop_af98(ptr v1);
-static __attribute__((noinline, cold)) u8 std_alloc_vec_Vec_grow_amortized_1728(ptr v1);
-static __attribute__((noinline, cold)) u8 std_alloc_vec_Vec_grow_amortized_62d2(ptr v1);
-static __attribute__((noinline, cold)) u8 std_alloc_vec_Vec_grow_amortized_d1d7(ptr v1);
-static void std_alloc_vec_Vec_drop_e386(ptr v1);
-static u32 pcapfile_values_errors_tell(ptr v1, ptr v2);
-static u32 pcapfile_c_cuts_fill_cuts(ptr v1, u8 v2, u64 v3, ptr v4, ptr v5, ptr v6);
-static u32 pcap_core_link_U32FromDataLink_from(u8 v1, u32 v2);
-static void pcapfile_values_bodies_interface_of(ptr v1, u8 v2, u8 v3, u32 v4, ptr v5, u64 v6);
-static void std_alloc_vec_Vec_drop_050b(ptr v1);
-static void std_alloc_vec_Vec_drop_368c(ptr v1);
-static void std_alloc_vec_Vec_drop_f1dc(ptr v1);
-static void std_alloc_vec_Vec_drop_015c(ptr v1);
-static __attribute__((noinline)) void pcapfile_values_enhanced_options_behind_some_4da0(ptr v1, ptr v2, u64 v3);
-static __attribute__((noinline, cold)) void pcapfile_values_bodies_read_enhanced_4da0(ptr v1, ptr v2, u64 v3);
-static __attribute__((noinline)) void pcapfile_values_enhanced_options_behind_some_7f02(ptr v1, ptr v2, u64 v3);
-static __attribute__((noinline, cold)) void pcapfile_values_bodies_read_enhanced_7f02(ptr v1, ptr v2, u64 v3);
-static __attribute__((noinline, cold)) void pcapfile_values_bodies_seldom_packet(ptr v1, u8 v2, u8 v3, u32 v4, ptr v5, u64 v6);
-static void pcapfile_values_reasons_Reason_from_number(ptr v1, u32 v2);
-static void pcapfile_values_blocks_PcapfileSection_next_block(ptr v1, ptr v2, ptr v3, u64 v4);
-static u32 pcapfile_c_pcap_pcapfile_take_header(ptr v1, ptr v2, ptr v3);
-static void pcap_options_names_str_from_u8_null_terminated(ptr v1, ptr v2, u64 v3);
-static __attribute__((noinline, cold)) void pcapfile_c_batches_any_front(ptr v1, u8 v2, ptr v3, u64 v4);
-static void pcapfile_c_records_record_of(ptr v1, u16 v2, ptr v3, u64 v4);
-static void std_alloc_vec_Vec_push_9fda(ptr v1, ptr v2, ptr v3);
-static __attribute__((noinline, cold)) u8 std_alloc_vec_Vec_grow_amortized_9fda(ptr v1);
-static u8 pcap_tolerant_blocks_list_keep_289b(ptr v1, ptr v2, ptr v3);
-static __attribute__((noinline, cold)) u8 std_alloc_vec_Vec_grow_amortized_05c7(ptr v1);
-static u8 pcap_tolerant_blocks_list_note(ptr v1, ptr v2);
-static void ptions_interface_option_InterfaceDescriptionOption_Destruct_drop_2(ptr v1);
-static u8 pcap_tolerant_blocks_list_keep_56d9(ptr v1, ptr v2, ptr v3);
-static __attribute__((noinline, cold)) t_8_32 pcapfile_c_push_packets_take_first(ptr v1, ptr v2, ptr v3);
-static __attribute__((noinline, cold)) t_8_32 pcapfile_c_push_packets_take_section(ptr v1, ptr v2, ptr v3, u64 v4, ptr v5, u64 v6, ptr v7);
-static __attribute__((noinline, cold)) t_8_32 pcapfile_c_push_packets_take_interface(u8 v1, ptr v2, ptr v3, ptr v4, u64 v5, ptr v6, u64 v7, ptr v8, u64 v9, ptr v10);
-static __attribute__((noinline, cold)) u32 pcapfile_c_pcap_take_slowly(u32 v1, ptr v2, ptr v3, ptr v4);
-static __attribute__((noinline, cold)) u32 pcapfile_c_push_take_first(ptr v1, ptr v2, ptr v3, ptr v4);
-static u32 pcapfile_c_push_batches_fill_places(ptr v1, ptr v2, ptr v3, u64 v4, ptr v5, ptr v6);
-static __attribute__((noinline, cold)) u32 pcapfile_c_push_batches_take_first_packets(ptr v1, ptr v2, ptr v3, u64 v4, ptr v5, ptr v6);
 int32_t pcapfile_cut_blocks(ptr v1, ptr v2, u64 v3, ptr v4, ptr v5, u64 v6, ptr v7, ptr v8);
 int32_t pcapfile_cut_blocks_at_least(ptr v1, u64 v2, ptr v3, u64 v4, ptr v5, ptr v6, u64 v7, ptr v8, ptr v9);
 int32_t pcapfile_cut_packets(ptr v1, ptr v2, u64 v3, ptr v4, ptr v5);
@@ -375,446 +309,6 @@ static _Alignas(4) const u8 switch_table_pcapfile_take_block_as_is[160] = {1,0,0
 static _Alignas(8) const struct __attribute__((packed)) { ptr f0; ptr f1; ptr f2; ptr f3; ptr f4; ptr f5; ptr f6; ptr f7; ptr f8; ptr f9; ptr f10; ptr f11; ptr f12; ptr f13; ptr f14; ptr f15; ptr f16; ptr f17; ptr f18; ptr f19; ptr f20; ptr f21; ptr f22; ptr f23; ptr f24; ptr f25; ptr f26; ptr f27; ptr f28; ptr f29; ptr f30; ptr f31; ptr f32; ptr f33; ptr f34; ptr f35; ptr f36; ptr f37; ptr f38; ptr f39; } switch_table_pcapfile_rule_name = { (ptr)static_46, (ptr)static_47, (ptr)static_48, (ptr)static_49, (ptr)static_50, (ptr)static_51, (ptr)static_52, (ptr)static_53, (ptr)static_54, (ptr)static_55, (ptr)static_56, (ptr)static_57, (ptr)static_58, (ptr)static_59, (ptr)static_60, (ptr)static_61, (ptr)static_62, (ptr)static_63, (ptr)static_64, (ptr)static_65, (ptr)static_66, (ptr)static_67, (ptr)static_68, (ptr)static_69, (ptr)static_70, (ptr)static_71, (ptr)static_72, (ptr)static_73, (ptr)static_74, (ptr)static_75, (ptr)static_76, (ptr)static_77, (ptr)static_78, (ptr)static_79, (ptr)static_80, (ptr)static_81, (ptr)static_82, (ptr)static_83, (ptr)static_84, (ptr)static_85 };
 static _Alignas(8) const struct __attribute__((packed)) { ptr f0; ptr f1; ptr f2; ptr f3; ptr f4; ptr f5; ptr f6; ptr f7; ptr f8; ptr f9; ptr f10; ptr f11; ptr f12; ptr f13; ptr f14; ptr f15; ptr f16; ptr f17; ptr f18; ptr f19; ptr f20; ptr f21; ptr f22; ptr f23; ptr f24; ptr f25; ptr f26; ptr f27; ptr f28; ptr f29; ptr f30; ptr f31; ptr f32; ptr f33; ptr f34; ptr f35; ptr f36; ptr f37; ptr f38; ptr f39; } switch_table_pcapfile_rule_text_272 = { (ptr)static_0, (ptr)static_1, (ptr)static_2, (ptr)static_3, (ptr)static_4, (ptr)static_5, (ptr)static_6, (ptr)static_7, (ptr)static_8, (ptr)static_9, (ptr)static_10, (ptr)static_11, (ptr)static_12, (ptr)static_13, (ptr)static_14, (ptr)static_15, (ptr)static_16, (ptr)static_17, (ptr)static_18, (ptr)static_19, (ptr)static_20, (ptr)static_21, (ptr)static_22, (ptr)static_23, (ptr)static_24, (ptr)static_25, (ptr)static_26, (ptr)static_27, (ptr)static_28, (ptr)static_29, (ptr)static_30, (ptr)static_31, (ptr)static_32, (ptr)static_33, (ptr)static_34, (ptr)static_35, (ptr)static_36, (ptr)static_37, (ptr)static_38, (ptr)static_39 };
 
-static u32 pcapfile_c_block_cuts_fill_cuts(ptr v1, u64 v2, u8 v3, u64 v4, ptr v5, ptr v6, ptr v7, u64 v8, ptr v9, ptr v10) {
-	u64 v11, v12, v14, v15, v16, v19, v20;
-	ptr v13, v21;
-	u8 v17, v18;
-	u32 v22, v23;
-	_Alignas(8) u8 v24[104], v25[104], v26[48], v27[96];
-	_Alignas(1) u8 v28[48];
-	st64(v27, 0);
-	if (!(v3 & 1)) goto L0;
-	clear(v24, 104);
-	pcap_parts_cut_ng_cut_ng_by(v24, v1, v2, 1, v4 > 1 ? v4 : 1);
-	u8 v29 = ld8(v24);
-	u8 v30 = ld8(v24+8);
-	u64 v31 = (u64)ld_bytes(v24+9, 7) & 0xffffffffffffffull;
-	u64 v32 = ld64(v24+16);
-	u64 v33 = ld64(v24+24);
-	ptr v34 = ldp(v24+32);
-	u64 v35 = ld64(v24+40);
-	u64 v36 = ld64(v24+48);
-	copy(v26, v24+56, 48);
-	v11 = v36; v12 = v35; v13 = v34; v14 = v33; v15 = v32; v16 = v31; v17 = v30; v18 = v29; goto L1;
-L0:;
-	clear(v25, 104);
-	pcap_parts_cut_ng_cut_ng_by(v25, v1, v2, 0, v4);
-	u8 v37 = ld8(v25);
-	u8 v38 = ld8(v25+8);
-	u64 v39 = (u64)ld_bytes(v25+9, 7) & 0xffffffffffffffull;
-	u64 v40 = ld64(v25+16);
-	u64 v41 = ld64(v25+24);
-	ptr v42 = ldp(v25+32);
-	u64 v43 = ld64(v25+40);
-	u64 v44 = ld64(v25+48);
-	copy(v26, v25+56, 48);
-	v11 = v44; v12 = v43; v13 = v42; v14 = v41; v15 = v40; v16 = v39; v17 = v38; v18 = v37;
-L1:;
-	copy(v28, v26, 48);
-	if (v18 != 0) goto L11;
-	u64 v45 = (v16 << 8) | (u64)v17;
-	st64(v9, v12);
-	if (v8 >= v12) goto L3;
-	if (v14 == 0) goto L2;
-	deallocate((ptr)v45);
-L2:;
-	if (v11 == 0) { v23 = 11; goto L13; }
-	v21 = v13; v22 = 11; goto L12;
-L3:;
-	u64 v46 = v15 * 40;
-	if (((u64)v5 - v45) >= v46) goto L5;
-	if (v15 == 0) goto L6;
-	v19 = 0;
-L4:;
-	u64 v47 = v19 * 40;
-	move(at(v5, v47), at((ptr)v45, v47), 40);
-	u64 v48 = v19 + 1;
-	if (v48 == v15) goto L6;
-	v19 = v48; goto L4;
-L5:;
-	move(v5, (ptr)v45, v46);
-L6:;
-	st64(v6, v15);
-	u64 v49 = v12 << 3;
-	if (((u64)v7 - (u64)v13) >= v49) goto L8;
-	if (v12 == 0) goto L9;
-	v20 = 0;
-L7:;
-	u64 v50 = v20 << 3;
-	st64(at(v7, v50), ld64(at(v13, v50)));
-	u64 v51 = v20 + 1;
-	if (v51 == v12) goto L9;
-	v20 = v51; goto L7;
-L8:;
-	move(v7, v13, v49);
-L9:;
-	if (v14 == 0) goto L10;
-	deallocate((ptr)v45);
-L10:;
-	if (v11 == 0) { v23 = 0; goto L13; }
-	v21 = v13; v22 = 0; goto L12;
-L11:;
-	st8(v27, v17);
-	st64(v27+8, v15);
-	st64(v27+16, v14);
-	stp(v27+24, v13);
-	st64(v27+32, v12);
-	st64(v27+40, v11);
-	copy(v27+48, v28, 48);
-	u32 v52 = pcapfile_values_errors_tell(v27, v10);
-	if ((v17 != 4) || (v13 == (ptr)0)) { v23 = v52; goto L13; }
-	v21 = (ptr)v15; v22 = v52;
-L12:;
-	deallocate(v21);
-	v23 = v22;
-L13:;
-	return v23;
-}
-static void pcap_parts_cut_ng_cut_ng_by(ptr v1, ptr v2, u64 v3, u8 v4, u64 v5) {
-	u64 v6, v8, v9, v11, v12, v13, v14, v16, v17, v19, v20, v21, v24, v25, v27, v28, v29, v30, v31, v33, v49, v51, v53, v55, v56;
-	ptr v7, v10, v15, v23, v34, v35, v36, v37, v38, v39, v40, v41, v42, v43, v45, v47, v50, v52, v54;
-	u8 v18, v22, v26, v32, v44, v46, v48;
-	_Alignas(8) u8 v57[1], v58[104], v59[104], v60[40], v61[40], v62[56], v63[104], v65[24], v66[104], v67[40], v68[104], v69[56], v70[104], v71[16], v73[104], v74[16];
-	_Alignas(1) u8 v64[7], v72[16], v75[7];
-	clear(v72, 16);
-	clear(v73, 104);
-	clear(v74, 16);
-	clear(v75, 7);
-	pcap_ng_pcapng_block_Block_from_slice(v70, 0, v2, v3);
-	u8 v76 = ld8(v70+8);
-	if (ld8(v70) != 0) goto L45;
-	ptr v77 = ldp(v70+16);
-	u64 v78 = ld64(v70+40);
-	ptr v79 = ldp(v70+48);
-	ptr v80 = ldp(v70+64);
-	u64 v81 = (u64)ld_bytes(v70+25, 7) & 0xffffffffffffffull;
-	ptr v82 = ldp(v70+32);
-	u64 v83 = ld64(v70+56);
-	u64 v84 = ld64(v70+72);
-	st8(v69, ld8(v70+24));
-	st_bytes(v69+1, v81, 7);
-	stp(v69+8, v82);
-	st64(v69+16, v78);
-	stp(v69+24, v79);
-	st64(v69+32, v83);
-	stp(v69+40, v80);
-	st64(v69+48, v84);
-	clear(v66, 104);
-	clear(v68, 104);
-	pcap_ng_pcapng_block_Block_first_section(v68, v69);
-	u8 v85 = ld8(v68+8);
-	u8 v86 = (u8)v78;
-	if (ld8(v68) != 0) { v34 = v68+16; v35 = v68+24; v36 = v68+32; v37 = v68+40; v38 = v68+48; v39 = v68+56; v40 = v68+72; v41 = v68+64; v42 = v68+80; v43 = v68+88; v44 = v85; goto L43; }
-	st8(v67, v85);
-	copy(v67+1, v68+9, 39);
-	pcap_blocks_section_header_SectionHeaderBlock_into_owned(v66, v67);
-	u8 v87 = ld8(v66+8);
-	if (ld8(v66) != 0) { v34 = v66+16; v35 = v66+24; v36 = v66+32; v37 = v66+40; v38 = v66+48; v39 = v66+56; v40 = v66+72; v41 = v66+64; v42 = v66+80; v43 = v66+88; v44 = v87; goto L43; }
-	u64 v88 = (u64)ld_bytes(v66+9, 7) & 0xffffffffffffffull;
-	ptr v89 = ldp(v66+16);
-	u64 v90 = ld64(v66+24);
-	ptr v91 = ldp(v66+32);
-	u64 v92 = ld64(v66+40);
-	if ((v86 != 1) || (v80 == (ptr)0)) goto L0;
-	deallocate(v79);
-L0:;
-	u64 v93 = (u64)ld_bytes(v70+9, 7) & 0xffffffffffffffull;
-	clear(v74, 16);
-	u64 v94 = (u64)v77;
-	st64(v73, (v88 << 8) | (u64)v87);
-	stp(v73+8, v89);
-	st64(v73+16, v90);
-	stp(v73+24, v91);
-	st64(v73+32, v92);
-	stp(v73+40, v57);
-	clear(v73+48, 24);
-	stp(v73+72, v57);
-	clear(v73+80, 24);
-	clear(v64, 7);
-	stp(v65, v57);
-	clear(v65+8, 16);
-	u64 v95 = ld64(v73+80);
-	u8 v96 = std_alloc_vec_Vec_grow_amortized_d1d7(v65);
-	if (!v96) goto L39;
-	u64 v97 = ld64(v65+8);
-	ptr v98 = ldp(v65);
-	ptr v99 = at(v98, v97 * 40);
-	su64(v99, v3 - v94);
-	clear(v99+8, 24);
-	su64(v99+32, v95);
-	u8 v100 = v4 & 1;
-	u8 v101 = v5 < 2;
-	u64 v102 = v94 > 1 ? v94 - 1 : 0;
-	u64 v103 = v5 - 1;
-	v6 = v95; v7 = v98; v8 = v97; v9 = v94; v10 = (ptr)((v93 << 8) | (u64)v76); v11 = 0;
-L1:;
-	u64 v104 = v8 + 1;
-	st64(v65+8, v104);
-	u64 v105 = v94 - v9;
-	if (v100) { v12 = v5; goto L2; }
-	if (v101) goto L37;
-	u64 v106 = (v102 / v5) + 1;
-	u64 v107 = v105 % v106;
-	if (v103 <= (v105 / v106)) goto L37;
-	v12 = v106 - v107;
-L2:;
-	u64 v108 = v9 > v12 ? v9 - v12 : 0;
-	if (v108 >= v9) { v23 = v10; v24 = v9; v25 = 0; goto L31; }
-	v13 = 0; v14 = v9; v15 = v10;
-L3:;
-	u64 v109 = v3 - v14;
-	pcap_ng_pcapng_block_Block_from_slice(v63, ld32(v73) != 439041101, v15, v14);
-	u8 v110 = ld8(v63+8);
-	u64 v111 = ld64(v63+16);
-	if (ld8(v63) != 0) goto L25;
-	u8 v112 = ld8(v63+24);
-	u8 v113 = ld8(v63+40);
-	ptr v114 = ldp(v63+48);
-	u64 v115 = ld64(v63+56);
-	u64 v116 = ld64(v63+64);
-	u64 v117 = (u64)ld_bytes(v63+9, 7) & 0xffffffffffffffull;
-	u64 v118 = ld64(v63+72);
-	st8(v62, v112);
-	copy(v62+1, v63+25, 15);
-	st8(v62+16, v113);
-	copy(v62+17, v63+41, 7);
-	stp(v62+24, v114);
-	st64(v62+32, v115);
-	st64(v62+40, v116);
-	st64(v62+48, v118);
-	clear(v59, 104);
-	clear(v58, 104);
-	switch (v112) {
-	case 0: goto L4;
-	case 1: goto L5;
-	case 2: case 3: case 4: case 5: case 6: case 7: case 8: goto L13;
-	default: goto L24;
-	}
-L4:;
-	pcap_ng_pcapng_block_Block_new_section(v58, v114, v115);
-	goto L6;
-L5:;
-	pcap_ng_pcapng_block_Block_new_interface(v58, v62);
-L6:;
-	u8 v119 = ld8(v58+8);
-	u64 v120 = ld64(v58+16);
-	u8 v121 = ld8(v58+24);
-	u64 v122 = (u64)ld_bytes(v58+25, 7) & 0xffffffffffffffull;
-	u64 v123 = ld64(v58+32);
-	u8 v124 = ld8(v58+40);
-	u64 v125 = (u64)ld_bytes(v58+41, 7) & 0xffffffffffffffull;
-	ptr v126 = ldp(v58+48);
-	if (ld8(v58) != 0) goto L11;
-	switch (v119) {
-	case 0: goto L7;
-	case 1: goto L8;
-	case 2: goto L14;
-	default: goto L10;
-	}
-L7:;
-	st64(v60, v120);
-	st8(v60+8, v121);
-	st_bytes(v60+9, v122, 7);
-	st64(v60+16, v123);
-	st8(v60+24, v124);
-	st_bytes(v60+25, v125, 7);
-	stp(v60+32, v126);
-	pcap_ng_pcapng_state_InForce_begin_section(v59, v73, v60);
-	goto L9;
-L8:;
-	st64(v61, v120);
-	st8(v61+8, v121);
-	st_bytes(v61+9, v122, 7);
-	st64(v61+16, v123);
-	st8(v61+24, v124);
-	st_bytes(v61+25, v125, 7);
-	stp(v61+32, v126);
-	pcap_ng_pcapng_state_InForce_add_interface(v59, v73, v61);
-L9:;
-	if (ld8(v59) == 0) goto L15;
-	v16 = ld64(v59+32); v17 = ld64(v59+16); v18 = ld8(v59+8); goto L12;
-L10:;
-	__builtin_trap();
-L11:;
-	v16 = v123; v17 = v120; v18 = v119;
-L12:;
-	if ((v113 != 1) || (v116 == 0)) { v20 = v16; v21 = v17; v22 = v18; goto L26; }
-	deallocate(v114);
-	v20 = v16; v21 = v17; v22 = v18; goto L26;
-L13:;
-L14:;
-L15:;
-	u64 v127 = v117 << 8;
-	switch (v112) {
-	case 0: goto L16;
-	case 1: goto L17;
-	case 2: case 3: case 4: case 5: case 6: case 7: case 8: goto L20;
-	default: goto L23;
-	}
-L16:;
-	st64(v73+64, v109);
-	st64(v73+96, ld64(v73+80));
-	if ((v113 != 1) || (v116 == 0)) goto L22;
-	goto L21;
-L17:;
-	u64 v128 = ld64(v73+80);
-	if (ld64(v73+88) != v128) { v19 = v128; goto L19; }
-	u8 v129 = std_alloc_vec_Vec_grow_amortized_62d2(v73+72);
-	if (!v129) goto L18;
-	v19 = ld64(v73+80); goto L19;
-L18:;
-	if ((v113 != 1) || (v116 == 0)) goto L28;
-	deallocate(v114);
-	goto L28;
-L19:;
-	st64(at(ldp(v73+72), v19 << 3), v109);
-	st64(v73+80, v19 + 1);
-	if ((v113 != 1) || (v116 == 0)) goto L22;
-	goto L21;
-L20:;
-	if ((v113 != 1) || (v116 == 0)) goto L22;
-L21:;
-	deallocate(v114);
-L22:;
-	ptr v130 = (ptr)(v127 | (u64)v110);
-	u64 v131 = v13 + 1;
-	if (v108 < v111) { v13 = v131; v14 = v111; v15 = v130; goto L3; }
-	v23 = v130; v24 = v111; v25 = v131; goto L31;
-L23:;
-	__builtin_trap();
-L24:;
-	__builtin_trap();
-L25:;
-	v20 = ld64(v63+32); v21 = v111; v22 = v110;
-L26:;
-	switch (v22) {
-	case 0: goto L27;
-	case 5: goto L28;
-	case 1: case 2: case 3: case 4: case 6: goto L29;
-	default: goto L30;
-	}
-L27:;
-	u8 v132 = ld8(v65);
-	copy(v64, v65+1, 7);
-	v26 = v132; v27 = ld64(v65+8); v28 = ld64(v65+16); goto L33;
-L28:;
-	if (ld64(v65+16) == 0) goto L41;
-	goto L40;
-L29:;
-	u8 v133 = ld8(v65);
-	copy(v64, v65+1, 7);
-	u64 v134 = ld64(v65+8);
-	u64 v135 = ld64(v65+16);
-	if ((v22 != 4) || (v20 == 0)) { v26 = v133; v27 = v134; v28 = v135; goto L33; }
-	deallocate((ptr)v21);
-	v26 = v133; v27 = v134; v28 = v135; goto L33;
-L30:;
-	__builtin_trap();
-L31:;
-	if (v9 >= v12) goto L32;
-	u8 v136 = ld8(v65);
-	copy(v64, v65+1, 7);
-	v26 = v136; v27 = ld64(v65+8); v28 = ld64(v65+16); goto L33;
-L32:;
-	if (v24 != 0) goto L34;
-	u8 v137 = ld8(v65);
-	copy(v64, v65+1, 7);
-	v26 = v137; v27 = ld64(v65+8); v28 = ld64(v65+16);
-L33:;
-	copy(v75, v64, 7);
-	v30 = ld64(v73+80); v31 = v28; v32 = v26; v33 = v27; goto L38;
-L34:;
-	u64 v138 = v25 + v11;
-	u64 v139 = v3 - v24;
-	u64 v140 = ld64(v73+64);
-	u64 v141 = ld64(v73+96);
-	u64 v142 = ld64(v73+80);
-	u64 v143 = v142 - v141;
-	u64 v144 = ld64(v65+8);
-	if (ld64(v65+16) != v144) { v29 = v144; goto L36; }
-	u8 v145 = std_alloc_vec_Vec_grow_amortized_d1d7(v65);
-	if (!v145) goto L35;
-	v29 = ld64(v65+8); goto L36;
-L35:;
-	if (ld64(v65+16) == 0) goto L41;
-	goto L40;
-L36:;
-	ptr v146 = ldp(v65);
-	ptr v147 = at(v146, v29 * 40);
-	su64(v147, v139);
-	su64(v147+8, v138);
-	su64(v147+16, v140);
-	su64(v147+24, v141);
-	su64(v147+32, v143);
-	v6 = v142; v7 = v146; v8 = v29; v9 = v24; v10 = v23; v11 = v138; goto L1;
-L37:;
-	copy(v75, v65+1, 7);
-	v30 = v6; v31 = ld64(v65+16); v32 = (u8)(u64)v7; v33 = v104;
-L38:;
-	ptr v148 = ldp(v73+72);
-	ptr v149 = ldp(v73+88);
-	std_alloc_vec_Vec_drop_050b(v73+16);
-	std_alloc_vec_Vec_drop_e386(v73+40);
-	su64(v1, 0);
-	st8(v1+8, v32);
-	copy(v1+9, v75, 7);
-	su64(v1+16, v33);
-	su64(v1+24, v31);
-	sup(v1+32, v148);
-	su64(v1+40, v30);
-	sup(v1+48, v149);
-	clear(v1+56, 32);
-	copy(v1+88, v72, 16);
-	goto L47;
-L39:;
-	if (ld64(v65+16) == 0) goto L41;
-L40:;
-	deallocate(ldp(v65));
-L41:;
-	std_alloc_vec_Vec_drop_050b(v73+16);
-	std_alloc_vec_Vec_drop_e386(v73+40);
-	if (ld64(v73+88) == 0) goto L42;
-	deallocate(ldp(v73+72));
-L42:;
-	su64(v1, 1);
-	st8(v1+8, 5);
-	clear(v1+9, 95);
-	goto L47;
-L43:;
-	ptr v150 = ldp(v34);
-	u64 v151 = ld64(v35);
-	ptr v152 = ldp(v36);
-	u64 v153 = ld64(v37);
-	ptr v154 = lup(v38);
-	u64 v155 = ld64(v39);
-	u64 v156 = ld64(v40);
-	u64 v157 = ld64(v42);
-	u64 v158 = ld64(v41);
-	copy(v71, v43, 16);
-	if ((v86 != 1) || (v80 == (ptr)0)) goto L44;
-	deallocate(v79);
-L44:;
-	v45 = v71; v46 = v44; v47 = v150; v48 = (u8)v151; v49 = (v151 >> 8) & 0xffffffffffffffull; v50 = v152; v51 = v153; v52 = v154; v53 = v155; v54 = (ptr)v158; v55 = v156; v56 = v157; goto L46;
-L45:;
-	v45 = v70+88; v46 = v76; v47 = ldp(v70+16); v48 = ld8(v70+24); v49 = (u64)ld_bytes(v70+25, 7) & 0xffffffffffffffull; v50 = ldp(v70+32); v51 = ld64(v70+40); v52 = ldp(v70+48); v53 = ld64(v70+56); v54 = ldp(v70+64); v55 = ld64(v70+72); v56 = ld64(v70+80);
-L46:;
-	copy(v74, v45, 16);
-	su64(v1, 1);
-	st8(v1+8, v46);
-	clear(v1+9, 7);
-	su64(v1+16, (u64)v47);
-	su64(v1+24, (v49 << 8) | (u64)v48);
-	sup(v1+32, v50);
-	su64(v1+40, v51);
-	sup(v1+48, v52);
-	su64(v1+56, v53);
-	sup(v1+64, v54);
-	su64(v1+72, v55);
-	su64(v1+80, v56);
-	copy(v1+88, v74, 16);
-L47:;
-	return;
-}
 static void pcap_ng_pcapng_block_Block_from_slice(ptr v1, u8 v2, ptr v3, u64 v4) {
 	u8 v5;
 	u64 v6, v7;
@@ -827,21 +321,19 @@ static void pcap_ng_pcapng_block_Block_from_slice(ptr v1, u8 v2, ptr v3, u64 v4)
 	clear(v1+24, 80);
 	goto L15;
 L0:;
-	u32 v9 = lu32(v3);
-	u32 v10 = v2 == 0 ? (u32)__builtin_bswap32(v9) : v9;
+	u32 v9 = lu32(v3), v10 = !v2 ? (u32)__builtin_bswap32(v9) : v9;
 	if (v10 != 168627466) { v5 = v2; goto L2; }
 	switch ((u32)__builtin_bswap32(lu32(v3+8))) {
 	case 439041101: v5 = 0; goto L2;
 	case 1295788826: goto L1;
-	default: v7 = 40; v8 = (ptr)static_5; goto L14;
+	default: v8 = (ptr)static_5; v7 = 40; goto L14;
 	}
-L1:;
+L1:
 	v5 = 1;
 L2:;
-	u32 v11 = lu32(v3+4);
-	u32 v12 = (v5 & 1) ? v11 : (u32)__builtin_bswap32(v11);
-	if ((v12 & 3) != 0) { v7 = 29; v8 = (ptr)static_6; goto L14; }
-	if (v12 < 12) { v7 = 23; v8 = (ptr)static_7; goto L14; }
+	u32 v11 = lu32(v3+4), v12 = (v5 & 1) ? v11 : (u32)__builtin_bswap32(v11);
+	if (v12 & 3) { v8 = (ptr)static_6; v7 = 29; goto L14; }
+	if (v12 < 12) { v8 = (ptr)static_7; v7 = 23; goto L14; }
 	u64 v13 = (u64)v12;
 	if (v4 >= v13) goto L3;
 	su64(v1, 1);
@@ -855,7 +347,7 @@ L3:;
 	ptr v15 = at(v3+8, v14);
 	u32 v16 = lu32(v15);
 	u64 v17 = v4 - v13;
-	if ((v5 == 0 ? (u32)__builtin_bswap32(v16) : v16) != v12) goto L13;
+	if ((!v5 ? (u32)__builtin_bswap32(v16) : v16) != v12) goto L13;
 	switch (v10) {
 	case 168627466: v6 = 0; goto L12;
 	case 1: goto L4;
@@ -867,23 +359,23 @@ L3:;
 	case 9: goto L10;
 	default: goto L11;
 	}
-L4:;
+L4:
 	v6 = 1; goto L12;
-L5:;
+L5:
 	v6 = 2; goto L12;
-L6:;
+L6:
 	v6 = 3; goto L12;
-L7:;
+L7:
 	v6 = 4; goto L12;
-L8:;
+L8:
 	v6 = 5; goto L12;
-L9:;
+L9:
 	v6 = 6; goto L12;
-L10:;
+L10:
 	v6 = 7; goto L12;
-L11:;
+L11:
 	v6 = ((u64)v10 << 32) | 8;
-L12:;
+L12:
 	su64(v1, 0);
 	su64(v1+8, (u64)(v15+4));
 	su64(v1+16, v17);
@@ -898,7 +390,7 @@ L12:;
 	st8(v1+76, v5);
 	clear(v1+77, 27);
 	goto L15;
-L13:;
+L13:
 	su64(v1, 1);
 	st8(v1+8, 2);
 	st_bytes(v1+9, 0, 7);
@@ -906,1038 +398,213 @@ L13:;
 	su64(v1+24, 38);
 	clear(v1+32, 72);
 	goto L15;
-L14:;
+L14:
 	su64(v1, 1);
 	st8(v1+8, 2);
 	st_bytes(v1+9, 0, 7);
 	su64(v1+16, (u64)v8);
 	su64(v1+24, v7);
 	clear(v1+32, 72);
-L15:;
+L15:
 	return;
 }
-static void pcap_ng_pcapng_block_Block_first_section(ptr v1, ptr v2) {
-	u64 v3, v4, v5, v6, v7, v9, v10, v11, v12, v13, v14;
-	ptr v8;
-	_Alignas(8) u8 v15[112], v16[24];
-	u8 v17 = ld8(v2);
-	u32 v18 = lu32(v2+4);
-	u64 v19 = ld64(v2+32);
-	ptr v20 = ldp(v2+24);
-	u8 v21 = ld8(v2+52);
-	clear(v15, 112);
-	if (v21 != 0) goto L0;
-	pcap_blocks_parsed_block_ParsedBlock_from_slice_4da0(v15, v17, v18, v20, v19);
-	goto L1;
+static APART u64 core_slice_words_skip_far_52f9(ptr v1, u64 v2, u64 v3) {
+	u64 v4, v5;
+	if (v3 - v2 <= 63) { v5 = v2; goto L1; }
+	ptr v6 = lup(v1);
+	v4 = v2;
 L0:;
-	pcap_blocks_parsed_block_ParsedBlock_from_slice_7f02(v15, v17, v18, v20, v19);
-L1:;
-	u8 v22 = ld8(v15+8);
-	u64 v23 = ld64(v15+16);
-	u64 v24 = ld64(v15+24);
-	u64 v25 = ld64(v15+32);
-	u64 v26 = ld64(v15+40);
-	u64 v27 = ld64(v15+48);
-	u64 v28 = ld64(v15+56);
-	u64 v29 = ld64(v15+64);
-	u64 v30 = ld64(v15+72);
-	u64 v31 = ld64(v15+80);
-	u64 v32 = ld64(v15+88);
-	u64 v33 = ld64(v15+96);
-	u64 v34 = ld64(v15+104);
-	if (ld8(v15) != 0) goto L73;
-	u8 v35 = (u8)v24;
-	u8 v36 = (u8)v28;
-	if (v35 != 0) goto L2;
-	su64(v1, 0);
-	su64(v1+8, v25);
-	su64(v1+16, v26);
-	su64(v1+24, v27);
-	su64(v1+32, v28);
-	su64(v1+40, v29);
-	clear(v1+48, 56);
-	goto L74;
+	ptr v7 = at(v6, v4);
+	u64 v8 = lu64(v7+16) | lu64(v7) | lu64(v7+32) | lu64(v7+48) | lu64(v7+8) | lu64(v7+24) | lu64(v7+40);
+	if ((v8 | lu64(v7+56)) & 0x8080808080808080ull) { v5 = v4; goto L1; }
+	u64 v9 = v4 + 64;
+	if (v3 - v9 > 63) { v4 = v9; goto L0; }
+	v5 = v9;
+L1:
+	return v5;
+}
+static void core_str_utf8_from_utf8(ptr v1, ptr v2, u64 v3) {
+	u64 v4, v5, v6, v7, v8, v9, v10, v11, v12, v14, v15, v16, v17, v18;
+	u8 v13;
+	_Alignas(8) u8 v19[16];
+	if (!v3) goto L20;
+	u64 v20 = v3 - 8;
+	ptr v21 = at(v2, v20);
+	v4 = 0;
+L0:;
+	ptr v22 = at(v2, v4);
+	u8 v23 = ld8(v22), v24 = (s8)v23 > -1;
+	u64 v25 = v3 - v4;
+	if (!((v25 > 1) & v24)) goto L11;
+	if ((s8)ld8(v22+1) <= -1) { v14 = 1; goto L18; }
+	stp(v19, v2);
+	st64(v19+8, v3);
+	if (v25 >= 8) goto L2;
+	v5 = v4;
+L1:
+	if ((s8)ld8(at(v2, v5)) < 0) { v15 = v5; goto L19; }
+	u64 v26 = v5 + 1;
+	if (v26 == v3) goto L20;
+	v5 = v26; goto L1;
 L2:;
-	u64 v37 = ((u64)(ptr)static_9 >> 8) & 0xffffffffffffffull;
-	switch (v35) {
-	case 1: goto L3;
-	case 2: goto L4;
-	case 3: goto L16;
-	case 4: goto L17;
-	case 5: goto L47;
-	case 6: goto L57;
-	case 7: goto L69;
-	case 8: goto L70;
-	default: goto L72;
-	}
+	u64 v27 = lu64(v22) & 0x8080808080808080ull;
+	if (v27) goto L3;
+	v6 = v4 + 8; goto L4;
 L3:;
-	st64(v16, v27);
-	st64(v16+8, v28);
-	st64(v16+16, v29);
-	std_alloc_vec_Vec_drop_37c7(v16);
-	goto L71;
-L4:;
-	if ((v36 != 1) || (v31 == 0)) goto L5;
-	deallocate((ptr)v29);
+	u64 v28 = (trailing_zeros(v27) >> 3) + v4;
+	if (v28 < v4 + 8) { v15 = v28; goto L19; }
+	v6 = v28;
+L4:
+	if (v3 - v6 <= 31) { v8 = v6; goto L6; }
+	v7 = v6;
 L5:;
-	if (v33 == 0) goto L14;
-	v3 = 0;
-L6:;
-	ptr v38 = at((ptr)v32, v3 * 48);
-	u64 v39 = lu64(v38+16);
-	u64 v40 = lu64(v38+24);
-	u64 v41 = lu64(v38+32);
-	u64 v42 = lu64(v38+40);
-	u8 v43 = (u8)lu16(v38+8);
-	u8 v44 = (u8)v39;
-	switch (ld8(v38)) {
-	case 0: goto L7;
-	case 1: goto L13;
-	case 2: goto L8;
-	case 3: goto L9;
-	case 4: goto L10;
-	case 5: goto L11;
-	default: goto L15;
-	}
-L7:;
-	if ((v43 == 0) || (v41 == 0)) goto L13;
-	v4 = v39; goto L12;
-L8:;
-	if ((v43 == 0) || (v41 == 0)) goto L13;
-	v4 = v39; goto L12;
-L9:;
-	if ((v44 == 0) || (v42 == 0)) goto L13;
-	v4 = v40; goto L12;
+	ptr v29 = at(v2, v7);
+	if ((lu64(v29+8) | lu64(v29) | lu64(v29+16) | lu64(v29+24)) & 0x8080808080808080ull) { v8 = v7; goto L6; }
+	u64 v30 = core_slice_words_skip_far_52f9(v19, v7 + 32, v3);
+	if (v3 - v30 > 31) { v7 = v30; goto L5; }
+	v8 = v30;
+L6:
+	v9 = v8;
+L7:
+	if (v3 - v9 <= 8) goto L10;
+	u64 v31 = lu64(at(v2, v9)) & 0x8080808080808080ull;
+	if (v31) goto L8;
+	u64 v32 = v9 + 8;
+	v10 = v32; v11 = v32; goto L9;
+L8:
+	v10 = v9 + 8; v11 = (trailing_zeros(v31) >> 3) + v9;
+L9:
+	if (v11 < v10) { v15 = v11; goto L19; }
+	v9 = v10; goto L7;
 L10:;
-	if ((v44 == 0) || (v42 == 0)) goto L13;
-	v4 = v40; goto L12;
-L11:;
-	if ((v44 == 0) || (v42 == 0)) goto L13;
-	v4 = v40;
-L12:;
-	deallocate((ptr)v4);
-L13:;
-	u64 v45 = v3 + 1;
-	if (v45 != v33) { v3 = v45; goto L6; }
-L14:;
-	if (v34 == 0) goto L71;
-	deallocate((ptr)v32);
-	goto L71;
-L15:;
-	__builtin_trap();
-L16:;
-	if (((v26 & 255) != 1) || (v29 == 0)) goto L71;
-	deallocate((ptr)v27);
-	goto L71;
+	u64 v33 = lu64(v21) & 0x8080808080808080ull;
+	if (!v33) goto L20;
+	v15 = (trailing_zeros(v33) >> 3) + v20; goto L19;
+L11:
+	if (v24) { v14 = 1; goto L18; }
+	if (v23 < 194) { M1: v17 = v4; v18 = 257; v16 = 1; goto L21; }
+	if (v23 >= 224) goto L12;
+	if (v25 < 2) { M2: v17 = v4; v16 = 1; v18 = 0; goto L21; }
+	u8 v34 = ld8(v22+1);
+	if ((s8)v34 > -65) { v13 = v34; goto L17; }
+	v14 = 2; goto L18;
+L12:
+	if (v23 >= 240) goto L13;
+	if (v25 < 3) goto L16;
+	u8 v35 = ld8(v22+1);
+	if (((s8)v35 > -65) | ((s8)ld8(v22+2) > -65)) { v13 = v35; goto L17; }
+	u32 v36 = ((u32)v23 << 6) - 14464 + (u32)v35;
+	if (v36 < 32) { v13 = v35; goto L17; }
+	if (v36 < 864) { v14 = 3; goto L18; }
+	v12 = v36 < 896 ? 0ull : 3ull; goto L14;
+L13:
+	if (v25 < 4) goto L15;
+	u8 v37 = ld8(v22+1);
+	if (((s8)v37 > -65) | ((s8)ld8(v22+2) > -65) | ((s8)ld8(v22+3) > -65)) goto L15;
+	u32 v38 = ((u32)v23 << 6) - 15488 + (u32)v37;
+	if (v38 < 16) goto L15;
+	v12 = v38 < 272 ? 4ull : 0ull;
+L14:
+	if (v12) { v14 = v12; goto L18; }
+L15:
+	if (v23 >= 245) goto M1;
+L16:
+	if (v25 < 2) goto M2;
+	v13 = ld8(v22+1);
 L17:;
-	if (v26 == 0) goto L32;
-	v5 = 0;
-L18:;
-	ptr v46 = at((ptr)v25, v5 << 6);
-	u64 v47 = lu64(v46+16);
-	u64 v48 = lu64(v46+24);
-	u64 v49 = lu64(v46+32);
-	u64 v50 = lu64(v46+40);
-	u64 v51 = lu64(v46+48);
-	u64 v52 = lu64(v46+56);
-	u8 v53 = (u8)lu16(v46+8);
-	switch (ld8(v46)) {
-	case 0: goto L31;
-	case 1: goto L19;
-	case 2: goto L24;
-	case 3: goto L29;
-	default: goto L46;
-	}
-L19:;
-	if ((v53 == 0) || (v49 == 0)) goto L20;
-	deallocate((ptr)v47);
-L20:;
-	if (v51 == 0) goto L23;
-	v6 = 0;
-L21:;
-	ptr v54 = at((ptr)v50, v6 << 5);
-	if ((ld8(v54) == 0) || (lu64(v54+24) == 0)) goto L22;
-	deallocate(lup(v54+8));
-L22:;
-	u64 v55 = v6 + 1;
-	if (v55 != v51) { v6 = v55; goto L21; }
-L23:;
-	if (v52 == 0) goto L31;
-	v8 = (ptr)v50; goto L30;
-L24:;
-	if ((v53 == 0) || (v49 == 0)) goto L25;
-	deallocate((ptr)v47);
-L25:;
-	if (v51 == 0) goto L28;
-	v7 = 0;
-L26:;
-	ptr v56 = at((ptr)v50, v7 << 5);
-	if ((ld8(v56) == 0) || (lu64(v56+24) == 0)) goto L27;
-	deallocate(lup(v56+8));
-L27:;
-	u64 v57 = v7 + 1;
-	if (v57 != v51) { v7 = v57; goto L26; }
-L28:;
-	if (v52 == 0) goto L31;
-	v8 = (ptr)v50; goto L30;
-L29:;
-	if (((v47 & 255) == 0) || (v50 == 0)) goto L31;
-	v8 = (ptr)v48;
-L30:;
-	deallocate(v8);
-L31:;
-	u64 v58 = v5 + 1;
-	if (v58 != v26) { v5 = v58; goto L18; }
-L32:;
-	if (v27 == 0) goto L33;
-	deallocate((ptr)v25);
-L33:;
-	if (v29 == 0) goto L44;
-	v9 = 0;
-L34:;
-	ptr v59 = at((ptr)v28, v9 * 48);
-	u64 v60 = lu64(v59+16);
-	u64 v61 = lu64(v59+24);
-	u64 v62 = lu64(v59+32);
-	u64 v63 = lu64(v59+40);
-	u8 v64 = (u8)lu16(v59+8);
-	u8 v65 = (u8)v60;
-	switch (ld8(v59)) {
-	case 0: goto L35;
-	case 1: goto L36;
-	case 2: goto L37;
-	case 3: goto L38;
-	case 4: goto L39;
-	case 5: goto L40;
-	case 6: goto L41;
-	default: goto L45;
-	}
-L35:;
-	if ((v64 == 0) || (v62 == 0)) goto L43;
-	v10 = v60; goto L42;
-L36:;
-	if ((v64 == 0) || (v62 == 0)) goto L43;
-	v10 = v60; goto L42;
-L37:;
-	if ((v64 == 0) || (v62 == 0)) goto L43;
-	v10 = v60; goto L42;
-L38:;
-	if ((v64 == 0) || (v62 == 0)) goto L43;
-	v10 = v60; goto L42;
-L39:;
-	if ((v65 == 0) || (v63 == 0)) goto L43;
-	v10 = v61; goto L42;
-L40:;
-	if ((v65 == 0) || (v63 == 0)) goto L43;
-	v10 = v61; goto L42;
-L41:;
-	if ((v65 == 0) || (v63 == 0)) goto L43;
-	v10 = v61;
-L42:;
-	deallocate((ptr)v10);
-L43:;
-	u64 v66 = v9 + 1;
-	if (v66 != v29) { v9 = v66; goto L34; }
-L44:;
-	if (v30 == 0) goto L71;
-	deallocate((ptr)v28);
-	goto L71;
-L45:;
-	__builtin_trap();
-L46:;
-	__builtin_trap();
-L47:;
-	if (v28 == 0) goto L55;
-	v11 = 0;
-L48:;
-	ptr v67 = at((ptr)v27, v11 * 48);
-	u64 v68 = lu64(v67+16);
-	u64 v69 = lu64(v67+24);
-	u64 v70 = lu64(v67+40);
-	u8 v71 = (u8)v68;
-	switch (ld8(v67)) {
-	case 0: goto L49;
-	case 1: case 2: case 3: case 4: case 5: case 6: case 7: goto L54;
-	case 8: goto L50;
-	case 9: goto L51;
-	case 10: goto L52;
-	default: goto L56;
-	}
-L49:;
-	if (((lu64(v67+8) & 255) == 0) || (lu64(v67+32) == 0)) goto L54;
-	v12 = v68; goto L53;
-L50:;
-	if ((v71 == 0) || (v70 == 0)) goto L54;
-	v12 = v69; goto L53;
-L51:;
-	if ((v71 == 0) || (v70 == 0)) goto L54;
-	v12 = v69; goto L53;
-L52:;
-	if ((v71 == 0) || (v70 == 0)) goto L54;
-	v12 = v69;
-L53:;
-	deallocate((ptr)v12);
-L54:;
-	u64 v72 = v11 + 1;
-	if (v72 != v28) { v11 = v72; goto L48; }
-L55:;
-	if (v29 == 0) goto L71;
-	deallocate((ptr)v27);
-	goto L71;
-L56:;
-	__builtin_trap();
-L57:;
-	if ((v36 != 1) || (v31 == 0)) goto L58;
-	deallocate((ptr)v29);
-L58:;
-	if (v33 == 0) goto L67;
-	v13 = 0;
-L59:;
-	ptr v73 = at((ptr)v32, v13 * 48);
-	u64 v74 = lu64(v73+16);
-	u64 v75 = lu64(v73+24);
-	u64 v76 = lu64(v73+32);
-	u64 v77 = lu64(v73+40);
-	u8 v78 = (u8)lu64(v73+8);
-	u8 v79 = (u8)v74;
-	switch (ld8(v73)) {
-	case 0: goto L60;
-	case 1: case 3: goto L66;
-	case 2: goto L61;
-	case 4: goto L62;
-	case 5: goto L63;
-	case 6: goto L64;
-	default: goto L68;
-	}
-L60:;
-	if ((v78 == 0) || (v76 == 0)) goto L66;
-	v14 = v74; goto L65;
-L61:;
-	if ((v78 == 0) || (v76 == 0)) goto L66;
-	v14 = v74; goto L65;
-L62:;
-	if ((v79 == 0) || (v77 == 0)) goto L66;
-	v14 = v75; goto L65;
-L63:;
-	if ((v79 == 0) || (v77 == 0)) goto L66;
-	v14 = v75; goto L65;
-L64:;
-	if ((v79 == 0) || (v77 == 0)) goto L66;
-	v14 = v75;
-L65:;
-	deallocate((ptr)v14);
-L66:;
-	u64 v80 = v13 + 1;
-	if (v80 != v33) { v13 = v80; goto L59; }
-L67:;
-	if (v34 == 0) goto L71;
-	deallocate((ptr)v32);
-	goto L71;
-L68:;
-	__builtin_trap();
-L69:;
-	if (((v25 & 255) != 1) || (v28 == 0)) goto L71;
-	deallocate((ptr)v26);
-	goto L71;
-L70:;
-	if (((v27 & 255) != 1) || (v30 == 0)) goto L71;
-	deallocate((ptr)v28);
-L71:;
-	su64(v1, 1);
-	st8(v1+8, 2);
-	st_bytes(v1+9, 0, 3);
-	su32(v1+12, 0);
-	st8(v1+16, (u64)(ptr)static_9);
-	st_bytes(v1+17, v37, 7);
-	st8(v1+24, 21);
-	clear(v1+25, 79);
-	goto L74;
-L72:;
-	__builtin_trap();
-L73:;
-	u64 v81 = (((v23 & 0xffffffffffffffull) >> 8) & 16777215) | ((v23 >> 8) & 0xffffffffffffffull & 0xffffffff000000ull);
-	su64(v1, 1);
-	st8(v1+8, v22);
-	st_bytes(v1+9, 0, 3);
-	su32(v1+12, 0);
-	st8(v1+16, (u8)v23);
-	st_bytes(v1+17, v81, 7);
-	su64(v1+24, v24);
-	su64(v1+32, v25);
-	su64(v1+40, v26);
-	su64(v1+48, v27);
-	su64(v1+56, v28);
-	su64(v1+64, v29);
-	sup(v1+72, (ptr)v30);
-	su64(v1+80, v31);
-	su64(v1+88, v32);
-	su64(v1+96, v33);
-L74:;
+	u8 v39 = ((v23 == 224 ? 160 : (v23 == 240 ? 144u : 128u)) <= v13) & (v13 <= (v23 == 237 ? 159 : (v23 == 244 ? 143u : 191u)));
+	if (!v39) goto M1;
+	if (v25 == 2) goto M2;
+	if ((s8)ld8(v22+2) >= -64) { v17 = v4; v18 = 513; v16 = 1; goto L21; }
+	v17 = v4; v18 = v25 > 3 ? 769ull : 0ull; v16 = 1; goto L21;
+L18:
+	v15 = v14 + v4;
+L19:
+	if (v15 < v3) { v4 = v15; goto L0; }
+L20:
+	v17 = (u64)v2; v18 = v3; v16 = 0;
+L21:
+	su64(v1, v16);
+	su64(v1+8, v17);
+	su64(v1+16, v18);
 	return;
 }
-static void pcap_blocks_parsed_block_ParsedBlock_from_slice_4da0(ptr v1, u8 v2, u32 v3, ptr v4, u64 v5) {
-	u8 v6, v8, v18, v33, v34, v42, v43, v48, v49, v67, v73, v74, v94, v95, v112, v136, v137, v148, v149, v159, v161;
-	u64 v7, v9, v12, v13, v14, v15, v16, v20, v21, v25, v26, v27, v29, v31, v32, v35, v36, v37, v38, v39, v41, v44, v45, v47, v50, v51, v52, v53, v54, v55, v57, v58, v61, v62, v63, v65, v70, v72, v75, v76, v77, v78, v79, v81, v82, v83, v85, v86, v87, v88, v89, v90, v91, v92, v93, v97, v98, v99, v100, v101, v103, v104, v107, v109, v113, v114, v115, v117, v118, v119, v121, v123, v124, v125, v126, v128, v130, v131, v132, v133, v134, v135, v138, v140, v141, v143, v144, v145, v146, v147, v150, v151, v152, v153, v154, v156, v157, v158, v162, v163;
-	ptr v10, v40, v46, v56, v64, v80, v84, v96, v102, v106, v120, v122, v127, v129, v139, v142, v155, v160;
-	u16 v11, v17, v22, v23, v28, v30, v59, v60, v66, v68, v71, v105, v110, v111;
-	u32 v19, v24, v69, v108, v116;
-	_Alignas(8) u8 v164[1], v165[96], v166[24], v167[24], v168[24], v169[24], v170[24], v171[24], v172[24], v173[24], v174[24], v175[24], v177[16], v178[24], v180[16], v181[48], v182[24], v183[24], v184[24], v185[24], v190[64], v191[64], v195[104];
-	_Alignas(2) u8 v176[6], v179[6], v186[6], v187[6], v188[6], v189[6], v192[6], v193[6], v194[6], v196[6], v197[6];
-	clear(v196, 6);
-	clear(v197, 6);
-	clear(v189, 6);
-	clear(v190, 64);
-	clear(v191, 64);
-	clear(v192, 6);
-	clear(v193, 6);
-	clear(v194, 6);
-	clear(v195, 104);
-	switch (v2) {
-	case 0: goto L0;
+static void std_alloc_vec_Vec_drop_050b(ptr v1) {
+	u64 v2, v3;
+	ptr v4 = lup(v1);
+	u64 v5 = lu64(v1+8), v6 = lu64(v1+16);
+	if (!v5) goto L10;
+	v2 = 0;
+L0:;
+	ptr v7 = at(v4, v2 * 48);
+	u64 v8 = lu64(v7+16), v9 = lu64(v7+24), v10 = lu64(v7+32), v11 = lu64(v7+40);
+	u8 v12 = (u8)lu16(v7+8), v13 = (u8)v8;
+	switch (ld8(v7)) {
+	case 0: goto L1;
 	case 1: goto L2;
-	case 2: goto L4;
-	case 3: goto L34;
-	case 4: goto L35;
-	case 5: goto L72;
-	case 6: goto L99;
-	case 7: goto L101;
-	case 8: goto L102;
-	default: goto L106;
+	case 2: goto L3;
+	case 3: goto L4;
+	case 4: goto L5;
+	case 5: goto L6;
+	case 6: goto L7;
+	default: goto L12;
 	}
-L0:;
-	pcap_blocks_section_header_SectionHeaderBlock_read(v190, v4, v5);
-	u16 v198 = ld16(v190+8);
-	u64 v199 = ld64(v190+16);
-	u8 v200 = ld8(v190+24);
-	u8 v201 = ld8(v190+25);
-	if (ld8(v190) != 0) goto L1;
-	u64 v202 = (((u64)ld_bytes(v190+10, 6) & 0xffffffffffffull) << 16) | (u64)(v198 & 255) | (u64)(v198 & 65280);
-	u64 v203 = ld64(v190+32);
-	u64 v204 = ld64(v190+40);
-	ptr v205 = ldp(v190+48);
-	u64 v206 = ld64(v190+56);
-	u64 v207 = ((u64)v201 << 8) | (u64)v200 | (((u64)ld_bytes(v190+26, 6) & 0xffffffffffffull) << 16);
-	clear(v189, 6);
-	v133 = 0; v134 = 0; v135 = 0; v136 = 0; v137 = 0; v138 = v204; v139 = v205; v140 = v206; v141 = 0; v142 = (ptr)v202; v143 = v199; v144 = v207; v145 = v203; goto L103;
-L1:;
-	v146 = (u64)v198; v147 = v199; v148 = v200; v149 = v201; goto L104;
-L2:;
-	blocks_interface_description_InterfaceDescriptionBlock_read_4da0(v191, v4, v5);
-	u16 v208 = ld16(v191+8);
-	u64 v209 = ld64(v191+16);
-	u8 v210 = ld8(v191+24);
-	u8 v211 = ld8(v191+25);
-	if (ld8(v191) != 0) goto L3;
-	u64 v212 = (((u64)ld_bytes(v191+10, 6) & 0xffffffffffffull) << 16) | (u64)(v208 & 255) | (u64)(v208 & 65280);
-	u64 v213 = ld64(v191+32);
-	u64 v214 = ld64(v191+40);
-	ptr v215 = ldp(v191+48);
-	u64 v216 = ld64(v191+56);
-	u64 v217 = ((u64)v211 << 8) | (u64)v210 | (((u64)ld_bytes(v191+26, 6) & 0xffffffffffffull) << 16);
-	clear(v189, 6);
-	v133 = 0; v134 = 0; v135 = 0; v136 = 0; v137 = 0; v138 = v214; v139 = v215; v140 = v216; v141 = 0; v142 = (ptr)v212; v143 = v209; v144 = v217; v145 = v213; goto L103;
-L3:;
-	v146 = (u64)v208; v147 = v209; v148 = v210; v149 = v211; goto L104;
-L4:;
-	clear(v188, 6);
-	if (v5 < 20) { v32 = 0; v33 = 0; v34 = 0; v35 = 3075; goto L29; }
-	u16 v218 = (u16)__builtin_bswap16(lu16(v4));
-	u16 v219 = (u16)__builtin_bswap16(lu16(v4+2));
-	clear(v187, 6);
-	u64 v220 = (u64)__builtin_bswap64(lu64(v4+4));
-	u32 v221 = lu32(v4+12);
-	u64 v222 = v5 - 20;
-	u32 v223 = lu32(v4+16);
-	u64 v224 = (u64)(u32)__builtin_bswap32(v221);
-	u64 v225 = ((0ull - v224) & 3) + v224;
-	if (v222 < v225) { v29 = 0; v30 = 0; v31 = 3331; goto L28; }
-	ptr v226 = at(v4+20, v225);
-	u64 v227 = v222 - v225;
-	clear(v186, 6);
-	stp(v185, v164);
-	clear(v185+8, 16);
-	u64 v228 = (u64)v164;
-	u8 v229 = (u8)(v228 >> 8);
-	u8 v230 = (u8)v228;
-	if (v227 == 0) { v44 = 0; v45 = 0; v46 = v226; v47 = 0; v48 = v230; v49 = v229; goto L33; }
-	v6 = v230; v7 = 0; v8 = v229; v9 = v227; v10 = v226;
-L5:;
-	if (v9 < 4) { v26 = 4099; v27 = 0; v28 = 0; goto L27; }
-	u16 v231 = lu16(v10);
-	u16 v232 = (u16)__builtin_bswap16(v231);
-	u64 v233 = v9 - 4;
-	u16 v234 = lu16(v10+2);
-	u16 v235 = (u16)__builtin_bswap16(v234);
-	if (v231 == 0) { v39 = v7; v40 = v10+4; v41 = v233; v42 = v6; v43 = v8; goto L32; }
-	u64 v236 = (u64)v235;
-	u64 v237 = ((0ull - v236) & 3) + v236;
-	if (v233 < v237) { v26 = 4355; v27 = 0; v28 = 0; goto L27; }
-	ptr v238 = at(v10+4, v237);
-	u64 v239 = v233 - v237;
-	switch (v232) {
-	case 1: goto L6;
-	case 2: goto L8;
-	case 3: goto L9;
-	case 2988: case 19372: goto L10;
-	case 2989: case 19373: goto L13;
-	default: goto L16;
-	}
-L6:;
-	clear(v183, 24);
-	core_str_utf8_from_utf8(v183, v10+4, v236);
-	u64 v240 = ld64(v183+8);
-	if (ld8(v183) != 0) goto L7;
-	v18 = 0; v19 = 0; v20 = ld64(v183+16); v21 = 0; v22 = 0; v23 = 0; v24 = 0; v25 = v240; goto L17;
-L7:;
-	v14 = 2; v15 = v240; v16 = v240 & 0xffffffff00000000ull; v17 = ld16(v183+16); goto L14;
-L8:;
-	if (v234 != 1024) { v14 = 7683; v15 = 0; v16 = 0; v17 = 0; goto L14; }
-	v18 = 1; v19 = (u32)__builtin_bswap32(lu32(v10+4)); v20 = 0; v21 = 0; v22 = 0; v23 = 0; v24 = 0; v25 = 0; goto L17;
+L1:
+	if (!v12 || !v10) goto L9;
+	v3 = v8; goto L8;
+L2:
+	if (!v12 || !v10) goto L9;
+	v3 = v8; goto L8;
+L3:
+	if (!v12 || !v10) goto L9;
+	v3 = v8; goto L8;
+L4:
+	if (!v12 || !v10) goto L9;
+	v3 = v8; goto L8;
+L5:
+	if (!v13 || !v11) goto L9;
+	v3 = v9; goto L8;
+L6:
+	if (!v13 || !v11) goto L9;
+	v3 = v9; goto L8;
+L7:
+	if (!v13 || !v11) goto L9;
+	v3 = v9;
+L8:
+	deallocate((ptr)v3);
 L9:;
-	v18 = 2; v19 = 0; v20 = v236; v21 = 0; v22 = 0; v23 = 0; v24 = 0; v25 = (u64)(v10+4); goto L17;
-L10:;
-	if (v235 < 4) { v11 = 0; v12 = 0; v13 = 1; goto L12; }
-	u32 v241 = lu32(v10+4);
-	clear(v182, 24);
-	core_str_utf8_from_utf8(v182, v10+8, v236 - 4);
-	u64 v242 = ld64(v182+8);
-	if (ld8(v182) != 0) goto L11;
-	v18 = 4; v19 = 0; v20 = v242; v21 = ld64(v182+16); v22 = v232; v23 = 0; v24 = (u32)__builtin_bswap32(v241); v25 = 0; goto L17;
-L11:;
-	v11 = ld16(v182+16); v12 = v242; v13 = 2;
-L12:;
-	v14 = v13; v15 = v12; v16 = v12 & 0xffffffff00000000ull; v17 = v11; goto L14;
-L13:;
-	if (v235 >= 4) goto L15;
-	v14 = 1; v15 = 0; v16 = 0; v17 = 0;
-L14:;
-	v26 = v14; v27 = (v15 & 4294967295u) | v16; v28 = v17; goto L27;
-L15:;
-	v18 = 3; v19 = 0; v20 = (u64)(v10+8); v21 = v236 - 4; v22 = v232; v23 = 0; v24 = (u32)__builtin_bswap32(lu32(v10+4)); v25 = 0; goto L17;
-L16:;
-	v18 = 5; v19 = 0; v20 = (u64)(v10+4); v21 = v236; v22 = v232; v23 = v235; v24 = 0; v25 = 0;
-L17:;
-	u32 v243 = (u32)v18;
-	if (v7 != 0) goto L21;
-	t_64_64 v244 = allocate(384, 8);
-	if (!(v244.f0 & 1)) goto L18;
-	copy(v184, v185, 24);
-	stp(v185, (ptr)v244.f1);
-	st64(v185+16, 8);
-	std_alloc_vec_Vec_drop_368c(v184);
-	su32((ptr)v244.f1, v243);
-	su32((ptr)v244.f1+4, v19);
-	su16((ptr)v244.f1+8, v22);
-	su16((ptr)v244.f1+10, v23);
-	su32((ptr)v244.f1+12, v24);
-	su64((ptr)v244.f1+16, v25);
-	su64((ptr)v244.f1+24, v20);
-	su64((ptr)v244.f1+32, v21);
-	su64((ptr)v244.f1+40, 0);
-	v37 = v244.f1; v38 = 1; goto L31;
-L18:;
-	u8 v245 = (u8)v22;
-	switch (v18) {
-	case 0: goto L19;
-	case 1: case 3: case 4: case 5: goto L26;
-	case 2: goto L20;
-	default: goto L66;
-	}
-L19:;
-	if ((v245 == 0) || (v21 == 0)) goto L26;
-	goto L25;
-L20:;
-	if ((v245 == 0) || (v21 == 0)) goto L26;
-	goto L25;
-L21:;
-	if (ld64(v185+16) != v7) { v36 = v7; goto L30; }
-	u8 v246 = std_alloc_vec_Vec_grow_amortized_05c7(v185);
-	if (!v246) goto L22;
-	v36 = ld64(v185+8); goto L30;
-L22:;
-	u8 v247 = (u8)v22;
-	switch (v18) {
-	case 0: goto L23;
-	case 1: case 3: case 4: case 5: goto L26;
-	case 2: goto L24;
-	default: goto L66;
-	}
-L23:;
-	if ((v247 == 0) || (v21 == 0)) goto L26;
-	goto L25;
-L24:;
-	if ((v247 == 0) || (v21 == 0)) goto L26;
-L25:;
-	deallocate((ptr)v25);
-L26:;
-	v26 = 0; v27 = 0; v28 = 0;
-L27:;
-	std_alloc_vec_Vec_drop_368c(v185);
-	v29 = v27; v30 = v28; v31 = v26;
-L28:;
-	v32 = v29; v33 = (u8)v30; v34 = (u8)(v30 >> 8); v35 = v31;
-L29:;
-	v146 = v35; v147 = v32; v148 = v33; v149 = v34; goto L104;
-L30:;
-	ptr v248 = ldp(v185);
-	ptr v249 = at(v248, v36 * 48);
-	su32(v249, v243);
-	su32(v249+4, v19);
-	su16(v249+8, v22);
-	su16(v249+10, v23);
-	su32(v249+12, v24);
-	su64(v249+16, v25);
-	su64(v249+24, v20);
-	su64(v249+32, v21);
-	su64(v249+40, 0);
-	v37 = (u64)v248; v38 = v36 + 1;
-L31:;
-	u8 v250 = (u8)v37;
-	u8 v251 = (u8)(v37 >> 8);
-	st64(v185+8, v38);
-	if (v239 != 0) { v6 = v250; v7 = v38; v8 = v251; v9 = v239; v10 = v238; goto L5; }
-	v39 = v38; v40 = v238; v41 = 0; v42 = v250; v43 = v251;
-L32:;
-	v44 = ld64(v185+16); v45 = v39; v46 = v40; v47 = v41; v48 = v42; v49 = v43;
-L33:;
-	copy(v186, v185+2, 6);
-	copy(v187, v186, 6);
-	copy(v188, v187, 6);
-	copy(v192, v188, 6);
-	copy(v189, v192, 6);
-	v133 = v45; v134 = v44; v135 = 0; v136 = v48; v137 = v49; v138 = (u64)__builtin_bswap64(((u64)v221 << 32) | (u64)v223); v139 = (ptr)0; v140 = (u64)(v4+20); v141 = v224; v142 = v46; v143 = v47; v144 = ((u64)v219 << 16) | (u64)(v218 & 65280) | (u64)(v218 & 255); v145 = v220; goto L103;
-L34:;
-	if (v5 <= 3) { v146 = 3587; v147 = 0; v148 = 0; v149 = 0; goto L104; }
-	v133 = 0; v134 = 0; v135 = 0; v136 = 0; v137 = 0; v138 = (u64)(v4+4); v139 = (ptr)(v5 - 4); v140 = 0; v141 = 0; v142 = at(v4, v5); v143 = 0; v144 = (u64)(u32)__builtin_bswap32(lu32(v4)); v145 = 0; goto L103;
-L35:;
-	clear(v181, 48);
-	pcap_options_records_records_from_slice_4da0(v181, v4, v5);
-	u8 v252 = ld8(v181+8);
-	u8 v253 = ld8(v181+9);
-	u64 v254 = ld64(v181+16);
-	u8 v255 = ld8(v181+24);
-	u8 v256 = ld8(v181+25);
-	u8 v257 = ld8(v181);
-	clear(v177, 16);
-	u8 v258 = v257 == 0;
-	if (!v258) goto L36;
-	u64 v259 = (u64)ld_bytes(v181+10, 6) & 0xffffffffffffull;
-	copy(v176, v181+26, 6);
-	copy(v177, v181+32, 16);
-	v50 = v259 << 16; goto L37;
-L36:;
-	clear(v176, 6);
-	v50 = 0;
-L37:;
-	u64 v260 = (u64)v252;
-	u64 v261 = (u64)v253 << 8;
-	ptr v262 = (ptr)(v50 | v260 | v261);
-	copy(v179, v176, 6);
-	copy(v180, v177, 16);
-	if (!v258) { v91 = v261; v92 = v260; v93 = v254; v94 = v255; v95 = v256; goto L71; }
-	st8(v178, v255);
-	st8(v178+1, v256);
-	copy(v178+2, v179, 6);
-	copy(v178+8, v180, 16);
-	stp(v175, v164);
-	clear(v175+8, 16);
-	u64 v263 = (u64)v164;
-	u64 v264 = v263 >> 8;
-	u64 v265 = v263 >> 16;
-	if (v254 == 0) { v84 = v262; v85 = 0; v86 = 0; v87 = v265; v88 = 0; v89 = v263; v90 = v264; goto L70; }
-	v51 = v265; v52 = v263; v53 = 0; v54 = v264; v55 = v254; v56 = v262;
-L38:;
-	if (v55 < 4) { v71 = 4099; v72 = 0; v73 = 0; v74 = 0; goto L65; }
-	u16 v266 = lu16(v56);
-	u16 v267 = (u16)__builtin_bswap16(v266);
-	u64 v268 = v55 - 4;
-	u16 v269 = lu16(v56+2);
-	u16 v270 = (u16)__builtin_bswap16(v269);
-	if (v266 == 0) { v78 = v53; v79 = v51; v80 = v56+4; v81 = v268; v82 = v52; v83 = v54; goto L69; }
-	u64 v271 = (u64)v270;
-	u64 v272 = ((0ull - v271) & 3) + v271;
-	if (v268 < v272) { v71 = 4355; v72 = 0; v73 = 0; v74 = 0; goto L65; }
-	ptr v273 = at(v56+4, v272);
-	u64 v274 = v268 - v272;
-	switch (v267) {
-	case 1: goto L39;
-	case 2: goto L41;
-	case 3: goto L43;
-	case 4: goto L44;
-	case 2988: case 19372: goto L45;
-	case 2989: case 19373: goto L48;
-	default: v64 = v56+4; v65 = v271; v66 = v270; v67 = 6; v68 = v267; v69 = 0; v70 = 0; goto L51;
-	}
-L39:;
-	clear(v173, 24);
-	core_str_utf8_from_utf8(v173, v56+4, v271);
-	u64 v275 = ld64(v173+8);
-	if (ld8(v173) != 0) goto L40;
-	v64 = (ptr)ld64(v173+16); v65 = 0; v66 = 0; v67 = 0; v68 = 0; v69 = 0; v70 = v275; goto L51;
-L40:;
-	v60 = 2; v61 = v275; v62 = v275 & 0xffffffff00000000ull; v63 = (u64)ld16(v173+16); goto L49;
-L41:;
-	clear(v172, 24);
-	core_str_utf8_from_utf8(v172, v56+4, v271);
-	u64 v276 = ld64(v172+8);
-	if (ld8(v172) != 0) goto L42;
-	v64 = (ptr)ld64(v172+16); v65 = 0; v66 = 0; v67 = 1; v68 = 0; v69 = 0; v70 = v276; goto L51;
-L42:;
-	v60 = 2; v61 = v276; v62 = v276 & 0xffffffff00000000ull; v63 = (u64)ld16(v172+16); goto L49;
-L43:;
-	if (v269 == 1024) { v64 = (ptr)4ull; v65 = 0; v66 = 0; v67 = 2; v68 = 0; v69 = 0; v70 = (u64)(v56+4); goto L51; }
-	v60 = 7939; v61 = 0; v62 = 0; v63 = 0; goto L49;
-L44:;
-	if (v269 == 4096) { v64 = (ptr)16ull; v65 = 0; v66 = 0; v67 = 3; v68 = 0; v69 = 0; v70 = (u64)(v56+4); goto L51; }
-	v60 = 8195; v61 = 0; v62 = 0; v63 = 0; goto L49;
-L45:;
-	if (v270 < 4) { v57 = 0; v58 = 0; v59 = 1; goto L47; }
-	u32 v277 = lu32(v56+4);
-	clear(v171, 24);
-	core_str_utf8_from_utf8(v171, v56+8, v271 - 4);
-	u64 v278 = ld64(v171+8);
-	if (ld8(v171) != 0) goto L46;
-	v64 = (ptr)v278; v65 = ld64(v171+16); v66 = 0; v67 = 5; v68 = v267; v69 = (u32)__builtin_bswap32(v277); v70 = 0; goto L51;
-L46:;
-	v57 = (u64)ld16(v171+16); v58 = v278; v59 = 2;
-L47:;
-	v60 = v59; v61 = v58; v62 = v58 & 0xffffffff00000000ull; v63 = v57; goto L49;
-L48:;
-	if (v270 >= 4) goto L50;
-	v60 = 1; v61 = 0; v62 = 0; v63 = 0;
-L49:;
-	v71 = v60; v72 = (v61 & 4294967295u) | v62; v73 = (u8)v63; v74 = (u8)(v63 >> 8); goto L65;
-L50:;
-	v64 = v56+8; v65 = v271 - 4; v66 = 0; v67 = 4; v68 = v267; v69 = (u32)__builtin_bswap32(lu32(v56+4)); v70 = 0;
-L51:;
-	u64 v279 = (u64)v64;
-	u64 v280 = (u64)v67;
-	if (v53 != 0) goto L57;
-	t_64_64 v281 = allocate(384, 8);
-	if (!(v281.f0 & 1)) goto L52;
-	copy(v174, v175, 24);
-	stp(v175, (ptr)v281.f1);
-	st64(v175+16, 8);
-	std_alloc_vec_Vec_drop_050b(v174);
-	su64((ptr)v281.f1, v280);
-	su16((ptr)v281.f1+8, v68);
-	su16((ptr)v281.f1+10, v66);
-	su32((ptr)v281.f1+12, v69);
-	su64((ptr)v281.f1+16, v70);
-	su64((ptr)v281.f1+24, v279);
-	su64((ptr)v281.f1+32, v65);
-	su64((ptr)v281.f1+40, 0);
-	v76 = v281.f1; v77 = 1; goto L68;
-L52:;
-	u8 v282 = (u8)v68;
-	switch (v67) {
-	case 0: goto L53;
-	case 1: goto L54;
-	case 2: goto L55;
-	case 3: goto L56;
-	case 4: case 5: case 6: goto L64;
-	default: goto L66;
-	}
-L53:;
-	if ((v282 == 0) || (v65 == 0)) goto L64;
-	goto L63;
-L54:;
-	if ((v282 == 0) || (v65 == 0)) goto L64;
-	goto L63;
-L55:;
-	if ((v282 == 0) || (v65 == 0)) goto L64;
-	goto L63;
-L56:;
-	if ((v282 == 0) || (v65 == 0)) goto L64;
-	goto L63;
-L57:;
-	if (ld64(v175+16) != v53) { v75 = v53; goto L67; }
-	u8 v283 = std_alloc_vec_Vec_grow_amortized_05c7(v175);
-	if (!v283) goto L58;
-	v75 = ld64(v175+8); goto L67;
-L58:;
-	u8 v284 = (u8)v68;
-	switch (v67) {
-	case 0: goto L59;
-	case 1: goto L60;
-	case 2: goto L61;
-	case 3: goto L62;
-	case 4: case 5: case 6: goto L64;
-	default: goto L66;
-	}
-L59:;
-	if ((v284 == 0) || (v65 == 0)) goto L64;
-	goto L63;
-L60:;
-	if ((v284 == 0) || (v65 == 0)) goto L64;
-	goto L63;
-L61:;
-	if ((v284 == 0) || (v65 == 0)) goto L64;
-	goto L63;
-L62:;
-	if ((v284 == 0) || (v65 == 0)) goto L64;
-L63:;
-	deallocate((ptr)v70);
-L64:;
-	v71 = 0; v72 = 0; v73 = 0; v74 = 0;
-L65:;
-	std_alloc_vec_Vec_drop_050b(v175);
-	std_alloc_vec_Vec_drop_f1dc(v178);
-	v91 = (u64)(v71 & 65280); v92 = (u64)(v71 & 255); v93 = v72; v94 = v73; v95 = v74; goto L71;
-L66:;
-	__builtin_trap();
-L67:;
-	ptr v285 = ldp(v175);
-	ptr v286 = at(v285, v75 * 48);
-	su64(v286, v280);
-	su16(v286+8, v68);
-	su16(v286+10, v66);
-	su32(v286+12, v69);
-	su64(v286+16, v70);
-	su64(v286+24, v279);
-	su64(v286+32, v65);
-	su64(v286+40, 0);
-	v76 = (u64)v285; v77 = v75 + 1;
-L68:;
-	u64 v287 = v76 >> 16;
-	u64 v288 = v76 >> 8;
-	st64(v175+8, v77);
-	if (v274 != 0) { v51 = v287; v52 = v76; v53 = v77; v54 = v288; v55 = v274; v56 = v273; goto L38; }
-	v78 = v77; v79 = v287; v80 = v273; v81 = 0; v82 = v76; v83 = v288;
-L69:;
-	v84 = v80; v85 = ld64(v175+16); v86 = v78; v87 = v79; v88 = v81; v89 = v82; v90 = v83;
-L70:;
-	u64 v289 = ld64(v178+8);
-	u64 v290 = ld64(v178+16);
-	u64 v291 = ((u64)v256 << 8) | (u64)v255 | (((u64)ld_bytes(v178+2, 6) & 0xffffffffffffull) << 16);
-	copy(v189, v193, 6);
-	v133 = 0; v134 = 0; v135 = 0; v136 = 0; v137 = 0; v138 = v290; v139 = (ptr)((v89 & 255) | ((v90 << 8) & 65280) | (v87 << 16)); v140 = v86; v141 = v85; v142 = v84; v143 = v88; v144 = v291; v145 = v289; goto L103;
-L71:;
-	v146 = v91 | v92; v147 = v93; v148 = v94; v149 = v95; goto L104;
-L72:;
-	if (v5 < 12) { v146 = 3843; v147 = 0; v148 = 0; v149 = 0; goto L104; }
-	u32 v292 = lu32(v4);
-	u64 v293 = v5 - 12;
-	u64 v294 = (u64)__builtin_bswap64(lu64(v4+4));
-	stp(v170, v164);
-	clear(v170+8, 16);
-	u64 v295 = (u64)v164;
-	u64 v296 = v295 >> 8;
-	u64 v297 = v295 >> 16;
-	if (v293 == 0) { v126 = 0; v127 = (ptr)0; v128 = v297; v129 = v4+12; v130 = 0; v131 = v295; v132 = v296; goto L98; }
-	v96 = (ptr)0; v97 = v297; v98 = v295; v99 = 0; v100 = v296; v101 = v293; v102 = v4+12;
-L73:;
-	if (v101 < 4) { v114 = 4099; v115 = 0; v116 = 0; goto L94; }
-	u16 v298 = lu16(v102);
-	u16 v299 = (u16)__builtin_bswap16(v298);
-	u64 v300 = v101 - 4;
-	u16 v301 = (u16)__builtin_bswap16(lu16(v102+2));
-	if (v298 == 0) { v120 = v96; v121 = v97; v122 = v102+4; v123 = v300; v124 = v98; v125 = v100; goto L97; }
-	u64 v302 = (u64)v301;
-	u64 v303 = ((0ull - v302) & 3) + v302;
-	if (v300 < v303) { v114 = 4355; v115 = 0; v116 = 0; goto L94; }
-	ptr v304 = at(v102+4, v303);
-	u64 v305 = v300 - v303;
-	switch (v299) {
-	case 1: goto L74;
-	case 2: goto L76;
-	case 3: goto L77;
-	case 4: goto L78;
-	case 5: goto L79;
-	case 6: goto L80;
-	case 7: goto L81;
-	case 8: goto L82;
-	case 2988: case 19372: goto L83;
-	case 2989: case 19373: goto L85;
-	default: v106 = v102+4; v107 = v302; v108 = 0; v109 = 0; v110 = v301; v111 = v299; v112 = 0; v113 = 10; goto L88;
-	}
-L74:;
-	clear(v168, 24);
-	core_str_utf8_from_utf8(v168, v102+4, v302);
-	u64 v306 = ld64(v168+8);
-	if (ld8(v168) != 0) goto L75;
-	v106 = (ptr)ld64(v168+16); v107 = 0; v108 = 0; v109 = v306; v110 = 0; v111 = 0; v112 = 1; v113 = 0; goto L88;
-L75:;
-	v103 = 2; v104 = v306; v105 = ld16(v168+16); goto L86;
-L76:;
-	if (v301 < 8) { v103 = 1; v104 = 0; v105 = 0; goto L86; }
-	u64 v307 = (u64)__builtin_bswap64(lu64(v102+4));
-	v106 = (ptr)0; v107 = 0; v108 = (u32)(v307 >> 32); v109 = 0; v110 = (u16)(v307 >> 16); v111 = (u16)v307; v112 = 0; v113 = 1; goto L88;
-L77:;
-	if (v301 < 8) { v103 = 1; v104 = 0; v105 = 0; goto L86; }
-	u64 v308 = (u64)__builtin_bswap64(lu64(v102+4));
-	v106 = (ptr)0; v107 = 0; v108 = (u32)(v308 >> 32); v109 = 0; v110 = (u16)(v308 >> 16); v111 = (u16)v308; v112 = 0; v113 = 2; goto L88;
-L78:;
-	if (v301 < 8) { v103 = 1; v104 = 0; v105 = 0; goto L86; }
-	u64 v309 = (u64)__builtin_bswap64(lu64(v102+4));
-	v106 = (ptr)0; v107 = 0; v108 = (u32)(v309 >> 32); v109 = 0; v110 = (u16)(v309 >> 16); v111 = (u16)v309; v112 = 0; v113 = 3; goto L88;
-L79:;
-	if (v301 < 8) { v103 = 1; v104 = 0; v105 = 0; goto L86; }
-	u64 v310 = (u64)__builtin_bswap64(lu64(v102+4));
-	v106 = (ptr)0; v107 = 0; v108 = (u32)(v310 >> 32); v109 = 0; v110 = (u16)(v310 >> 16); v111 = (u16)v310; v112 = 0; v113 = 4; goto L88;
-L80:;
-	if (v301 < 8) { v103 = 1; v104 = 0; v105 = 0; goto L86; }
-	u64 v311 = (u64)__builtin_bswap64(lu64(v102+4));
-	v106 = (ptr)0; v107 = 0; v108 = (u32)(v311 >> 32); v109 = 0; v110 = (u16)(v311 >> 16); v111 = (u16)v311; v112 = 0; v113 = 5; goto L88;
-L81:;
-	if (v301 < 8) { v103 = 1; v104 = 0; v105 = 0; goto L86; }
-	u64 v312 = (u64)__builtin_bswap64(lu64(v102+4));
-	v106 = (ptr)0; v107 = 0; v108 = (u32)(v312 >> 32); v109 = 0; v110 = (u16)(v312 >> 16); v111 = (u16)v312; v112 = 0; v113 = 6; goto L88;
-L82:;
-	if (v301 < 8) { v103 = 1; v104 = 0; v105 = 0; goto L86; }
-	u64 v313 = (u64)__builtin_bswap64(lu64(v102+4));
-	v106 = (ptr)0; v107 = 0; v108 = (u32)(v313 >> 32); v109 = 0; v110 = (u16)(v313 >> 16); v111 = (u16)v313; v112 = 0; v113 = 7; goto L88;
-L83:;
-	if (v301 < 4) { v103 = 1; v104 = 0; v105 = 0; goto L86; }
-	u32 v314 = lu32(v102+4);
-	clear(v167, 24);
-	core_str_utf8_from_utf8(v167, v102+8, v302 - 4);
-	u64 v315 = ld64(v167+8);
-	if (ld8(v167) != 0) goto L84;
-	v106 = (ptr)v315; v107 = ld64(v167+16); v108 = (u32)__builtin_bswap32(v314); v109 = 0; v110 = 0; v111 = v299; v112 = 0; v113 = 9; goto L88;
-L84:;
-	v103 = 2; v104 = v315; v105 = ld16(v167+16); goto L86;
-L85:;
-	if (v301 >= 4) goto L87;
-	v103 = 1; v104 = 0; v105 = 0;
-L86:;
-	v114 = v103; v115 = v104; v116 = (u32)v105; goto L94;
-L87:;
-	v106 = v102+8; v107 = v302 - 4; v108 = (u32)__builtin_bswap32(lu32(v102+4)); v109 = 0; v110 = 0; v111 = v299; v112 = 0; v113 = 8;
-L88:;
-	u64 v316 = (u64)v111;
-	u64 v317 = ((u64)v110 << 16) | ((u64)v108 << 32) | v316;
-	u64 v318 = (u64)v106;
-	if (v99 != 0) goto L90;
-	t_64_64 v319 = allocate(384, 8);
-	if (!(v319.f0 & 1)) goto L89;
-	copy(v169, v170, 24);
-	stp(v170, (ptr)v319.f1);
-	st64(v170+16, 8);
-	std_alloc_vec_Vec_drop_15c9(v169);
-	su64((ptr)v319.f1, v113);
-	su64((ptr)v319.f1+8, v317);
-	su64((ptr)v319.f1+16, v109);
-	su64((ptr)v319.f1+24, v318);
-	su64((ptr)v319.f1+32, v107);
-	su64((ptr)v319.f1+40, 0);
-	v118 = v319.f1; v119 = 1; goto L96;
-L89:;
-	if (!v112) goto L93;
-	if (((v316 & 255) == 0) || (v107 == 0)) goto L93;
-	goto L92;
-L90:;
-	if (ld64(v170+16) != v99) { v117 = v99; goto L95; }
-	u8 v320 = std_alloc_vec_Vec_grow_amortized_05c7(v170);
-	if (!v320) goto L91;
-	v117 = ld64(v170+8); goto L95;
-L91:;
-	if (!v112) goto L93;
-	if (((v316 & 255) == 0) || (v107 == 0)) goto L93;
-L92:;
-	deallocate((ptr)v109);
-L93:;
-	v114 = 0; v115 = 0; v116 = 0;
-L94:;
-	std_alloc_vec_Vec_drop_15c9(v170);
-	v146 = v114; v147 = v115; v148 = (u8)v116; v149 = (u8)(v116 >> 8); goto L104;
-L95:;
-	ptr v321 = ldp(v170);
-	ptr v322 = at(v321, v117 * 48);
-	su64(v322, v113);
-	su64(v322+8, v317);
-	su64(v322+16, v109);
-	su64(v322+24, v318);
-	su64(v322+32, v107);
-	su64(v322+40, 0);
-	v118 = (u64)v321; v119 = v117 + 1;
-L96:;
-	u64 v323 = v118 >> 16;
-	u64 v324 = v118 >> 8;
-	st64(v170+8, v119);
-	if (v305 != 0) { v96 = (ptr)v119; v97 = v323; v98 = v118; v99 = v119; v100 = v324; v101 = v305; v102 = v304; goto L73; }
-	v120 = (ptr)v119; v121 = v323; v122 = v304; v123 = 0; v124 = v118; v125 = v324;
-L97:;
-	v126 = ld64(v170+16); v127 = v120; v128 = v121; v129 = v122; v130 = v123; v131 = v124; v132 = v125;
-L98:;
-	copy(v189, v194, 6);
-	v133 = 0; v134 = 0; v135 = 0; v136 = 0; v137 = 0; v138 = ((v132 << 8) & 65280) | (v128 << 16) | (v131 & 255); v139 = v127; v140 = v126; v141 = 0; v142 = v129; v143 = v130; v144 = (u64)(u32)__builtin_bswap32(v292); v145 = v294; goto L103;
-L99:;
-	pcap_blocks_enhanced_packet_EnhancedPacketBlock_read_4da0(v195, v4, v5);
-	u16 v325 = ld16(v195+8);
-	u64 v326 = ld64(v195+16);
-	u8 v327 = ld8(v195+24);
-	u8 v328 = ld8(v195+25);
-	if (ld8(v195) != 0) goto L100;
-	u64 v329 = (((u64)ld_bytes(v195+10, 6) & 0xffffffffffffull) << 16) | (u64)(v325 & 255) | (u64)(v325 & 65280);
-	u64 v330 = ld64(v195+32);
-	u64 v331 = ld64(v195+40);
-	ptr v332 = ldp(v195+48);
-	u64 v333 = ld64(v195+56);
-	u64 v334 = ld64(v195+64);
-	u64 v335 = ld64(v195+72);
-	u8 v336 = ld8(v195+80);
-	u8 v337 = ld8(v195+81);
-	u64 v338 = ((u64)v328 << 8) | (u64)v327 | (((u64)ld_bytes(v195+26, 6) & 0xffffffffffffull) << 16);
-	copy(v189, v195+82, 6);
-	v133 = ld64(v195+88); v134 = ld64(v195+96); v135 = v335; v136 = v336; v137 = v337; v138 = v331; v139 = v332; v140 = v333; v141 = v334; v142 = (ptr)v329; v143 = v326; v144 = v338; v145 = v330; goto L103;
-L100:;
-	v146 = (u64)v325; v147 = v326; v148 = v327; v149 = v328; goto L104;
-L101:;
-	v133 = 0; v134 = 0; v135 = 0; v136 = 0; v137 = 0; v138 = v5; v139 = (ptr)0; v140 = 0; v141 = 0; v142 = at(v4, v5); v143 = 0; v144 = 0; v145 = (u64)v4; goto L103;
-L102:;
-	if (v5 >= 0x100000000ull) { v146 = 9987; v147 = 0; v148 = 0; v149 = 0; goto L104; }
-	v133 = 0; v134 = 0; v135 = 0; v136 = 0; v137 = 0; v138 = 0; v139 = v4; v140 = v5; v141 = 0; v142 = v4; v143 = v5; v144 = ((u64)v3 << 32) | 8; v145 = v5;
-L103:;
-	copy(v197, v189, 6);
-	su64(v1, 0);
-	su64(v1+8, (u64)v142);
-	v150 = v143; v151 = (u64)v2; v152 = v144; v153 = v145; v154 = v138; v155 = v139; v156 = v140; v157 = v141; v158 = v135; v159 = v136; v160 = v197; v161 = v137; v162 = v133; v163 = v134; goto L105;
-L104:;
-	clear(v165, 96);
-	clear(v166, 24);
-	st16(v166, (u16)v146);
-	st64(v166+8, v147);
-	st8(v166+16, v148);
-	st8(v166+17, v149);
-	pcap_options_refusal_PcapErrorFromRefusal_from(v165, v166);
-	u8 v339 = ld8(v165);
-	u64 v340 = ld64(v165+8);
-	u64 v341 = ld64(v165+16);
-	u64 v342 = ld64(v165+24);
-	u64 v343 = ld64(v165+32);
-	u64 v344 = ld64(v165+40);
-	ptr v345 = ldp(v165+48);
-	u64 v346 = ld64(v165+56);
-	u64 v347 = ld64(v165+64);
-	u64 v348 = ld64(v165+72);
-	u8 v349 = ld8(v165+80);
-	u8 v350 = ld8(v165+81);
-	copy(v196, v165+82, 6);
-	u64 v351 = ld64(v165+88);
-	su64(v1, 1);
-	st8(v1+8, v339);
-	st8(v1+9, 0);
-	st_bytes(v1+10, 0, 6);
-	v150 = v340; v151 = v341; v152 = v342; v153 = v343; v154 = v344; v155 = v345; v156 = v346; v157 = v347; v158 = v348; v159 = v349; v160 = v196; v161 = v350; v162 = v351; v163 = 0;
-L105:;
-	su64(v1+16, v150);
-	su64(v1+24, v151);
-	su64(v1+32, v152);
-	su64(v1+40, v153);
-	su64(v1+48, v154);
-	sup(v1+56, v155);
-	su64(v1+64, v156);
-	su64(v1+72, v157);
-	su64(v1+80, v158);
-	st8(v1+88, v159);
-	copy(v1+90, v160, 6);
-	st8(v1+89, v161);
-	su64(v1+96, v162);
-	su64(v1+104, v163);
+	u64 v14 = v2 + 1;
+	if (v14 != v5) { v2 = v14; goto L0; }
+L10:
+	if (!v6) goto L11;
+	deallocate(v4);
+L11:
 	return;
-L106:;
+L12:
 	__builtin_trap();
+}
+static APART RARE u8 std_alloc_vec_Vec_grow_amortized_05c7(ptr v1) {
+	t_64_64 v2;
+	u8 v3;
+	u64 v4 = ld64(v1+8);
+	if (v4 == ~0ull) { v3 = 0; goto L2; }
+	u64 v5 = ld64(v1+16), v6 = (v4 > 3 ? v4 : 3) + 1, v7 = v5 << 1, v8 = v6 > v7 ? v6 : v7;
+	u64 v9 = v5 < 0x4000000000000000ull ? v8 : v6;
+	if (v9 >= 0x2aaaaaaaaaaaaabull) { v3 = 0; goto L2; }
+	if (v5) goto L0;
+	t_64_64 v10 = allocate(v8 * 48, 8);
+	if (v10.f0 & 1) { v2 = v10; goto L1; }
+	v3 = 0; goto L2;
+L0:;
+	t_64_64 v11 = reallocate(ldp(v1), v4 * 48, v9 * 48, 8);
+	if (!(v11.f0 & 1)) { v3 = 0; goto L2; }
+	v2 = v11;
+L1:
+	stp(v1, (ptr)v2.f1);
+	st64(v1+16, v9);
+	v3 = 1;
+L2:
+	return v3;
 }
 static void pcap_blocks_section_header_SectionHeaderBlock_read(ptr v1, ptr v2, u64 v3) {
 	u8 v4, v6, v19, v31, v32, v34, v35, v38, v39, v44, v45, v46, v48, v61, v73, v74, v76, v77, v80, v81, v86, v87, v89, v90, v93, v94, v99, v100;
@@ -1945,45 +612,38 @@ static void pcap_blocks_section_header_SectionHeaderBlock_read(ptr v1, ptr v2, u
 	ptr v8, v16, v29, v50, v58, v71;
 	u32 v9, v15, v21, v25, v51, v57, v63, v67;
 	u16 v11, v12, v18, v20, v23, v40, v41, v42, v53, v54, v60, v62, v65, v82, v83, v84, v95, v96, v97;
-	_Alignas(8) u8 v101[1], v102[24], v103[24], v104[24], v105[24], v106[24], v107[24], v108[24], v110[24], v111[24], v112[24], v113[24], v114[24], v115[24], v116[24], v119[16];
-	_Alignas(2) u8 v109[22], v117[22], v118[6];
-	clear(v118, 6);
-	clear(v119, 16);
+	_Alignas(8) u8 v101[1], v102[24], v103[24], v104[24], v105[24], v106[24], v107[24], v108[24], v110[24], v111[24], v112[24], v113[24], v114[24], v115[24], v116[24], v119[16] = {0};
+	_Alignas(2) u8 v109[22], v117[22], v118[6] = {0};
 	if (v3 >= 16) goto L0;
 	su64(v1, 1);
 	st8(v1+8, 3);
 	st8(v1+9, 10);
 	clear(v1+10, 54);
 	goto L73;
-L0:;
+L0:
 	switch ((u32)__builtin_bswap32(lu32(v2))) {
 	case 439041101: goto L1;
 	case 1295788826: goto L36;
-	default: v88 = 1; v89 = 3; v90 = 5; v91 = 0; v92 = 0; v93 = 0; v94 = 0; v95 = 0; v96 = 0; v97 = 0; v98 = 0; v99 = 0; v100 = 0; goto L72;
+	default: v88 = 1; v89 = 3; v90 = 5; v91 = v92 = v93 = v94 = v95 = v96 = v97 = v98 = v99 = v100 = 0; goto L72;
 	}
-L1:;
+L1:
 	clear(v117, 22);
-	u16 v120 = (u16)__builtin_bswap16(lu16(v2+4));
-	u16 v121 = (u16)__builtin_bswap16(lu16(v2+6));
-	u64 v122 = v3 - 16;
-	u64 v123 = (u64)__builtin_bswap64(lu64(v2+8));
+	u16 v120 = (u16)__builtin_bswap16(lu16(v2+4)), v121 = (u16)__builtin_bswap16(lu16(v2+6));
+	u64 v122 = v3 - 16, v123 = (u64)__builtin_bswap64(lu64(v2+8));
 	stp(v116, v101);
 	clear(v116+8, 16);
 	u64 v124 = (u64)v101;
-	u8 v125 = (u8)(v124 >> 8);
-	u8 v126 = (u8)v124;
-	if (v122 == 0) { v29 = v2+16; v30 = 0; v31 = v126; v32 = v125; goto L34; }
-	v4 = v126; v5 = 0; v6 = v125; v7 = v122; v8 = v2+16;
-L2:;
-	if (v7 < 4) { v23 = 4099; v24 = 0; v25 = 0; goto L31; }
-	u16 v127 = lu16(v8);
-	u16 v128 = (u16)__builtin_bswap16(v127);
+	u8 v125 = (u8)(v124 >> 8), v126 = (u8)v124;
+	if (!v122) { v29 = v2+16; v31 = v126; v32 = v125; v30 = 0; goto L34; }
+	v4 = v126; v6 = v125; v7 = v122; v8 = v2+16; v5 = 0;
+L2:
+	if (v7 < 4) { v23 = 4099; v24 = v25 = 0; goto L31; }
+	u16 v127 = lu16(v8), v128 = (u16)__builtin_bswap16(v127);
 	u64 v129 = v7 - 4;
 	u16 v130 = (u16)__builtin_bswap16(lu16(v8+2));
-	if (v127 == 0) { v29 = v8+4; v30 = v129; v31 = v4; v32 = v6; goto L34; }
-	u64 v131 = (u64)v130;
-	u64 v132 = ((0ull - v131) & 3) + v131;
-	if (v129 < v132) { v23 = 4355; v24 = 0; v25 = 0; goto L31; }
+	if (!v127) { v29 = v8+4; v30 = v129; v31 = v4; v32 = v6; goto L34; }
+	u64 v131 = (u64)v130, v132 = ((0ull - v131) & 3) + v131;
+	if (v129 < v132) { v23 = 4355; v24 = v25 = 0; goto L31; }
 	ptr v133 = at(v8+4, v132);
 	u64 v134 = v129 - v132;
 	switch (v128) {
@@ -1993,63 +653,62 @@ L2:;
 	case 4: goto L9;
 	case 2988: case 19372: goto L11;
 	case 2989: case 19373: goto L14;
-	default: v16 = v8+4; v17 = v131; v18 = v130; v19 = 6; v20 = v128; v21 = 0; v22 = 0; goto L17;
+	default: v16 = v8+4; v17 = v131; v18 = v130; v20 = v128; v19 = 6; v21 = v22 = 0; goto L17;
 	}
-L3:;
+L3:
 	clear(v114, 24);
 	core_str_utf8_from_utf8(v114, v8+4, v131);
 	u64 v135 = ld64(v114+8);
-	if (ld8(v114) != 0) goto L4;
-	v16 = (ptr)ld64(v114+16); v17 = 0; v18 = 0; v19 = 0; v20 = 0; v21 = 0; v22 = v135; goto L17;
-L4:;
-	v12 = 2; v13 = v135; v14 = v135 & 0xffffffff00000000ull; v15 = (u32)ld16(v114+16); goto L15;
-L5:;
+	if (ld8(v114)) goto L4;
+	v16 = (ptr)ld64(v114+16); v22 = v135; v17 = v18 = v19 = v20 = v21 = 0; goto L17;
+L4:
+	v13 = v135; v14 = v135 & 0xffffffff00000000ull; v15 = (u32)ld16(v114+16); v12 = 2; goto L15;
+L5:
 	clear(v113, 24);
 	core_str_utf8_from_utf8(v113, v8+4, v131);
 	u64 v136 = ld64(v113+8);
-	if (ld8(v113) != 0) goto L6;
-	v16 = (ptr)ld64(v113+16); v17 = 0; v18 = 0; v19 = 1; v20 = 0; v21 = 0; v22 = v136; goto L17;
-L6:;
-	v12 = 2; v13 = v136; v14 = v136 & 0xffffffff00000000ull; v15 = (u32)ld16(v113+16); goto L15;
-L7:;
+	if (ld8(v113)) goto L6;
+	v16 = (ptr)ld64(v113+16); v22 = v136; v17 = v18 = v20 = v21 = 0; v19 = 1; goto L17;
+L6:
+	v13 = v136; v14 = v136 & 0xffffffff00000000ull; v15 = (u32)ld16(v113+16); v12 = 2; goto L15;
+L7:
 	clear(v112, 24);
 	core_str_utf8_from_utf8(v112, v8+4, v131);
 	u64 v137 = ld64(v112+8);
-	if (ld8(v112) != 0) goto L8;
-	v16 = (ptr)ld64(v112+16); v17 = 0; v18 = 0; v19 = 2; v20 = 0; v21 = 0; v22 = v137; goto L17;
-L8:;
-	v12 = 2; v13 = v137; v14 = v137 & 0xffffffff00000000ull; v15 = (u32)ld16(v112+16); goto L15;
-L9:;
+	if (ld8(v112)) goto L8;
+	v16 = (ptr)ld64(v112+16); v22 = v137; v17 = v18 = v20 = v21 = 0; v19 = 2; goto L17;
+L8:
+	v13 = v137; v14 = v137 & 0xffffffff00000000ull; v15 = (u32)ld16(v112+16); v12 = 2; goto L15;
+L9:
 	clear(v111, 24);
 	core_str_utf8_from_utf8(v111, v8+4, v131);
 	u64 v138 = ld64(v111+8);
-	if (ld8(v111) != 0) goto L10;
-	v16 = (ptr)ld64(v111+16); v17 = 0; v18 = 0; v19 = 3; v20 = 0; v21 = 0; v22 = v138; goto L17;
-L10:;
-	v12 = 2; v13 = v138; v14 = v138 & 0xffffffff00000000ull; v15 = (u32)ld16(v111+16); goto L15;
-L11:;
-	if (v130 < 4) { v9 = 0; v10 = 0; v11 = 1; goto L13; }
+	if (ld8(v111)) goto L10;
+	v16 = (ptr)ld64(v111+16); v22 = v138; v17 = v18 = v20 = v21 = 0; v19 = 3; goto L17;
+L10:
+	v13 = v138; v14 = v138 & 0xffffffff00000000ull; v15 = (u32)ld16(v111+16); v12 = 2; goto L15;
+L11:
+	if (v130 < 4) { v9 = v10 = 0; v11 = 1; goto L13; }
 	u32 v139 = lu32(v8+4);
 	clear(v110, 24);
 	core_str_utf8_from_utf8(v110, v8+8, v131 - 4);
 	u64 v140 = ld64(v110+8);
-	if (ld8(v110) != 0) goto L12;
-	v16 = (ptr)v140; v17 = ld64(v110+16); v18 = 0; v19 = 5; v20 = v128; v21 = (u32)__builtin_bswap32(v139); v22 = 0; goto L17;
-L12:;
+	if (ld8(v110)) goto L12;
+	v16 = (ptr)v140; v17 = ld64(v110+16); v20 = v128; v21 = (u32)__builtin_bswap32(v139); v18 = v22 = 0; v19 = 5; goto L17;
+L12:
 	v9 = (u32)ld16(v110+16); v10 = v140; v11 = 2;
-L13:;
+L13:
 	v12 = v11; v13 = v10; v14 = v10 & 0xffffffff00000000ull; v15 = v9; goto L15;
-L14:;
+L14:
 	if (v130 >= 4) goto L16;
-	v12 = 1; v13 = 0; v14 = 0; v15 = 0;
-L15:;
+	v12 = 1; v13 = v14 = v15 = 0;
+L15:
 	v23 = v12; v24 = (v13 & 4294967295u) | v14; v25 = v15; goto L31;
-L16:;
-	v16 = v8+8; v17 = v131 - 4; v18 = 0; v19 = 4; v20 = v128; v21 = (u32)__builtin_bswap32(lu32(v8+4)); v22 = 0;
+L16:
+	v16 = v8+8; v17 = v131 - 4; v20 = v128; v21 = (u32)__builtin_bswap32(lu32(v8+4)); v18 = v22 = 0; v19 = 4;
 L17:;
-	u64 v141 = (u64)v16;
-	u64 v142 = (u64)v19;
-	if (v5 != 0) goto L23;
+	u64 v141 = (u64)v16, v142 = (u64)v19;
+	if (v5) goto L23;
 	t_64_64 v143 = allocate(384, 8);
 	if (!(v143.f0 & 1)) goto L18;
 	copy(v115, v116, 24);
@@ -2075,19 +734,19 @@ L18:;
 	case 4: case 5: case 6: goto L30;
 	default: goto L67;
 	}
-L19:;
-	if ((v144 == 0) || (v17 == 0)) goto L30;
+L19:
+	if (!v144 || !v17) goto L30;
 	goto L29;
-L20:;
-	if ((v144 == 0) || (v17 == 0)) goto L30;
+L20:
+	if (!v144 || !v17) goto L30;
 	goto L29;
-L21:;
-	if ((v144 == 0) || (v17 == 0)) goto L30;
+L21:
+	if (!v144 || !v17) goto L30;
 	goto L29;
-L22:;
-	if ((v144 == 0) || (v17 == 0)) goto L30;
+L22:
+	if (!v144 || !v17) goto L30;
 	goto L29;
-L23:;
+L23:
 	if (ld64(v116+16) != v5) { v26 = v5; goto L32; }
 	u8 v145 = std_alloc_vec_Vec_grow_amortized_05c7(v116);
 	if (!v145) goto L24;
@@ -2102,29 +761,28 @@ L24:;
 	case 4: case 5: case 6: goto L30;
 	default: goto L67;
 	}
-L25:;
-	if ((v146 == 0) || (v17 == 0)) goto L30;
+L25:
+	if (!v146 || !v17) goto L30;
 	goto L29;
-L26:;
-	if ((v146 == 0) || (v17 == 0)) goto L30;
+L26:
+	if (!v146 || !v17) goto L30;
 	goto L29;
-L27:;
-	if ((v146 == 0) || (v17 == 0)) goto L30;
+L27:
+	if (!v146 || !v17) goto L30;
 	goto L29;
-L28:;
-	if ((v146 == 0) || (v17 == 0)) goto L30;
-L29:;
+L28:
+	if (!v146 || !v17) goto L30;
+L29:
 	deallocate((ptr)v22);
-L30:;
-	v23 = 0; v24 = 0; v25 = 0;
-L31:;
+L30:
+	v23 = v24 = v25 = 0;
+L31:
 	std_alloc_vec_Vec_drop_050b(v116);
 	clear(v118, 6);
 	clear(v119, 16);
-	v33 = 1; v34 = (u8)v23; v35 = (u8)(v23 >> 8); v36 = 0; v37 = v24; v38 = (u8)v25; v39 = (u8)(v25 >> 8); v40 = 0; v41 = 0; v42 = 0; v43 = 0; v44 = 0; v45 = 0; goto L35;
+	v34 = (u8)v23; v35 = (u8)(v23 >> 8); v37 = v24; v38 = (u8)v25; v39 = (u8)(v25 >> 8); v33 = 1; v36 = v40 = v41 = v42 = v43 = v44 = v45 = 0; goto L35;
 L32:;
-	ptr v147 = ldp(v116);
-	ptr v148 = at(v147, v26 * 48);
+	ptr v147 = ldp(v116), v148 = at(v147, v26 * 48);
 	su64(v148, v142);
 	su16(v148+8, v20);
 	su16(v148+10, v18);
@@ -2135,41 +793,36 @@ L32:;
 	su64(v148+40, 0);
 	v27 = (u64)v147; v28 = v26 + 1;
 L33:;
-	u8 v149 = (u8)v27;
-	u8 v150 = (u8)(v27 >> 8);
+	u8 v149 = (u8)v27, v150 = (u8)(v27 >> 8);
 	st64(v116+8, v28);
-	if (v134 != 0) { v4 = v149; v5 = v28; v6 = v150; v7 = v134; v8 = v133; goto L2; }
-	v29 = v133; v30 = 0; v31 = v149; v32 = v150;
-L34:;
+	if (v134) { v4 = v149; v5 = v28; v6 = v150; v7 = v134; v8 = v133; goto L2; }
+	v29 = v133; v31 = v149; v32 = v150; v30 = 0;
+L34:
 	copy(v117, v116+2, 22);
 	u64 v151 = (u64)v29;
 	copy(v118, v117, 6);
 	copy(v119, v117+6, 16);
-	v33 = 0; v34 = (u8)v151; v35 = (u8)(v151 >> 8); v36 = (v151 >> 16) & 0xffffffffffffull; v37 = v30; v38 = 77; v39 = 60; v40 = 6699; v41 = v120; v42 = v121; v43 = v123; v44 = v31; v45 = v32;
-L35:;
+	v34 = (u8)v151; v35 = (u8)(v151 >> 8); v36 = (v151 >> 16) & 0xffffffffffffull; v37 = v30; v40 = 6699; v41 = v120; v42 = v121; v43 = v123; v44 = v31; v45 = v32; v33 = 0; v38 = 77; v39 = 60;
+L35:
 	v88 = v33; v89 = v34; v90 = v35; v91 = v36; v92 = v37; v93 = v38; v94 = v39; v95 = v40; v96 = v41; v97 = v42; v98 = v43; v99 = v44; v100 = v45; goto L72;
-L36:;
+L36:
 	clear(v109, 22);
-	u16 v152 = lu16(v2+4);
-	u16 v153 = lu16(v2+6);
-	u64 v154 = v3 - 16;
-	u64 v155 = lu64(v2+8);
+	u16 v152 = lu16(v2+4), v153 = lu16(v2+6);
+	u64 v154 = v3 - 16, v155 = lu64(v2+8);
 	stp(v108, v101);
 	clear(v108+8, 16);
 	u64 v156 = (u64)v101;
-	u8 v157 = (u8)(v156 >> 8);
-	u8 v158 = (u8)v156;
-	if (v154 == 0) { v71 = v2+16; v72 = 0; v73 = v158; v74 = v157; goto L70; }
-	v46 = v158; v47 = 0; v48 = v157; v49 = v154; v50 = v2+16;
-L37:;
-	if (v49 < 4) { v65 = 4099; v66 = 0; v67 = 0; goto L66; }
+	u8 v157 = (u8)(v156 >> 8), v158 = (u8)v156;
+	if (!v154) { v71 = v2+16; v73 = v158; v74 = v157; v72 = 0; goto L70; }
+	v46 = v158; v48 = v157; v49 = v154; v50 = v2+16; v47 = 0;
+L37:
+	if (v49 < 4) { v65 = 4099; v66 = v67 = 0; goto L66; }
 	u16 v159 = lu16(v50);
 	u64 v160 = v49 - 4;
 	u16 v161 = lu16(v50+2);
-	if (v159 == 0) { v71 = v50+4; v72 = v160; v73 = v46; v74 = v48; goto L70; }
-	u64 v162 = (u64)v161;
-	u64 v163 = ((0ull - v162) & 3) + v162;
-	if (v160 < v163) { v65 = 4355; v66 = 0; v67 = 0; goto L66; }
+	if (!v159) { v71 = v50+4; v72 = v160; v73 = v46; v74 = v48; goto L70; }
+	u64 v162 = (u64)v161, v163 = ((0ull - v162) & 3) + v162;
+	if (v160 < v163) { v65 = 4355; v66 = v67 = 0; goto L66; }
 	ptr v164 = at(v50+4, v163);
 	u64 v165 = v160 - v163;
 	switch (v159) {
@@ -2179,63 +832,62 @@ L37:;
 	case 4: goto L44;
 	case 2988: case 19372: goto L46;
 	case 2989: case 19373: goto L49;
-	default: v58 = v50+4; v59 = v162; v60 = v161; v61 = 6; v62 = v159; v63 = 0; v64 = 0; goto L52;
+	default: v58 = v50+4; v59 = v162; v60 = v161; v62 = v159; v61 = 6; v63 = v64 = 0; goto L52;
 	}
-L38:;
+L38:
 	clear(v106, 24);
 	core_str_utf8_from_utf8(v106, v50+4, v162);
 	u64 v166 = ld64(v106+8);
-	if (ld8(v106) != 0) goto L39;
-	v58 = (ptr)ld64(v106+16); v59 = 0; v60 = 0; v61 = 0; v62 = 0; v63 = 0; v64 = v166; goto L52;
-L39:;
-	v54 = 2; v55 = v166; v56 = v166 & 0xffffffff00000000ull; v57 = (u32)ld16(v106+16); goto L50;
-L40:;
+	if (ld8(v106)) goto L39;
+	v58 = (ptr)ld64(v106+16); v64 = v166; v59 = v60 = v61 = v62 = v63 = 0; goto L52;
+L39:
+	v55 = v166; v56 = v166 & 0xffffffff00000000ull; v57 = (u32)ld16(v106+16); v54 = 2; goto L50;
+L40:
 	clear(v105, 24);
 	core_str_utf8_from_utf8(v105, v50+4, v162);
 	u64 v167 = ld64(v105+8);
-	if (ld8(v105) != 0) goto L41;
-	v58 = (ptr)ld64(v105+16); v59 = 0; v60 = 0; v61 = 1; v62 = 0; v63 = 0; v64 = v167; goto L52;
-L41:;
-	v54 = 2; v55 = v167; v56 = v167 & 0xffffffff00000000ull; v57 = (u32)ld16(v105+16); goto L50;
-L42:;
+	if (ld8(v105)) goto L41;
+	v58 = (ptr)ld64(v105+16); v64 = v167; v59 = v60 = v62 = v63 = 0; v61 = 1; goto L52;
+L41:
+	v55 = v167; v56 = v167 & 0xffffffff00000000ull; v57 = (u32)ld16(v105+16); v54 = 2; goto L50;
+L42:
 	clear(v104, 24);
 	core_str_utf8_from_utf8(v104, v50+4, v162);
 	u64 v168 = ld64(v104+8);
-	if (ld8(v104) != 0) goto L43;
-	v58 = (ptr)ld64(v104+16); v59 = 0; v60 = 0; v61 = 2; v62 = 0; v63 = 0; v64 = v168; goto L52;
-L43:;
-	v54 = 2; v55 = v168; v56 = v168 & 0xffffffff00000000ull; v57 = (u32)ld16(v104+16); goto L50;
-L44:;
+	if (ld8(v104)) goto L43;
+	v58 = (ptr)ld64(v104+16); v64 = v168; v59 = v60 = v62 = v63 = 0; v61 = 2; goto L52;
+L43:
+	v55 = v168; v56 = v168 & 0xffffffff00000000ull; v57 = (u32)ld16(v104+16); v54 = 2; goto L50;
+L44:
 	clear(v103, 24);
 	core_str_utf8_from_utf8(v103, v50+4, v162);
 	u64 v169 = ld64(v103+8);
-	if (ld8(v103) != 0) goto L45;
-	v58 = (ptr)ld64(v103+16); v59 = 0; v60 = 0; v61 = 3; v62 = 0; v63 = 0; v64 = v169; goto L52;
-L45:;
-	v54 = 2; v55 = v169; v56 = v169 & 0xffffffff00000000ull; v57 = (u32)ld16(v103+16); goto L50;
-L46:;
-	if (v161 < 4) { v51 = 0; v52 = 0; v53 = 1; goto L48; }
+	if (ld8(v103)) goto L45;
+	v58 = (ptr)ld64(v103+16); v64 = v169; v59 = v60 = v62 = v63 = 0; v61 = 3; goto L52;
+L45:
+	v55 = v169; v56 = v169 & 0xffffffff00000000ull; v57 = (u32)ld16(v103+16); v54 = 2; goto L50;
+L46:
+	if (v161 < 4) { v51 = v52 = 0; v53 = 1; goto L48; }
 	u32 v170 = lu32(v50+4);
 	clear(v102, 24);
 	core_str_utf8_from_utf8(v102, v50+8, v162 - 4);
 	u64 v171 = ld64(v102+8);
-	if (ld8(v102) != 0) goto L47;
-	v58 = (ptr)v171; v59 = ld64(v102+16); v60 = 0; v61 = 5; v62 = v159; v63 = v170; v64 = 0; goto L52;
-L47:;
+	if (ld8(v102)) goto L47;
+	v58 = (ptr)v171; v59 = ld64(v102+16); v62 = v159; v63 = v170; v60 = v64 = 0; v61 = 5; goto L52;
+L47:
 	v51 = (u32)ld16(v102+16); v52 = v171; v53 = 2;
-L48:;
+L48:
 	v54 = v53; v55 = v52; v56 = v52 & 0xffffffff00000000ull; v57 = v51; goto L50;
-L49:;
+L49:
 	if (v161 >= 4) goto L51;
-	v54 = 1; v55 = 0; v56 = 0; v57 = 0;
-L50:;
+	v54 = 1; v55 = v56 = v57 = 0;
+L50:
 	v65 = v54; v66 = (v55 & 4294967295u) | v56; v67 = v57; goto L66;
-L51:;
-	v58 = v50+8; v59 = v162 - 4; v60 = 0; v61 = 4; v62 = v159; v63 = lu32(v50+4); v64 = 0;
+L51:
+	v58 = v50+8; v59 = v162 - 4; v62 = v159; v63 = lu32(v50+4); v60 = v64 = 0; v61 = 4;
 L52:;
-	u64 v172 = (u64)v58;
-	u64 v173 = (u64)v61;
-	if (v47 != 0) goto L58;
+	u64 v172 = (u64)v58, v173 = (u64)v61;
+	if (v47) goto L58;
 	t_64_64 v174 = allocate(384, 8);
 	if (!(v174.f0 & 1)) goto L53;
 	copy(v107, v108, 24);
@@ -2261,19 +913,19 @@ L53:;
 	case 4: case 5: case 6: goto L65;
 	default: goto L67;
 	}
-L54:;
-	if ((v175 == 0) || (v59 == 0)) goto L65;
+L54:
+	if (!v175 || !v59) goto L65;
 	goto L64;
-L55:;
-	if ((v175 == 0) || (v59 == 0)) goto L65;
+L55:
+	if (!v175 || !v59) goto L65;
 	goto L64;
-L56:;
-	if ((v175 == 0) || (v59 == 0)) goto L65;
+L56:
+	if (!v175 || !v59) goto L65;
 	goto L64;
-L57:;
-	if ((v175 == 0) || (v59 == 0)) goto L65;
+L57:
+	if (!v175 || !v59) goto L65;
 	goto L64;
-L58:;
+L58:
 	if (ld64(v108+16) != v47) { v68 = v47; goto L68; }
 	u8 v176 = std_alloc_vec_Vec_grow_amortized_05c7(v108);
 	if (!v176) goto L59;
@@ -2288,31 +940,30 @@ L59:;
 	case 4: case 5: case 6: goto L65;
 	default: goto L67;
 	}
-L60:;
-	if ((v177 == 0) || (v59 == 0)) goto L65;
+L60:
+	if (!v177 || !v59) goto L65;
 	goto L64;
-L61:;
-	if ((v177 == 0) || (v59 == 0)) goto L65;
+L61:
+	if (!v177 || !v59) goto L65;
 	goto L64;
-L62:;
-	if ((v177 == 0) || (v59 == 0)) goto L65;
+L62:
+	if (!v177 || !v59) goto L65;
 	goto L64;
-L63:;
-	if ((v177 == 0) || (v59 == 0)) goto L65;
-L64:;
+L63:
+	if (!v177 || !v59) goto L65;
+L64:
 	deallocate((ptr)v64);
-L65:;
-	v65 = 0; v66 = 0; v67 = 0;
-L66:;
+L65:
+	v65 = v66 = v67 = 0;
+L66:
 	std_alloc_vec_Vec_drop_050b(v108);
 	clear(v118, 6);
 	clear(v119, 16);
-	v75 = 1; v76 = (u8)v65; v77 = (u8)(v65 >> 8); v78 = 0; v79 = v66; v80 = (u8)v67; v81 = (u8)(v67 >> 8); v82 = 0; v83 = 0; v84 = 0; v85 = 0; v86 = 0; v87 = 0; goto L71;
-L67:;
+	v76 = (u8)v65; v77 = (u8)(v65 >> 8); v79 = v66; v80 = (u8)v67; v81 = (u8)(v67 >> 8); v75 = 1; v78 = v82 = v83 = v84 = v85 = v86 = v87 = 0; goto L71;
+L67:
 	__builtin_trap();
 L68:;
-	ptr v178 = ldp(v108);
-	ptr v179 = at(v178, v68 * 48);
+	ptr v178 = ldp(v108), v179 = at(v178, v68 * 48);
 	su64(v179, v173);
 	su16(v179+8, v62);
 	su16(v179+10, v60);
@@ -2323,20 +974,19 @@ L68:;
 	su64(v179+40, 0);
 	v69 = (u64)v178; v70 = v68 + 1;
 L69:;
-	u8 v180 = (u8)v69;
-	u8 v181 = (u8)(v69 >> 8);
+	u8 v180 = (u8)v69, v181 = (u8)(v69 >> 8);
 	st64(v108+8, v70);
-	if (v165 != 0) { v46 = v180; v47 = v70; v48 = v181; v49 = v165; v50 = v164; goto L37; }
-	v71 = v164; v72 = 0; v73 = v180; v74 = v181;
-L70:;
+	if (v165) { v46 = v180; v47 = v70; v48 = v181; v49 = v165; v50 = v164; goto L37; }
+	v71 = v164; v73 = v180; v74 = v181; v72 = 0;
+L70:
 	copy(v109, v108+2, 22);
 	u64 v182 = (u64)v71;
 	copy(v118, v109, 6);
 	copy(v119, v109+6, 16);
-	v75 = 0; v76 = (u8)v182; v77 = (u8)(v182 >> 8); v78 = (v182 >> 16) & 0xffffffffffffull; v79 = v72; v80 = 26; v81 = 43; v82 = 19772; v83 = v152; v84 = v153; v85 = v155; v86 = v73; v87 = v74;
-L71:;
+	v76 = (u8)v182; v77 = (u8)(v182 >> 8); v78 = (v182 >> 16) & 0xffffffffffffull; v79 = v72; v82 = 19772; v83 = v152; v84 = v153; v85 = v155; v86 = v73; v87 = v74; v75 = 0; v80 = 26; v81 = 43;
+L71:
 	v88 = v75; v89 = v76; v90 = v77; v91 = v78; v92 = v79; v93 = v80; v94 = v81; v95 = v82; v96 = v83; v97 = v84; v98 = v85; v99 = v86; v100 = v87;
-L72:;
+L72:
 	su64(v1, v88);
 	st8(v1+8, v89);
 	st8(v1+9, v90);
@@ -2352,422 +1002,7 @@ L72:;
 	st8(v1+41, v100);
 	copy(v1+42, v118, 6);
 	copy(v1+48, v119, 16);
-L73:;
-	return;
-}
-static void core_str_utf8_from_utf8(ptr v1, ptr v2, u64 v3) {
-	u64 v4, v5, v6, v7, v8, v9, v10, v11, v12, v14, v15, v16, v17, v18;
-	u8 v13;
-	_Alignas(8) u8 v19[16];
-	if (v3 == 0) goto L20;
-	u64 v20 = v3 - 8;
-	ptr v21 = at(v2, v20);
-	v4 = 0;
-L0:;
-	ptr v22 = at(v2, v4);
-	u8 v23 = ld8(v22);
-	u8 v24 = (s8)v23 > -1;
-	u64 v25 = v3 - v4;
-	if (!((v25 > 1) & v24)) goto L11;
-	if ((s8)ld8(v22+1) <= -1) { v14 = 1; goto L18; }
-	stp(v19, v2);
-	st64(v19+8, v3);
-	if (v25 >= 8) goto L2;
-	v5 = v4;
-L1:;
-	if ((s8)ld8(at(v2, v5)) < 0) { v15 = v5; goto L19; }
-	u64 v26 = v5 + 1;
-	if (v26 == v3) goto L20;
-	v5 = v26; goto L1;
-L2:;
-	u64 v27 = lu64(v22) & 0x8080808080808080ull;
-	if (v27 != 0) goto L3;
-	v6 = v4 + 8; goto L4;
-L3:;
-	u64 v28 = (trailing_zeros(v27) >> 3) + v4;
-	if (v28 < (v4 + 8)) { v15 = v28; goto L19; }
-	v6 = v28;
-L4:;
-	if ((v3 - v6) <= 31) { v8 = v6; goto L6; }
-	v7 = v6;
-L5:;
-	ptr v29 = at(v2, v7);
-	if (((lu64(v29+8) | lu64(v29) | lu64(v29+16) | lu64(v29+24)) & 0x8080808080808080ull) != 0) { v8 = v7; goto L6; }
-	u64 v30 = core_slice_words_skip_far_52f9(v19, v7 + 32, v3);
-	if ((v3 - v30) > 31) { v7 = v30; goto L5; }
-	v8 = v30;
-L6:;
-	v9 = v8;
-L7:;
-	if ((v3 - v9) <= 8) goto L10;
-	u64 v31 = lu64(at(v2, v9)) & 0x8080808080808080ull;
-	if (v31 != 0) goto L8;
-	u64 v32 = v9 + 8;
-	v10 = v32; v11 = v32; goto L9;
-L8:;
-	v10 = v9 + 8; v11 = (trailing_zeros(v31) >> 3) + v9;
-L9:;
-	if (v11 < v10) { v15 = v11; goto L19; }
-	v9 = v10; goto L7;
-L10:;
-	u64 v33 = lu64(v21) & 0x8080808080808080ull;
-	if (v33 == 0) goto L20;
-	v15 = (trailing_zeros(v33) >> 3) + v20; goto L19;
-L11:;
-	if (v24) { v14 = 1; goto L18; }
-	if (v23 < 194) { v16 = 1; v17 = v4; v18 = 257; goto L21; }
-	if (v23 >= 224) goto L12;
-	if (v25 < 2) { v16 = 1; v17 = v4; v18 = 0; goto L21; }
-	u8 v34 = ld8(v22+1);
-	if ((s8)v34 > -65) { v13 = v34; goto L17; }
-	v14 = 2; goto L18;
-L12:;
-	if (v23 >= 240) goto L13;
-	if (v25 < 3) goto L16;
-	u8 v35 = ld8(v22+1);
-	if (((s8)v35 > -65) | ((s8)ld8(v22+2) > -65)) { v13 = v35; goto L17; }
-	u32 v36 = ((u32)v23 << 6) - 14464 + (u32)v35;
-	if (v36 < 32) { v13 = v35; goto L17; }
-	if (v36 < 864) { v14 = 3; goto L18; }
-	v12 = v36 < 896 ? 0ull : 3ull; goto L14;
-L13:;
-	if (v25 < 4) goto L15;
-	u8 v37 = ld8(v22+1);
-	if (((s8)v37 > -65) | ((s8)ld8(v22+2) > -65) | ((s8)ld8(v22+3) > -65)) goto L15;
-	u32 v38 = ((u32)v23 << 6) - 15488 + (u32)v37;
-	if (v38 < 16) goto L15;
-	v12 = v38 < 272 ? 4ull : 0ull;
-L14:;
-	if (v12 != 0) { v14 = v12; goto L18; }
-L15:;
-	if (v23 >= 245) { v16 = 1; v17 = v4; v18 = 257; goto L21; }
-L16:;
-	if (v25 < 2) { v16 = 1; v17 = v4; v18 = 0; goto L21; }
-	v13 = ld8(v22+1);
-L17:;
-	u8 v39 = ((v23 == 224 ? 160 : (v23 == 240 ? 144u : 128u)) <= v13) & (v13 <= (v23 == 237 ? 159 : (v23 == 244 ? 143u : 191u)));
-	if (!v39) { v16 = 1; v17 = v4; v18 = 257; goto L21; }
-	if (v25 == 2) { v16 = 1; v17 = v4; v18 = 0; goto L21; }
-	if ((s8)ld8(v22+2) >= -64) { v16 = 1; v17 = v4; v18 = 513; goto L21; }
-	v16 = 1; v17 = v4; v18 = v25 > 3 ? 769ull : 0ull; goto L21;
-L18:;
-	v15 = v14 + v4;
-L19:;
-	if (v15 < v3) { v4 = v15; goto L0; }
-L20:;
-	v16 = 0; v17 = (u64)v2; v18 = v3;
-L21:;
-	su64(v1, v16);
-	su64(v1+8, v17);
-	su64(v1+16, v18);
-	return;
-}
-static __attribute__((noinline)) u64 core_slice_words_skip_far_52f9(ptr v1, u64 v2, u64 v3) {
-	u64 v4, v5;
-	if ((v3 - v2) <= 63) { v5 = v2; goto L1; }
-	ptr v6 = lup(v1);
-	v4 = v2;
-L0:;
-	ptr v7 = at(v6, v4);
-	u64 v8 = lu64(v7+16) | lu64(v7) | lu64(v7+32) | lu64(v7+48) | lu64(v7+8) | lu64(v7+24) | lu64(v7+40);
-	if (((v8 | lu64(v7+56)) & 0x8080808080808080ull) != 0) { v5 = v4; goto L1; }
-	u64 v9 = v4 + 64;
-	if ((v3 - v9) > 63) { v4 = v9; goto L0; }
-	v5 = v9;
-L1:;
-	return v5;
-}
-static void blocks_interface_description_InterfaceDescriptionBlock_read_4da0(ptr v1, ptr v2, u64 v3) {
-	u8 v4, v6, v12, v13, v20, v21, v37, v38;
-	u64 v5, v7, v9, v10, v14, v16, v18, v25, v26, v27, v30, v32, v33, v34, v36;
-	ptr v8, v17, v28, v35;
-	u16 v11, v15, v22, v23, v29;
-	u32 v19, v24, v31;
-	_Alignas(8) u8 v39[1], v40[48], v41[48], v42[48], v43[24], v44[24], v45[24], v46[24], v47[24], v48[24], v49[48], v50[24];
-	_Alignas(2) u8 v51[22];
-	clear(v51, 22);
-	if (v3 >= 8) goto L0;
-	su64(v1, 1);
-	st8(v1+8, 3);
-	st8(v1+9, 11);
-	clear(v1+10, 54);
-	goto L42;
-L0:;
-	u16 v52 = (u16)__builtin_bswap16(lu16(v2));
-	u16 v53 = (u16)__builtin_bswap16(lu16(v2+2));
-	u64 v54 = v3 - 8;
-	u32 v55 = (u32)__builtin_bswap32(lu32(v2+4));
-	stp(v50, v39);
-	clear(v50+8, 16);
-	u64 v56 = (u64)v39;
-	u8 v57 = (u8)(v56 >> 8);
-	u8 v58 = (u8)v56;
-	if (v54 == 0) { v35 = v2+8; v36 = 0; v37 = v58; v38 = v57; goto L41; }
-	v4 = v58; v5 = 0; v6 = v57; v7 = v54; v8 = v2+8;
-L1:;
-	if (v7 < 4) { v12 = 0; v13 = 0; v14 = 0; v15 = 4099; goto L26; }
-	u16 v59 = lu16(v8);
-	u16 v60 = (u16)__builtin_bswap16(v59);
-	u64 v61 = v7 - 4;
-	u16 v62 = lu16(v8+2);
-	u16 v63 = (u16)__builtin_bswap16(v62);
-	if (v59 == 0) { v35 = v8+4; v36 = v61; v37 = v4; v38 = v6; goto L41; }
-	u64 v64 = (u64)v63;
-	u64 v65 = ((0ull - v64) & 3) + v64;
-	if (v61 < v65) { v12 = 0; v13 = 0; v14 = 0; v15 = 4355; goto L26; }
-	ptr v66 = at(v8+4, v65);
-	u64 v67 = v61 - v65;
-	switch (v60) {
-	case 1: goto L2;
-	case 2: goto L4;
-	case 3: goto L6;
-	case 4: goto L8;
-	case 5: goto L9;
-	case 6: goto L10;
-	case 7: goto L11;
-	case 8: goto L12;
-	case 9: goto L13;
-	case 10: goto L14;
-	case 11: goto L15;
-	case 12: goto L16;
-	case 13: goto L18;
-	case 14: goto L19;
-	case 15: goto L20;
-	case 2988: case 19372: goto L22;
-	case 2989: case 19373: goto L25;
-	default: v17 = v8+4; v18 = v64; v19 = 0; v20 = 17; v21 = 0; v22 = v60; v23 = v63; v24 = 0; v25 = 0; goto L31;
-	}
-L2:;
-	clear(v48, 24);
-	core_str_utf8_from_utf8(v48, v8+4, v64);
-	u64 v68 = ld64(v48+8);
-	if (ld8(v48) != 0) goto L3;
-	v17 = (ptr)ld64(v48+16); v18 = 0; v19 = 0; v20 = 0; v21 = 0; v22 = 0; v23 = 0; v24 = 0; v25 = v68; goto L31;
-L3:;
-	v12 = ld8(v48+17); v13 = ld8(v48+16); v14 = v68; v15 = 2; goto L26;
-L4:;
-	clear(v47, 24);
-	core_str_utf8_from_utf8(v47, v8+4, v64);
-	u64 v69 = ld64(v47+8);
-	if (ld8(v47) != 0) goto L5;
-	v17 = (ptr)ld64(v47+16); v18 = 0; v19 = 0; v20 = 1; v21 = 0; v22 = 0; v23 = 0; v24 = 0; v25 = v69; goto L31;
-L5:;
-	v12 = ld8(v47+17); v13 = ld8(v47+16); v14 = v69; v15 = 2; goto L26;
-L6:;
-	clear(v46, 24);
-	core_str_utf8_from_utf8(v46, v8+4, v64);
-	u64 v70 = ld64(v46+8);
-	if (ld8(v46) != 0) goto L7;
-	v17 = (ptr)ld64(v46+16); v18 = 0; v19 = 0; v20 = 2; v21 = 0; v22 = 0; v23 = 0; v24 = 0; v25 = v70; goto L31;
-L7:;
-	v12 = ld8(v46+17); v13 = ld8(v46+16); v14 = v70; v15 = 2; goto L26;
-L8:;
-	if (v62 == 2048) { v17 = (ptr)8ull; v18 = 0; v19 = 0; v20 = 3; v21 = 0; v22 = 0; v23 = 0; v24 = 0; v25 = (u64)(v8+4); goto L31; }
-	v12 = 0; v13 = 0; v14 = 0; v15 = 4611; goto L26;
-L9:;
-	if (v62 == 4352) { v17 = (ptr)17ull; v18 = 0; v19 = 0; v20 = 4; v21 = 0; v22 = 0; v23 = 0; v24 = 0; v25 = (u64)(v8+4); goto L31; }
-	v12 = 0; v13 = 0; v14 = 0; v15 = 4867; goto L26;
-L10:;
-	if (v62 == 1536) { v17 = (ptr)6ull; v18 = 0; v19 = 0; v20 = 5; v21 = 0; v22 = 0; v23 = 0; v24 = 0; v25 = (u64)(v8+4); goto L31; }
-	v12 = 0; v13 = 0; v14 = 0; v15 = 5123; goto L26;
-L11:;
-	if (v62 != 2048) { v12 = 0; v13 = 0; v14 = 0; v15 = 5379; goto L26; }
-	u64 v71 = (u64)__builtin_bswap64(lu64(v8+4));
-	v17 = (ptr)0; v18 = 0; v19 = 0; v20 = 6; v21 = 0; v22 = (u16)v71; v23 = (u16)(v71 >> 16); v24 = (u32)(v71 >> 32); v25 = 0; goto L31;
-L12:;
-	if (v62 != 2048) { v12 = 0; v13 = 0; v14 = 0; v15 = 5635; goto L26; }
-	u64 v72 = (u64)__builtin_bswap64(lu64(v8+4));
-	v17 = (ptr)0; v18 = 0; v19 = 0; v20 = 7; v21 = 0; v22 = (u16)v72; v23 = (u16)(v72 >> 16); v24 = (u32)(v72 >> 32); v25 = 0; goto L31;
-L13:;
-	if (v62 != 256) { v12 = 0; v13 = 0; v14 = 0; v15 = 5891; goto L26; }
-	v17 = (ptr)0; v18 = 0; v19 = 0; v20 = 8; v21 = ld8(v8+4); v22 = 0; v23 = 0; v24 = 0; v25 = 0; goto L31;
-L14:;
-	if (v62 != 1024) { v12 = 0; v13 = 0; v14 = 0; v15 = 6147; goto L26; }
-	v17 = (ptr)0; v18 = 0; v19 = (u32)__builtin_bswap32(lu32(v8+4)); v20 = 9; v21 = 0; v22 = 0; v23 = 0; v24 = 0; v25 = 0; goto L31;
-L15:;
-	if (v62 == 0) { v12 = 0; v13 = 0; v14 = 0; v15 = 6403; goto L26; }
-	v17 = (ptr)v64; v18 = 0; v19 = 0; v20 = 10; v21 = 0; v22 = 0; v23 = 0; v24 = 0; v25 = (u64)(v8+4); goto L31;
-L16:;
-	clear(v45, 24);
-	core_str_utf8_from_utf8(v45, v8+4, v64);
-	u64 v73 = ld64(v45+8);
-	if (ld8(v45) != 0) goto L17;
-	v17 = (ptr)ld64(v45+16); v18 = 0; v19 = 0; v20 = 11; v21 = 0; v22 = 0; v23 = 0; v24 = 0; v25 = v73; goto L31;
-L17:;
-	v12 = ld8(v45+17); v13 = ld8(v45+16); v14 = v73; v15 = 2; goto L26;
-L18:;
-	if (v62 != 256) { v12 = 0; v13 = 0; v14 = 0; v15 = 6659; goto L26; }
-	v17 = (ptr)0; v18 = 0; v19 = 0; v20 = 12; v21 = ld8(v8+4); v22 = 0; v23 = 0; v24 = 0; v25 = 0; goto L31;
-L19:;
-	if (v62 != 2048) { v12 = 0; v13 = 0; v14 = 0; v15 = 6915; goto L26; }
-	u64 v74 = (u64)__builtin_bswap64(lu64(v8+4));
-	v17 = (ptr)0; v18 = 0; v19 = 0; v20 = 13; v21 = 0; v22 = (u16)v74; v23 = (u16)(v74 >> 16); v24 = (u32)(v74 >> 32); v25 = 0; goto L31;
-L20:;
-	clear(v44, 24);
-	core_str_utf8_from_utf8(v44, v8+4, v64);
-	u64 v75 = ld64(v44+8);
-	if (ld8(v44) != 0) goto L21;
-	v17 = (ptr)ld64(v44+16); v18 = 0; v19 = 0; v20 = 14; v21 = 0; v22 = 0; v23 = 0; v24 = 0; v25 = v75; goto L31;
-L21:;
-	v12 = ld8(v44+17); v13 = ld8(v44+16); v14 = v75; v15 = 2; goto L26;
-L22:;
-	if (v63 < 4) { v9 = 0; v10 = 0; v11 = 1; goto L24; }
-	u32 v76 = lu32(v8+4);
-	clear(v43, 24);
-	core_str_utf8_from_utf8(v43, v8+8, v64 - 4);
-	u64 v77 = ld64(v43+8);
-	if (ld8(v43) != 0) goto L23;
-	v17 = (ptr)v77; v18 = ld64(v43+16); v19 = 0; v20 = 16; v21 = 0; v22 = v60; v23 = 0; v24 = (u32)__builtin_bswap32(v76); v25 = 0; goto L31;
-L23:;
-	v9 = (u64)ld16(v43+16); v10 = v77; v11 = 2;
-L24:;
-	v12 = (u8)(v9 >> 8); v13 = (u8)v9; v14 = v10; v15 = v11; goto L26;
-L25:;
-	if (v63 >= 4) goto L30;
-	v12 = 0; v13 = 0; v14 = 0; v15 = 1;
-L26:;
-	ptr v78 = ldp(v50);
-	u64 v79 = ld64(v50+16);
-	if (v5 == 0) goto L28;
-	v16 = 0;
-L27:;
-	ptr v80 = at(v78, v16 * 48);
-	u8 v81 = ld8(v80);
-	u8 v82 = ld8(v80+1);
-	u32 v83 = lu32(v80+4);
-	u64 v84 = lu64(v80+8);
-	st64(v42, 0);
-	st8(v42, v81);
-	st8(v42+1, v82);
-	st32(v42+4, v83);
-	st64(v42+8, v84);
-	copy(v42+16, v80+16, 32);
-	ptions_interface_option_InterfaceDescriptionOption_Destruct_drop(v42);
-	u64 v85 = v16 + 1;
-	if (v85 != v5) { v16 = v85; goto L27; }
-L28:;
-	if (v79 == 0) goto L29;
-	deallocate(v78);
-L29:;
-	v29 = v15; v30 = v14; v31 = ((u32)v12 << 8) | (u32)v13; goto L38;
-L30:;
-	v17 = v8+8; v18 = v64 - 4; v19 = 0; v20 = 15; v21 = 0; v22 = v60; v23 = 0; v24 = (u32)__builtin_bswap32(lu32(v8+4)); v25 = 0;
-L31:;
-	u64 v86 = ((u64)v24 << 32) | ((u64)v23 << 16) | (u64)v22;
-	st64(v49, 0);
-	if (v5 != 0) goto L34;
-	t_64_64 v87 = allocate(384, 8);
-	if (!(v87.f0 & 1)) goto L33;
-	ptr v88 = ldp(v50);
-	u64 v89 = ld64(v50+16);
-	stp(v50, (ptr)v87.f1);
-	st64(v50+8, 0);
-	st64(v50+16, 8);
-	if (v89 == 0) goto L32;
-	deallocate(v88);
-L32:;
-	st8((ptr)v87.f1, v20);
-	st8((ptr)v87.f1+1, v21);
-	su32((ptr)v87.f1+4, v19);
-	su64((ptr)v87.f1+8, v86);
-	su64((ptr)v87.f1+16, v25);
-	sup((ptr)v87.f1+24, v17);
-	su64((ptr)v87.f1+32, v18);
-	su64((ptr)v87.f1+40, 0);
-	v33 = v87.f1; v34 = 1; goto L40;
-L33:;
-	st8(v49, v20);
-	st8(v49+1, v21);
-	st32(v49+4, v19);
-	st64(v49+8, v86);
-	st64(v49+16, v25);
-	stp(v49+24, v17);
-	st64(v49+32, v18);
-	st64(v49+40, 0);
-	ptions_interface_option_InterfaceDescriptionOption_Destruct_drop(v49);
-	v27 = ld64(v50+16); v28 = ldp(v50); goto L37;
-L34:;
-	if (ld64(v50+16) != v5) { v32 = v5; goto L39; }
-	u8 v90 = std_alloc_vec_Vec_grow_amortized_05c7(v50);
-	if (!v90) goto L35;
-	v32 = ld64(v50+8); goto L39;
-L35:;
-	st64(v41+16, v25);
-	stp(v41+24, v17);
-	st64(v41+32, v18);
-	st64(v41+40, 0);
-	st64(v41, 0);
-	st8(v41, v20);
-	st8(v41+1, v21);
-	st32(v41+4, v19);
-	st64(v41+8, v86);
-	ptions_interface_option_InterfaceDescriptionOption_Destruct_drop(v41);
-	u64 v91 = ld64(v50+8);
-	ptr v92 = ldp(v50);
-	u64 v93 = ld64(v50+16);
-	if (v91 == 0) { v27 = v93; v28 = v92; goto L37; }
-	v26 = 0;
-L36:;
-	ptr v94 = at(v92, v26 * 48);
-	u8 v95 = ld8(v94);
-	u8 v96 = ld8(v94+1);
-	u32 v97 = lu32(v94+4);
-	u64 v98 = lu64(v94+8);
-	st64(v40, 0);
-	st8(v40, v95);
-	st8(v40+1, v96);
-	st32(v40+4, v97);
-	st64(v40+8, v98);
-	copy(v40+16, v94+16, 32);
-	ptions_interface_option_InterfaceDescriptionOption_Destruct_drop(v40);
-	u64 v99 = v26 + 1;
-	if (v99 != v91) { v26 = v99; goto L36; }
-	v27 = v93; v28 = v92;
-L37:;
-	if (v27 == 0) { v29 = 0; v30 = 0; v31 = 0; goto L38; }
-	deallocate(v28);
-	v29 = 0; v30 = 0; v31 = 0;
-L38:;
-	su64(v1, 1);
-	su16(v1+8, v29);
-	st_bytes(v1+10, 0, 6);
-	su64(v1+16, v30);
-	su32(v1+24, v31);
-	clear(v1+28, 36);
-	goto L42;
-L39:;
-	ptr v100 = ldp(v50);
-	ptr v101 = at(v100, v32 * 48);
-	st8(v101, v20);
-	st8(v101+1, v21);
-	su32(v101+4, v19);
-	su64(v101+8, v86);
-	su64(v101+16, v25);
-	sup(v101+24, v17);
-	su64(v101+32, v18);
-	su64(v101+40, 0);
-	v33 = (u64)v100; v34 = v32 + 1;
-L40:;
-	u8 v102 = (u8)(v33 >> 8);
-	st64(v50+8, v34);
-	if (v67 != 0) { v4 = (u8)v33; v5 = v34; v6 = v102; v7 = v67; v8 = v66; goto L1; }
-	v35 = v66; v36 = 0; v37 = (u8)v33; v38 = v102;
-L41:;
-	copy(v51, v50+2, 22);
-	t_8_32 v103 = pcap_core_link_DataLinkFromU32_from((u32)v52);
-	su64(v1, 0);
-	su64(v1+8, (u64)v35);
-	su64(v1+16, v36);
-	su32(v1+24, (u32)v103.f0);
-	su32(v1+28, v103.f1);
-	su16(v1+32, v53);
-	su16(v1+34, 0);
-	su32(v1+36, v55);
-	st8(v1+40, v37);
-	st8(v1+41, v38);
-	copy(v1+42, v51, 6);
-	copy(v1+48, v51+6, 16);
-L42:;
+L73:
 	return;
 }
 static void ptions_interface_option_InterfaceDescriptionOption_Destruct_drop(ptr v1) {
@@ -2775,9 +1010,7 @@ static void ptions_interface_option_InterfaceDescriptionOption_Destruct_drop(ptr
 	u8 v3 = ld8(v1+8);
 	u64 v4 = lu64(v1+16);
 	u8 v5 = (u8)v4;
-	u64 v6 = lu64(v1+24);
-	u64 v7 = lu64(v1+32);
-	u64 v8 = lu64(v1+40);
+	u64 v6 = lu64(v1+24), v7 = lu64(v1+32), v8 = lu64(v1+40);
 	switch (ld8(v1)) {
 	case 0: goto L0;
 	case 1: goto L1;
@@ -2794,54 +1027,54 @@ static void ptions_interface_option_InterfaceDescriptionOption_Destruct_drop(ptr
 	case 17: goto L11;
 	default: goto L14;
 	}
-L0:;
-	if ((v3 == 0) || (v7 == 0)) goto L13;
+L0:
+	if (!v3 || !v7) goto L13;
 	v2 = v4; goto L12;
-L1:;
-	if ((v3 == 0) || (v7 == 0)) goto L13;
+L1:
+	if (!v3 || !v7) goto L13;
 	v2 = v4; goto L12;
-L2:;
-	if ((v3 == 0) || (v7 == 0)) goto L13;
+L2:
+	if (!v3 || !v7) goto L13;
 	v2 = v4; goto L12;
-L3:;
-	if ((v3 == 0) || (v7 == 0)) goto L13;
+L3:
+	if (!v3 || !v7) goto L13;
 	v2 = v4; goto L12;
-L4:;
-	if ((v3 == 0) || (v7 == 0)) goto L13;
+L4:
+	if (!v3 || !v7) goto L13;
 	v2 = v4; goto L12;
-L5:;
-	if ((v3 == 0) || (v7 == 0)) goto L13;
+L5:
+	if (!v3 || !v7) goto L13;
 	v2 = v4; goto L12;
-L6:;
-	if ((v3 == 0) || (v7 == 0)) goto L13;
+L6:
+	if (!v3 || !v7) goto L13;
 	v2 = v4; goto L12;
-L7:;
-	if ((v3 == 0) || (v7 == 0)) goto L13;
+L7:
+	if (!v3 || !v7) goto L13;
 	v2 = v4; goto L12;
-L8:;
-	if ((v3 == 0) || (v7 == 0)) goto L13;
+L8:
+	if (!v3 || !v7) goto L13;
 	v2 = v4; goto L12;
-L9:;
-	if ((v5 == 0) || (v8 == 0)) goto L13;
+L9:
+	if (!v5 || !v8) goto L13;
 	v2 = v6; goto L12;
-L10:;
-	if ((v5 == 0) || (v8 == 0)) goto L13;
+L10:
+	if (!v5 || !v8) goto L13;
 	v2 = v6; goto L12;
-L11:;
-	if ((v5 == 0) || (v8 == 0)) goto L13;
+L11:
+	if (!v5 || !v8) goto L13;
 	v2 = v6;
-L12:;
+L12:
 	deallocate((ptr)v2);
-L13:;
+L13:
 	return;
-L14:;
+L14:
 	__builtin_trap();
 }
 static t_8_32 pcap_core_link_DataLinkFromU32_from(u32 v1) {
 	u8 v2;
 	u32 v3;
 	switch (v1) {
-	case 0: v2 = 0; v3 = v1; goto L107;
+	case 0: v3 = v1; v2 = 0; goto L107;
 	case 1: goto L0;
 	case 3: goto L1;
 	case 6: goto L2;
@@ -2950,497 +1183,578 @@ static t_8_32 pcap_core_link_DataLinkFromU32_from(u32 v1) {
 	case 268: goto L105;
 	default: goto L106;
 	}
-L0:;
+L0:
 	v2 = 1; v3 = 0; goto L107;
-L1:;
+L1:
 	v2 = 2; v3 = 0; goto L107;
-L2:;
+L2:
 	v2 = 3; v3 = 0; goto L107;
-L3:;
+L3:
 	v2 = 4; v3 = 0; goto L107;
-L4:;
+L4:
 	v2 = 5; v3 = 0; goto L107;
-L5:;
+L5:
 	v2 = 6; v3 = 0; goto L107;
-L6:;
+L6:
 	v2 = 7; v3 = 0; goto L107;
-L7:;
+L7:
 	v2 = 8; v3 = 0; goto L107;
-L8:;
+L8:
 	v2 = 9; v3 = 0; goto L107;
-L9:;
+L9:
 	v2 = 10; v3 = 0; goto L107;
-L10:;
+L10:
 	v2 = 11; v3 = 0; goto L107;
-L11:;
+L11:
 	v2 = 12; v3 = 0; goto L107;
-L12:;
+L12:
 	v2 = 13; v3 = 0; goto L107;
-L13:;
+L13:
 	v2 = 14; v3 = 0; goto L107;
-L14:;
+L14:
 	v2 = 15; v3 = 0; goto L107;
-L15:;
+L15:
 	v2 = 16; v3 = 0; goto L107;
-L16:;
+L16:
 	v2 = 17; v3 = 0; goto L107;
-L17:;
+L17:
 	v2 = 18; v3 = 0; goto L107;
-L18:;
+L18:
 	v2 = 19; v3 = 0; goto L107;
-L19:;
+L19:
 	v2 = 20; v3 = 0; goto L107;
-L20:;
+L20:
 	v2 = 21; v3 = 0; goto L107;
-L21:;
+L21:
 	v2 = 22; v3 = 0; goto L107;
-L22:;
+L22:
 	v2 = 23; v3 = 0; goto L107;
-L23:;
+L23:
 	v2 = 24; v3 = 0; goto L107;
-L24:;
+L24:
 	v2 = 25; v3 = 0; goto L107;
-L25:;
+L25:
 	v2 = 26; v3 = 0; goto L107;
-L26:;
+L26:
 	v2 = 27; v3 = 0; goto L107;
-L27:;
+L27:
 	v2 = 28; v3 = 0; goto L107;
-L28:;
+L28:
 	v2 = 29; v3 = 0; goto L107;
-L29:;
+L29:
 	v2 = 30; v3 = 0; goto L107;
-L30:;
+L30:
 	v2 = 31; v3 = 0; goto L107;
-L31:;
+L31:
 	v2 = 32; v3 = 0; goto L107;
-L32:;
+L32:
 	v2 = 33; v3 = 0; goto L107;
-L33:;
+L33:
 	v2 = 34; v3 = 0; goto L107;
-L34:;
+L34:
 	v2 = 35; v3 = 0; goto L107;
-L35:;
+L35:
 	v2 = 36; v3 = 0; goto L107;
-L36:;
+L36:
 	v2 = 37; v3 = 0; goto L107;
-L37:;
+L37:
 	v2 = 38; v3 = 0; goto L107;
-L38:;
+L38:
 	v2 = 39; v3 = 0; goto L107;
-L39:;
+L39:
 	v2 = 40; v3 = 0; goto L107;
-L40:;
+L40:
 	v2 = 41; v3 = 0; goto L107;
-L41:;
+L41:
 	v2 = 42; v3 = 0; goto L107;
-L42:;
+L42:
 	v2 = 43; v3 = 0; goto L107;
-L43:;
+L43:
 	v2 = 44; v3 = 0; goto L107;
-L44:;
+L44:
 	v2 = 45; v3 = 0; goto L107;
-L45:;
+L45:
 	v2 = 46; v3 = 0; goto L107;
-L46:;
+L46:
 	v2 = 47; v3 = 0; goto L107;
-L47:;
+L47:
 	v2 = 48; v3 = 0; goto L107;
-L48:;
+L48:
 	v2 = 49; v3 = 0; goto L107;
-L49:;
+L49:
 	v2 = 50; v3 = 0; goto L107;
-L50:;
+L50:
 	v2 = 51; v3 = 0; goto L107;
-L51:;
+L51:
 	v2 = 52; v3 = 0; goto L107;
-L52:;
+L52:
 	v2 = 53; v3 = 0; goto L107;
-L53:;
+L53:
 	v2 = 54; v3 = 0; goto L107;
-L54:;
+L54:
 	v2 = 55; v3 = 0; goto L107;
-L55:;
+L55:
 	v2 = 56; v3 = 0; goto L107;
-L56:;
+L56:
 	v2 = 57; v3 = 0; goto L107;
-L57:;
+L57:
 	v2 = 58; v3 = 0; goto L107;
-L58:;
+L58:
 	v2 = 59; v3 = 0; goto L107;
-L59:;
+L59:
 	v2 = 60; v3 = 0; goto L107;
-L60:;
+L60:
 	v2 = 61; v3 = 0; goto L107;
-L61:;
+L61:
 	v2 = 62; v3 = 0; goto L107;
-L62:;
+L62:
 	v2 = 63; v3 = 0; goto L107;
-L63:;
+L63:
 	v2 = 64; v3 = 0; goto L107;
-L64:;
+L64:
 	v2 = 65; v3 = 0; goto L107;
-L65:;
+L65:
 	v2 = 66; v3 = 0; goto L107;
-L66:;
+L66:
 	v2 = 67; v3 = 0; goto L107;
-L67:;
+L67:
 	v2 = 68; v3 = 0; goto L107;
-L68:;
+L68:
 	v2 = 69; v3 = 0; goto L107;
-L69:;
+L69:
 	v2 = 70; v3 = 0; goto L107;
-L70:;
+L70:
 	v2 = 71; v3 = 0; goto L107;
-L71:;
+L71:
 	v2 = 72; v3 = 0; goto L107;
-L72:;
+L72:
 	v2 = 73; v3 = 0; goto L107;
-L73:;
+L73:
 	v2 = 74; v3 = 0; goto L107;
-L74:;
+L74:
 	v2 = 75; v3 = 0; goto L107;
-L75:;
+L75:
 	v2 = 76; v3 = 0; goto L107;
-L76:;
+L76:
 	v2 = 77; v3 = 0; goto L107;
-L77:;
+L77:
 	v2 = 78; v3 = 0; goto L107;
-L78:;
+L78:
 	v2 = 79; v3 = 0; goto L107;
-L79:;
+L79:
 	v2 = 80; v3 = 0; goto L107;
-L80:;
+L80:
 	v2 = 81; v3 = 0; goto L107;
-L81:;
+L81:
 	v2 = 82; v3 = 0; goto L107;
-L82:;
+L82:
 	v2 = 83; v3 = 0; goto L107;
-L83:;
+L83:
 	v2 = 84; v3 = 0; goto L107;
-L84:;
+L84:
 	v2 = 85; v3 = 0; goto L107;
-L85:;
+L85:
 	v2 = 86; v3 = 0; goto L107;
-L86:;
+L86:
 	v2 = 87; v3 = 0; goto L107;
-L87:;
+L87:
 	v2 = 88; v3 = 0; goto L107;
-L88:;
+L88:
 	v2 = 89; v3 = 0; goto L107;
-L89:;
+L89:
 	v2 = 90; v3 = 0; goto L107;
-L90:;
+L90:
 	v2 = 91; v3 = 0; goto L107;
-L91:;
+L91:
 	v2 = 92; v3 = 0; goto L107;
-L92:;
+L92:
 	v2 = 93; v3 = 0; goto L107;
-L93:;
+L93:
 	v2 = 94; v3 = 0; goto L107;
-L94:;
+L94:
 	v2 = 95; v3 = 0; goto L107;
-L95:;
+L95:
 	v2 = 96; v3 = 0; goto L107;
-L96:;
+L96:
 	v2 = 97; v3 = 0; goto L107;
-L97:;
+L97:
 	v2 = 98; v3 = 0; goto L107;
-L98:;
+L98:
 	v2 = 99; v3 = 0; goto L107;
-L99:;
+L99:
 	v2 = 100; v3 = 0; goto L107;
-L100:;
+L100:
 	v2 = 101; v3 = 0; goto L107;
-L101:;
+L101:
 	v2 = 102; v3 = 0; goto L107;
-L102:;
+L102:
 	v2 = 103; v3 = 0; goto L107;
-L103:;
+L103:
 	v2 = 104; v3 = 0; goto L107;
-L104:;
+L104:
 	v2 = 105; v3 = 0; goto L107;
-L105:;
+L105:
 	v2 = 106; v3 = 0; goto L107;
-L106:;
+L106:
 	v2 = 107; v3 = v1;
-L107:;
+L107:
 	return (t_8_32){v2, v3};
 }
-static __attribute__((noinline)) void pcap_options_records_records_from_slice_4da0(ptr v1, ptr v2, u64 v3) {
-	u64 v4, v7, v8, v10, v11, v12, v13, v16;
-	ptr v5, v6, v9;
-	u8 v14, v15;
-	_Alignas(8) u8 v17[1], v18[64], v19[64], v20[64], v21[72], v22[24], v23[16];
-	clear(v23, 16);
-	stp(v22, v17);
-	clear(v22+8, 16);
-	clear(v21+8, 64);
-	if (v3 < 4) { v12 = 1; v13 = 0; v14 = 0; v15 = 0; goto L22; }
-	v4 = v3; v5 = v2; v6 = v17;
+static void blocks_interface_description_InterfaceDescriptionBlock_read_4da0(ptr v1, ptr v2, u64 v3) {
+	u8 v4, v6, v12, v13, v20, v21, v37, v38;
+	u64 v5, v7, v9, v10, v14, v16, v18, v25, v26, v27, v30, v32, v33, v34, v36;
+	ptr v8, v17, v28, v35;
+	u16 v11, v15, v22, v23, v29;
+	u32 v19, v24, v31;
+	_Alignas(8) u8 v39[1], v40[48], v41[48], v42[48], v43[24], v44[24], v45[24], v46[24], v47[24], v48[24], v49[48], v50[24];
+	_Alignas(2) u8 v51[22] = {0};
+	if (v3 >= 8) goto L0;
+	su64(v1, 1);
+	st8(v1+8, 3);
+	st8(v1+9, 11);
+	clear(v1+10, 54);
+	goto L42;
 L0:;
-	u64 v24 = v4 - 4;
-	u16 v25 = (u16)__builtin_bswap16(lu16(v5+2));
-	u64 v26 = (u64)v25;
-	if (v24 < v26) { v12 = 8451; v13 = 0; v14 = 0; v15 = 0; goto L22; }
-	pcap_options_record_Record_from_value(v21, (u16)__builtin_bswap16(lu16(v5)), v25, v5+4, v26);
-	u16 v27 = ld16(v21+8);
-	u64 v28 = ld64(v21+16);
-	u16 v29 = (u16)v28;
-	u16 v30 = (u16)(v28 >> 16);
-	u16 v31 = ld16(v21+24);
-	u8 v32 = (u8)v31;
-	u16 v33 = v31 >> 8;
-	if (ld8(v21) != 0) goto L21;
-	u64 v34 = (u64)ld_bytes(v21+26, 6) & 0xffffffffffffull;
-	u64 v35 = ld64(v21+32);
-	u64 v36 = ld64(v21+40);
-	u64 v37 = ld64(v21+48);
-	u64 v38 = ((0ull - v26) & 3) + v26;
-	if (v24 >= v38) goto L14;
-	u8 v39 = (u8)v28;
-	u8 v40 = (u8)v27;
-	switch (v40) {
-	case 1: goto L1;
-	case 2: goto L6;
-	case 3: goto L11;
-	case 0: v12 = 9731; v13 = 0; v14 = v40; v15 = v40; goto L22;
-	default: goto L13;
-	}
-L1:;
-	if ((v39 != 1) || (v36 == 0)) goto L2;
-	deallocate((ptr)((v34 << 16) | (u64)v31));
-L2:;
-	u64 v41 = ld64(v21+56);
-	u64 v42 = ld64(v21+64);
-	if (v41 == 0) goto L5;
-	v7 = 0;
-L3:;
-	ptr v43 = at((ptr)v37, v7 << 5);
-	if ((ld8(v43) == 0) || (lu64(v43+24) == 0)) goto L4;
-	deallocate(lup(v43+8));
-L4:;
-	u64 v44 = v7 + 1;
-	if (v44 != v41) { v7 = v44; goto L3; }
-L5:;
-	if (v42 == 0) { v12 = 9731; v13 = 0; v14 = 0; v15 = 0; goto L22; }
-	v9 = (ptr)v37; goto L12;
-L6:;
-	if ((v39 != 1) || (v36 == 0)) goto L7;
-	deallocate((ptr)((v34 << 16) | (u64)v31));
-L7:;
-	u64 v45 = ld64(v21+56);
-	u64 v46 = ld64(v21+64);
-	if (v45 == 0) goto L10;
-	v8 = 0;
-L8:;
-	ptr v47 = at((ptr)v37, v8 << 5);
-	if ((ld8(v47) == 0) || (lu64(v47+24) == 0)) goto L9;
-	deallocate(lup(v47+8));
-L9:;
-	u64 v48 = v8 + 1;
-	if (v48 != v45) { v8 = v48; goto L8; }
-L10:;
-	if (v46 == 0) { v12 = 9731; v13 = 0; v14 = 0; v15 = 0; goto L22; }
-	v9 = (ptr)v37; goto L12;
-L11:;
-	if ((v32 != 1) || (v37 == 0)) { v12 = 9731; v13 = 0; v14 = 0; v15 = 0; goto L22; }
-	v9 = (ptr)v35;
-L12:;
-	deallocate(v9);
-	v12 = 9731; v13 = 0; v14 = 0; v15 = 0; goto L22;
-L13:;
-	__builtin_trap();
-L14:;
-	ptr v49 = at(v5+4, v38);
-	u64 v50 = v24 - v38;
-	u64 v51 = ((v34 << 8) & 0xffffffffffffffull) | (u64)v33;
-	copy(v23, v21+56, 16);
-	if ((v27 & 255) != 0) goto L15;
-	u8 v52 = ld8(v22);
-	su64(v1, 0);
-	sup(v1+8, v49);
-	su64(v1+16, v50);
-	st8(v1+24, v52);
-	st8(v1+25, (u8)((u64)v6 >> 8));
-	copy(v1+26, v22+2, 22);
-	goto L26;
-L15:;
-	u64 v53 = (u64)(v27 & 255);
-	u64 v54 = ld64(v22+8);
-	if (ld64(v22+16) != v54) { v11 = v54; goto L20; }
-	u8 v55 = std_alloc_vec_Vec_grow_amortized_8416(v22);
-	if (!v55) goto L16;
-	v11 = ld64(v22+8); goto L20;
-L16:;
-	st64(v19+8, 0);
-	st64(v19, v53);
-	st16(v19+8, v29);
-	st16(v19+10, v30);
-	st8(v19+16, v32);
-	st_bytes(v19+17, v51, 7);
-	st64(v19+24, v35);
-	st64(v19+32, v36);
-	st64(v19+40, v37);
-	copy(v19+48, v23, 16);
-	pcap_options_pcap_options_record_Record_Destruct_drop(v19);
-	ptr v56 = ldp(v22);
-	u64 v57 = ld64(v22+8);
-	u64 v58 = ld64(v22+16);
-	if (v57 == 0) goto L18;
-	v10 = 0;
-L17:;
-	ptr v59 = at(v56, v10 << 6);
-	u64 v60 = (u64)ld8(v59);
-	u16 v61 = lu16(v59+8);
-	u16 v62 = lu16(v59+10);
-	st64(v18+8, 0);
-	st64(v18, v60);
-	st16(v18+8, v61);
-	st16(v18+10, v62);
-	copy(v18+16, v59+16, 48);
-	pcap_options_pcap_options_record_Record_Destruct_drop(v18);
-	u64 v63 = v10 + 1;
-	if (v63 != v57) { v10 = v63; goto L17; }
-L18:;
-	if (v58 == 0) goto L19;
-	deallocate(v56);
-L19:;
-	su64(v1, 1);
-	clear(v1+8, 40);
-	goto L26;
-L20:;
-	ptr v64 = ldp(v22);
-	ptr v65 = at(v64, v11 << 6);
-	su64(v65, v53);
-	su16(v65+8, v29);
-	su16(v65+10, v30);
-	st8(v65+16, v32);
-	st_bytes(v65+17, v51, 7);
-	su64(v65+24, v35);
-	su64(v65+32, v36);
-	su64(v65+40, v37);
-	copy(v65+48, v23, 16);
-	st64(v22+8, v11 + 1);
-	clear(v21+8, 64);
-	if (v50 < 4) { v12 = 1; v13 = 0; v14 = 0; v15 = 0; goto L22; }
-	v4 = v50; v5 = v49; v6 = v64; goto L0;
-L21:;
-	v12 = (u64)v27; v13 = v28; v14 = v32; v15 = (u8)v33;
-L22:;
-	ptr v66 = ldp(v22);
-	u64 v67 = ld64(v22+8);
-	u64 v68 = ld64(v22+16);
-	if (v67 == 0) goto L24;
-	v16 = 0;
-L23:;
-	ptr v69 = at(v66, v16 << 6);
-	u64 v70 = (u64)ld8(v69);
-	u16 v71 = lu16(v69+8);
-	u16 v72 = lu16(v69+10);
-	st64(v20+8, 0);
-	st64(v20, v70);
-	st16(v20+8, v71);
-	st16(v20+10, v72);
-	copy(v20+16, v69+16, 48);
-	pcap_options_pcap_options_record_Record_Destruct_drop(v20);
-	u64 v73 = v16 + 1;
-	if (v73 != v67) { v16 = v73; goto L23; }
-L24:;
-	if (v68 == 0) goto L25;
-	deallocate(v66);
-L25:;
-	su64(v1, 1);
-	sup(v1+8, (ptr)v12);
-	su64(v1+16, v13);
-	st8(v1+24, v14);
-	st8(v1+25, v15);
-	clear(v1+26, 22);
-L26:;
-	return;
-}
-static void pcap_options_record_Record_from_value(ptr v1, u16 v2, u16 v3, ptr v4, u64 v5) {
-	u16 v6, v9;
-	u64 v7, v8, v10, v11, v12, v16, v17, v18, v21, v22, v23;
-	u8 v13, v14, v19, v20;
-	ptr v15;
-	_Alignas(8) u8 v24[32], v25[32];
-	_Alignas(2) u8 v26[6], v27[6], v28[6], v29[6];
-	clear(v27, 6);
-	switch (v2) {
-	case 0: goto L0;
-	case 1: goto L1;
+	u16 v52 = (u16)__builtin_bswap16(lu16(v2)), v53 = (u16)__builtin_bswap16(lu16(v2+2));
+	u64 v54 = v3 - 8;
+	u32 v55 = (u32)__builtin_bswap32(lu32(v2+4));
+	stp(v50, v39);
+	clear(v50+8, 16);
+	u64 v56 = (u64)v39;
+	u8 v57 = (u8)(v56 >> 8), v58 = (u8)v56;
+	if (!v54) { v35 = v2+8; v37 = v58; v38 = v57; v36 = 0; goto L41; }
+	v4 = v58; v6 = v57; v7 = v54; v8 = v2+8; v5 = 0;
+L1:
+	if (v7 < 4) { v15 = 4099; v12 = v13 = v14 = 0; goto L26; }
+	u16 v59 = lu16(v8), v60 = (u16)__builtin_bswap16(v59);
+	u64 v61 = v7 - 4;
+	u16 v62 = lu16(v8+2), v63 = (u16)__builtin_bswap16(v62);
+	if (!v59) { v35 = v8+4; v36 = v61; v37 = v4; v38 = v6; goto L41; }
+	u64 v64 = (u64)v63, v65 = ((0ull - v64) & 3) + v64;
+	if (v61 < v65) { v15 = 4355; v12 = v13 = v14 = 0; goto L26; }
+	ptr v66 = at(v8+4, v65);
+	u64 v67 = v61 - v65;
+	switch (v60) {
+	case 1: goto L2;
 	case 2: goto L4;
-	default: goto L7;
+	case 3: goto L6;
+	case 4: goto L8;
+	case 5: goto L9;
+	case 6: goto L10;
+	case 7: goto L11;
+	case 8: goto L12;
+	case 9: goto L13;
+	case 10: goto L14;
+	case 11: goto L15;
+	case 12: goto L16;
+	case 13: goto L18;
+	case 14: goto L19;
+	case 15: goto L20;
+	case 2988: case 19372: goto L22;
+	case 2989: case 19373: goto L25;
+	default: v17 = v8+4; v18 = v64; v22 = v60; v23 = v63; v19 = v21 = v24 = v25 = 0; v20 = 17; goto L31;
 	}
-L0:;
-	u8 v30 = v5 != 0;
-	copy(v26, v27, 6);
-	v12 = 0; v13 = 0; v14 = 0; v15 = (ptr)0; v16 = 0; v17 = 0; v18 = (u64)v30; v19 = v30 ? 3u : 0u; v20 = v30 ? 34u : 0u; v21 = 0; v22 = 0; v23 = 0; goto L8;
-L1:;
-	clear(v25, 32);
-	if (v5 < 6) { v6 = 8963; v7 = 0; v8 = 0; goto L3; }
-	pcap_options_names_names_from_slice(v25, v4+4, v5 - 4);
-	u64 v31 = ld64(v25+16);
-	if (ld8(v25) != 0) goto L2;
-	u64 v32 = (u64)v4;
-	u64 v33 = ld64(v25+8);
-	u8 v34 = ld8(v25+25);
-	u8 v35 = ld8(v25+24);
-	copy(v28, v25+26, 6);
-	copy(v26, v28, 6);
-	v12 = v31; v13 = v35; v14 = v34; v15 = (ptr)4ull; v16 = 0; v17 = v33; v18 = 0; v19 = 1; v20 = 0; v21 = 0; v22 = v32; v23 = v32 & 0xffffffffffff0000ull; goto L8;
-L2:;
-	v6 = ld16(v25+8); v7 = v31; v8 = (u64)ld16(v25+24);
-L3:;
+L2:
+	clear(v48, 24);
+	core_str_utf8_from_utf8(v48, v8+4, v64);
+	u64 v68 = ld64(v48+8);
+	if (ld8(v48)) goto L3;
+	v17 = (ptr)ld64(v48+16); v25 = v68; v18 = v19 = v20 = v21 = v22 = v23 = v24 = 0; goto L31;
+L3:
+	v12 = ld8(v48+17); v13 = ld8(v48+16); v14 = v68; v15 = 2; goto L26;
+L4:
+	clear(v47, 24);
+	core_str_utf8_from_utf8(v47, v8+4, v64);
+	u64 v69 = ld64(v47+8);
+	if (ld8(v47)) goto L5;
+	v17 = (ptr)ld64(v47+16); v25 = v69; v18 = v19 = v21 = v22 = v23 = v24 = 0; v20 = 1; goto L31;
+L5:
+	v12 = ld8(v47+17); v13 = ld8(v47+16); v14 = v69; v15 = 2; goto L26;
+L6:
+	clear(v46, 24);
+	core_str_utf8_from_utf8(v46, v8+4, v64);
+	u64 v70 = ld64(v46+8);
+	if (ld8(v46)) goto L7;
+	v17 = (ptr)ld64(v46+16); v25 = v70; v18 = v19 = v21 = v22 = v23 = v24 = 0; v20 = 2; goto L31;
+L7:
+	v12 = ld8(v46+17); v13 = ld8(v46+16); v14 = v70; v15 = 2; goto L26;
+L8:
+	if (v62 == 2048) { v17 = (ptr)8ull; v25 = (u64)(v8+4); v18 = v19 = v21 = v22 = v23 = v24 = 0; v20 = 3; goto L31; }
+	v15 = 4611; v12 = v13 = v14 = 0; goto L26;
+L9:
+	if (v62 == 4352) { v17 = (ptr)17ull; v25 = (u64)(v8+4); v18 = v19 = v21 = v22 = v23 = v24 = 0; v20 = 4; goto L31; }
+	v15 = 4867; v12 = v13 = v14 = 0; goto L26;
+L10:
+	if (v62 == 1536) { v17 = (ptr)6ull; v25 = (u64)(v8+4); v18 = v19 = v21 = v22 = v23 = v24 = 0; v20 = 5; goto L31; }
+	v15 = 5123; v12 = v13 = v14 = 0; goto L26;
+L11:
+	if (v62 != 2048) { v15 = 5379; v12 = v13 = v14 = 0; goto L26; }
+	u64 v71 = (u64)__builtin_bswap64(lu64(v8+4));
+	v17 = (ptr)0; v22 = (u16)v71; v23 = (u16)(v71 >> 16); v24 = (u32)(v71 >> 32); v18 = v19 = v21 = v25 = 0; v20 = 6; goto L31;
+L12:
+	if (v62 != 2048) { v15 = 5635; v12 = v13 = v14 = 0; goto L26; }
+	u64 v72 = (u64)__builtin_bswap64(lu64(v8+4));
+	v17 = (ptr)0; v22 = (u16)v72; v23 = (u16)(v72 >> 16); v24 = (u32)(v72 >> 32); v18 = v19 = v21 = v25 = 0; v20 = 7; goto L31;
+L13:
+	if (v62 != 256) { v15 = 5891; v12 = v13 = v14 = 0; goto L26; }
+	v17 = (ptr)0; v21 = ld8(v8+4); v18 = v19 = v22 = v23 = v24 = v25 = 0; v20 = 8; goto L31;
+L14:
+	if (v62 != 1024) { v15 = 6147; v12 = v13 = v14 = 0; goto L26; }
+	v17 = (ptr)0; v19 = (u32)__builtin_bswap32(lu32(v8+4)); v18 = v21 = v22 = v23 = v24 = v25 = 0; v20 = 9; goto L31;
+L15:
+	if (!v62) { v15 = 6403; v12 = v13 = v14 = 0; goto L26; }
+	v17 = (ptr)v64; v25 = (u64)(v8+4); v18 = v19 = v21 = v22 = v23 = v24 = 0; v20 = 10; goto L31;
+L16:
+	clear(v45, 24);
+	core_str_utf8_from_utf8(v45, v8+4, v64);
+	u64 v73 = ld64(v45+8);
+	if (ld8(v45)) goto L17;
+	v17 = (ptr)ld64(v45+16); v25 = v73; v18 = v19 = v21 = v22 = v23 = v24 = 0; v20 = 11; goto L31;
+L17:
+	v12 = ld8(v45+17); v13 = ld8(v45+16); v14 = v73; v15 = 2; goto L26;
+L18:
+	if (v62 != 256) { v15 = 6659; v12 = v13 = v14 = 0; goto L26; }
+	v17 = (ptr)0; v21 = ld8(v8+4); v18 = v19 = v22 = v23 = v24 = v25 = 0; v20 = 12; goto L31;
+L19:
+	if (v62 != 2048) { v15 = 6915; v12 = v13 = v14 = 0; goto L26; }
+	u64 v74 = (u64)__builtin_bswap64(lu64(v8+4));
+	v17 = (ptr)0; v22 = (u16)v74; v23 = (u16)(v74 >> 16); v24 = (u32)(v74 >> 32); v18 = v19 = v21 = v25 = 0; v20 = 13; goto L31;
+L20:
+	clear(v44, 24);
+	core_str_utf8_from_utf8(v44, v8+4, v64);
+	u64 v75 = ld64(v44+8);
+	if (ld8(v44)) goto L21;
+	v17 = (ptr)ld64(v44+16); v25 = v75; v18 = v19 = v21 = v22 = v23 = v24 = 0; v20 = 14; goto L31;
+L21:
+	v12 = ld8(v44+17); v13 = ld8(v44+16); v14 = v75; v15 = 2; goto L26;
+L22:
+	if (v63 < 4) { v9 = v10 = 0; v11 = 1; goto L24; }
+	u32 v76 = lu32(v8+4);
+	clear(v43, 24);
+	core_str_utf8_from_utf8(v43, v8+8, v64 - 4);
+	u64 v77 = ld64(v43+8);
+	if (ld8(v43)) goto L23;
+	v17 = (ptr)v77; v18 = ld64(v43+16); v22 = v60; v24 = (u32)__builtin_bswap32(v76); v19 = v21 = v23 = v25 = 0; v20 = 16; goto L31;
+L23:
+	v9 = (u64)ld16(v43+16); v10 = v77; v11 = 2;
+L24:
+	v12 = (u8)(v9 >> 8); v13 = (u8)v9; v14 = v10; v15 = v11; goto L26;
+L25:
+	if (v63 >= 4) goto L30;
+	v12 = v13 = v14 = 0; v15 = 1;
+L26:;
+	ptr v78 = ldp(v50);
+	u64 v79 = ld64(v50+16);
+	if (!v5) goto L28;
+	v16 = 0;
+L27:;
+	ptr v80 = at(v78, v16 * 48);
+	u8 v81 = ld8(v80), v82 = ld8(v80+1);
+	u32 v83 = lu32(v80+4);
+	u64 v84 = lu64(v80+8);
+	st64(v42, 0);
+	st8(v42, v81);
+	st8(v42+1, v82);
+	st32(v42+4, v83);
+	st64(v42+8, v84);
+	copy(v42+16, v80+16, 32);
+	ptions_interface_option_InterfaceDescriptionOption_Destruct_drop(v42);
+	u64 v85 = v16 + 1;
+	if (v85 != v5) { v16 = v85; goto L27; }
+L28:
+	if (!v79) goto L29;
+	deallocate(v78);
+L29:
+	v29 = v15; v30 = v14; v31 = ((u32)v12 << 8) | (u32)v13; goto L38;
+L30:
+	v17 = v8+8; v18 = v64 - 4; v22 = v60; v24 = (u32)__builtin_bswap32(lu32(v8+4)); v19 = v21 = v23 = v25 = 0; v20 = 15;
+L31:;
+	u64 v86 = ((u64)v24 << 32) | ((u64)v23 << 16) | (u64)v22;
+	st64(v49, 0);
+	if (v5) goto L34;
+	t_64_64 v87 = allocate(384, 8);
+	if (!(v87.f0 & 1)) goto L33;
+	ptr v88 = ldp(v50);
+	u64 v89 = ld64(v50+16);
+	stp(v50, (ptr)v87.f1);
+	st64(v50+8, 0);
+	st64(v50+16, 8);
+	if (!v89) goto L32;
+	deallocate(v88);
+L32:
+	st8((ptr)v87.f1, v20);
+	st8((ptr)v87.f1+1, v21);
+	su32((ptr)v87.f1+4, v19);
+	su64((ptr)v87.f1+8, v86);
+	su64((ptr)v87.f1+16, v25);
+	sup((ptr)v87.f1+24, v17);
+	su64((ptr)v87.f1+32, v18);
+	su64((ptr)v87.f1+40, 0);
+	v33 = v87.f1; v34 = 1; goto L40;
+L33:
+	st8(v49, v20);
+	st8(v49+1, v21);
+	st32(v49+4, v19);
+	st64(v49+8, v86);
+	st64(v49+16, v25);
+	stp(v49+24, v17);
+	st64(v49+32, v18);
+	st64(v49+40, 0);
+	ptions_interface_option_InterfaceDescriptionOption_Destruct_drop(v49);
+	v27 = ld64(v50+16); v28 = ldp(v50); goto L37;
+L34:
+	if (ld64(v50+16) != v5) { v32 = v5; goto L39; }
+	u8 v90 = std_alloc_vec_Vec_grow_amortized_05c7(v50);
+	if (!v90) goto L35;
+	v32 = ld64(v50+8); goto L39;
+L35:
+	st64(v41+16, v25);
+	stp(v41+24, v17);
+	st64(v41+32, v18);
+	st64(v41+40, 0);
+	st64(v41, 0);
+	st8(v41, v20);
+	st8(v41+1, v21);
+	st32(v41+4, v19);
+	st64(v41+8, v86);
+	ptions_interface_option_InterfaceDescriptionOption_Destruct_drop(v41);
+	u64 v91 = ld64(v50+8);
+	ptr v92 = ldp(v50);
+	u64 v93 = ld64(v50+16);
+	if (!v91) { v27 = v93; v28 = v92; goto L37; }
+	v26 = 0;
+L36:;
+	ptr v94 = at(v92, v26 * 48);
+	u8 v95 = ld8(v94), v96 = ld8(v94+1);
+	u32 v97 = lu32(v94+4);
+	u64 v98 = lu64(v94+8);
+	st64(v40, 0);
+	st8(v40, v95);
+	st8(v40+1, v96);
+	st32(v40+4, v97);
+	st64(v40+8, v98);
+	copy(v40+16, v94+16, 32);
+	ptions_interface_option_InterfaceDescriptionOption_Destruct_drop(v40);
+	u64 v99 = v26 + 1;
+	if (v99 != v91) { v26 = v99; goto L36; }
+	v27 = v93; v28 = v92;
+L37:
+	if (!v27) { v29 = v30 = v31 = 0; goto L38; }
+	deallocate(v28);
+	v29 = v30 = v31 = 0;
+L38:
 	su64(v1, 1);
-	su16(v1+8, v6);
-	su64(v1+16, v7);
-	su64(v1+24, v8);
-	clear(v1+32, 40);
-	goto L9;
-L4:;
-	clear(v24, 32);
-	if (v5 < 18) { v9 = 9219; v10 = 0; v11 = 0; goto L6; }
-	pcap_options_names_names_from_slice(v24, v4+16, v5 - 16);
-	u64 v36 = ld64(v24+16);
-	if (ld8(v24) != 0) goto L5;
-	u64 v37 = (u64)v4;
-	u64 v38 = ld64(v24+8);
-	u8 v39 = ld8(v24+25);
-	u8 v40 = ld8(v24+24);
-	copy(v29, v24+26, 6);
-	copy(v26, v29, 6);
-	v12 = v36; v13 = v40; v14 = v39; v15 = (ptr)16ull; v16 = 0; v17 = v38; v18 = 0; v19 = 2; v20 = 0; v21 = 0; v22 = v37; v23 = v37 & 0xffffffffffff0000ull; goto L8;
-L5:;
-	v9 = ld16(v24+8); v10 = v36; v11 = (u64)ld16(v24+24);
-L6:;
-	su64(v1, 1);
-	su16(v1+8, v9);
-	su64(v1+16, v10);
-	su64(v1+24, v11);
-	clear(v1+32, 40);
-	goto L9;
-L7:;
-	clear(v26, 6);
-	v12 = 0; v13 = 0; v14 = 0; v15 = v4; v16 = v5; v17 = 0; v18 = 0; v19 = 3; v20 = 0; v21 = ((u64)v3 << 16) | (u64)v2; v22 = 0; v23 = 0;
-L8:;
-	su64(v1, v18);
-	st8(v1+8, v19);
-	st8(v1+9, v20);
-	su64(v1+16, v21);
-	su64(v1+24, (v22 & 65535) | v23);
-	sup(v1+32, v15);
-	su64(v1+40, v16);
-	su64(v1+48, v17);
-	su64(v1+56, v12);
-	st8(v1+64, v13);
-	st8(v1+65, v14);
-	copy(v1+66, v26, 6);
-L9:;
+	su16(v1+8, v29);
+	st_bytes(v1+10, 0, 6);
+	su64(v1+16, v30);
+	su32(v1+24, v31);
+	clear(v1+28, 36);
+	goto L42;
+L39:;
+	ptr v100 = ldp(v50), v101 = at(v100, v32 * 48);
+	st8(v101, v20);
+	st8(v101+1, v21);
+	su32(v101+4, v19);
+	su64(v101+8, v86);
+	su64(v101+16, v25);
+	sup(v101+24, v17);
+	su64(v101+32, v18);
+	su64(v101+40, 0);
+	v33 = (u64)v100; v34 = v32 + 1;
+L40:;
+	u8 v102 = (u8)(v33 >> 8);
+	st64(v50+8, v34);
+	if (v67) { v4 = (u8)v33; v5 = v34; v6 = v102; v7 = v67; v8 = v66; goto L1; }
+	v35 = v66; v37 = (u8)v33; v38 = v102; v36 = 0;
+L41:
+	copy(v51, v50+2, 22);
+	t_8_32 v103 = pcap_core_link_DataLinkFromU32_from((u32)v52);
+	su64(v1, 0);
+	su64(v1+8, (u64)v35);
+	su64(v1+16, v36);
+	su32(v1+24, (u32)v103.f0);
+	su32(v1+28, v103.f1);
+	su16(v1+32, v53);
+	su16(v1+34, 0);
+	su32(v1+36, v55);
+	st8(v1+40, v37);
+	st8(v1+41, v38);
+	copy(v1+42, v51, 6);
+	copy(v1+48, v51+6, 16);
+L42:
 	return;
 }
-static __attribute__((noinline)) void pcap_options_names_names_from_slice(ptr v1, ptr v2, u64 v3) {
+static void std_alloc_vec_Vec_drop_368c(ptr v1) {
+	u64 v2, v3;
+	ptr v4 = lup(v1);
+	u64 v5 = lu64(v1+8), v6 = lu64(v1+16);
+	if (!v5) goto L8;
+	v2 = 0;
+L0:;
+	ptr v7 = at(v4, v2 * 48);
+	u64 v8 = lu64(v7+16), v9 = lu64(v7+24), v10 = lu64(v7+32), v11 = lu64(v7+40);
+	u8 v12 = (u8)lu16(v7+8), v13 = (u8)v8;
+	switch (ld8(v7)) {
+	case 0: goto L1;
+	case 1: goto L7;
+	case 2: goto L2;
+	case 3: goto L3;
+	case 4: goto L4;
+	case 5: goto L5;
+	default: goto L10;
+	}
+L1:
+	if (!v12 || !v10) goto L7;
+	v3 = v8; goto L6;
+L2:
+	if (!v12 || !v10) goto L7;
+	v3 = v8; goto L6;
+L3:
+	if (!v13 || !v11) goto L7;
+	v3 = v9; goto L6;
+L4:
+	if (!v13 || !v11) goto L7;
+	v3 = v9; goto L6;
+L5:
+	if (!v13 || !v11) goto L7;
+	v3 = v9;
+L6:
+	deallocate((ptr)v3);
+L7:;
+	u64 v14 = v2 + 1;
+	if (v14 != v5) { v2 = v14; goto L0; }
+L8:
+	if (!v6) goto L9;
+	deallocate(v4);
+L9:
+	return;
+L10:
+	__builtin_trap();
+}
+static APART RARE u8 std_alloc_vec_Vec_grow_amortized_2044(ptr v1) {
+	t_64_64 v2;
+	u8 v3;
+	u64 v4 = ld64(v1+8);
+	if (v4 == ~0ull) { v3 = 0; goto L2; }
+	u64 v5 = ld64(v1+16), v6 = (v4 > 3 ? v4 : 3) + 1, v7 = v5 << 1, v8 = v6 > v7 ? v6 : v7;
+	u64 v9 = v5 < 0x4000000000000000ull ? v8 : v6;
+	if (v9 >= 0x400000000000000ull) { v3 = 0; goto L2; }
+	if (v5) goto L0;
+	t_64_64 v10 = allocate(v8 << 5, 8);
+	if (v10.f0 & 1) { v2 = v10; goto L1; }
+	v3 = 0; goto L2;
+L0:;
+	t_64_64 v11 = reallocate(ldp(v1), v4 << 5, v9 << 5, 8);
+	if (!(v11.f0 & 1)) { v3 = 0; goto L2; }
+	v2 = v11;
+L1:
+	stp(v1, (ptr)v2.f1);
+	st64(v1+16, v9);
+	v3 = 1;
+L2:
+	return v3;
+}
+static APART void pcap_options_names_names_from_slice(ptr v1, ptr v2, u64 v3) {
 	ptr v4, v6, v9;
 	u64 v5, v7, v8, v10, v11, v17, v18;
 	u8 v12, v13, v15, v16;
@@ -3449,23 +1763,20 @@ static __attribute__((noinline)) void pcap_options_names_names_from_slice(ptr v1
 	_Alignas(2) u8 v21[6], v22[6];
 	stp(v23, v19);
 	clear(v23+8, 16);
-	if (v3 != 0) goto L0;
+	if (v3) goto L0;
 	u64 v24 = (u64)v19;
 	v11 = ld64(v23+8); v12 = (u8)(v24 >> 8); v13 = (u8)v24; goto L9;
-L0:;
+L0:
 	v4 = v19; v5 = v3; v6 = v2;
-L1:;
+L1:
 	v7 = 0;
-L2:;
-	if (ld8(at(v6, v7)) != 0) goto L11;
+L2:
+	if (ld8(at(v6, v7))) goto L11;
 	clear(v20, 24);
 	core_str_utf8_from_utf8(v20, v6, v7);
-	if (ld8(v20) != 0) goto L10;
-	u8 v25 = ld8(v20+8);
-	u8 v26 = ld8(v20+9);
-	u64 v27 = ld64(v20+16);
-	u64 v28 = (u64)ld_bytes(v20+10, 6) & 0xffffffffffffull;
-	u64 v29 = v5 + ~v7;
+	if (ld8(v20)) goto L10;
+	u8 v25 = ld8(v20+8), v26 = ld8(v20+9);
+	u64 v27 = ld64(v20+16), v28 = (u64)ld_bytes(v20+10, 6) & 0xffffffffffffull, v29 = v5 + ~v7;
 	u64 v30 = ld64(v23+8);
 	if (ld64(v23+16) != v30) { v9 = v4; v10 = v30; goto L8; }
 	u8 v31 = std_alloc_vec_Vec_grow_amortized_2044(v23);
@@ -3473,21 +1784,20 @@ L2:;
 	v9 = ldp(v23); v10 = ld64(v23+8); goto L8;
 L3:;
 	ptr v32 = ldp(v23);
-	u64 v33 = ld64(v23+8);
-	u64 v34 = ld64(v23+16);
-	if (v33 == 0) goto L6;
+	u64 v33 = ld64(v23+8), v34 = ld64(v23+16);
+	if (!v33) goto L6;
 	v8 = 0;
 L4:;
 	ptr v35 = at(v32, v8 << 5);
-	if ((ld8(v35) == 0) || (lu64(v35+24) == 0)) goto L5;
+	if (!ld8(v35) || !lu64(v35+24)) goto L5;
 	deallocate(lup(v35+8));
 L5:;
 	u64 v36 = v8 + 1;
 	if (v36 != v33) { v8 = v36; goto L4; }
-L6:;
-	if (v34 == 0) goto L7;
+L6:
+	if (!v34) goto L7;
 	deallocate(v32);
-L7:;
+L7:
 	su64(v1, 1);
 	clear(v1+8, 24);
 	goto L17;
@@ -3501,11 +1811,10 @@ L8:;
 	su64(v37+24, 0);
 	u64 v38 = v10 + 1;
 	st64(v23+8, v38);
-	if (v29 != 0) { v4 = v9; v5 = v29; v6 = at(v6, v7)+1; goto L1; }
+	if (v29) { v4 = v9; v5 = v29; v6 = at(v6, v7)+1; goto L1; }
 	v11 = v38; v12 = ld8(v23+1); v13 = ld8(v23);
 L9:;
-	u8 v39 = ld8(v23+16);
-	u8 v40 = ld8(v23+17);
+	u8 v39 = ld8(v23+16), v40 = ld8(v23+17);
 	su64(v1, 0);
 	st8(v1+8, v13);
 	st8(v1+9, v12);
@@ -3515,30 +1824,29 @@ L9:;
 	st8(v1+25, v40);
 	copy(v1+26, v23+18, 6);
 	goto L17;
-L10:;
-	v14 = 2; v15 = ld8(v20+17); v16 = ld8(v20+16); v17 = ld64(v20+8); goto L12;
+L10:
+	v15 = ld8(v20+17); v16 = ld8(v20+16); v17 = ld64(v20+8); v14 = 2; goto L12;
 L11:;
 	u64 v41 = v7 + 1;
 	if (v41 != v5) { v7 = v41; goto L2; }
-	v14 = 9475; v15 = 0; v16 = 0; v17 = 0;
-L12:;
+	v14 = 9475; v15 = v16 = v17 = 0;
+L12:
 	clear(v21, 6);
 	clear(v22, 6);
-	u64 v42 = ld64(v23+8);
-	u64 v43 = ld64(v23+16);
-	if (v42 == 0) goto L15;
+	u64 v42 = ld64(v23+8), v43 = ld64(v23+16);
+	if (!v42) goto L15;
 	v18 = 0;
 L13:;
 	ptr v44 = at(v4, v18 << 5);
-	if ((ld8(v44) == 0) || (lu64(v44+24) == 0)) goto L14;
+	if (!ld8(v44) || !lu64(v44+24)) goto L14;
 	deallocate(lup(v44+8));
 L14:;
 	u64 v45 = v18 + 1;
 	if (v45 != v42) { v18 = v45; goto L13; }
-L15:;
-	if (v43 == 0) goto L16;
+L15:
+	if (!v43) goto L16;
 	deallocate(v4);
-L16:;
+L16:
 	su64(v1, 1);
 	su16(v1+8, v14);
 	copy(v1+10, v21, 6);
@@ -3546,47 +1854,94 @@ L16:;
 	st8(v1+24, v16);
 	st8(v1+25, v15);
 	copy(v1+26, v22, 6);
-L17:;
+L17:
 	return;
 }
-static __attribute__((noinline, cold)) u8 std_alloc_vec_Vec_grow_amortized_2044(ptr v1) {
-	t_64_64 v2;
-	u8 v3;
-	u64 v4 = ld64(v1+8);
-	if (v4 == ~0ull) { v3 = 0; goto L2; }
-	u64 v5 = ld64(v1+16);
-	u64 v6 = (v4 > 3 ? v4 : 3) + 1;
-	u64 v7 = v5 << 1;
-	u64 v8 = v6 > v7 ? v6 : v7;
-	u64 v9 = v5 < 0x4000000000000000ull ? v8 : v6;
-	if (v9 >= 0x400000000000000ull) { v3 = 0; goto L2; }
-	if (v5 != 0) goto L0;
-	t_64_64 v10 = allocate(v8 << 5, 8);
-	if (v10.f0 & 1) { v2 = v10; goto L1; }
-	v3 = 0; goto L2;
+static void pcap_options_record_Record_from_value(ptr v1, u16 v2, u16 v3, ptr v4, u64 v5) {
+	u16 v6, v9;
+	u64 v7, v8, v10, v11, v12, v16, v17, v18, v21, v22, v23;
+	u8 v13, v14, v19, v20;
+	ptr v15;
+	_Alignas(8) u8 v24[32], v25[32];
+	_Alignas(2) u8 v26[6], v27[6] = {0}, v28[6], v29[6];
+	switch (v2) {
+	case 0: goto L0;
+	case 1: goto L1;
+	case 2: goto L4;
+	default: goto L7;
+	}
 L0:;
-	t_64_64 v11 = reallocate(ldp(v1), v4 << 5, v9 << 5, 8);
-	if (!(v11.f0 & 1)) { v3 = 0; goto L2; }
-	v2 = v11;
-L1:;
-	stp(v1, (ptr)v2.f1);
-	st64(v1+16, v9);
-	v3 = 1;
-L2:;
-	return v3;
+	u8 v30 = v5 != 0;
+	copy(v26, v27, 6);
+	v15 = (ptr)0; v18 = (u64)v30; v19 = v30 ? 3u : 0u; v20 = v30 ? 34u : 0u; v12 = v13 = v14 = v16 = v17 = v21 = v22 = v23 = 0; goto L8;
+L1:
+	clear(v25, 32);
+	if (v5 < 6) { v6 = 8963; v7 = v8 = 0; goto L3; }
+	pcap_options_names_names_from_slice(v25, v4+4, v5 - 4);
+	u64 v31 = ld64(v25+16);
+	if (ld8(v25)) goto L2;
+	u64 v32 = (u64)v4, v33 = ld64(v25+8);
+	u8 v34 = ld8(v25+25), v35 = ld8(v25+24);
+	copy(v28, v25+26, 6);
+	copy(v26, v28, 6);
+	v12 = v31; v13 = v35; v14 = v34; v15 = (ptr)4ull; v17 = v33; v22 = v32; v23 = v32 & 0xffffffffffff0000ull; v16 = v18 = v20 = v21 = 0; v19 = 1; goto L8;
+L2:
+	v6 = ld16(v25+8); v7 = v31; v8 = (u64)ld16(v25+24);
+L3:
+	su64(v1, 1);
+	su16(v1+8, v6);
+	su64(v1+16, v7);
+	su64(v1+24, v8);
+	clear(v1+32, 40);
+	goto L9;
+L4:
+	clear(v24, 32);
+	if (v5 < 18) { v9 = 9219; v10 = v11 = 0; goto L6; }
+	pcap_options_names_names_from_slice(v24, v4+16, v5 - 16);
+	u64 v36 = ld64(v24+16);
+	if (ld8(v24)) goto L5;
+	u64 v37 = (u64)v4, v38 = ld64(v24+8);
+	u8 v39 = ld8(v24+25), v40 = ld8(v24+24);
+	copy(v29, v24+26, 6);
+	copy(v26, v29, 6);
+	v12 = v36; v13 = v40; v14 = v39; v15 = (ptr)16ull; v17 = v38; v22 = v37; v23 = v37 & 0xffffffffffff0000ull; v16 = v18 = v20 = v21 = 0; v19 = 2; goto L8;
+L5:
+	v9 = ld16(v24+8); v10 = v36; v11 = (u64)ld16(v24+24);
+L6:
+	su64(v1, 1);
+	su16(v1+8, v9);
+	su64(v1+16, v10);
+	su64(v1+24, v11);
+	clear(v1+32, 40);
+	goto L9;
+L7:
+	clear(v26, 6);
+	v15 = v4; v16 = v5; v21 = ((u64)v3 << 16) | (u64)v2; v12 = v13 = v14 = v17 = v18 = v20 = v22 = v23 = 0; v19 = 3;
+L8:
+	su64(v1, v18);
+	st8(v1+8, v19);
+	st8(v1+9, v20);
+	su64(v1+16, v21);
+	su64(v1+24, (v22 & 65535) | v23);
+	sup(v1+32, v15);
+	su64(v1+40, v16);
+	su64(v1+48, v17);
+	su64(v1+56, v12);
+	st8(v1+64, v13);
+	st8(v1+65, v14);
+	copy(v1+66, v26, 6);
+L9:
+	return;
 }
-static __attribute__((noinline, cold)) u8 std_alloc_vec_Vec_grow_amortized_8416(ptr v1) {
+static APART RARE u8 std_alloc_vec_Vec_grow_amortized_8416(ptr v1) {
 	t_64_64 v2;
 	u8 v3;
 	u64 v4 = ld64(v1+8);
 	if (v4 == ~0ull) { v3 = 0; goto L2; }
-	u64 v5 = ld64(v1+16);
-	u64 v6 = (v4 > 3 ? v4 : 3) + 1;
-	u64 v7 = v5 << 1;
-	u64 v8 = v6 > v7 ? v6 : v7;
+	u64 v5 = ld64(v1+16), v6 = (v4 > 3 ? v4 : 3) + 1, v7 = v5 << 1, v8 = v6 > v7 ? v6 : v7;
 	u64 v9 = v5 < 0x4000000000000000ull ? v8 : v6;
 	if (v9 >= 0x200000000000000ull) { v3 = 0; goto L2; }
-	if (v5 != 0) goto L0;
+	if (v5) goto L0;
 	t_64_64 v10 = allocate(v8 << 6, 8);
 	if (v10.f0 & 1) { v2 = v10; goto L1; }
 	v3 = 0; goto L2;
@@ -3594,22 +1949,18 @@ L0:;
 	t_64_64 v11 = reallocate(ldp(v1), v4 << 6, v9 << 6, 8);
 	if (!(v11.f0 & 1)) { v3 = 0; goto L2; }
 	v2 = v11;
-L1:;
+L1:
 	stp(v1, (ptr)v2.f1);
 	st64(v1+16, v9);
 	v3 = 1;
-L2:;
+L2:
 	return v3;
 }
 static void pcap_options_pcap_options_record_Record_Destruct_drop(ptr v1) {
 	u64 v2, v3;
 	ptr v4;
 	u8 v5 = ld8(v1+8);
-	u64 v6 = lu64(v1+16);
-	u64 v7 = lu64(v1+32);
-	u64 v8 = lu64(v1+40);
-	u64 v9 = lu64(v1+48);
-	u64 v10 = lu64(v1+56);
+	u64 v6 = lu64(v1+16), v7 = lu64(v1+32), v8 = lu64(v1+40), v9 = lu64(v1+48), v10 = lu64(v1+56);
 	switch (ld8(v1)) {
 	case 0: goto L12;
 	case 1: goto L0;
@@ -3617,60 +1968,300 @@ static void pcap_options_pcap_options_record_Record_Destruct_drop(ptr v1) {
 	case 3: goto L10;
 	default: goto L13;
 	}
-L0:;
-	if ((v5 == 0) || (v7 == 0)) goto L1;
+L0:
+	if (!v5 || !v7) goto L1;
 	deallocate((ptr)v6);
-L1:;
-	if (v9 == 0) goto L4;
+L1:
+	if (!v9) goto L4;
 	v2 = 0;
 L2:;
 	ptr v11 = at((ptr)v8, v2 << 5);
-	if ((ld8(v11) == 0) || (lu64(v11+24) == 0)) goto L3;
+	if (!ld8(v11) || !lu64(v11+24)) goto L3;
 	deallocate(lup(v11+8));
 L3:;
 	u64 v12 = v2 + 1;
 	if (v12 != v9) { v2 = v12; goto L2; }
-L4:;
-	if (v10 == 0) goto L12;
+L4:
+	if (!v10) goto L12;
 	v4 = (ptr)v8; goto L11;
-L5:;
-	if ((v5 == 0) || (v7 == 0)) goto L6;
+L5:
+	if (!v5 || !v7) goto L6;
 	deallocate((ptr)v6);
-L6:;
-	if (v9 == 0) goto L9;
+L6:
+	if (!v9) goto L9;
 	v3 = 0;
 L7:;
 	ptr v13 = at((ptr)v8, v3 << 5);
-	if ((ld8(v13) == 0) || (lu64(v13+24) == 0)) goto L8;
+	if (!ld8(v13) || !lu64(v13+24)) goto L8;
 	deallocate(lup(v13+8));
 L8:;
 	u64 v14 = v3 + 1;
 	if (v14 != v9) { v3 = v14; goto L7; }
-L9:;
-	if (v10 == 0) goto L12;
+L9:
+	if (!v10) goto L12;
 	v4 = (ptr)v8; goto L11;
-L10:;
-	if (((v6 & 255) == 0) || (v8 == 0)) goto L12;
+L10:
+	if (!(v6 & 255) || !v8) goto L12;
 	v4 = (ptr)lu64(v1+24);
-L11:;
+L11:
 	deallocate(v4);
-L12:;
+L12:
 	return;
+L13:
+	__builtin_trap();
+}
+static APART void pcap_options_records_records_from_slice_4da0(ptr v1, ptr v2, u64 v3) {
+	u64 v4, v7, v8, v10, v11, v12, v13, v16;
+	ptr v5, v6, v9;
+	u8 v14, v15;
+	_Alignas(8) u8 v17[1], v18[64], v19[64], v20[64], v21[72], v22[24], v23[16] = {0};
+	stp(v22, v17);
+	clear(v22+8, 16);
+	clear(v21+8, 64);
+	if (v3 < 4) { M0: v12 = 1; v13 = v14 = v15 = 0; goto L22; }
+	v4 = v3; v5 = v2; v6 = v17;
+L0:;
+	u64 v24 = v4 - 4;
+	u16 v25 = (u16)__builtin_bswap16(lu16(v5+2));
+	u64 v26 = (u64)v25;
+	if (v24 < v26) { v12 = 8451; v13 = v14 = v15 = 0; goto L22; }
+	pcap_options_record_Record_from_value(v21, (u16)__builtin_bswap16(lu16(v5)), v25, v5+4, v26);
+	u16 v27 = ld16(v21+8);
+	u64 v28 = ld64(v21+16);
+	u16 v29 = (u16)v28, v30 = (u16)(v28 >> 16), v31 = ld16(v21+24);
+	u8 v32 = (u8)v31;
+	u16 v33 = v31 >> 8;
+	if (ld8(v21)) goto L21;
+	u64 v34 = (u64)ld_bytes(v21+26, 6) & 0xffffffffffffull, v35 = ld64(v21+32), v36 = ld64(v21+40);
+	u64 v37 = ld64(v21+48), v38 = ((0ull - v26) & 3) + v26;
+	if (v24 >= v38) goto L14;
+	u8 v39 = (u8)v28, v40 = (u8)v27;
+	switch (v40) {
+	case 1: goto L1;
+	case 2: goto L6;
+	case 3: goto L11;
+	case 0: v12 = 9731; v14 = v40; v15 = v40; v13 = 0; goto L22;
+	default: goto L13;
+	}
+L1:
+	if (v39 != 1 || !v36) goto L2;
+	deallocate((ptr)((v34 << 16) | (u64)v31));
+L2:;
+	u64 v41 = ld64(v21+56), v42 = ld64(v21+64);
+	if (!v41) goto L5;
+	v7 = 0;
+L3:;
+	ptr v43 = at((ptr)v37, v7 << 5);
+	if (!ld8(v43) || !lu64(v43+24)) goto L4;
+	deallocate(lup(v43+8));
+L4:;
+	u64 v44 = v7 + 1;
+	if (v44 != v41) { v7 = v44; goto L3; }
+L5:
+	if (!v42) { M3: v12 = 9731; v13 = v14 = v15 = 0; goto L22; }
+	v9 = (ptr)v37; goto L12;
+L6:
+	if (v39 != 1 || !v36) goto L7;
+	deallocate((ptr)((v34 << 16) | (u64)v31));
+L7:;
+	u64 v45 = ld64(v21+56), v46 = ld64(v21+64);
+	if (!v45) goto L10;
+	v8 = 0;
+L8:;
+	ptr v47 = at((ptr)v37, v8 << 5);
+	if (!ld8(v47) || !lu64(v47+24)) goto L9;
+	deallocate(lup(v47+8));
+L9:;
+	u64 v48 = v8 + 1;
+	if (v48 != v45) { v8 = v48; goto L8; }
+L10:
+	if (!v46) goto M3;
+	v9 = (ptr)v37; goto L12;
+L11:
+	if (v32 != 1 || !v37) goto M3;
+	v9 = (ptr)v35;
+L12:
+	deallocate(v9);
+	goto M3;
+L13:
+	__builtin_trap();
+L14:;
+	ptr v49 = at(v5+4, v38);
+	u64 v50 = v24 - v38, v51 = ((v34 << 8) & 0xffffffffffffffull) | (u64)v33;
+	copy(v23, v21+56, 16);
+	if (v27 & 255) goto L15;
+	u8 v52 = ld8(v22);
+	su64(v1, 0);
+	sup(v1+8, v49);
+	su64(v1+16, v50);
+	st8(v1+24, v52);
+	st8(v1+25, (u8)((u64)v6 >> 8));
+	copy(v1+26, v22+2, 22);
+	goto L26;
+L15:;
+	u64 v53 = (u64)(v27 & 255), v54 = ld64(v22+8);
+	if (ld64(v22+16) != v54) { v11 = v54; goto L20; }
+	u8 v55 = std_alloc_vec_Vec_grow_amortized_8416(v22);
+	if (!v55) goto L16;
+	v11 = ld64(v22+8); goto L20;
+L16:
+	st64(v19+8, 0);
+	st64(v19, v53);
+	st16(v19+8, v29);
+	st16(v19+10, v30);
+	st8(v19+16, v32);
+	st_bytes(v19+17, v51, 7);
+	st64(v19+24, v35);
+	st64(v19+32, v36);
+	st64(v19+40, v37);
+	copy(v19+48, v23, 16);
+	pcap_options_pcap_options_record_Record_Destruct_drop(v19);
+	ptr v56 = ldp(v22);
+	u64 v57 = ld64(v22+8), v58 = ld64(v22+16);
+	if (!v57) goto L18;
+	v10 = 0;
+L17:;
+	ptr v59 = at(v56, v10 << 6);
+	u64 v60 = (u64)ld8(v59);
+	u16 v61 = lu16(v59+8), v62 = lu16(v59+10);
+	st64(v18+8, 0);
+	st64(v18, v60);
+	st16(v18+8, v61);
+	st16(v18+10, v62);
+	copy(v18+16, v59+16, 48);
+	pcap_options_pcap_options_record_Record_Destruct_drop(v18);
+	u64 v63 = v10 + 1;
+	if (v63 != v57) { v10 = v63; goto L17; }
+L18:
+	if (!v58) goto L19;
+	deallocate(v56);
+L19:
+	su64(v1, 1);
+	clear(v1+8, 40);
+	goto L26;
+L20:;
+	ptr v64 = ldp(v22), v65 = at(v64, v11 << 6);
+	su64(v65, v53);
+	su16(v65+8, v29);
+	su16(v65+10, v30);
+	st8(v65+16, v32);
+	st_bytes(v65+17, v51, 7);
+	su64(v65+24, v35);
+	su64(v65+32, v36);
+	su64(v65+40, v37);
+	copy(v65+48, v23, 16);
+	st64(v22+8, v11 + 1);
+	clear(v21+8, 64);
+	if (v50 < 4) goto M0;
+	v4 = v50; v5 = v49; v6 = v64; goto L0;
+L21:
+	v12 = (u64)v27; v13 = v28; v14 = v32; v15 = (u8)v33;
+L22:;
+	ptr v66 = ldp(v22);
+	u64 v67 = ld64(v22+8), v68 = ld64(v22+16);
+	if (!v67) goto L24;
+	v16 = 0;
+L23:;
+	ptr v69 = at(v66, v16 << 6);
+	u64 v70 = (u64)ld8(v69);
+	u16 v71 = lu16(v69+8), v72 = lu16(v69+10);
+	st64(v20+8, 0);
+	st64(v20, v70);
+	st16(v20+8, v71);
+	st16(v20+10, v72);
+	copy(v20+16, v69+16, 48);
+	pcap_options_pcap_options_record_Record_Destruct_drop(v20);
+	u64 v73 = v16 + 1;
+	if (v73 != v67) { v16 = v73; goto L23; }
+L24:
+	if (!v68) goto L25;
+	deallocate(v66);
+L25:
+	su64(v1, 1);
+	sup(v1+8, (ptr)v12);
+	su64(v1+16, v13);
+	st8(v1+24, v14);
+	st8(v1+25, v15);
+	clear(v1+26, 22);
+L26:
+	return;
+}
+static void std_alloc_vec_Vec_drop_f1dc(ptr v1) {
+	u64 v2, v3, v4;
+	ptr v5;
+	ptr v6 = lup(v1);
+	u64 v7 = lu64(v1+8), v8 = lu64(v1+16);
+	if (!v7) goto L14;
+	v2 = 0;
+L0:;
+	ptr v9 = at(v6, v2 << 6);
+	u64 v10 = lu64(v9+16), v11 = lu64(v9+24), v12 = lu64(v9+32), v13 = lu64(v9+40), v14 = lu64(v9+48);
+	u64 v15 = lu64(v9+56);
+	u8 v16 = (u8)lu16(v9+8);
+	switch (ld8(v9)) {
+	case 0: goto L13;
+	case 1: goto L1;
+	case 2: goto L6;
+	case 3: goto L11;
+	default: goto L16;
+	}
+L1:
+	if (!v16 || !v12) goto L2;
+	deallocate((ptr)v10);
+L2:
+	if (!v14) goto L5;
+	v3 = 0;
+L3:;
+	ptr v17 = at((ptr)v13, v3 << 5);
+	if (!ld8(v17) || !lu64(v17+24)) goto L4;
+	deallocate(lup(v17+8));
+L4:;
+	u64 v18 = v3 + 1;
+	if (v18 != v14) { v3 = v18; goto L3; }
+L5:
+	if (!v15) goto L13;
+	v5 = (ptr)v13; goto L12;
+L6:
+	if (!v16 || !v12) goto L7;
+	deallocate((ptr)v10);
+L7:
+	if (!v14) goto L10;
+	v4 = 0;
+L8:;
+	ptr v19 = at((ptr)v13, v4 << 5);
+	if (!ld8(v19) || !lu64(v19+24)) goto L9;
+	deallocate(lup(v19+8));
+L9:;
+	u64 v20 = v4 + 1;
+	if (v20 != v14) { v4 = v20; goto L8; }
+L10:
+	if (!v15) goto L13;
+	v5 = (ptr)v13; goto L12;
+L11:
+	if (!(v10 & 255) || !v13) goto L13;
+	v5 = (ptr)v11;
+L12:
+	deallocate(v5);
 L13:;
+	u64 v21 = v2 + 1;
+	if (v21 != v7) { v2 = v21; goto L0; }
+L14:
+	if (!v8) goto L15;
+	deallocate(v6);
+L15:
+	return;
+L16:
 	__builtin_trap();
 }
 static void std_alloc_vec_Vec_drop_15c9(ptr v1) {
 	u64 v2, v3;
 	ptr v4 = lup(v1);
-	u64 v5 = lu64(v1+8);
-	u64 v6 = lu64(v1+16);
-	if (v5 == 0) goto L7;
+	u64 v5 = lu64(v1+8), v6 = lu64(v1+16);
+	if (!v5) goto L7;
 	v2 = 0;
 L0:;
 	ptr v7 = at(v4, v2 * 48);
-	u64 v8 = lu64(v7+16);
-	u64 v9 = lu64(v7+24);
-	u64 v10 = lu64(v7+40);
+	u64 v8 = lu64(v7+16), v9 = lu64(v7+24), v10 = lu64(v7+40);
 	u8 v11 = (u8)v8;
 	switch (ld8(v7)) {
 	case 0: goto L1;
@@ -3680,29 +2271,76 @@ L0:;
 	case 10: goto L4;
 	default: goto L9;
 	}
-L1:;
-	if (((lu64(v7+8) & 255) == 0) || (lu64(v7+32) == 0)) goto L6;
+L1:
+	if (!(lu64(v7+8) & 255) || !lu64(v7+32)) goto L6;
 	v3 = v8; goto L5;
-L2:;
-	if ((v11 == 0) || (v10 == 0)) goto L6;
+L2:
+	if (!v11 || !v10) goto L6;
 	v3 = v9; goto L5;
-L3:;
-	if ((v11 == 0) || (v10 == 0)) goto L6;
+L3:
+	if (!v11 || !v10) goto L6;
 	v3 = v9; goto L5;
-L4:;
-	if ((v11 == 0) || (v10 == 0)) goto L6;
+L4:
+	if (!v11 || !v10) goto L6;
 	v3 = v9;
-L5:;
+L5:
 	deallocate((ptr)v3);
 L6:;
 	u64 v12 = v2 + 1;
 	if (v12 != v5) { v2 = v12; goto L0; }
-L7:;
-	if (v6 == 0) goto L8;
+L7:
+	if (!v6) goto L8;
 	deallocate(v4);
-L8:;
+L8:
 	return;
-L9:;
+L9:
+	__builtin_trap();
+}
+static void std_alloc_vec_Vec_drop_015c(ptr v1) {
+	u64 v2, v3;
+	ptr v4 = lup(v1);
+	u64 v5 = lu64(v1+8), v6 = lu64(v1+16);
+	if (!v5) goto L8;
+	v2 = 0;
+L0:;
+	ptr v7 = at(v4, v2 * 48);
+	u64 v8 = lu64(v7+16), v9 = lu64(v7+24), v10 = lu64(v7+32), v11 = lu64(v7+40);
+	u8 v12 = (u8)lu64(v7+8), v13 = (u8)v8;
+	switch (ld8(v7)) {
+	case 0: goto L1;
+	case 1: case 3: goto L7;
+	case 2: goto L2;
+	case 4: goto L3;
+	case 5: goto L4;
+	case 6: goto L5;
+	default: goto L10;
+	}
+L1:
+	if (!v12 || !v10) goto L7;
+	v3 = v8; goto L6;
+L2:
+	if (!v12 || !v10) goto L7;
+	v3 = v8; goto L6;
+L3:
+	if (!v13 || !v11) goto L7;
+	v3 = v9; goto L6;
+L4:
+	if (!v13 || !v11) goto L7;
+	v3 = v9; goto L6;
+L5:
+	if (!v13 || !v11) goto L7;
+	v3 = v9;
+L6:
+	deallocate((ptr)v3);
+L7:;
+	u64 v14 = v2 + 1;
+	if (v14 != v5) { v2 = v14; goto L0; }
+L8:
+	if (!v6) goto L9;
+	deallocate(v4);
+L9:
+	return;
+L10:
 	__builtin_trap();
 }
 static void pcap_blocks_enhanced_packet_EnhancedPacketBlock_read_4da0(ptr v1, ptr v2, u64 v3) {
@@ -3711,10 +2349,8 @@ static void pcap_blocks_enhanced_packet_EnhancedPacketBlock_read_4da0(ptr v1, pt
 	ptr v8, v30;
 	u16 v9, v11, v14, v15, v20;
 	u32 v12, v16, v22, v26;
-	_Alignas(8) u8 v34[1], v35[24], v36[24], v37[24], v38[24], v41[16], v43[16];
-	_Alignas(2) u8 v39[22], v40[6], v42[6];
-	clear(v42, 6);
-	clear(v43, 16);
+	_Alignas(8) u8 v34[1], v35[24], v36[24], v37[24], v38[24], v41[16], v43[16] = {0};
+	_Alignas(2) u8 v39[22], v40[6], v42[6] = {0};
 	if (v3 >= 20) goto L0;
 	su64(v1, 1);
 	st8(v1+8, 3);
@@ -3729,30 +2365,25 @@ L0:;
 	u32 v46 = (u32)__builtin_bswap32(lu32(v2+12));
 	u64 v47 = v3 - 20;
 	u32 v48 = (u32)__builtin_bswap32(lu32(v2+16));
-	u64 v49 = (u64)v46;
-	u64 v50 = ((0ull - v49) & 3) + v49;
-	if (v47 < v50) { v23 = 3; v24 = 13; v25 = 0; v26 = 0; goto L24; }
+	u64 v49 = (u64)v46, v50 = ((0ull - v49) & 3) + v49;
+	if (v47 < v50) { v23 = 3; v24 = 13; v25 = v26 = 0; goto L24; }
 	ptr v51 = at(v2+20, v50);
 	u64 v52 = v47 - v50;
 	clear(v39, 22);
 	stp(v38, v34);
 	clear(v38+8, 16);
 	u64 v53 = (u64)v34;
-	u8 v54 = (u8)(v53 >> 8);
-	u8 v55 = (u8)v53;
-	if (v52 == 0) { v30 = v51; v31 = 0; v32 = v55; v33 = v54; goto L28; }
-	v4 = v55; v5 = 0; v6 = v54; v7 = v52; v8 = v51;
-L1:;
-	if (v7 < 4) { v20 = 4099; v21 = 0; v22 = 0; goto L23; }
-	u16 v56 = lu16(v8);
-	u16 v57 = (u16)__builtin_bswap16(v56);
+	u8 v54 = (u8)(v53 >> 8), v55 = (u8)v53;
+	if (!v52) { v30 = v51; v32 = v55; v33 = v54; v31 = 0; goto L28; }
+	v4 = v55; v6 = v54; v7 = v52; v8 = v51; v5 = 0;
+L1:
+	if (v7 < 4) { v20 = 4099; v21 = v22 = 0; goto L23; }
+	u16 v56 = lu16(v8), v57 = (u16)__builtin_bswap16(v56);
 	u64 v58 = v7 - 4;
-	u16 v59 = lu16(v8+2);
-	u16 v60 = (u16)__builtin_bswap16(v59);
-	if (v56 == 0) { v30 = v8+4; v31 = v58; v32 = v4; v33 = v6; goto L28; }
-	u64 v61 = (u64)v60;
-	u64 v62 = ((0ull - v61) & 3) + v61;
-	if (v58 < v62) { v20 = 4355; v21 = 0; v22 = 0; goto L23; }
+	u16 v59 = lu16(v8+2), v60 = (u16)__builtin_bswap16(v59);
+	if (!v56) { v30 = v8+4; v31 = v58; v32 = v4; v33 = v6; goto L28; }
+	u64 v61 = (u64)v60, v62 = ((0ull - v61) & 3) + v61;
+	if (v58 < v62) { v20 = 4355; v21 = v22 = 0; goto L23; }
 	ptr v63 = at(v8+4, v62);
 	u64 v64 = v58 - v62;
 	switch (v57) {
@@ -3764,46 +2395,46 @@ L1:;
 	case 2989: case 19373: goto L9;
 	default: goto L12;
 	}
-L2:;
+L2:
 	clear(v36, 24);
 	core_str_utf8_from_utf8(v36, v8+4, v61);
 	u64 v65 = ld64(v36+8);
-	if (ld8(v36) != 0) goto L3;
-	v12 = 0; v13 = 0; v14 = 0; v15 = 0; v16 = 0; v17 = ld64(v36+16); v18 = 0; v19 = v65; goto L13;
-L3:;
-	v9 = 2; v10 = v65; v11 = ld16(v36+16); goto L10;
-L4:;
-	if (v59 != 1024) { v9 = 7171; v10 = 0; v11 = 0; goto L10; }
-	v12 = (u32)__builtin_bswap32(lu32(v8+4)); v13 = 1; v14 = 0; v15 = 0; v16 = 0; v17 = 0; v18 = 0; v19 = 0; goto L13;
-L5:;
-	v12 = 0; v13 = 2; v14 = 0; v15 = 0; v16 = 0; v17 = v61; v18 = 0; v19 = (u64)(v8+4); goto L13;
-L6:;
-	if (v59 != 2048) { v9 = 7427; v10 = 0; v11 = 0; goto L10; }
+	if (ld8(v36)) goto L3;
+	v17 = ld64(v36+16); v19 = v65; v12 = v13 = v14 = v15 = v16 = v18 = 0; goto L13;
+L3:
+	v10 = v65; v11 = ld16(v36+16); v9 = 2; goto L10;
+L4:
+	if (v59 != 1024) { v9 = 7171; v10 = v11 = 0; goto L10; }
+	v12 = (u32)__builtin_bswap32(lu32(v8+4)); v13 = 1; v14 = v15 = v16 = v17 = v18 = v19 = 0; goto L13;
+L5:
+	v17 = v61; v19 = (u64)(v8+4); v12 = v14 = v15 = v16 = v18 = 0; v13 = 2; goto L13;
+L6:
+	if (v59 != 2048) { v9 = 7427; v10 = v11 = 0; goto L10; }
 	u64 v66 = (u64)__builtin_bswap64(lu64(v8+4));
-	v12 = 0; v13 = 3; v14 = (u16)v66; v15 = (u16)(v66 >> 16); v16 = (u32)(v66 >> 32); v17 = 0; v18 = 0; v19 = 0; goto L13;
-L7:;
-	if (v60 < 4) { v9 = 1; v10 = 0; v11 = 0; goto L10; }
+	v14 = (u16)v66; v15 = (u16)(v66 >> 16); v16 = (u32)(v66 >> 32); v12 = v17 = v18 = v19 = 0; v13 = 3; goto L13;
+L7:
+	if (v60 < 4) { v9 = 1; v10 = v11 = 0; goto L10; }
 	u32 v67 = lu32(v8+4);
 	clear(v35, 24);
 	core_str_utf8_from_utf8(v35, v8+8, v61 - 4);
 	u64 v68 = ld64(v35+8);
-	if (ld8(v35) != 0) goto L8;
-	v12 = 0; v13 = 5; v14 = v57; v15 = 0; v16 = (u32)__builtin_bswap32(v67); v17 = v68; v18 = ld64(v35+16); v19 = 0; goto L13;
-L8:;
-	v9 = 2; v10 = v68; v11 = ld16(v35+16); goto L10;
-L9:;
+	if (ld8(v35)) goto L8;
+	v14 = v57; v16 = (u32)__builtin_bswap32(v67); v17 = v68; v18 = ld64(v35+16); v12 = v15 = v19 = 0; v13 = 5; goto L13;
+L8:
+	v10 = v68; v11 = ld16(v35+16); v9 = 2; goto L10;
+L9:
 	if (v60 >= 4) goto L11;
-	v9 = 1; v10 = 0; v11 = 0;
-L10:;
+	v9 = 1; v10 = v11 = 0;
+L10:
 	v20 = v9; v21 = v10; v22 = (u32)v11; goto L23;
-L11:;
-	v12 = 0; v13 = 4; v14 = v57; v15 = 0; v16 = (u32)__builtin_bswap32(lu32(v8+4)); v17 = (u64)(v8+8); v18 = v61 - 4; v19 = 0; goto L13;
-L12:;
-	v12 = 0; v13 = 6; v14 = v57; v15 = v60; v16 = 0; v17 = (u64)(v8+4); v18 = v61; v19 = 0;
+L11:
+	v14 = v57; v16 = (u32)__builtin_bswap32(lu32(v8+4)); v17 = (u64)(v8+8); v18 = v61 - 4; v12 = v15 = v19 = 0; v13 = 4; goto L13;
+L12:
+	v14 = v57; v15 = v60; v17 = (u64)(v8+4); v18 = v61; v12 = v16 = v19 = 0; v13 = 6;
 L13:;
 	u64 v69 = ((u64)v16 << 32) | ((u64)v15 << 16) | (u64)v14;
 	u32 v70 = (u32)v13;
-	if (v5 != 0) goto L17;
+	if (v5) goto L17;
 	t_64_64 v71 = allocate(384, 8);
 	if (!(v71.f0 & 1)) goto L14;
 	copy(v37, v38, 24);
@@ -3826,13 +2457,13 @@ L14:;
 	case 2: goto L16;
 	default: goto L25;
 	}
-L15:;
-	if ((v72 == 0) || (v18 == 0)) goto L22;
+L15:
+	if (!v72 || !v18) goto L22;
 	goto L21;
-L16:;
-	if ((v72 == 0) || (v18 == 0)) goto L22;
+L16:
+	if (!v72 || !v18) goto L22;
 	goto L21;
-L17:;
+L17:
 	if (ld64(v38+16) != v5) { v27 = v5; goto L26; }
 	u8 v73 = std_alloc_vec_Vec_grow_amortized_05c7(v38);
 	if (!v73) goto L18;
@@ -3845,19 +2476,19 @@ L18:;
 	case 2: goto L20;
 	default: goto L25;
 	}
-L19:;
-	if ((v74 == 0) || (v18 == 0)) goto L22;
+L19:
+	if (!v74 || !v18) goto L22;
 	goto L21;
-L20:;
-	if ((v74 == 0) || (v18 == 0)) goto L22;
-L21:;
+L20:
+	if (!v74 || !v18) goto L22;
+L21:
 	deallocate((ptr)v19);
-L22:;
-	v20 = 0; v21 = 0; v22 = 0;
-L23:;
+L22:
+	v20 = v21 = v22 = 0;
+L23:
 	std_alloc_vec_Vec_drop_015c(v38);
 	v23 = (u8)v20; v24 = (u8)(v20 >> 8); v25 = v21; v26 = v22;
-L24:;
+L24:
 	su64(v1, 1);
 	st8(v1+8, v23);
 	st8(v1+9, v24);
@@ -3866,11 +2497,10 @@ L24:;
 	su32(v1+24, v26);
 	clear(v1+28, 76);
 	goto L29;
-L25:;
+L25:
 	__builtin_trap();
 L26:;
-	ptr v75 = ldp(v38);
-	ptr v76 = at(v75, v27 * 48);
+	ptr v75 = ldp(v38), v76 = at(v75, v27 * 48);
 	su32(v76, v70);
 	su32(v76+4, v12);
 	su64(v76+8, v69);
@@ -3880,12 +2510,11 @@ L26:;
 	su64(v76+40, 0);
 	v28 = (u64)v75; v29 = v27 + 1;
 L27:;
-	u8 v77 = (u8)v28;
-	u8 v78 = (u8)(v28 >> 8);
+	u8 v77 = (u8)v28, v78 = (u8)(v28 >> 8);
 	st64(v38+8, v29);
-	if (v64 != 0) { v4 = v77; v5 = v29; v6 = v78; v7 = v64; v8 = v63; goto L1; }
-	v30 = v63; v31 = 0; v32 = v77; v33 = v78;
-L28:;
+	if (v64) { v4 = v77; v5 = v29; v6 = v78; v7 = v64; v8 = v63; goto L1; }
+	v30 = v63; v32 = v77; v33 = v78; v31 = 0;
+L28:
 	copy(v39, v38+2, 22);
 	copy(v40, v39, 6);
 	copy(v41, v39+6, 16);
@@ -3907,59 +2536,47 @@ L28:;
 	st8(v1+81, v33);
 	copy(v1+82, v42, 6);
 	copy(v1+88, v43, 16);
-L29:;
+L29:
 	return;
 }
 static void pcap_options_refusal_PcapErrorFromRefusal_from(ptr v1, ptr v2) {
 	u8 v3, v7;
 	u64 v4, v5, v6, v8;
-	_Alignas(8) u8 v14[72];
-	u8 v9 = ld8(v2);
-	u8 v10 = ld8(v2+1);
+	_Alignas(8) u8 v14[72] = {0};
+	u8 v9 = ld8(v2), v10 = ld8(v2+1);
 	u64 v11 = lu64(v2+8);
-	u8 v12 = ld8(v2+16);
-	u8 v13 = ld8(v2+17);
-	clear(v14, 72);
+	u8 v12 = ld8(v2+16), v13 = ld8(v2+17);
 	switch (v9) {
-	case 0: v3 = 5; v4 = 0; v5 = 0; v6 = 0; v7 = v9; v8 = 0; goto L3;
+	case 0: v7 = v9; v3 = 5; v4 = v5 = v6 = v8 = 0; goto L3;
 	case 1: goto L0;
 	case 2: goto L1;
 	case 3: goto L2;
 	default: goto L4;
 	}
-L0:;
-	v3 = 1; v4 = 1; v5 = 9472; v6 = 0; v7 = 0; v8 = 0; goto L3;
-L1:;
-	v3 = 3; v4 = v11; v5 = v11; v6 = v11 & 0xffffffffffff0000ull; v7 = v12; v8 = (u64)v13 << 8; goto L3;
+L0:
+	v5 = 9472; v3 = v4 = 1; v6 = v7 = v8 = 0; goto L3;
+L1:
+	v4 = v11; v5 = v11; v6 = v11 & 0xffffffffffff0000ull; v7 = v12; v8 = (u64)v13 << 8; v3 = 3; goto L3;
 L2:;
 	u64 v15 = (u64)ldp(at((ptr)&switch_table_pcapfile_rule_text_272, (u64)v10 * 8));
-	v3 = 2; v4 = v15; v5 = v15; v6 = v15 & 0xffffffffffff0000ull; v7 = ld8(at((ptr)switch_table_pcap_options_refusal_PcapErrorFromRefusal_from, (u64)v10)); v8 = 0;
-L3:;
+	v4 = v15; v5 = v15; v6 = v15 & 0xffffffffffff0000ull; v7 = ld8(at((ptr)switch_table_pcap_options_refusal_PcapErrorFromRefusal_from, (u64)v10)); v3 = 2; v8 = 0;
+L3:
 	st8(v1, v3);
 	su64(v1+8, (v5 & 65280) | (v4 & 255) | v6);
 	su64(v1+16, v8 | (u64)v7);
 	copy(v1+24, v14, 72);
 	return;
-L4:;
+L4:
 	__builtin_trap();
 }
-static void pcap_blocks_parsed_block_ParsedBlock_from_slice_7f02(ptr v1, u8 v2, u32 v3, ptr v4, u64 v5) {
+static void pcap_blocks_parsed_block_ParsedBlock_from_slice_4da0(ptr v1, u8 v2, u32 v3, ptr v4, u64 v5) {
 	u8 v6, v8, v18, v33, v34, v42, v43, v48, v49, v67, v73, v74, v94, v95, v112, v136, v137, v148, v149, v159, v161;
 	u64 v7, v9, v12, v13, v14, v15, v16, v20, v21, v25, v26, v27, v29, v31, v32, v35, v36, v37, v38, v39, v41, v44, v45, v47, v50, v51, v52, v53, v54, v55, v57, v58, v61, v62, v63, v65, v70, v72, v75, v76, v77, v78, v79, v81, v82, v83, v85, v86, v87, v88, v89, v90, v91, v92, v93, v97, v98, v99, v100, v101, v103, v104, v107, v109, v113, v114, v115, v117, v118, v119, v121, v123, v124, v125, v126, v128, v130, v131, v132, v133, v134, v135, v138, v140, v141, v143, v144, v145, v146, v147, v150, v151, v152, v153, v154, v156, v157, v158, v162, v163;
 	ptr v10, v40, v46, v56, v64, v80, v84, v96, v102, v106, v120, v122, v127, v129, v139, v142, v155, v160;
 	u16 v11, v17, v22, v23, v28, v30, v59, v60, v66, v68, v71, v105, v110, v111;
 	u32 v19, v24, v69, v108, v116;
-	_Alignas(8) u8 v164[1], v165[96], v166[24], v167[24], v168[24], v169[24], v170[24], v171[24], v172[24], v173[24], v174[24], v175[24], v177[16], v178[24], v180[16], v181[48], v182[24], v183[24], v184[24], v185[24], v190[64], v191[64], v195[104];
-	_Alignas(2) u8 v176[6], v179[6], v186[6], v187[6], v188[6], v189[6], v192[6], v193[6], v194[6], v196[6], v197[6];
-	clear(v196, 6);
-	clear(v197, 6);
-	clear(v189, 6);
-	clear(v190, 64);
-	clear(v191, 64);
-	clear(v192, 6);
-	clear(v193, 6);
-	clear(v194, 6);
-	clear(v195, 104);
+	_Alignas(8) u8 v164[1], v165[96], v166[24], v167[24], v168[24], v169[24], v170[24], v171[24], v172[24], v173[24], v174[24], v175[24], v177[16], v178[24], v180[16], v181[48], v182[24], v183[24], v184[24], v185[24], v190[64] = {0}, v191[64] = {0}, v195[104] = {0};
+	_Alignas(2) u8 v176[6], v179[6], v186[6], v187[6], v188[6], v189[6] = {0}, v192[6] = {0}, v193[6] = {0}, v194[6] = {0}, v196[6] = {0}, v197[6] = {0};
 	switch (v2) {
 	case 0: goto L0;
 	case 1: goto L2;
@@ -3972,72 +2589,1329 @@ static void pcap_blocks_parsed_block_ParsedBlock_from_slice_7f02(ptr v1, u8 v2, 
 	case 8: goto L102;
 	default: goto L106;
 	}
-L0:;
+L0:
 	pcap_blocks_section_header_SectionHeaderBlock_read(v190, v4, v5);
 	u16 v198 = ld16(v190+8);
 	u64 v199 = ld64(v190+16);
-	u8 v200 = ld8(v190+24);
-	u8 v201 = ld8(v190+25);
-	if (ld8(v190) != 0) goto L1;
+	u8 v200 = ld8(v190+24), v201 = ld8(v190+25);
+	if (ld8(v190)) goto L1;
 	u64 v202 = (((u64)ld_bytes(v190+10, 6) & 0xffffffffffffull) << 16) | (u64)(v198 & 255) | (u64)(v198 & 65280);
-	u64 v203 = ld64(v190+32);
-	u64 v204 = ld64(v190+40);
+	u64 v203 = ld64(v190+32), v204 = ld64(v190+40);
 	ptr v205 = ldp(v190+48);
 	u64 v206 = ld64(v190+56);
 	u64 v207 = ((u64)v201 << 8) | (u64)v200 | (((u64)ld_bytes(v190+26, 6) & 0xffffffffffffull) << 16);
 	clear(v189, 6);
-	v133 = 0; v134 = 0; v135 = 0; v136 = 0; v137 = 0; v138 = v204; v139 = v205; v140 = v206; v141 = 0; v142 = (ptr)v202; v143 = v199; v144 = v207; v145 = v203; goto L103;
-L1:;
+	v138 = v204; v139 = v205; v140 = v206; v142 = (ptr)v202; v143 = v199; v144 = v207; v145 = v203; v133 = v134 = v135 = v136 = v137 = v141 = 0; goto L103;
+L1:
 	v146 = (u64)v198; v147 = v199; v148 = v200; v149 = v201; goto L104;
-L2:;
-	blocks_interface_description_InterfaceDescriptionBlock_read_7f02(v191, v4, v5);
+L2:
+	blocks_interface_description_InterfaceDescriptionBlock_read_4da0(v191, v4, v5);
 	u16 v208 = ld16(v191+8);
 	u64 v209 = ld64(v191+16);
-	u8 v210 = ld8(v191+24);
-	u8 v211 = ld8(v191+25);
-	if (ld8(v191) != 0) goto L3;
+	u8 v210 = ld8(v191+24), v211 = ld8(v191+25);
+	if (ld8(v191)) goto L3;
 	u64 v212 = (((u64)ld_bytes(v191+10, 6) & 0xffffffffffffull) << 16) | (u64)(v208 & 255) | (u64)(v208 & 65280);
-	u64 v213 = ld64(v191+32);
-	u64 v214 = ld64(v191+40);
+	u64 v213 = ld64(v191+32), v214 = ld64(v191+40);
 	ptr v215 = ldp(v191+48);
 	u64 v216 = ld64(v191+56);
 	u64 v217 = ((u64)v211 << 8) | (u64)v210 | (((u64)ld_bytes(v191+26, 6) & 0xffffffffffffull) << 16);
 	clear(v189, 6);
-	v133 = 0; v134 = 0; v135 = 0; v136 = 0; v137 = 0; v138 = v214; v139 = v215; v140 = v216; v141 = 0; v142 = (ptr)v212; v143 = v209; v144 = v217; v145 = v213; goto L103;
-L3:;
+	v138 = v214; v139 = v215; v140 = v216; v142 = (ptr)v212; v143 = v209; v144 = v217; v145 = v213; v133 = v134 = v135 = v136 = v137 = v141 = 0; goto L103;
+L3:
 	v146 = (u64)v208; v147 = v209; v148 = v210; v149 = v211; goto L104;
-L4:;
+L4:
 	clear(v188, 6);
-	if (v5 < 20) { v32 = 0; v33 = 0; v34 = 0; v35 = 3075; goto L29; }
-	u16 v218 = lu16(v4);
-	u16 v219 = lu16(v4+2);
+	if (v5 < 20) { v35 = 3075; v32 = v33 = v34 = 0; goto L29; }
+	u16 v218 = (u16)__builtin_bswap16(lu16(v4)), v219 = (u16)__builtin_bswap16(lu16(v4+2));
+	clear(v187, 6);
+	u64 v220 = (u64)__builtin_bswap64(lu64(v4+4));
+	u32 v221 = lu32(v4+12);
+	u64 v222 = v5 - 20;
+	u32 v223 = lu32(v4+16);
+	u64 v224 = (u64)(u32)__builtin_bswap32(v221), v225 = ((0ull - v224) & 3) + v224;
+	if (v222 < v225) { v31 = 3331; v29 = v30 = 0; goto L28; }
+	ptr v226 = at(v4+20, v225);
+	u64 v227 = v222 - v225;
+	clear(v186, 6);
+	stp(v185, v164);
+	clear(v185+8, 16);
+	u64 v228 = (u64)v164;
+	u8 v229 = (u8)(v228 >> 8), v230 = (u8)v228;
+	if (!v227) { v46 = v226; v48 = v230; v49 = v229; v44 = v45 = v47 = 0; goto L33; }
+	v6 = v230; v8 = v229; v9 = v227; v10 = v226; v7 = 0;
+L5:
+	if (v9 < 4) { v26 = 4099; v27 = v28 = 0; goto L27; }
+	u16 v231 = lu16(v10), v232 = (u16)__builtin_bswap16(v231);
+	u64 v233 = v9 - 4;
+	u16 v234 = lu16(v10+2), v235 = (u16)__builtin_bswap16(v234);
+	if (!v231) { v39 = v7; v40 = v10+4; v41 = v233; v42 = v6; v43 = v8; goto L32; }
+	u64 v236 = (u64)v235, v237 = ((0ull - v236) & 3) + v236;
+	if (v233 < v237) { v26 = 4355; v27 = v28 = 0; goto L27; }
+	ptr v238 = at(v10+4, v237);
+	u64 v239 = v233 - v237;
+	switch (v232) {
+	case 1: goto L6;
+	case 2: goto L8;
+	case 3: goto L9;
+	case 2988: case 19372: goto L10;
+	case 2989: case 19373: goto L13;
+	default: goto L16;
+	}
+L6:
+	clear(v183, 24);
+	core_str_utf8_from_utf8(v183, v10+4, v236);
+	u64 v240 = ld64(v183+8);
+	if (ld8(v183)) goto L7;
+	v20 = ld64(v183+16); v25 = v240; v18 = v19 = v21 = v22 = v23 = v24 = 0; goto L17;
+L7:
+	v15 = v240; v16 = v240 & 0xffffffff00000000ull; v17 = ld16(v183+16); v14 = 2; goto L14;
+L8:
+	if (v234 != 1024) { v14 = 7683; v15 = v16 = v17 = 0; goto L14; }
+	v19 = (u32)__builtin_bswap32(lu32(v10+4)); v18 = 1; v20 = v21 = v22 = v23 = v24 = v25 = 0; goto L17;
+L9:
+	v20 = v236; v25 = (u64)(v10+4); v18 = 2; v19 = v21 = v22 = v23 = v24 = 0; goto L17;
+L10:
+	if (v235 < 4) { v11 = v12 = 0; v13 = 1; goto L12; }
+	u32 v241 = lu32(v10+4);
+	clear(v182, 24);
+	core_str_utf8_from_utf8(v182, v10+8, v236 - 4);
+	u64 v242 = ld64(v182+8);
+	if (ld8(v182)) goto L11;
+	v20 = v242; v21 = ld64(v182+16); v22 = v232; v24 = (u32)__builtin_bswap32(v241); v18 = 4; v19 = v23 = v25 = 0; goto L17;
+L11:
+	v11 = ld16(v182+16); v12 = v242; v13 = 2;
+L12:
+	v14 = v13; v15 = v12; v16 = v12 & 0xffffffff00000000ull; v17 = v11; goto L14;
+L13:
+	if (v235 >= 4) goto L15;
+	v14 = 1; v15 = v16 = v17 = 0;
+L14:
+	v26 = v14; v27 = (v15 & 4294967295u) | v16; v28 = v17; goto L27;
+L15:
+	v20 = (u64)(v10+8); v21 = v236 - 4; v22 = v232; v24 = (u32)__builtin_bswap32(lu32(v10+4)); v18 = 3; v19 = v23 = v25 = 0; goto L17;
+L16:
+	v20 = (u64)(v10+4); v21 = v236; v22 = v232; v23 = v235; v18 = 5; v19 = v24 = v25 = 0;
+L17:;
+	u32 v243 = (u32)v18;
+	if (v7) goto L21;
+	t_64_64 v244 = allocate(384, 8);
+	if (!(v244.f0 & 1)) goto L18;
+	copy(v184, v185, 24);
+	stp(v185, (ptr)v244.f1);
+	st64(v185+16, 8);
+	std_alloc_vec_Vec_drop_368c(v184);
+	su32((ptr)v244.f1, v243);
+	su32((ptr)v244.f1+4, v19);
+	su16((ptr)v244.f1+8, v22);
+	su16((ptr)v244.f1+10, v23);
+	su32((ptr)v244.f1+12, v24);
+	su64((ptr)v244.f1+16, v25);
+	su64((ptr)v244.f1+24, v20);
+	su64((ptr)v244.f1+32, v21);
+	su64((ptr)v244.f1+40, 0);
+	v37 = v244.f1; v38 = 1; goto L31;
+L18:;
+	u8 v245 = (u8)v22;
+	switch (v18) {
+	case 0: goto L19;
+	case 1: case 3: case 4: case 5: goto L26;
+	case 2: goto L20;
+	default: goto L66;
+	}
+L19:
+	if (!v245 || !v21) goto L26;
+	goto L25;
+L20:
+	if (!v245 || !v21) goto L26;
+	goto L25;
+L21:
+	if (ld64(v185+16) != v7) { v36 = v7; goto L30; }
+	u8 v246 = std_alloc_vec_Vec_grow_amortized_05c7(v185);
+	if (!v246) goto L22;
+	v36 = ld64(v185+8); goto L30;
+L22:;
+	u8 v247 = (u8)v22;
+	switch (v18) {
+	case 0: goto L23;
+	case 1: case 3: case 4: case 5: goto L26;
+	case 2: goto L24;
+	default: goto L66;
+	}
+L23:
+	if (!v247 || !v21) goto L26;
+	goto L25;
+L24:
+	if (!v247 || !v21) goto L26;
+L25:
+	deallocate((ptr)v25);
+L26:
+	v26 = v27 = v28 = 0;
+L27:
+	std_alloc_vec_Vec_drop_368c(v185);
+	v29 = v27; v30 = v28; v31 = v26;
+L28:
+	v32 = v29; v33 = (u8)v30; v34 = (u8)(v30 >> 8); v35 = v31;
+L29:
+	v146 = v35; v147 = v32; v148 = v33; v149 = v34; goto L104;
+L30:;
+	ptr v248 = ldp(v185), v249 = at(v248, v36 * 48);
+	su32(v249, v243);
+	su32(v249+4, v19);
+	su16(v249+8, v22);
+	su16(v249+10, v23);
+	su32(v249+12, v24);
+	su64(v249+16, v25);
+	su64(v249+24, v20);
+	su64(v249+32, v21);
+	su64(v249+40, 0);
+	v37 = (u64)v248; v38 = v36 + 1;
+L31:;
+	u8 v250 = (u8)v37, v251 = (u8)(v37 >> 8);
+	st64(v185+8, v38);
+	if (v239) { v6 = v250; v7 = v38; v8 = v251; v9 = v239; v10 = v238; goto L5; }
+	v39 = v38; v40 = v238; v42 = v250; v43 = v251; v41 = 0;
+L32:
+	v44 = ld64(v185+16); v45 = v39; v46 = v40; v47 = v41; v48 = v42; v49 = v43;
+L33:
+	copy(v186, v185+2, 6);
+	copy(v187, v186, 6);
+	copy(v188, v187, 6);
+	copy(v192, v188, 6);
+	copy(v189, v192, 6);
+	v133 = v45; v134 = v44; v136 = v48; v137 = v49; v138 = (u64)__builtin_bswap64(((u64)v221 << 32) | (u64)v223); v139 = (ptr)0; v140 = (u64)(v4+20); v141 = v224; v142 = v46; v143 = v47; v144 = ((u64)v219 << 16) | (u64)(v218 & 65280) | (u64)(v218 & 255); v145 = v220; v135 = 0; goto L103;
+L34:
+	if (v5 <= 3) { v146 = 3587; v147 = v148 = v149 = 0; goto L104; }
+	v138 = (u64)(v4+4); v139 = (ptr)(v5 - 4); v142 = at(v4, v5); v144 = (u64)(u32)__builtin_bswap32(lu32(v4)); v133 = v134 = v135 = v136 = v137 = v140 = v141 = v143 = v145 = 0; goto L103;
+L35:
+	clear(v181, 48);
+	pcap_options_records_records_from_slice_4da0(v181, v4, v5);
+	u8 v252 = ld8(v181+8), v253 = ld8(v181+9);
+	u64 v254 = ld64(v181+16);
+	u8 v255 = ld8(v181+24), v256 = ld8(v181+25), v257 = ld8(v181);
+	clear(v177, 16);
+	u8 v258 = v257 == 0;
+	if (!v258) goto L36;
+	u64 v259 = (u64)ld_bytes(v181+10, 6) & 0xffffffffffffull;
+	copy(v176, v181+26, 6);
+	copy(v177, v181+32, 16);
+	v50 = v259 << 16; goto L37;
+L36:
+	clear(v176, 6);
+	v50 = 0;
+L37:;
+	u64 v260 = (u64)v252, v261 = (u64)v253 << 8;
+	ptr v262 = (ptr)(v50 | v260 | v261);
+	copy(v179, v176, 6);
+	copy(v180, v177, 16);
+	if (!v258) { v91 = v261; v92 = v260; v93 = v254; v94 = v255; v95 = v256; goto L71; }
+	st8(v178, v255);
+	st8(v178+1, v256);
+	copy(v178+2, v179, 6);
+	copy(v178+8, v180, 16);
+	stp(v175, v164);
+	clear(v175+8, 16);
+	u64 v263 = (u64)v164, v264 = v263 >> 8, v265 = v263 >> 16;
+	if (!v254) { v84 = v262; v87 = v265; v89 = v263; v90 = v264; v85 = v86 = v88 = 0; goto L70; }
+	v51 = v265; v52 = v263; v54 = v264; v55 = v254; v56 = v262; v53 = 0;
+L38:
+	if (v55 < 4) { v71 = 4099; v72 = v73 = v74 = 0; goto L65; }
+	u16 v266 = lu16(v56), v267 = (u16)__builtin_bswap16(v266);
+	u64 v268 = v55 - 4;
+	u16 v269 = lu16(v56+2), v270 = (u16)__builtin_bswap16(v269);
+	if (!v266) { v78 = v53; v79 = v51; v80 = v56+4; v81 = v268; v82 = v52; v83 = v54; goto L69; }
+	u64 v271 = (u64)v270, v272 = ((0ull - v271) & 3) + v271;
+	if (v268 < v272) { v71 = 4355; v72 = v73 = v74 = 0; goto L65; }
+	ptr v273 = at(v56+4, v272);
+	u64 v274 = v268 - v272;
+	switch (v267) {
+	case 1: goto L39;
+	case 2: goto L41;
+	case 3: goto L43;
+	case 4: goto L44;
+	case 2988: case 19372: goto L45;
+	case 2989: case 19373: goto L48;
+	default: v64 = v56+4; v65 = v271; v66 = v270; v68 = v267; v67 = 6; v69 = v70 = 0; goto L51;
+	}
+L39:
+	clear(v173, 24);
+	core_str_utf8_from_utf8(v173, v56+4, v271);
+	u64 v275 = ld64(v173+8);
+	if (ld8(v173)) goto L40;
+	v64 = (ptr)ld64(v173+16); v70 = v275; v65 = v66 = v67 = v68 = v69 = 0; goto L51;
+L40:
+	v61 = v275; v62 = v275 & 0xffffffff00000000ull; v63 = (u64)ld16(v173+16); v60 = 2; goto L49;
+L41:
+	clear(v172, 24);
+	core_str_utf8_from_utf8(v172, v56+4, v271);
+	u64 v276 = ld64(v172+8);
+	if (ld8(v172)) goto L42;
+	v64 = (ptr)ld64(v172+16); v70 = v276; v65 = v66 = v68 = v69 = 0; v67 = 1; goto L51;
+L42:
+	v61 = v276; v62 = v276 & 0xffffffff00000000ull; v63 = (u64)ld16(v172+16); v60 = 2; goto L49;
+L43:
+	if (v269 == 1024) { v64 = (ptr)4ull; v70 = (u64)(v56+4); v65 = v66 = v68 = v69 = 0; v67 = 2; goto L51; }
+	v60 = 7939; v61 = v62 = v63 = 0; goto L49;
+L44:
+	if (v269 == 4096) { v64 = (ptr)16ull; v70 = (u64)(v56+4); v65 = v66 = v68 = v69 = 0; v67 = 3; goto L51; }
+	v60 = 8195; v61 = v62 = v63 = 0; goto L49;
+L45:
+	if (v270 < 4) { v57 = v58 = 0; v59 = 1; goto L47; }
+	u32 v277 = lu32(v56+4);
+	clear(v171, 24);
+	core_str_utf8_from_utf8(v171, v56+8, v271 - 4);
+	u64 v278 = ld64(v171+8);
+	if (ld8(v171)) goto L46;
+	v64 = (ptr)v278; v65 = ld64(v171+16); v68 = v267; v69 = (u32)__builtin_bswap32(v277); v66 = v70 = 0; v67 = 5; goto L51;
+L46:
+	v57 = (u64)ld16(v171+16); v58 = v278; v59 = 2;
+L47:
+	v60 = v59; v61 = v58; v62 = v58 & 0xffffffff00000000ull; v63 = v57; goto L49;
+L48:
+	if (v270 >= 4) goto L50;
+	v60 = 1; v61 = v62 = v63 = 0;
+L49:
+	v71 = v60; v72 = (v61 & 4294967295u) | v62; v73 = (u8)v63; v74 = (u8)(v63 >> 8); goto L65;
+L50:
+	v64 = v56+8; v65 = v271 - 4; v68 = v267; v69 = (u32)__builtin_bswap32(lu32(v56+4)); v66 = v70 = 0; v67 = 4;
+L51:;
+	u64 v279 = (u64)v64, v280 = (u64)v67;
+	if (v53) goto L57;
+	t_64_64 v281 = allocate(384, 8);
+	if (!(v281.f0 & 1)) goto L52;
+	copy(v174, v175, 24);
+	stp(v175, (ptr)v281.f1);
+	st64(v175+16, 8);
+	std_alloc_vec_Vec_drop_050b(v174);
+	su64((ptr)v281.f1, v280);
+	su16((ptr)v281.f1+8, v68);
+	su16((ptr)v281.f1+10, v66);
+	su32((ptr)v281.f1+12, v69);
+	su64((ptr)v281.f1+16, v70);
+	su64((ptr)v281.f1+24, v279);
+	su64((ptr)v281.f1+32, v65);
+	su64((ptr)v281.f1+40, 0);
+	v76 = v281.f1; v77 = 1; goto L68;
+L52:;
+	u8 v282 = (u8)v68;
+	switch (v67) {
+	case 0: goto L53;
+	case 1: goto L54;
+	case 2: goto L55;
+	case 3: goto L56;
+	case 4: case 5: case 6: goto L64;
+	default: goto L66;
+	}
+L53:
+	if (!v282 || !v65) goto L64;
+	goto L63;
+L54:
+	if (!v282 || !v65) goto L64;
+	goto L63;
+L55:
+	if (!v282 || !v65) goto L64;
+	goto L63;
+L56:
+	if (!v282 || !v65) goto L64;
+	goto L63;
+L57:
+	if (ld64(v175+16) != v53) { v75 = v53; goto L67; }
+	u8 v283 = std_alloc_vec_Vec_grow_amortized_05c7(v175);
+	if (!v283) goto L58;
+	v75 = ld64(v175+8); goto L67;
+L58:;
+	u8 v284 = (u8)v68;
+	switch (v67) {
+	case 0: goto L59;
+	case 1: goto L60;
+	case 2: goto L61;
+	case 3: goto L62;
+	case 4: case 5: case 6: goto L64;
+	default: goto L66;
+	}
+L59:
+	if (!v284 || !v65) goto L64;
+	goto L63;
+L60:
+	if (!v284 || !v65) goto L64;
+	goto L63;
+L61:
+	if (!v284 || !v65) goto L64;
+	goto L63;
+L62:
+	if (!v284 || !v65) goto L64;
+L63:
+	deallocate((ptr)v70);
+L64:
+	v71 = v72 = v73 = v74 = 0;
+L65:
+	std_alloc_vec_Vec_drop_050b(v175);
+	std_alloc_vec_Vec_drop_f1dc(v178);
+	v91 = (u64)(v71 & 65280); v92 = (u64)(v71 & 255); v93 = v72; v94 = v73; v95 = v74; goto L71;
+L66:
+	__builtin_trap();
+L67:;
+	ptr v285 = ldp(v175), v286 = at(v285, v75 * 48);
+	su64(v286, v280);
+	su16(v286+8, v68);
+	su16(v286+10, v66);
+	su32(v286+12, v69);
+	su64(v286+16, v70);
+	su64(v286+24, v279);
+	su64(v286+32, v65);
+	su64(v286+40, 0);
+	v76 = (u64)v285; v77 = v75 + 1;
+L68:;
+	u64 v287 = v76 >> 16, v288 = v76 >> 8;
+	st64(v175+8, v77);
+	if (v274) { v51 = v287; v52 = v76; v53 = v77; v54 = v288; v55 = v274; v56 = v273; goto L38; }
+	v78 = v77; v79 = v287; v80 = v273; v82 = v76; v83 = v288; v81 = 0;
+L69:
+	v84 = v80; v85 = ld64(v175+16); v86 = v78; v87 = v79; v88 = v81; v89 = v82; v90 = v83;
+L70:;
+	u64 v289 = ld64(v178+8), v290 = ld64(v178+16);
+	u64 v291 = ((u64)v256 << 8) | (u64)v255 | (((u64)ld_bytes(v178+2, 6) & 0xffffffffffffull) << 16);
+	copy(v189, v193, 6);
+	v138 = v290; v139 = (ptr)((v89 & 255) | ((v90 << 8) & 65280) | (v87 << 16)); v140 = v86; v141 = v85; v142 = v84; v143 = v88; v144 = v291; v145 = v289; v133 = v134 = v135 = v136 = v137 = 0; goto L103;
+L71:
+	v146 = v91 | v92; v147 = v93; v148 = v94; v149 = v95; goto L104;
+L72:
+	if (v5 < 12) { v146 = 3843; v147 = v148 = v149 = 0; goto L104; }
+	u32 v292 = lu32(v4);
+	u64 v293 = v5 - 12, v294 = (u64)__builtin_bswap64(lu64(v4+4));
+	stp(v170, v164);
+	clear(v170+8, 16);
+	u64 v295 = (u64)v164, v296 = v295 >> 8, v297 = v295 >> 16;
+	if (!v293) { v127 = (ptr)0; v128 = v297; v129 = v4+12; v131 = v295; v132 = v296; v126 = v130 = 0; goto L98; }
+	v96 = (ptr)0; v97 = v297; v98 = v295; v100 = v296; v101 = v293; v102 = v4+12; v99 = 0;
+L73:
+	if (v101 < 4) { v114 = 4099; v115 = v116 = 0; goto L94; }
+	u16 v298 = lu16(v102), v299 = (u16)__builtin_bswap16(v298);
+	u64 v300 = v101 - 4;
+	u16 v301 = (u16)__builtin_bswap16(lu16(v102+2));
+	if (!v298) { v120 = v96; v121 = v97; v122 = v102+4; v123 = v300; v124 = v98; v125 = v100; goto L97; }
+	u64 v302 = (u64)v301, v303 = ((0ull - v302) & 3) + v302;
+	if (v300 < v303) { v114 = 4355; v115 = v116 = 0; goto L94; }
+	ptr v304 = at(v102+4, v303);
+	u64 v305 = v300 - v303;
+	switch (v299) {
+	case 1: goto L74;
+	case 2: goto L76;
+	case 3: goto L77;
+	case 4: goto L78;
+	case 5: goto L79;
+	case 6: goto L80;
+	case 7: goto L81;
+	case 8: goto L82;
+	case 2988: case 19372: goto L83;
+	case 2989: case 19373: goto L85;
+	default: v106 = v102+4; v107 = v302; v110 = v301; v111 = v299; v108 = v109 = v112 = 0; v113 = 10; goto L88;
+	}
+L74:
+	clear(v168, 24);
+	core_str_utf8_from_utf8(v168, v102+4, v302);
+	u64 v306 = ld64(v168+8);
+	if (ld8(v168)) goto L75;
+	v106 = (ptr)ld64(v168+16); v109 = v306; v107 = v108 = v110 = v111 = v113 = 0; v112 = 1; goto L88;
+L75:
+	v104 = v306; v105 = ld16(v168+16); v103 = 2; goto L86;
+L76:
+	if (v301 < 8) { M57: v103 = 1; v104 = v105 = 0; goto L86; }
+	u64 v307 = (u64)__builtin_bswap64(lu64(v102+4));
+	v106 = (ptr)0; v108 = (u32)(v307 >> 32); v110 = (u16)(v307 >> 16); v111 = (u16)v307; v107 = v109 = v112 = 0; v113 = 1; goto L88;
+L77:
+	if (v301 < 8) goto M57;
+	u64 v308 = (u64)__builtin_bswap64(lu64(v102+4));
+	v106 = (ptr)0; v108 = (u32)(v308 >> 32); v110 = (u16)(v308 >> 16); v111 = (u16)v308; v107 = v109 = v112 = 0; v113 = 2; goto L88;
+L78:
+	if (v301 < 8) goto M57;
+	u64 v309 = (u64)__builtin_bswap64(lu64(v102+4));
+	v106 = (ptr)0; v108 = (u32)(v309 >> 32); v110 = (u16)(v309 >> 16); v111 = (u16)v309; v107 = v109 = v112 = 0; v113 = 3; goto L88;
+L79:
+	if (v301 < 8) goto M57;
+	u64 v310 = (u64)__builtin_bswap64(lu64(v102+4));
+	v106 = (ptr)0; v108 = (u32)(v310 >> 32); v110 = (u16)(v310 >> 16); v111 = (u16)v310; v107 = v109 = v112 = 0; v113 = 4; goto L88;
+L80:
+	if (v301 < 8) goto M57;
+	u64 v311 = (u64)__builtin_bswap64(lu64(v102+4));
+	v106 = (ptr)0; v108 = (u32)(v311 >> 32); v110 = (u16)(v311 >> 16); v111 = (u16)v311; v107 = v109 = v112 = 0; v113 = 5; goto L88;
+L81:
+	if (v301 < 8) goto M57;
+	u64 v312 = (u64)__builtin_bswap64(lu64(v102+4));
+	v106 = (ptr)0; v108 = (u32)(v312 >> 32); v110 = (u16)(v312 >> 16); v111 = (u16)v312; v107 = v109 = v112 = 0; v113 = 6; goto L88;
+L82:
+	if (v301 < 8) goto M57;
+	u64 v313 = (u64)__builtin_bswap64(lu64(v102+4));
+	v106 = (ptr)0; v108 = (u32)(v313 >> 32); v110 = (u16)(v313 >> 16); v111 = (u16)v313; v107 = v109 = v112 = 0; v113 = 7; goto L88;
+L83:
+	if (v301 < 4) goto M57;
+	u32 v314 = lu32(v102+4);
+	clear(v167, 24);
+	core_str_utf8_from_utf8(v167, v102+8, v302 - 4);
+	u64 v315 = ld64(v167+8);
+	if (ld8(v167)) goto L84;
+	v106 = (ptr)v315; v107 = ld64(v167+16); v108 = (u32)__builtin_bswap32(v314); v111 = v299; v109 = v110 = v112 = 0; v113 = 9; goto L88;
+L84:
+	v104 = v315; v105 = ld16(v167+16); v103 = 2; goto L86;
+L85:
+	if (v301 >= 4) goto L87;
+	v103 = 1; v104 = v105 = 0;
+L86:
+	v114 = v103; v115 = v104; v116 = (u32)v105; goto L94;
+L87:
+	v106 = v102+8; v107 = v302 - 4; v108 = (u32)__builtin_bswap32(lu32(v102+4)); v111 = v299; v109 = v110 = v112 = 0; v113 = 8;
+L88:;
+	u64 v316 = (u64)v111, v317 = ((u64)v110 << 16) | ((u64)v108 << 32) | v316, v318 = (u64)v106;
+	if (v99) goto L90;
+	t_64_64 v319 = allocate(384, 8);
+	if (!(v319.f0 & 1)) goto L89;
+	copy(v169, v170, 24);
+	stp(v170, (ptr)v319.f1);
+	st64(v170+16, 8);
+	std_alloc_vec_Vec_drop_15c9(v169);
+	su64((ptr)v319.f1, v113);
+	su64((ptr)v319.f1+8, v317);
+	su64((ptr)v319.f1+16, v109);
+	su64((ptr)v319.f1+24, v318);
+	su64((ptr)v319.f1+32, v107);
+	su64((ptr)v319.f1+40, 0);
+	v118 = v319.f1; v119 = 1; goto L96;
+L89:
+	if (!v112) goto L93;
+	if (!(v316 & 255) || !v107) goto L93;
+	goto L92;
+L90:
+	if (ld64(v170+16) != v99) { v117 = v99; goto L95; }
+	u8 v320 = std_alloc_vec_Vec_grow_amortized_05c7(v170);
+	if (!v320) goto L91;
+	v117 = ld64(v170+8); goto L95;
+L91:
+	if (!v112) goto L93;
+	if (!(v316 & 255) || !v107) goto L93;
+L92:
+	deallocate((ptr)v109);
+L93:
+	v114 = v115 = v116 = 0;
+L94:
+	std_alloc_vec_Vec_drop_15c9(v170);
+	v146 = v114; v147 = v115; v148 = (u8)v116; v149 = (u8)(v116 >> 8); goto L104;
+L95:;
+	ptr v321 = ldp(v170), v322 = at(v321, v117 * 48);
+	su64(v322, v113);
+	su64(v322+8, v317);
+	su64(v322+16, v109);
+	su64(v322+24, v318);
+	su64(v322+32, v107);
+	su64(v322+40, 0);
+	v118 = (u64)v321; v119 = v117 + 1;
+L96:;
+	u64 v323 = v118 >> 16, v324 = v118 >> 8;
+	st64(v170+8, v119);
+	if (v305) { v96 = (ptr)v119; v97 = v323; v98 = v118; v99 = v119; v100 = v324; v101 = v305; v102 = v304; goto L73; }
+	v120 = (ptr)v119; v121 = v323; v122 = v304; v124 = v118; v125 = v324; v123 = 0;
+L97:
+	v126 = ld64(v170+16); v127 = v120; v128 = v121; v129 = v122; v130 = v123; v131 = v124; v132 = v125;
+L98:
+	copy(v189, v194, 6);
+	v138 = ((v132 << 8) & 65280) | (v128 << 16) | (v131 & 255); v139 = v127; v140 = v126; v142 = v129; v143 = v130; v144 = (u64)(u32)__builtin_bswap32(v292); v145 = v294; v133 = v134 = v135 = v136 = v137 = v141 = 0; goto L103;
+L99:
+	pcap_blocks_enhanced_packet_EnhancedPacketBlock_read_4da0(v195, v4, v5);
+	u16 v325 = ld16(v195+8);
+	u64 v326 = ld64(v195+16);
+	u8 v327 = ld8(v195+24), v328 = ld8(v195+25);
+	if (ld8(v195)) goto L100;
+	u64 v329 = (((u64)ld_bytes(v195+10, 6) & 0xffffffffffffull) << 16) | (u64)(v325 & 255) | (u64)(v325 & 65280);
+	u64 v330 = ld64(v195+32), v331 = ld64(v195+40);
+	ptr v332 = ldp(v195+48);
+	u64 v333 = ld64(v195+56), v334 = ld64(v195+64), v335 = ld64(v195+72);
+	u8 v336 = ld8(v195+80), v337 = ld8(v195+81);
+	u64 v338 = ((u64)v328 << 8) | (u64)v327 | (((u64)ld_bytes(v195+26, 6) & 0xffffffffffffull) << 16);
+	copy(v189, v195+82, 6);
+	v133 = ld64(v195+88); v134 = ld64(v195+96); v135 = v335; v136 = v336; v137 = v337; v138 = v331; v139 = v332; v140 = v333; v141 = v334; v142 = (ptr)v329; v143 = v326; v144 = v338; v145 = v330; goto L103;
+L100:
+	v146 = (u64)v325; v147 = v326; v148 = v327; v149 = v328; goto L104;
+L101:
+	v138 = v5; v139 = (ptr)0; v142 = at(v4, v5); v145 = (u64)v4; v133 = v134 = v135 = v136 = v137 = v140 = v141 = v143 = v144 = 0; goto L103;
+L102:
+	if (v5 >= 0x100000000ull) { v146 = 9987; v147 = v148 = v149 = 0; goto L104; }
+	v139 = v4; v140 = v5; v142 = v4; v143 = v5; v144 = ((u64)v3 << 32) | 8; v145 = v5; v133 = v134 = v135 = v136 = v137 = v138 = v141 = 0;
+L103:
+	copy(v197, v189, 6);
+	su64(v1, 0);
+	su64(v1+8, (u64)v142);
+	v150 = v143; v151 = (u64)v2; v152 = v144; v153 = v145; v154 = v138; v155 = v139; v156 = v140; v157 = v141; v158 = v135; v159 = v136; v160 = v197; v161 = v137; v162 = v133; v163 = v134; goto L105;
+L104:
+	clear(v165, 96);
+	clear(v166, 24);
+	st16(v166, (u16)v146);
+	st64(v166+8, v147);
+	st8(v166+16, v148);
+	st8(v166+17, v149);
+	pcap_options_refusal_PcapErrorFromRefusal_from(v165, v166);
+	u8 v339 = ld8(v165);
+	u64 v340 = ld64(v165+8), v341 = ld64(v165+16), v342 = ld64(v165+24), v343 = ld64(v165+32);
+	u64 v344 = ld64(v165+40);
+	ptr v345 = ldp(v165+48);
+	u64 v346 = ld64(v165+56), v347 = ld64(v165+64), v348 = ld64(v165+72);
+	u8 v349 = ld8(v165+80), v350 = ld8(v165+81);
+	copy(v196, v165+82, 6);
+	u64 v351 = ld64(v165+88);
+	su64(v1, 1);
+	st8(v1+8, v339);
+	st8(v1+9, 0);
+	st_bytes(v1+10, 0, 6);
+	v150 = v340; v151 = v341; v152 = v342; v153 = v343; v154 = v344; v155 = v345; v156 = v346; v157 = v347; v158 = v348; v159 = v349; v160 = v196; v161 = v350; v162 = v351; v163 = 0;
+L105:
+	su64(v1+16, v150);
+	su64(v1+24, v151);
+	su64(v1+32, v152);
+	su64(v1+40, v153);
+	su64(v1+48, v154);
+	sup(v1+56, v155);
+	su64(v1+64, v156);
+	su64(v1+72, v157);
+	su64(v1+80, v158);
+	st8(v1+88, v159);
+	copy(v1+90, v160, 6);
+	st8(v1+89, v161);
+	su64(v1+96, v162);
+	su64(v1+104, v163);
+	return;
+L106:
+	__builtin_trap();
+}
+static void blocks_interface_description_InterfaceDescriptionBlock_read_7f02(ptr v1, ptr v2, u64 v3) {
+	u8 v4, v6, v12, v13, v20, v21, v37, v38;
+	u64 v5, v7, v9, v10, v14, v16, v18, v25, v26, v27, v30, v32, v33, v34, v36;
+	ptr v8, v17, v28, v35;
+	u16 v11, v15, v22, v23, v29;
+	u32 v19, v24, v31;
+	_Alignas(8) u8 v39[1], v40[48], v41[48], v42[48], v43[24], v44[24], v45[24], v46[24], v47[24], v48[24], v49[48], v50[24];
+	_Alignas(2) u8 v51[22] = {0};
+	if (v3 >= 8) goto L0;
+	su64(v1, 1);
+	st8(v1+8, 3);
+	st8(v1+9, 11);
+	clear(v1+10, 54);
+	goto L42;
+L0:;
+	u16 v52 = lu16(v2), v53 = lu16(v2+2);
+	u64 v54 = v3 - 8;
+	u32 v55 = lu32(v2+4);
+	stp(v50, v39);
+	clear(v50+8, 16);
+	u64 v56 = (u64)v39;
+	u8 v57 = (u8)(v56 >> 8), v58 = (u8)v56;
+	if (!v54) { v35 = v2+8; v37 = v58; v38 = v57; v36 = 0; goto L41; }
+	v4 = v58; v6 = v57; v7 = v54; v8 = v2+8; v5 = 0;
+L1:
+	if (v7 < 4) { v15 = 4099; v12 = v13 = v14 = 0; goto L26; }
+	u16 v59 = lu16(v8);
+	u64 v60 = v7 - 4;
+	u16 v61 = lu16(v8+2);
+	if (!v59) { v35 = v8+4; v36 = v60; v37 = v4; v38 = v6; goto L41; }
+	u64 v62 = (u64)v61, v63 = ((0ull - v62) & 3) + v62;
+	if (v60 < v63) { v15 = 4355; v12 = v13 = v14 = 0; goto L26; }
+	ptr v64 = at(v8+4, v63);
+	u64 v65 = v60 - v63;
+	switch (v59) {
+	case 1: goto L2;
+	case 2: goto L4;
+	case 3: goto L6;
+	case 4: goto L8;
+	case 5: goto L9;
+	case 6: goto L10;
+	case 7: goto L11;
+	case 8: goto L12;
+	case 9: goto L13;
+	case 10: goto L14;
+	case 11: goto L15;
+	case 12: goto L16;
+	case 13: goto L18;
+	case 14: goto L19;
+	case 15: goto L20;
+	case 2988: case 19372: goto L22;
+	case 2989: case 19373: goto L25;
+	default: v17 = v8+4; v18 = v62; v22 = v59; v23 = v61; v19 = v21 = v24 = v25 = 0; v20 = 17; goto L31;
+	}
+L2:
+	clear(v48, 24);
+	core_str_utf8_from_utf8(v48, v8+4, v62);
+	u64 v66 = ld64(v48+8);
+	if (ld8(v48)) goto L3;
+	v17 = (ptr)ld64(v48+16); v25 = v66; v18 = v19 = v20 = v21 = v22 = v23 = v24 = 0; goto L31;
+L3:
+	v12 = ld8(v48+17); v13 = ld8(v48+16); v14 = v66; v15 = 2; goto L26;
+L4:
+	clear(v47, 24);
+	core_str_utf8_from_utf8(v47, v8+4, v62);
+	u64 v67 = ld64(v47+8);
+	if (ld8(v47)) goto L5;
+	v17 = (ptr)ld64(v47+16); v25 = v67; v18 = v19 = v21 = v22 = v23 = v24 = 0; v20 = 1; goto L31;
+L5:
+	v12 = ld8(v47+17); v13 = ld8(v47+16); v14 = v67; v15 = 2; goto L26;
+L6:
+	clear(v46, 24);
+	core_str_utf8_from_utf8(v46, v8+4, v62);
+	u64 v68 = ld64(v46+8);
+	if (ld8(v46)) goto L7;
+	v17 = (ptr)ld64(v46+16); v25 = v68; v18 = v19 = v21 = v22 = v23 = v24 = 0; v20 = 2; goto L31;
+L7:
+	v12 = ld8(v46+17); v13 = ld8(v46+16); v14 = v68; v15 = 2; goto L26;
+L8:
+	if (v61 == 8) { v17 = (ptr)8ull; v25 = (u64)(v8+4); v18 = v19 = v21 = v22 = v23 = v24 = 0; v20 = 3; goto L31; }
+	v15 = 4611; v12 = v13 = v14 = 0; goto L26;
+L9:
+	if (v61 == 17) { v17 = (ptr)17ull; v25 = (u64)(v8+4); v18 = v19 = v21 = v22 = v23 = v24 = 0; v20 = 4; goto L31; }
+	v15 = 4867; v12 = v13 = v14 = 0; goto L26;
+L10:
+	if (v61 == 6) { v17 = (ptr)6ull; v25 = (u64)(v8+4); v18 = v19 = v21 = v22 = v23 = v24 = 0; v20 = 5; goto L31; }
+	v15 = 5123; v12 = v13 = v14 = 0; goto L26;
+L11:
+	if (v61 != 8) { v15 = 5379; v12 = v13 = v14 = 0; goto L26; }
+	u64 v69 = lu64(v8+4);
+	v17 = (ptr)0; v22 = (u16)v69; v23 = (u16)(v69 >> 16); v24 = (u32)(v69 >> 32); v18 = v19 = v21 = v25 = 0; v20 = 6; goto L31;
+L12:
+	if (v61 != 8) { v15 = 5635; v12 = v13 = v14 = 0; goto L26; }
+	u64 v70 = lu64(v8+4);
+	v17 = (ptr)0; v22 = (u16)v70; v23 = (u16)(v70 >> 16); v24 = (u32)(v70 >> 32); v18 = v19 = v21 = v25 = 0; v20 = 7; goto L31;
+L13:
+	if (v61 != 1) { v15 = 5891; v12 = v13 = v14 = 0; goto L26; }
+	v17 = (ptr)0; v21 = ld8(v8+4); v18 = v19 = v22 = v23 = v24 = v25 = 0; v20 = 8; goto L31;
+L14:
+	if (v61 != 4) { v15 = 6147; v12 = v13 = v14 = 0; goto L26; }
+	v17 = (ptr)0; v19 = lu32(v8+4); v18 = v21 = v22 = v23 = v24 = v25 = 0; v20 = 9; goto L31;
+L15:
+	if (!v61) { v15 = 6403; v12 = v13 = v14 = 0; goto L26; }
+	v17 = (ptr)v62; v25 = (u64)(v8+4); v18 = v19 = v21 = v22 = v23 = v24 = 0; v20 = 10; goto L31;
+L16:
+	clear(v45, 24);
+	core_str_utf8_from_utf8(v45, v8+4, v62);
+	u64 v71 = ld64(v45+8);
+	if (ld8(v45)) goto L17;
+	v17 = (ptr)ld64(v45+16); v25 = v71; v18 = v19 = v21 = v22 = v23 = v24 = 0; v20 = 11; goto L31;
+L17:
+	v12 = ld8(v45+17); v13 = ld8(v45+16); v14 = v71; v15 = 2; goto L26;
+L18:
+	if (v61 != 1) { v15 = 6659; v12 = v13 = v14 = 0; goto L26; }
+	v17 = (ptr)0; v21 = ld8(v8+4); v18 = v19 = v22 = v23 = v24 = v25 = 0; v20 = 12; goto L31;
+L19:
+	if (v61 != 8) { v15 = 6915; v12 = v13 = v14 = 0; goto L26; }
+	u64 v72 = lu64(v8+4);
+	v17 = (ptr)0; v22 = (u16)v72; v23 = (u16)(v72 >> 16); v24 = (u32)(v72 >> 32); v18 = v19 = v21 = v25 = 0; v20 = 13; goto L31;
+L20:
+	clear(v44, 24);
+	core_str_utf8_from_utf8(v44, v8+4, v62);
+	u64 v73 = ld64(v44+8);
+	if (ld8(v44)) goto L21;
+	v17 = (ptr)ld64(v44+16); v25 = v73; v18 = v19 = v21 = v22 = v23 = v24 = 0; v20 = 14; goto L31;
+L21:
+	v12 = ld8(v44+17); v13 = ld8(v44+16); v14 = v73; v15 = 2; goto L26;
+L22:
+	if (v61 < 4) { v9 = v10 = 0; v11 = 1; goto L24; }
+	u32 v74 = lu32(v8+4);
+	clear(v43, 24);
+	core_str_utf8_from_utf8(v43, v8+8, v62 - 4);
+	u64 v75 = ld64(v43+8);
+	if (ld8(v43)) goto L23;
+	v17 = (ptr)v75; v18 = ld64(v43+16); v22 = v59; v24 = v74; v19 = v21 = v23 = v25 = 0; v20 = 16; goto L31;
+L23:
+	v9 = (u64)ld16(v43+16); v10 = v75; v11 = 2;
+L24:
+	v12 = (u8)(v9 >> 8); v13 = (u8)v9; v14 = v10; v15 = v11; goto L26;
+L25:
+	if (v61 >= 4) goto L30;
+	v12 = v13 = v14 = 0; v15 = 1;
+L26:;
+	ptr v76 = ldp(v50);
+	u64 v77 = ld64(v50+16);
+	if (!v5) goto L28;
+	v16 = 0;
+L27:;
+	ptr v78 = at(v76, v16 * 48);
+	u8 v79 = ld8(v78), v80 = ld8(v78+1);
+	u32 v81 = lu32(v78+4);
+	u64 v82 = lu64(v78+8);
+	st64(v42, 0);
+	st8(v42, v79);
+	st8(v42+1, v80);
+	st32(v42+4, v81);
+	st64(v42+8, v82);
+	copy(v42+16, v78+16, 32);
+	ptions_interface_option_InterfaceDescriptionOption_Destruct_drop(v42);
+	u64 v83 = v16 + 1;
+	if (v83 != v5) { v16 = v83; goto L27; }
+L28:
+	if (!v77) goto L29;
+	deallocate(v76);
+L29:
+	v29 = v15; v30 = v14; v31 = ((u32)v12 << 8) | (u32)v13; goto L38;
+L30:
+	v17 = v8+8; v18 = v62 - 4; v22 = v59; v24 = lu32(v8+4); v19 = v21 = v23 = v25 = 0; v20 = 15;
+L31:;
+	u64 v84 = ((u64)v24 << 32) | ((u64)v23 << 16) | (u64)v22;
+	st64(v49, 0);
+	if (v5) goto L34;
+	t_64_64 v85 = allocate(384, 8);
+	if (!(v85.f0 & 1)) goto L33;
+	ptr v86 = ldp(v50);
+	u64 v87 = ld64(v50+16);
+	stp(v50, (ptr)v85.f1);
+	st64(v50+8, 0);
+	st64(v50+16, 8);
+	if (!v87) goto L32;
+	deallocate(v86);
+L32:
+	st8((ptr)v85.f1, v20);
+	st8((ptr)v85.f1+1, v21);
+	su32((ptr)v85.f1+4, v19);
+	su64((ptr)v85.f1+8, v84);
+	su64((ptr)v85.f1+16, v25);
+	sup((ptr)v85.f1+24, v17);
+	su64((ptr)v85.f1+32, v18);
+	su64((ptr)v85.f1+40, 0);
+	v33 = v85.f1; v34 = 1; goto L40;
+L33:
+	st8(v49, v20);
+	st8(v49+1, v21);
+	st32(v49+4, v19);
+	st64(v49+8, v84);
+	st64(v49+16, v25);
+	stp(v49+24, v17);
+	st64(v49+32, v18);
+	st64(v49+40, 0);
+	ptions_interface_option_InterfaceDescriptionOption_Destruct_drop(v49);
+	v27 = ld64(v50+16); v28 = ldp(v50); goto L37;
+L34:
+	if (ld64(v50+16) != v5) { v32 = v5; goto L39; }
+	u8 v88 = std_alloc_vec_Vec_grow_amortized_05c7(v50);
+	if (!v88) goto L35;
+	v32 = ld64(v50+8); goto L39;
+L35:
+	st64(v41+16, v25);
+	stp(v41+24, v17);
+	st64(v41+32, v18);
+	st64(v41+40, 0);
+	st64(v41, 0);
+	st8(v41, v20);
+	st8(v41+1, v21);
+	st32(v41+4, v19);
+	st64(v41+8, v84);
+	ptions_interface_option_InterfaceDescriptionOption_Destruct_drop(v41);
+	u64 v89 = ld64(v50+8);
+	ptr v90 = ldp(v50);
+	u64 v91 = ld64(v50+16);
+	if (!v89) { v27 = v91; v28 = v90; goto L37; }
+	v26 = 0;
+L36:;
+	ptr v92 = at(v90, v26 * 48);
+	u8 v93 = ld8(v92), v94 = ld8(v92+1);
+	u32 v95 = lu32(v92+4);
+	u64 v96 = lu64(v92+8);
+	st64(v40, 0);
+	st8(v40, v93);
+	st8(v40+1, v94);
+	st32(v40+4, v95);
+	st64(v40+8, v96);
+	copy(v40+16, v92+16, 32);
+	ptions_interface_option_InterfaceDescriptionOption_Destruct_drop(v40);
+	u64 v97 = v26 + 1;
+	if (v97 != v89) { v26 = v97; goto L36; }
+	v27 = v91; v28 = v90;
+L37:
+	if (!v27) { v29 = v30 = v31 = 0; goto L38; }
+	deallocate(v28);
+	v29 = v30 = v31 = 0;
+L38:
+	su64(v1, 1);
+	su16(v1+8, v29);
+	st_bytes(v1+10, 0, 6);
+	su64(v1+16, v30);
+	su32(v1+24, v31);
+	clear(v1+28, 36);
+	goto L42;
+L39:;
+	ptr v98 = ldp(v50), v99 = at(v98, v32 * 48);
+	st8(v99, v20);
+	st8(v99+1, v21);
+	su32(v99+4, v19);
+	su64(v99+8, v84);
+	su64(v99+16, v25);
+	sup(v99+24, v17);
+	su64(v99+32, v18);
+	su64(v99+40, 0);
+	v33 = (u64)v98; v34 = v32 + 1;
+L40:;
+	u8 v100 = (u8)(v33 >> 8);
+	st64(v50+8, v34);
+	if (v65) { v4 = (u8)v33; v5 = v34; v6 = v100; v7 = v65; v8 = v64; goto L1; }
+	v35 = v64; v37 = (u8)v33; v38 = v100; v36 = 0;
+L41:
+	copy(v51, v50+2, 22);
+	t_8_32 v101 = pcap_core_link_DataLinkFromU32_from((u32)v52);
+	su64(v1, 0);
+	su64(v1+8, (u64)v35);
+	su64(v1+16, v36);
+	su32(v1+24, (u32)v101.f0);
+	su32(v1+28, v101.f1);
+	su16(v1+32, v53);
+	su16(v1+34, 0);
+	su32(v1+36, v55);
+	st8(v1+40, v37);
+	st8(v1+41, v38);
+	copy(v1+42, v51, 6);
+	copy(v1+48, v51+6, 16);
+L42:
+	return;
+}
+static APART void pcap_options_records_records_from_slice_7f02(ptr v1, ptr v2, u64 v3) {
+	u64 v4, v7, v8, v10, v11, v12, v13, v16;
+	ptr v5, v6, v9;
+	u8 v14, v15;
+	_Alignas(8) u8 v17[1], v18[64], v19[64], v20[64], v21[72], v22[24], v23[16] = {0};
+	stp(v22, v17);
+	clear(v22+8, 16);
+	clear(v21+8, 64);
+	if (v3 < 4) { M0: v12 = 1; v13 = v14 = v15 = 0; goto L22; }
+	v4 = v3; v5 = v2; v6 = v17;
+L0:;
+	u64 v24 = v4 - 4;
+	u16 v25 = lu16(v5+2);
+	u64 v26 = (u64)v25;
+	if (v24 < v26) { v12 = 8451; v13 = v14 = v15 = 0; goto L22; }
+	pcap_options_record_Record_from_value(v21, lu16(v5), v25, v5+4, v26);
+	u16 v27 = ld16(v21+8);
+	u64 v28 = ld64(v21+16);
+	u16 v29 = (u16)v28, v30 = (u16)(v28 >> 16), v31 = ld16(v21+24);
+	u8 v32 = (u8)v31;
+	u16 v33 = v31 >> 8;
+	if (ld8(v21)) goto L21;
+	u64 v34 = (u64)ld_bytes(v21+26, 6) & 0xffffffffffffull, v35 = ld64(v21+32), v36 = ld64(v21+40);
+	u64 v37 = ld64(v21+48), v38 = ((0ull - v26) & 3) + v26;
+	if (v24 >= v38) goto L14;
+	u8 v39 = (u8)v28, v40 = (u8)v27;
+	switch (v40) {
+	case 1: goto L1;
+	case 2: goto L6;
+	case 3: goto L11;
+	case 0: v12 = 9731; v14 = v40; v15 = v40; v13 = 0; goto L22;
+	default: goto L13;
+	}
+L1:
+	if (v39 != 1 || !v36) goto L2;
+	deallocate((ptr)((v34 << 16) | (u64)v31));
+L2:;
+	u64 v41 = ld64(v21+56), v42 = ld64(v21+64);
+	if (!v41) goto L5;
+	v7 = 0;
+L3:;
+	ptr v43 = at((ptr)v37, v7 << 5);
+	if (!ld8(v43) || !lu64(v43+24)) goto L4;
+	deallocate(lup(v43+8));
+L4:;
+	u64 v44 = v7 + 1;
+	if (v44 != v41) { v7 = v44; goto L3; }
+L5:
+	if (!v42) { M3: v12 = 9731; v13 = v14 = v15 = 0; goto L22; }
+	v9 = (ptr)v37; goto L12;
+L6:
+	if (v39 != 1 || !v36) goto L7;
+	deallocate((ptr)((v34 << 16) | (u64)v31));
+L7:;
+	u64 v45 = ld64(v21+56), v46 = ld64(v21+64);
+	if (!v45) goto L10;
+	v8 = 0;
+L8:;
+	ptr v47 = at((ptr)v37, v8 << 5);
+	if (!ld8(v47) || !lu64(v47+24)) goto L9;
+	deallocate(lup(v47+8));
+L9:;
+	u64 v48 = v8 + 1;
+	if (v48 != v45) { v8 = v48; goto L8; }
+L10:
+	if (!v46) goto M3;
+	v9 = (ptr)v37; goto L12;
+L11:
+	if (v32 != 1 || !v37) goto M3;
+	v9 = (ptr)v35;
+L12:
+	deallocate(v9);
+	goto M3;
+L13:
+	__builtin_trap();
+L14:;
+	ptr v49 = at(v5+4, v38);
+	u64 v50 = v24 - v38, v51 = ((v34 << 8) & 0xffffffffffffffull) | (u64)v33;
+	copy(v23, v21+56, 16);
+	if (v27 & 255) goto L15;
+	u8 v52 = ld8(v22);
+	su64(v1, 0);
+	sup(v1+8, v49);
+	su64(v1+16, v50);
+	st8(v1+24, v52);
+	st8(v1+25, (u8)((u64)v6 >> 8));
+	copy(v1+26, v22+2, 22);
+	goto L26;
+L15:;
+	u64 v53 = (u64)(v27 & 255), v54 = ld64(v22+8);
+	if (ld64(v22+16) != v54) { v11 = v54; goto L20; }
+	u8 v55 = std_alloc_vec_Vec_grow_amortized_8416(v22);
+	if (!v55) goto L16;
+	v11 = ld64(v22+8); goto L20;
+L16:
+	st64(v19+8, 0);
+	st64(v19, v53);
+	st16(v19+8, v29);
+	st16(v19+10, v30);
+	st8(v19+16, v32);
+	st_bytes(v19+17, v51, 7);
+	st64(v19+24, v35);
+	st64(v19+32, v36);
+	st64(v19+40, v37);
+	copy(v19+48, v23, 16);
+	pcap_options_pcap_options_record_Record_Destruct_drop(v19);
+	ptr v56 = ldp(v22);
+	u64 v57 = ld64(v22+8), v58 = ld64(v22+16);
+	if (!v57) goto L18;
+	v10 = 0;
+L17:;
+	ptr v59 = at(v56, v10 << 6);
+	u64 v60 = (u64)ld8(v59);
+	u16 v61 = lu16(v59+8), v62 = lu16(v59+10);
+	st64(v18+8, 0);
+	st64(v18, v60);
+	st16(v18+8, v61);
+	st16(v18+10, v62);
+	copy(v18+16, v59+16, 48);
+	pcap_options_pcap_options_record_Record_Destruct_drop(v18);
+	u64 v63 = v10 + 1;
+	if (v63 != v57) { v10 = v63; goto L17; }
+L18:
+	if (!v58) goto L19;
+	deallocate(v56);
+L19:
+	su64(v1, 1);
+	clear(v1+8, 40);
+	goto L26;
+L20:;
+	ptr v64 = ldp(v22), v65 = at(v64, v11 << 6);
+	su64(v65, v53);
+	su16(v65+8, v29);
+	su16(v65+10, v30);
+	st8(v65+16, v32);
+	st_bytes(v65+17, v51, 7);
+	su64(v65+24, v35);
+	su64(v65+32, v36);
+	su64(v65+40, v37);
+	copy(v65+48, v23, 16);
+	st64(v22+8, v11 + 1);
+	clear(v21+8, 64);
+	if (v50 < 4) goto M0;
+	v4 = v50; v5 = v49; v6 = v64; goto L0;
+L21:
+	v12 = (u64)v27; v13 = v28; v14 = v32; v15 = (u8)v33;
+L22:;
+	ptr v66 = ldp(v22);
+	u64 v67 = ld64(v22+8), v68 = ld64(v22+16);
+	if (!v67) goto L24;
+	v16 = 0;
+L23:;
+	ptr v69 = at(v66, v16 << 6);
+	u64 v70 = (u64)ld8(v69);
+	u16 v71 = lu16(v69+8), v72 = lu16(v69+10);
+	st64(v20+8, 0);
+	st64(v20, v70);
+	st16(v20+8, v71);
+	st16(v20+10, v72);
+	copy(v20+16, v69+16, 48);
+	pcap_options_pcap_options_record_Record_Destruct_drop(v20);
+	u64 v73 = v16 + 1;
+	if (v73 != v67) { v16 = v73; goto L23; }
+L24:
+	if (!v68) goto L25;
+	deallocate(v66);
+L25:
+	su64(v1, 1);
+	sup(v1+8, (ptr)v12);
+	su64(v1+16, v13);
+	st8(v1+24, v14);
+	st8(v1+25, v15);
+	clear(v1+26, 22);
+L26:
+	return;
+}
+static void pcap_blocks_enhanced_packet_EnhancedPacketBlock_read_7f02(ptr v1, ptr v2, u64 v3) {
+	u8 v4, v6, v13, v23, v24, v32, v33;
+	u64 v5, v7, v10, v17, v18, v19, v21, v25, v27, v28, v29, v31;
+	ptr v8, v30;
+	u16 v9, v11, v14, v15, v20;
+	u32 v12, v16, v22, v26;
+	_Alignas(8) u8 v34[1], v35[24], v36[24], v37[24], v38[24], v41[16], v43[16] = {0};
+	_Alignas(2) u8 v39[22], v40[6], v42[6] = {0};
+	if (v3 >= 20) goto L0;
+	su64(v1, 1);
+	st8(v1+8, 3);
+	st8(v1+9, 12);
+	clear(v1+10, 94);
+	goto L29;
+L0:;
+	u32 v44 = lu32(v2);
+	clear(v40, 6);
+	clear(v41, 16);
+	u32 v45 = lu32(v2+8);
+	u64 v46 = (u64)lu32(v2+4) << 32;
+	u32 v47 = lu32(v2+12);
+	u64 v48 = v3 - 20;
+	u32 v49 = lu32(v2+16);
+	u64 v50 = (u64)v47, v51 = ((0ull - v50) & 3) + v50;
+	if (v48 < v51) { v23 = 3; v24 = 13; v25 = v26 = 0; goto L24; }
+	ptr v52 = at(v2+20, v51);
+	u64 v53 = v48 - v51;
+	clear(v39, 22);
+	stp(v38, v34);
+	clear(v38+8, 16);
+	u64 v54 = (u64)v34;
+	u8 v55 = (u8)(v54 >> 8), v56 = (u8)v54;
+	if (!v53) { v30 = v52; v32 = v56; v33 = v55; v31 = 0; goto L28; }
+	v4 = v56; v6 = v55; v7 = v53; v8 = v52; v5 = 0;
+L1:
+	if (v7 < 4) { v20 = 4099; v21 = v22 = 0; goto L23; }
+	u16 v57 = lu16(v8);
+	u64 v58 = v7 - 4;
+	u16 v59 = lu16(v8+2);
+	if (!v57) { v30 = v8+4; v31 = v58; v32 = v4; v33 = v6; goto L28; }
+	u64 v60 = (u64)v59, v61 = ((0ull - v60) & 3) + v60;
+	if (v58 < v61) { v20 = 4355; v21 = v22 = 0; goto L23; }
+	ptr v62 = at(v8+4, v61);
+	u64 v63 = v58 - v61;
+	switch (v57) {
+	case 1: goto L2;
+	case 2: goto L4;
+	case 3: goto L5;
+	case 4: goto L6;
+	case 2988: case 19372: goto L7;
+	case 2989: case 19373: goto L9;
+	default: goto L12;
+	}
+L2:
+	clear(v36, 24);
+	core_str_utf8_from_utf8(v36, v8+4, v60);
+	u64 v64 = ld64(v36+8);
+	if (ld8(v36)) goto L3;
+	v17 = ld64(v36+16); v19 = v64; v12 = v13 = v14 = v15 = v16 = v18 = 0; goto L13;
+L3:
+	v10 = v64; v11 = ld16(v36+16); v9 = 2; goto L10;
+L4:
+	if (v59 != 4) { v9 = 7171; v10 = v11 = 0; goto L10; }
+	v12 = lu32(v8+4); v13 = 1; v14 = v15 = v16 = v17 = v18 = v19 = 0; goto L13;
+L5:
+	v17 = v60; v19 = (u64)(v8+4); v12 = v14 = v15 = v16 = v18 = 0; v13 = 2; goto L13;
+L6:
+	if (v59 != 8) { v9 = 7427; v10 = v11 = 0; goto L10; }
+	u64 v65 = lu64(v8+4);
+	v14 = (u16)v65; v15 = (u16)(v65 >> 16); v16 = (u32)(v65 >> 32); v12 = v17 = v18 = v19 = 0; v13 = 3; goto L13;
+L7:
+	if (v59 < 4) { v9 = 1; v10 = v11 = 0; goto L10; }
+	u32 v66 = lu32(v8+4);
+	clear(v35, 24);
+	core_str_utf8_from_utf8(v35, v8+8, v60 - 4);
+	u64 v67 = ld64(v35+8);
+	if (ld8(v35)) goto L8;
+	v14 = v57; v16 = v66; v17 = v67; v18 = ld64(v35+16); v12 = v15 = v19 = 0; v13 = 5; goto L13;
+L8:
+	v10 = v67; v11 = ld16(v35+16); v9 = 2; goto L10;
+L9:
+	if (v59 >= 4) goto L11;
+	v9 = 1; v10 = v11 = 0;
+L10:
+	v20 = v9; v21 = v10; v22 = (u32)v11; goto L23;
+L11:
+	v14 = v57; v16 = lu32(v8+4); v17 = (u64)(v8+8); v18 = v60 - 4; v12 = v15 = v19 = 0; v13 = 4; goto L13;
+L12:
+	v14 = v57; v15 = v59; v17 = (u64)(v8+4); v18 = v60; v12 = v16 = v19 = 0; v13 = 6;
+L13:;
+	u64 v68 = ((u64)v16 << 32) | ((u64)v15 << 16) | (u64)v14;
+	u32 v69 = (u32)v13;
+	if (v5) goto L17;
+	t_64_64 v70 = allocate(384, 8);
+	if (!(v70.f0 & 1)) goto L14;
+	copy(v37, v38, 24);
+	stp(v38, (ptr)v70.f1);
+	st64(v38+16, 8);
+	std_alloc_vec_Vec_drop_015c(v37);
+	su32((ptr)v70.f1, v69);
+	su32((ptr)v70.f1+4, v12);
+	su64((ptr)v70.f1+8, v68);
+	su64((ptr)v70.f1+16, v19);
+	su64((ptr)v70.f1+24, v17);
+	su64((ptr)v70.f1+32, v18);
+	su64((ptr)v70.f1+40, 0);
+	v28 = v70.f1; v29 = 1; goto L27;
+L14:;
+	u8 v71 = (u8)v14;
+	switch (v13) {
+	case 0: goto L15;
+	case 1: case 3: case 4: case 5: case 6: goto L22;
+	case 2: goto L16;
+	default: goto L25;
+	}
+L15:
+	if (!v71 || !v18) goto L22;
+	goto L21;
+L16:
+	if (!v71 || !v18) goto L22;
+	goto L21;
+L17:
+	if (ld64(v38+16) != v5) { v27 = v5; goto L26; }
+	u8 v72 = std_alloc_vec_Vec_grow_amortized_05c7(v38);
+	if (!v72) goto L18;
+	v27 = ld64(v38+8); goto L26;
+L18:;
+	u8 v73 = (u8)v14;
+	switch (v13) {
+	case 0: goto L19;
+	case 1: case 3: case 4: case 5: case 6: goto L22;
+	case 2: goto L20;
+	default: goto L25;
+	}
+L19:
+	if (!v73 || !v18) goto L22;
+	goto L21;
+L20:
+	if (!v73 || !v18) goto L22;
+L21:
+	deallocate((ptr)v19);
+L22:
+	v20 = v21 = v22 = 0;
+L23:
+	std_alloc_vec_Vec_drop_015c(v38);
+	v23 = (u8)v20; v24 = (u8)(v20 >> 8); v25 = v21; v26 = v22;
+L24:
+	su64(v1, 1);
+	st8(v1+8, v23);
+	st8(v1+9, v24);
+	st_bytes(v1+10, 0, 6);
+	su64(v1+16, v25);
+	su32(v1+24, v26);
+	clear(v1+28, 76);
+	goto L29;
+L25:
+	__builtin_trap();
+L26:;
+	ptr v74 = ldp(v38), v75 = at(v74, v27 * 48);
+	su32(v75, v69);
+	su32(v75+4, v12);
+	su64(v75+8, v68);
+	su64(v75+16, v19);
+	su64(v75+24, v17);
+	su64(v75+32, v18);
+	su64(v75+40, 0);
+	v28 = (u64)v74; v29 = v27 + 1;
+L27:;
+	u8 v76 = (u8)v28, v77 = (u8)(v28 >> 8);
+	st64(v38+8, v29);
+	if (v63) { v4 = v76; v5 = v29; v6 = v77; v7 = v63; v8 = v62; goto L1; }
+	v30 = v62; v32 = v76; v33 = v77; v31 = 0;
+L28:
+	copy(v39, v38+2, 22);
+	copy(v40, v39, 6);
+	copy(v41, v39+6, 16);
+	copy(v42, v40, 6);
+	copy(v43, v41, 16);
+	su64(v1, 0);
+	su64(v1+8, (u64)v30);
+	su64(v1+16, v31);
+	su32(v1+24, v44);
+	su32(v1+28, 0);
+	su64(v1+32, v46 | (u64)(v45 & 4294967040u) | (u64)(v45 & 255));
+	su32(v1+40, v47);
+	su32(v1+44, v49);
+	su64(v1+48, 0);
+	sup(v1+56, v2+20);
+	su64(v1+64, v50);
+	su64(v1+72, 0);
+	st8(v1+80, v32);
+	st8(v1+81, v33);
+	copy(v1+82, v42, 6);
+	copy(v1+88, v43, 16);
+L29:
+	return;
+}
+static void pcap_blocks_parsed_block_ParsedBlock_from_slice_7f02(ptr v1, u8 v2, u32 v3, ptr v4, u64 v5) {
+	u8 v6, v8, v18, v33, v34, v42, v43, v48, v49, v67, v73, v74, v94, v95, v112, v136, v137, v148, v149, v159, v161;
+	u64 v7, v9, v12, v13, v14, v15, v16, v20, v21, v25, v26, v27, v29, v31, v32, v35, v36, v37, v38, v39, v41, v44, v45, v47, v50, v51, v52, v53, v54, v55, v57, v58, v61, v62, v63, v65, v70, v72, v75, v76, v77, v78, v79, v81, v82, v83, v85, v86, v87, v88, v89, v90, v91, v92, v93, v97, v98, v99, v100, v101, v103, v104, v107, v109, v113, v114, v115, v117, v118, v119, v121, v123, v124, v125, v126, v128, v130, v131, v132, v133, v134, v135, v138, v140, v141, v143, v144, v145, v146, v147, v150, v151, v152, v153, v154, v156, v157, v158, v162, v163;
+	ptr v10, v40, v46, v56, v64, v80, v84, v96, v102, v106, v120, v122, v127, v129, v139, v142, v155, v160;
+	u16 v11, v17, v22, v23, v28, v30, v59, v60, v66, v68, v71, v105, v110, v111;
+	u32 v19, v24, v69, v108, v116;
+	_Alignas(8) u8 v164[1], v165[96], v166[24], v167[24], v168[24], v169[24], v170[24], v171[24], v172[24], v173[24], v174[24], v175[24], v177[16], v178[24], v180[16], v181[48], v182[24], v183[24], v184[24], v185[24], v190[64] = {0}, v191[64] = {0}, v195[104] = {0};
+	_Alignas(2) u8 v176[6], v179[6], v186[6], v187[6], v188[6], v189[6] = {0}, v192[6] = {0}, v193[6] = {0}, v194[6] = {0}, v196[6] = {0}, v197[6] = {0};
+	switch (v2) {
+	case 0: goto L0;
+	case 1: goto L2;
+	case 2: goto L4;
+	case 3: goto L34;
+	case 4: goto L35;
+	case 5: goto L72;
+	case 6: goto L99;
+	case 7: goto L101;
+	case 8: goto L102;
+	default: goto L106;
+	}
+L0:
+	pcap_blocks_section_header_SectionHeaderBlock_read(v190, v4, v5);
+	u16 v198 = ld16(v190+8);
+	u64 v199 = ld64(v190+16);
+	u8 v200 = ld8(v190+24), v201 = ld8(v190+25);
+	if (ld8(v190)) goto L1;
+	u64 v202 = (((u64)ld_bytes(v190+10, 6) & 0xffffffffffffull) << 16) | (u64)(v198 & 255) | (u64)(v198 & 65280);
+	u64 v203 = ld64(v190+32), v204 = ld64(v190+40);
+	ptr v205 = ldp(v190+48);
+	u64 v206 = ld64(v190+56);
+	u64 v207 = ((u64)v201 << 8) | (u64)v200 | (((u64)ld_bytes(v190+26, 6) & 0xffffffffffffull) << 16);
+	clear(v189, 6);
+	v138 = v204; v139 = v205; v140 = v206; v142 = (ptr)v202; v143 = v199; v144 = v207; v145 = v203; v133 = v134 = v135 = v136 = v137 = v141 = 0; goto L103;
+L1:
+	v146 = (u64)v198; v147 = v199; v148 = v200; v149 = v201; goto L104;
+L2:
+	blocks_interface_description_InterfaceDescriptionBlock_read_7f02(v191, v4, v5);
+	u16 v208 = ld16(v191+8);
+	u64 v209 = ld64(v191+16);
+	u8 v210 = ld8(v191+24), v211 = ld8(v191+25);
+	if (ld8(v191)) goto L3;
+	u64 v212 = (((u64)ld_bytes(v191+10, 6) & 0xffffffffffffull) << 16) | (u64)(v208 & 255) | (u64)(v208 & 65280);
+	u64 v213 = ld64(v191+32), v214 = ld64(v191+40);
+	ptr v215 = ldp(v191+48);
+	u64 v216 = ld64(v191+56);
+	u64 v217 = ((u64)v211 << 8) | (u64)v210 | (((u64)ld_bytes(v191+26, 6) & 0xffffffffffffull) << 16);
+	clear(v189, 6);
+	v138 = v214; v139 = v215; v140 = v216; v142 = (ptr)v212; v143 = v209; v144 = v217; v145 = v213; v133 = v134 = v135 = v136 = v137 = v141 = 0; goto L103;
+L3:
+	v146 = (u64)v208; v147 = v209; v148 = v210; v149 = v211; goto L104;
+L4:
+	clear(v188, 6);
+	if (v5 < 20) { v35 = 3075; v32 = v33 = v34 = 0; goto L29; }
+	u16 v218 = lu16(v4), v219 = lu16(v4+2);
 	clear(v187, 6);
 	u32 v220 = lu32(v4+8);
-	u64 v221 = (u64)lu32(v4+4) << 32;
-	u64 v222 = lu64(v4+12);
-	u64 v223 = v5 - 20;
-	u64 v224 = v222 & 4294967295u;
+	u64 v221 = (u64)lu32(v4+4) << 32, v222 = lu64(v4+12), v223 = v5 - 20, v224 = v222 & 4294967295u;
 	u64 v225 = ((0ull - v222) & 3) + v224;
-	if (v223 < v225) { v29 = 0; v30 = 0; v31 = 3331; goto L28; }
+	if (v223 < v225) { v31 = 3331; v29 = v30 = 0; goto L28; }
 	ptr v226 = at(v4+20, v225);
 	u64 v227 = v223 - v225;
 	clear(v186, 6);
 	stp(v185, v164);
 	clear(v185+8, 16);
 	u64 v228 = (u64)v164;
-	u8 v229 = (u8)(v228 >> 8);
-	u8 v230 = (u8)v228;
-	if (v227 == 0) { v44 = 0; v45 = 0; v46 = v226; v47 = 0; v48 = v230; v49 = v229; goto L33; }
-	v6 = v230; v7 = 0; v8 = v229; v9 = v227; v10 = v226;
-L5:;
-	if (v9 < 4) { v26 = 4099; v27 = 0; v28 = 0; goto L27; }
+	u8 v229 = (u8)(v228 >> 8), v230 = (u8)v228;
+	if (!v227) { v46 = v226; v48 = v230; v49 = v229; v44 = v45 = v47 = 0; goto L33; }
+	v6 = v230; v8 = v229; v9 = v227; v10 = v226; v7 = 0;
+L5:
+	if (v9 < 4) { v26 = 4099; v27 = v28 = 0; goto L27; }
 	u16 v231 = lu16(v10);
 	u64 v232 = v9 - 4;
 	u16 v233 = lu16(v10+2);
-	if (v231 == 0) { v39 = v7; v40 = v10+4; v41 = v232; v42 = v6; v43 = v8; goto L32; }
-	u64 v234 = (u64)v233;
-	u64 v235 = ((0ull - v234) & 3) + v234;
-	if (v232 < v235) { v26 = 4355; v27 = 0; v28 = 0; goto L27; }
+	if (!v231) { v39 = v7; v40 = v10+4; v41 = v232; v42 = v6; v43 = v8; goto L32; }
+	u64 v234 = (u64)v233, v235 = ((0ull - v234) & 3) + v234;
+	if (v232 < v235) { v26 = 4355; v27 = v28 = 0; goto L27; }
 	ptr v236 = at(v10+4, v235);
 	u64 v237 = v232 - v235;
 	switch (v231) {
@@ -4048,43 +3922,43 @@ L5:;
 	case 2989: case 19373: goto L13;
 	default: goto L16;
 	}
-L6:;
+L6:
 	clear(v183, 24);
 	core_str_utf8_from_utf8(v183, v10+4, v234);
 	u64 v238 = ld64(v183+8);
-	if (ld8(v183) != 0) goto L7;
-	v18 = 0; v19 = 0; v20 = ld64(v183+16); v21 = 0; v22 = 0; v23 = 0; v24 = 0; v25 = v238; goto L17;
-L7:;
-	v14 = 2; v15 = v238; v16 = v238 & 0xffffffff00000000ull; v17 = ld16(v183+16); goto L14;
-L8:;
-	if (v233 != 4) { v14 = 7683; v15 = 0; v16 = 0; v17 = 0; goto L14; }
-	v18 = 1; v19 = lu32(v10+4); v20 = 0; v21 = 0; v22 = 0; v23 = 0; v24 = 0; v25 = 0; goto L17;
-L9:;
-	v18 = 2; v19 = 0; v20 = v234; v21 = 0; v22 = 0; v23 = 0; v24 = 0; v25 = (u64)(v10+4); goto L17;
-L10:;
-	if (v233 < 4) { v11 = 0; v12 = 0; v13 = 1; goto L12; }
+	if (ld8(v183)) goto L7;
+	v20 = ld64(v183+16); v25 = v238; v18 = v19 = v21 = v22 = v23 = v24 = 0; goto L17;
+L7:
+	v15 = v238; v16 = v238 & 0xffffffff00000000ull; v17 = ld16(v183+16); v14 = 2; goto L14;
+L8:
+	if (v233 != 4) { v14 = 7683; v15 = v16 = v17 = 0; goto L14; }
+	v19 = lu32(v10+4); v18 = 1; v20 = v21 = v22 = v23 = v24 = v25 = 0; goto L17;
+L9:
+	v20 = v234; v25 = (u64)(v10+4); v18 = 2; v19 = v21 = v22 = v23 = v24 = 0; goto L17;
+L10:
+	if (v233 < 4) { v11 = v12 = 0; v13 = 1; goto L12; }
 	u32 v239 = lu32(v10+4);
 	clear(v182, 24);
 	core_str_utf8_from_utf8(v182, v10+8, v234 - 4);
 	u64 v240 = ld64(v182+8);
-	if (ld8(v182) != 0) goto L11;
-	v18 = 4; v19 = 0; v20 = v240; v21 = ld64(v182+16); v22 = v231; v23 = 0; v24 = v239; v25 = 0; goto L17;
-L11:;
+	if (ld8(v182)) goto L11;
+	v20 = v240; v21 = ld64(v182+16); v22 = v231; v24 = v239; v18 = 4; v19 = v23 = v25 = 0; goto L17;
+L11:
 	v11 = ld16(v182+16); v12 = v240; v13 = 2;
-L12:;
+L12:
 	v14 = v13; v15 = v12; v16 = v12 & 0xffffffff00000000ull; v17 = v11; goto L14;
-L13:;
+L13:
 	if (v233 >= 4) goto L15;
-	v14 = 1; v15 = 0; v16 = 0; v17 = 0;
-L14:;
+	v14 = 1; v15 = v16 = v17 = 0;
+L14:
 	v26 = v14; v27 = (v15 & 4294967295u) | v16; v28 = v17; goto L27;
-L15:;
-	v18 = 3; v19 = 0; v20 = (u64)(v10+8); v21 = v234 - 4; v22 = v231; v23 = 0; v24 = lu32(v10+4); v25 = 0; goto L17;
-L16:;
-	v18 = 5; v19 = 0; v20 = (u64)(v10+4); v21 = v234; v22 = v231; v23 = v233; v24 = 0; v25 = 0;
+L15:
+	v20 = (u64)(v10+8); v21 = v234 - 4; v22 = v231; v24 = lu32(v10+4); v18 = 3; v19 = v23 = v25 = 0; goto L17;
+L16:
+	v20 = (u64)(v10+4); v21 = v234; v22 = v231; v23 = v233; v18 = 5; v19 = v24 = v25 = 0;
 L17:;
 	u32 v241 = (u32)v18;
-	if (v7 != 0) goto L21;
+	if (v7) goto L21;
 	t_64_64 v242 = allocate(384, 8);
 	if (!(v242.f0 & 1)) goto L18;
 	copy(v184, v185, 24);
@@ -4109,13 +3983,13 @@ L18:;
 	case 2: goto L20;
 	default: goto L66;
 	}
-L19:;
-	if ((v243 == 0) || (v21 == 0)) goto L26;
+L19:
+	if (!v243 || !v21) goto L26;
 	goto L25;
-L20:;
-	if ((v243 == 0) || (v21 == 0)) goto L26;
+L20:
+	if (!v243 || !v21) goto L26;
 	goto L25;
-L21:;
+L21:
 	if (ld64(v185+16) != v7) { v36 = v7; goto L30; }
 	u8 v244 = std_alloc_vec_Vec_grow_amortized_05c7(v185);
 	if (!v244) goto L22;
@@ -4128,25 +4002,24 @@ L22:;
 	case 2: goto L24;
 	default: goto L66;
 	}
-L23:;
-	if ((v245 == 0) || (v21 == 0)) goto L26;
+L23:
+	if (!v245 || !v21) goto L26;
 	goto L25;
-L24:;
-	if ((v245 == 0) || (v21 == 0)) goto L26;
-L25:;
+L24:
+	if (!v245 || !v21) goto L26;
+L25:
 	deallocate((ptr)v25);
-L26:;
-	v26 = 0; v27 = 0; v28 = 0;
-L27:;
+L26:
+	v26 = v27 = v28 = 0;
+L27:
 	std_alloc_vec_Vec_drop_368c(v185);
 	v29 = v27; v30 = v28; v31 = v26;
-L28:;
+L28:
 	v32 = v29; v33 = (u8)v30; v34 = (u8)(v30 >> 8); v35 = v31;
-L29:;
+L29:
 	v146 = v35; v147 = v32; v148 = v33; v149 = v34; goto L104;
 L30:;
-	ptr v246 = ldp(v185);
-	ptr v247 = at(v246, v36 * 48);
+	ptr v246 = ldp(v185), v247 = at(v246, v36 * 48);
 	su32(v247, v241);
 	su32(v247+4, v19);
 	su16(v247+8, v22);
@@ -4158,32 +4031,28 @@ L30:;
 	su64(v247+40, 0);
 	v37 = (u64)v246; v38 = v36 + 1;
 L31:;
-	u8 v248 = (u8)v37;
-	u8 v249 = (u8)(v37 >> 8);
+	u8 v248 = (u8)v37, v249 = (u8)(v37 >> 8);
 	st64(v185+8, v38);
-	if (v237 != 0) { v6 = v248; v7 = v38; v8 = v249; v9 = v237; v10 = v236; goto L5; }
-	v39 = v38; v40 = v236; v41 = 0; v42 = v248; v43 = v249;
-L32:;
+	if (v237) { v6 = v248; v7 = v38; v8 = v249; v9 = v237; v10 = v236; goto L5; }
+	v39 = v38; v40 = v236; v42 = v248; v43 = v249; v41 = 0;
+L32:
 	v44 = ld64(v185+16); v45 = v39; v46 = v40; v47 = v41; v48 = v42; v49 = v43;
-L33:;
+L33:
 	copy(v186, v185+2, 6);
 	copy(v187, v186, 6);
 	copy(v188, v187, 6);
 	copy(v192, v188, 6);
 	copy(v189, v192, 6);
-	v133 = v45; v134 = v44; v135 = 0; v136 = v48; v137 = v49; v138 = v222; v139 = (ptr)0; v140 = (u64)(v4+20); v141 = v224; v142 = v46; v143 = v47; v144 = ((u64)v219 << 16) | (u64)(v218 & 65280) | (u64)(v218 & 255); v145 = v221 | (u64)(v220 & 4294967040u) | (u64)(v220 & 255); goto L103;
-L34:;
-	if (v5 <= 3) { v146 = 3587; v147 = 0; v148 = 0; v149 = 0; goto L104; }
-	v133 = 0; v134 = 0; v135 = 0; v136 = 0; v137 = 0; v138 = (u64)(v4+4); v139 = (ptr)(v5 - 4); v140 = 0; v141 = 0; v142 = at(v4, v5); v143 = 0; v144 = (u64)lu32(v4); v145 = 0; goto L103;
-L35:;
+	v133 = v45; v134 = v44; v136 = v48; v137 = v49; v138 = v222; v139 = (ptr)0; v140 = (u64)(v4+20); v141 = v224; v142 = v46; v143 = v47; v144 = ((u64)v219 << 16) | (u64)(v218 & 65280) | (u64)(v218 & 255); v145 = v221 | (u64)(v220 & 4294967040u) | (u64)(v220 & 255); v135 = 0; goto L103;
+L34:
+	if (v5 <= 3) { v146 = 3587; v147 = v148 = v149 = 0; goto L104; }
+	v138 = (u64)(v4+4); v139 = (ptr)(v5 - 4); v142 = at(v4, v5); v144 = (u64)lu32(v4); v133 = v134 = v135 = v136 = v137 = v140 = v141 = v143 = v145 = 0; goto L103;
+L35:
 	clear(v181, 48);
 	pcap_options_records_records_from_slice_7f02(v181, v4, v5);
-	u8 v250 = ld8(v181+8);
-	u8 v251 = ld8(v181+9);
+	u8 v250 = ld8(v181+8), v251 = ld8(v181+9);
 	u64 v252 = ld64(v181+16);
-	u8 v253 = ld8(v181+24);
-	u8 v254 = ld8(v181+25);
-	u8 v255 = ld8(v181);
+	u8 v253 = ld8(v181+24), v254 = ld8(v181+25), v255 = ld8(v181);
 	clear(v177, 16);
 	u8 v256 = v255 == 0;
 	if (!v256) goto L36;
@@ -4191,12 +4060,11 @@ L35:;
 	copy(v176, v181+26, 6);
 	copy(v177, v181+32, 16);
 	v50 = v257 << 16; goto L37;
-L36:;
+L36:
 	clear(v176, 6);
 	v50 = 0;
 L37:;
-	u64 v258 = (u64)v250;
-	u64 v259 = (u64)v251 << 8;
+	u64 v258 = (u64)v250, v259 = (u64)v251 << 8;
 	ptr v260 = (ptr)(v50 | v258 | v259);
 	copy(v179, v176, 6);
 	copy(v180, v177, 16);
@@ -4207,20 +4075,17 @@ L37:;
 	copy(v178+8, v180, 16);
 	stp(v175, v164);
 	clear(v175+8, 16);
-	u64 v261 = (u64)v164;
-	u64 v262 = v261 >> 8;
-	u64 v263 = v261 >> 16;
-	if (v252 == 0) { v84 = v260; v85 = 0; v86 = 0; v87 = v263; v88 = 0; v89 = v261; v90 = v262; goto L70; }
-	v51 = v263; v52 = v261; v53 = 0; v54 = v262; v55 = v252; v56 = v260;
-L38:;
-	if (v55 < 4) { v71 = 4099; v72 = 0; v73 = 0; v74 = 0; goto L65; }
+	u64 v261 = (u64)v164, v262 = v261 >> 8, v263 = v261 >> 16;
+	if (!v252) { v84 = v260; v87 = v263; v89 = v261; v90 = v262; v85 = v86 = v88 = 0; goto L70; }
+	v51 = v263; v52 = v261; v54 = v262; v55 = v252; v56 = v260; v53 = 0;
+L38:
+	if (v55 < 4) { v71 = 4099; v72 = v73 = v74 = 0; goto L65; }
 	u16 v264 = lu16(v56);
 	u64 v265 = v55 - 4;
 	u16 v266 = lu16(v56+2);
-	if (v264 == 0) { v78 = v53; v79 = v51; v80 = v56+4; v81 = v265; v82 = v52; v83 = v54; goto L69; }
-	u64 v267 = (u64)v266;
-	u64 v268 = ((0ull - v267) & 3) + v267;
-	if (v265 < v268) { v71 = 4355; v72 = 0; v73 = 0; v74 = 0; goto L65; }
+	if (!v264) { v78 = v53; v79 = v51; v80 = v56+4; v81 = v265; v82 = v52; v83 = v54; goto L69; }
+	u64 v267 = (u64)v266, v268 = ((0ull - v267) & 3) + v267;
+	if (v265 < v268) { v71 = 4355; v72 = v73 = v74 = 0; goto L65; }
 	ptr v269 = at(v56+4, v268);
 	u64 v270 = v265 - v268;
 	switch (v264) {
@@ -4230,53 +4095,52 @@ L38:;
 	case 4: goto L44;
 	case 2988: case 19372: goto L45;
 	case 2989: case 19373: goto L48;
-	default: v64 = v56+4; v65 = v267; v66 = v266; v67 = 6; v68 = v264; v69 = 0; v70 = 0; goto L51;
+	default: v64 = v56+4; v65 = v267; v66 = v266; v68 = v264; v67 = 6; v69 = v70 = 0; goto L51;
 	}
-L39:;
+L39:
 	clear(v173, 24);
 	core_str_utf8_from_utf8(v173, v56+4, v267);
 	u64 v271 = ld64(v173+8);
-	if (ld8(v173) != 0) goto L40;
-	v64 = (ptr)ld64(v173+16); v65 = 0; v66 = 0; v67 = 0; v68 = 0; v69 = 0; v70 = v271; goto L51;
-L40:;
-	v60 = 2; v61 = v271; v62 = v271 & 0xffffffff00000000ull; v63 = (u64)ld16(v173+16); goto L49;
-L41:;
+	if (ld8(v173)) goto L40;
+	v64 = (ptr)ld64(v173+16); v70 = v271; v65 = v66 = v67 = v68 = v69 = 0; goto L51;
+L40:
+	v61 = v271; v62 = v271 & 0xffffffff00000000ull; v63 = (u64)ld16(v173+16); v60 = 2; goto L49;
+L41:
 	clear(v172, 24);
 	core_str_utf8_from_utf8(v172, v56+4, v267);
 	u64 v272 = ld64(v172+8);
-	if (ld8(v172) != 0) goto L42;
-	v64 = (ptr)ld64(v172+16); v65 = 0; v66 = 0; v67 = 1; v68 = 0; v69 = 0; v70 = v272; goto L51;
-L42:;
-	v60 = 2; v61 = v272; v62 = v272 & 0xffffffff00000000ull; v63 = (u64)ld16(v172+16); goto L49;
-L43:;
-	if (v266 == 4) { v64 = (ptr)4ull; v65 = 0; v66 = 0; v67 = 2; v68 = 0; v69 = 0; v70 = (u64)(v56+4); goto L51; }
-	v60 = 7939; v61 = 0; v62 = 0; v63 = 0; goto L49;
-L44:;
-	if (v266 == 16) { v64 = (ptr)16ull; v65 = 0; v66 = 0; v67 = 3; v68 = 0; v69 = 0; v70 = (u64)(v56+4); goto L51; }
-	v60 = 8195; v61 = 0; v62 = 0; v63 = 0; goto L49;
-L45:;
-	if (v266 < 4) { v57 = 0; v58 = 0; v59 = 1; goto L47; }
+	if (ld8(v172)) goto L42;
+	v64 = (ptr)ld64(v172+16); v70 = v272; v65 = v66 = v68 = v69 = 0; v67 = 1; goto L51;
+L42:
+	v61 = v272; v62 = v272 & 0xffffffff00000000ull; v63 = (u64)ld16(v172+16); v60 = 2; goto L49;
+L43:
+	if (v266 == 4) { v64 = (ptr)4ull; v70 = (u64)(v56+4); v65 = v66 = v68 = v69 = 0; v67 = 2; goto L51; }
+	v60 = 7939; v61 = v62 = v63 = 0; goto L49;
+L44:
+	if (v266 == 16) { v64 = (ptr)16ull; v70 = (u64)(v56+4); v65 = v66 = v68 = v69 = 0; v67 = 3; goto L51; }
+	v60 = 8195; v61 = v62 = v63 = 0; goto L49;
+L45:
+	if (v266 < 4) { v57 = v58 = 0; v59 = 1; goto L47; }
 	u32 v273 = lu32(v56+4);
 	clear(v171, 24);
 	core_str_utf8_from_utf8(v171, v56+8, v267 - 4);
 	u64 v274 = ld64(v171+8);
-	if (ld8(v171) != 0) goto L46;
-	v64 = (ptr)v274; v65 = ld64(v171+16); v66 = 0; v67 = 5; v68 = v264; v69 = v273; v70 = 0; goto L51;
-L46:;
+	if (ld8(v171)) goto L46;
+	v64 = (ptr)v274; v65 = ld64(v171+16); v68 = v264; v69 = v273; v66 = v70 = 0; v67 = 5; goto L51;
+L46:
 	v57 = (u64)ld16(v171+16); v58 = v274; v59 = 2;
-L47:;
+L47:
 	v60 = v59; v61 = v58; v62 = v58 & 0xffffffff00000000ull; v63 = v57; goto L49;
-L48:;
+L48:
 	if (v266 >= 4) goto L50;
-	v60 = 1; v61 = 0; v62 = 0; v63 = 0;
-L49:;
+	v60 = 1; v61 = v62 = v63 = 0;
+L49:
 	v71 = v60; v72 = (v61 & 4294967295u) | v62; v73 = (u8)v63; v74 = (u8)(v63 >> 8); goto L65;
-L50:;
-	v64 = v56+8; v65 = v267 - 4; v66 = 0; v67 = 4; v68 = v264; v69 = lu32(v56+4); v70 = 0;
+L50:
+	v64 = v56+8; v65 = v267 - 4; v68 = v264; v69 = lu32(v56+4); v66 = v70 = 0; v67 = 4;
 L51:;
-	u64 v275 = (u64)v64;
-	u64 v276 = (u64)v67;
-	if (v53 != 0) goto L57;
+	u64 v275 = (u64)v64, v276 = (u64)v67;
+	if (v53) goto L57;
 	t_64_64 v277 = allocate(384, 8);
 	if (!(v277.f0 & 1)) goto L52;
 	copy(v174, v175, 24);
@@ -4302,19 +4166,19 @@ L52:;
 	case 4: case 5: case 6: goto L64;
 	default: goto L66;
 	}
-L53:;
-	if ((v278 == 0) || (v65 == 0)) goto L64;
+L53:
+	if (!v278 || !v65) goto L64;
 	goto L63;
-L54:;
-	if ((v278 == 0) || (v65 == 0)) goto L64;
+L54:
+	if (!v278 || !v65) goto L64;
 	goto L63;
-L55:;
-	if ((v278 == 0) || (v65 == 0)) goto L64;
+L55:
+	if (!v278 || !v65) goto L64;
 	goto L63;
-L56:;
-	if ((v278 == 0) || (v65 == 0)) goto L64;
+L56:
+	if (!v278 || !v65) goto L64;
 	goto L63;
-L57:;
+L57:
 	if (ld64(v175+16) != v53) { v75 = v53; goto L67; }
 	u8 v279 = std_alloc_vec_Vec_grow_amortized_05c7(v175);
 	if (!v279) goto L58;
@@ -4329,30 +4193,29 @@ L58:;
 	case 4: case 5: case 6: goto L64;
 	default: goto L66;
 	}
-L59:;
-	if ((v280 == 0) || (v65 == 0)) goto L64;
+L59:
+	if (!v280 || !v65) goto L64;
 	goto L63;
-L60:;
-	if ((v280 == 0) || (v65 == 0)) goto L64;
+L60:
+	if (!v280 || !v65) goto L64;
 	goto L63;
-L61:;
-	if ((v280 == 0) || (v65 == 0)) goto L64;
+L61:
+	if (!v280 || !v65) goto L64;
 	goto L63;
-L62:;
-	if ((v280 == 0) || (v65 == 0)) goto L64;
-L63:;
+L62:
+	if (!v280 || !v65) goto L64;
+L63:
 	deallocate((ptr)v70);
-L64:;
-	v71 = 0; v72 = 0; v73 = 0; v74 = 0;
-L65:;
+L64:
+	v71 = v72 = v73 = v74 = 0;
+L65:
 	std_alloc_vec_Vec_drop_050b(v175);
 	std_alloc_vec_Vec_drop_f1dc(v178);
 	v91 = (u64)(v71 & 65280); v92 = (u64)(v71 & 255); v93 = v72; v94 = v73; v95 = v74; goto L71;
-L66:;
+L66:
 	__builtin_trap();
 L67:;
-	ptr v281 = ldp(v175);
-	ptr v282 = at(v281, v75 * 48);
+	ptr v281 = ldp(v175), v282 = at(v281, v75 * 48);
 	su64(v282, v276);
 	su16(v282+8, v68);
 	su16(v282+10, v66);
@@ -4363,42 +4226,36 @@ L67:;
 	su64(v282+40, 0);
 	v76 = (u64)v281; v77 = v75 + 1;
 L68:;
-	u64 v283 = v76 >> 16;
-	u64 v284 = v76 >> 8;
+	u64 v283 = v76 >> 16, v284 = v76 >> 8;
 	st64(v175+8, v77);
-	if (v270 != 0) { v51 = v283; v52 = v76; v53 = v77; v54 = v284; v55 = v270; v56 = v269; goto L38; }
-	v78 = v77; v79 = v283; v80 = v269; v81 = 0; v82 = v76; v83 = v284;
-L69:;
+	if (v270) { v51 = v283; v52 = v76; v53 = v77; v54 = v284; v55 = v270; v56 = v269; goto L38; }
+	v78 = v77; v79 = v283; v80 = v269; v82 = v76; v83 = v284; v81 = 0;
+L69:
 	v84 = v80; v85 = ld64(v175+16); v86 = v78; v87 = v79; v88 = v81; v89 = v82; v90 = v83;
 L70:;
-	u64 v285 = ld64(v178+8);
-	u64 v286 = ld64(v178+16);
+	u64 v285 = ld64(v178+8), v286 = ld64(v178+16);
 	u64 v287 = ((u64)v254 << 8) | (u64)v253 | (((u64)ld_bytes(v178+2, 6) & 0xffffffffffffull) << 16);
 	copy(v189, v193, 6);
-	v133 = 0; v134 = 0; v135 = 0; v136 = 0; v137 = 0; v138 = v286; v139 = (ptr)((v89 & 255) | ((v90 << 8) & 65280) | (v87 << 16)); v140 = v86; v141 = v85; v142 = v84; v143 = v88; v144 = v287; v145 = v285; goto L103;
-L71:;
+	v138 = v286; v139 = (ptr)((v89 & 255) | ((v90 << 8) & 65280) | (v87 << 16)); v140 = v86; v141 = v85; v142 = v84; v143 = v88; v144 = v287; v145 = v285; v133 = v134 = v135 = v136 = v137 = 0; goto L103;
+L71:
 	v146 = v91 | v92; v147 = v93; v148 = v94; v149 = v95; goto L104;
-L72:;
-	if (v5 < 12) { v146 = 3843; v147 = 0; v148 = 0; v149 = 0; goto L104; }
+L72:
+	if (v5 < 12) { v146 = 3843; v147 = v148 = v149 = 0; goto L104; }
 	u32 v288 = lu32(v4);
-	u64 v289 = v5 - 12;
-	u64 v290 = ((u64)lu32(v4+4) << 32) | (u64)lu32(v4+8);
+	u64 v289 = v5 - 12, v290 = ((u64)lu32(v4+4) << 32) | (u64)lu32(v4+8);
 	stp(v170, v164);
 	clear(v170+8, 16);
-	u64 v291 = (u64)v164;
-	u64 v292 = v291 >> 8;
-	u64 v293 = v291 >> 16;
-	if (v289 == 0) { v126 = 0; v127 = (ptr)0; v128 = v293; v129 = v4+12; v130 = 0; v131 = v291; v132 = v292; goto L98; }
-	v96 = (ptr)0; v97 = v293; v98 = v291; v99 = 0; v100 = v292; v101 = v289; v102 = v4+12;
-L73:;
-	if (v101 < 4) { v114 = 4099; v115 = 0; v116 = 0; goto L94; }
+	u64 v291 = (u64)v164, v292 = v291 >> 8, v293 = v291 >> 16;
+	if (!v289) { v127 = (ptr)0; v128 = v293; v129 = v4+12; v131 = v291; v132 = v292; v126 = v130 = 0; goto L98; }
+	v96 = (ptr)0; v97 = v293; v98 = v291; v100 = v292; v101 = v289; v102 = v4+12; v99 = 0;
+L73:
+	if (v101 < 4) { v114 = 4099; v115 = v116 = 0; goto L94; }
 	u16 v294 = lu16(v102);
 	u64 v295 = v101 - 4;
 	u16 v296 = lu16(v102+2);
-	if (v294 == 0) { v120 = v96; v121 = v97; v122 = v102+4; v123 = v295; v124 = v98; v125 = v100; goto L97; }
-	u64 v297 = (u64)v296;
-	u64 v298 = ((0ull - v297) & 3) + v297;
-	if (v295 < v298) { v114 = 4355; v115 = 0; v116 = 0; goto L94; }
+	if (!v294) { v120 = v96; v121 = v97; v122 = v102+4; v123 = v295; v124 = v98; v125 = v100; goto L97; }
+	u64 v297 = (u64)v296, v298 = ((0ull - v297) & 3) + v297;
+	if (v295 < v298) { v114 = 4355; v115 = v116 = 0; goto L94; }
 	ptr v299 = at(v102+4, v298);
 	u64 v300 = v295 - v298;
 	switch (v294) {
@@ -4412,66 +4269,64 @@ L73:;
 	case 8: goto L82;
 	case 2988: case 19372: goto L83;
 	case 2989: case 19373: goto L85;
-	default: v106 = v102+4; v107 = v297; v108 = 0; v109 = 0; v110 = v296; v111 = v294; v112 = 0; v113 = 10; goto L88;
+	default: v106 = v102+4; v107 = v297; v110 = v296; v111 = v294; v108 = v109 = v112 = 0; v113 = 10; goto L88;
 	}
-L74:;
+L74:
 	clear(v168, 24);
 	core_str_utf8_from_utf8(v168, v102+4, v297);
 	u64 v301 = ld64(v168+8);
-	if (ld8(v168) != 0) goto L75;
-	v106 = (ptr)ld64(v168+16); v107 = 0; v108 = 0; v109 = v301; v110 = 0; v111 = 0; v112 = 1; v113 = 0; goto L88;
-L75:;
-	v103 = 2; v104 = v301; v105 = ld16(v168+16); goto L86;
-L76:;
-	if (v296 < 8) { v103 = 1; v104 = 0; v105 = 0; goto L86; }
+	if (ld8(v168)) goto L75;
+	v106 = (ptr)ld64(v168+16); v109 = v301; v107 = v108 = v110 = v111 = v113 = 0; v112 = 1; goto L88;
+L75:
+	v104 = v301; v105 = ld16(v168+16); v103 = 2; goto L86;
+L76:
+	if (v296 < 8) { M57: v103 = 1; v104 = v105 = 0; goto L86; }
 	u32 v302 = lu32(v102+8);
-	v106 = (ptr)0; v107 = 0; v108 = lu32(v102+4); v109 = 0; v110 = (u16)(v302 >> 16); v111 = (u16)v302; v112 = 0; v113 = 1; goto L88;
-L77:;
-	if (v296 < 8) { v103 = 1; v104 = 0; v105 = 0; goto L86; }
+	v106 = (ptr)0; v108 = lu32(v102+4); v110 = (u16)(v302 >> 16); v111 = (u16)v302; v107 = v109 = v112 = 0; v113 = 1; goto L88;
+L77:
+	if (v296 < 8) goto M57;
 	u32 v303 = lu32(v102+8);
-	v106 = (ptr)0; v107 = 0; v108 = lu32(v102+4); v109 = 0; v110 = (u16)(v303 >> 16); v111 = (u16)v303; v112 = 0; v113 = 2; goto L88;
-L78:;
-	if (v296 < 8) { v103 = 1; v104 = 0; v105 = 0; goto L86; }
+	v106 = (ptr)0; v108 = lu32(v102+4); v110 = (u16)(v303 >> 16); v111 = (u16)v303; v107 = v109 = v112 = 0; v113 = 2; goto L88;
+L78:
+	if (v296 < 8) goto M57;
 	u64 v304 = lu64(v102+4);
-	v106 = (ptr)0; v107 = 0; v108 = (u32)(v304 >> 32); v109 = 0; v110 = (u16)(v304 >> 16); v111 = (u16)v304; v112 = 0; v113 = 3; goto L88;
-L79:;
-	if (v296 < 8) { v103 = 1; v104 = 0; v105 = 0; goto L86; }
+	v106 = (ptr)0; v108 = (u32)(v304 >> 32); v110 = (u16)(v304 >> 16); v111 = (u16)v304; v107 = v109 = v112 = 0; v113 = 3; goto L88;
+L79:
+	if (v296 < 8) goto M57;
 	u64 v305 = lu64(v102+4);
-	v106 = (ptr)0; v107 = 0; v108 = (u32)(v305 >> 32); v109 = 0; v110 = (u16)(v305 >> 16); v111 = (u16)v305; v112 = 0; v113 = 4; goto L88;
-L80:;
-	if (v296 < 8) { v103 = 1; v104 = 0; v105 = 0; goto L86; }
+	v106 = (ptr)0; v108 = (u32)(v305 >> 32); v110 = (u16)(v305 >> 16); v111 = (u16)v305; v107 = v109 = v112 = 0; v113 = 4; goto L88;
+L80:
+	if (v296 < 8) goto M57;
 	u64 v306 = lu64(v102+4);
-	v106 = (ptr)0; v107 = 0; v108 = (u32)(v306 >> 32); v109 = 0; v110 = (u16)(v306 >> 16); v111 = (u16)v306; v112 = 0; v113 = 5; goto L88;
-L81:;
-	if (v296 < 8) { v103 = 1; v104 = 0; v105 = 0; goto L86; }
+	v106 = (ptr)0; v108 = (u32)(v306 >> 32); v110 = (u16)(v306 >> 16); v111 = (u16)v306; v107 = v109 = v112 = 0; v113 = 5; goto L88;
+L81:
+	if (v296 < 8) goto M57;
 	u64 v307 = lu64(v102+4);
-	v106 = (ptr)0; v107 = 0; v108 = (u32)(v307 >> 32); v109 = 0; v110 = (u16)(v307 >> 16); v111 = (u16)v307; v112 = 0; v113 = 6; goto L88;
-L82:;
-	if (v296 < 8) { v103 = 1; v104 = 0; v105 = 0; goto L86; }
+	v106 = (ptr)0; v108 = (u32)(v307 >> 32); v110 = (u16)(v307 >> 16); v111 = (u16)v307; v107 = v109 = v112 = 0; v113 = 6; goto L88;
+L82:
+	if (v296 < 8) goto M57;
 	u64 v308 = lu64(v102+4);
-	v106 = (ptr)0; v107 = 0; v108 = (u32)(v308 >> 32); v109 = 0; v110 = (u16)(v308 >> 16); v111 = (u16)v308; v112 = 0; v113 = 7; goto L88;
-L83:;
-	if (v296 < 4) { v103 = 1; v104 = 0; v105 = 0; goto L86; }
+	v106 = (ptr)0; v108 = (u32)(v308 >> 32); v110 = (u16)(v308 >> 16); v111 = (u16)v308; v107 = v109 = v112 = 0; v113 = 7; goto L88;
+L83:
+	if (v296 < 4) goto M57;
 	u32 v309 = lu32(v102+4);
 	clear(v167, 24);
 	core_str_utf8_from_utf8(v167, v102+8, v297 - 4);
 	u64 v310 = ld64(v167+8);
-	if (ld8(v167) != 0) goto L84;
-	v106 = (ptr)v310; v107 = ld64(v167+16); v108 = v309; v109 = 0; v110 = 0; v111 = v294; v112 = 0; v113 = 9; goto L88;
-L84:;
-	v103 = 2; v104 = v310; v105 = ld16(v167+16); goto L86;
-L85:;
+	if (ld8(v167)) goto L84;
+	v106 = (ptr)v310; v107 = ld64(v167+16); v108 = v309; v111 = v294; v109 = v110 = v112 = 0; v113 = 9; goto L88;
+L84:
+	v104 = v310; v105 = ld16(v167+16); v103 = 2; goto L86;
+L85:
 	if (v296 >= 4) goto L87;
-	v103 = 1; v104 = 0; v105 = 0;
-L86:;
+	v103 = 1; v104 = v105 = 0;
+L86:
 	v114 = v103; v115 = v104; v116 = (u32)v105; goto L94;
-L87:;
-	v106 = v102+8; v107 = v297 - 4; v108 = lu32(v102+4); v109 = 0; v110 = 0; v111 = v294; v112 = 0; v113 = 8;
+L87:
+	v106 = v102+8; v107 = v297 - 4; v108 = lu32(v102+4); v111 = v294; v109 = v110 = v112 = 0; v113 = 8;
 L88:;
-	u64 v311 = (u64)v111;
-	u64 v312 = ((u64)v110 << 16) | ((u64)v108 << 32) | v311;
-	u64 v313 = (u64)v106;
-	if (v99 != 0) goto L90;
+	u64 v311 = (u64)v111, v312 = ((u64)v110 << 16) | ((u64)v108 << 32) | v311, v313 = (u64)v106;
+	if (v99) goto L90;
 	t_64_64 v314 = allocate(384, 8);
 	if (!(v314.f0 & 1)) goto L89;
 	copy(v169, v170, 24);
@@ -4485,28 +4340,27 @@ L88:;
 	su64((ptr)v314.f1+32, v107);
 	su64((ptr)v314.f1+40, 0);
 	v118 = v314.f1; v119 = 1; goto L96;
-L89:;
+L89:
 	if (!v112) goto L93;
-	if (((v311 & 255) == 0) || (v107 == 0)) goto L93;
+	if (!(v311 & 255) || !v107) goto L93;
 	goto L92;
-L90:;
+L90:
 	if (ld64(v170+16) != v99) { v117 = v99; goto L95; }
 	u8 v315 = std_alloc_vec_Vec_grow_amortized_05c7(v170);
 	if (!v315) goto L91;
 	v117 = ld64(v170+8); goto L95;
-L91:;
+L91:
 	if (!v112) goto L93;
-	if (((v311 & 255) == 0) || (v107 == 0)) goto L93;
-L92:;
+	if (!(v311 & 255) || !v107) goto L93;
+L92:
 	deallocate((ptr)v109);
-L93:;
-	v114 = 0; v115 = 0; v116 = 0;
-L94:;
+L93:
+	v114 = v115 = v116 = 0;
+L94:
 	std_alloc_vec_Vec_drop_15c9(v170);
 	v146 = v114; v147 = v115; v148 = (u8)v116; v149 = (u8)(v116 >> 8); goto L104;
 L95:;
-	ptr v316 = ldp(v170);
-	ptr v317 = at(v316, v117 * 48);
+	ptr v316 = ldp(v170), v317 = at(v316, v117 * 48);
 	su64(v317, v113);
 	su64(v317+8, v312);
 	su64(v317+16, v109);
@@ -4515,48 +4369,42 @@ L95:;
 	su64(v317+40, 0);
 	v118 = (u64)v316; v119 = v117 + 1;
 L96:;
-	u64 v318 = v118 >> 16;
-	u64 v319 = v118 >> 8;
+	u64 v318 = v118 >> 16, v319 = v118 >> 8;
 	st64(v170+8, v119);
-	if (v300 != 0) { v96 = (ptr)v119; v97 = v318; v98 = v118; v99 = v119; v100 = v319; v101 = v300; v102 = v299; goto L73; }
-	v120 = (ptr)v119; v121 = v318; v122 = v299; v123 = 0; v124 = v118; v125 = v319;
-L97:;
+	if (v300) { v96 = (ptr)v119; v97 = v318; v98 = v118; v99 = v119; v100 = v319; v101 = v300; v102 = v299; goto L73; }
+	v120 = (ptr)v119; v121 = v318; v122 = v299; v124 = v118; v125 = v319; v123 = 0;
+L97:
 	v126 = ld64(v170+16); v127 = v120; v128 = v121; v129 = v122; v130 = v123; v131 = v124; v132 = v125;
-L98:;
+L98:
 	copy(v189, v194, 6);
-	v133 = 0; v134 = 0; v135 = 0; v136 = 0; v137 = 0; v138 = ((v132 << 8) & 65280) | (v128 << 16) | (v131 & 255); v139 = v127; v140 = v126; v141 = 0; v142 = v129; v143 = v130; v144 = (u64)v288; v145 = v290; goto L103;
-L99:;
+	v138 = ((v132 << 8) & 65280) | (v128 << 16) | (v131 & 255); v139 = v127; v140 = v126; v142 = v129; v143 = v130; v144 = (u64)v288; v145 = v290; v133 = v134 = v135 = v136 = v137 = v141 = 0; goto L103;
+L99:
 	pcap_blocks_enhanced_packet_EnhancedPacketBlock_read_7f02(v195, v4, v5);
 	u16 v320 = ld16(v195+8);
 	u64 v321 = ld64(v195+16);
-	u8 v322 = ld8(v195+24);
-	u8 v323 = ld8(v195+25);
-	if (ld8(v195) != 0) goto L100;
+	u8 v322 = ld8(v195+24), v323 = ld8(v195+25);
+	if (ld8(v195)) goto L100;
 	u64 v324 = (((u64)ld_bytes(v195+10, 6) & 0xffffffffffffull) << 16) | (u64)(v320 & 255) | (u64)(v320 & 65280);
-	u64 v325 = ld64(v195+32);
-	u64 v326 = ld64(v195+40);
+	u64 v325 = ld64(v195+32), v326 = ld64(v195+40);
 	ptr v327 = ldp(v195+48);
-	u64 v328 = ld64(v195+56);
-	u64 v329 = ld64(v195+64);
-	u64 v330 = ld64(v195+72);
-	u8 v331 = ld8(v195+80);
-	u8 v332 = ld8(v195+81);
+	u64 v328 = ld64(v195+56), v329 = ld64(v195+64), v330 = ld64(v195+72);
+	u8 v331 = ld8(v195+80), v332 = ld8(v195+81);
 	u64 v333 = ((u64)v323 << 8) | (u64)v322 | (((u64)ld_bytes(v195+26, 6) & 0xffffffffffffull) << 16);
 	copy(v189, v195+82, 6);
 	v133 = ld64(v195+88); v134 = ld64(v195+96); v135 = v330; v136 = v331; v137 = v332; v138 = v326; v139 = v327; v140 = v328; v141 = v329; v142 = (ptr)v324; v143 = v321; v144 = v333; v145 = v325; goto L103;
-L100:;
+L100:
 	v146 = (u64)v320; v147 = v321; v148 = v322; v149 = v323; goto L104;
-L101:;
-	v133 = 0; v134 = 0; v135 = 0; v136 = 0; v137 = 0; v138 = v5; v139 = (ptr)0; v140 = 0; v141 = 0; v142 = at(v4, v5); v143 = 0; v144 = 0; v145 = (u64)v4; goto L103;
-L102:;
-	if (v5 >= 0x100000000ull) { v146 = 9987; v147 = 0; v148 = 0; v149 = 0; goto L104; }
-	v133 = 0; v134 = 0; v135 = 0; v136 = 0; v137 = 0; v138 = 0; v139 = v4; v140 = v5; v141 = 0; v142 = v4; v143 = v5; v144 = ((u64)v3 << 32) | 8; v145 = v5;
-L103:;
+L101:
+	v138 = v5; v139 = (ptr)0; v142 = at(v4, v5); v145 = (u64)v4; v133 = v134 = v135 = v136 = v137 = v140 = v141 = v143 = v144 = 0; goto L103;
+L102:
+	if (v5 >= 0x100000000ull) { v146 = 9987; v147 = v148 = v149 = 0; goto L104; }
+	v139 = v4; v140 = v5; v142 = v4; v143 = v5; v144 = ((u64)v3 << 32) | 8; v145 = v5; v133 = v134 = v135 = v136 = v137 = v138 = v141 = 0;
+L103:
 	copy(v197, v189, 6);
 	su64(v1, 0);
 	su64(v1+8, (u64)v142);
 	v150 = v143; v151 = (u64)v2; v152 = v144; v153 = v145; v154 = v138; v155 = v139; v156 = v140; v157 = v141; v158 = v135; v159 = v136; v160 = v197; v161 = v137; v162 = v133; v163 = v134; goto L105;
-L104:;
+L104:
 	clear(v165, 96);
 	clear(v166, 24);
 	st16(v166, (u16)v146);
@@ -4565,17 +4413,11 @@ L104:;
 	st8(v166+17, v149);
 	pcap_options_refusal_PcapErrorFromRefusal_from(v165, v166);
 	u8 v334 = ld8(v165);
-	u64 v335 = ld64(v165+8);
-	u64 v336 = ld64(v165+16);
-	u64 v337 = ld64(v165+24);
-	u64 v338 = ld64(v165+32);
+	u64 v335 = ld64(v165+8), v336 = ld64(v165+16), v337 = ld64(v165+24), v338 = ld64(v165+32);
 	u64 v339 = ld64(v165+40);
 	ptr v340 = ldp(v165+48);
-	u64 v341 = ld64(v165+56);
-	u64 v342 = ld64(v165+64);
-	u64 v343 = ld64(v165+72);
-	u8 v344 = ld8(v165+80);
-	u8 v345 = ld8(v165+81);
+	u64 v341 = ld64(v165+56), v342 = ld64(v165+64), v343 = ld64(v165+72);
+	u8 v344 = ld8(v165+80), v345 = ld8(v165+81);
 	copy(v196, v165+82, 6);
 	u64 v346 = ld64(v165+88);
 	su64(v1, 1);
@@ -4583,7 +4425,7 @@ L104:;
 	st8(v1+9, 0);
 	st_bytes(v1+10, 0, 6);
 	v150 = v335; v151 = v336; v152 = v337; v153 = v338; v154 = v339; v155 = v340; v156 = v341; v157 = v342; v158 = v343; v159 = v344; v160 = v196; v161 = v345; v162 = v346; v163 = 0;
-L105:;
+L105:
 	su64(v1+16, v150);
 	su64(v1+24, v151);
 	su64(v1+32, v152);
@@ -4599,711 +4441,19 @@ L105:;
 	su64(v1+96, v162);
 	su64(v1+104, v163);
 	return;
-L106:;
+L106:
 	__builtin_trap();
-}
-static void blocks_interface_description_InterfaceDescriptionBlock_read_7f02(ptr v1, ptr v2, u64 v3) {
-	u8 v4, v6, v12, v13, v20, v21, v37, v38;
-	u64 v5, v7, v9, v10, v14, v16, v18, v25, v26, v27, v30, v32, v33, v34, v36;
-	ptr v8, v17, v28, v35;
-	u16 v11, v15, v22, v23, v29;
-	u32 v19, v24, v31;
-	_Alignas(8) u8 v39[1], v40[48], v41[48], v42[48], v43[24], v44[24], v45[24], v46[24], v47[24], v48[24], v49[48], v50[24];
-	_Alignas(2) u8 v51[22];
-	clear(v51, 22);
-	if (v3 >= 8) goto L0;
-	su64(v1, 1);
-	st8(v1+8, 3);
-	st8(v1+9, 11);
-	clear(v1+10, 54);
-	goto L42;
-L0:;
-	u16 v52 = lu16(v2);
-	u16 v53 = lu16(v2+2);
-	u64 v54 = v3 - 8;
-	u32 v55 = lu32(v2+4);
-	stp(v50, v39);
-	clear(v50+8, 16);
-	u64 v56 = (u64)v39;
-	u8 v57 = (u8)(v56 >> 8);
-	u8 v58 = (u8)v56;
-	if (v54 == 0) { v35 = v2+8; v36 = 0; v37 = v58; v38 = v57; goto L41; }
-	v4 = v58; v5 = 0; v6 = v57; v7 = v54; v8 = v2+8;
-L1:;
-	if (v7 < 4) { v12 = 0; v13 = 0; v14 = 0; v15 = 4099; goto L26; }
-	u16 v59 = lu16(v8);
-	u64 v60 = v7 - 4;
-	u16 v61 = lu16(v8+2);
-	if (v59 == 0) { v35 = v8+4; v36 = v60; v37 = v4; v38 = v6; goto L41; }
-	u64 v62 = (u64)v61;
-	u64 v63 = ((0ull - v62) & 3) + v62;
-	if (v60 < v63) { v12 = 0; v13 = 0; v14 = 0; v15 = 4355; goto L26; }
-	ptr v64 = at(v8+4, v63);
-	u64 v65 = v60 - v63;
-	switch (v59) {
-	case 1: goto L2;
-	case 2: goto L4;
-	case 3: goto L6;
-	case 4: goto L8;
-	case 5: goto L9;
-	case 6: goto L10;
-	case 7: goto L11;
-	case 8: goto L12;
-	case 9: goto L13;
-	case 10: goto L14;
-	case 11: goto L15;
-	case 12: goto L16;
-	case 13: goto L18;
-	case 14: goto L19;
-	case 15: goto L20;
-	case 2988: case 19372: goto L22;
-	case 2989: case 19373: goto L25;
-	default: v17 = v8+4; v18 = v62; v19 = 0; v20 = 17; v21 = 0; v22 = v59; v23 = v61; v24 = 0; v25 = 0; goto L31;
-	}
-L2:;
-	clear(v48, 24);
-	core_str_utf8_from_utf8(v48, v8+4, v62);
-	u64 v66 = ld64(v48+8);
-	if (ld8(v48) != 0) goto L3;
-	v17 = (ptr)ld64(v48+16); v18 = 0; v19 = 0; v20 = 0; v21 = 0; v22 = 0; v23 = 0; v24 = 0; v25 = v66; goto L31;
-L3:;
-	v12 = ld8(v48+17); v13 = ld8(v48+16); v14 = v66; v15 = 2; goto L26;
-L4:;
-	clear(v47, 24);
-	core_str_utf8_from_utf8(v47, v8+4, v62);
-	u64 v67 = ld64(v47+8);
-	if (ld8(v47) != 0) goto L5;
-	v17 = (ptr)ld64(v47+16); v18 = 0; v19 = 0; v20 = 1; v21 = 0; v22 = 0; v23 = 0; v24 = 0; v25 = v67; goto L31;
-L5:;
-	v12 = ld8(v47+17); v13 = ld8(v47+16); v14 = v67; v15 = 2; goto L26;
-L6:;
-	clear(v46, 24);
-	core_str_utf8_from_utf8(v46, v8+4, v62);
-	u64 v68 = ld64(v46+8);
-	if (ld8(v46) != 0) goto L7;
-	v17 = (ptr)ld64(v46+16); v18 = 0; v19 = 0; v20 = 2; v21 = 0; v22 = 0; v23 = 0; v24 = 0; v25 = v68; goto L31;
-L7:;
-	v12 = ld8(v46+17); v13 = ld8(v46+16); v14 = v68; v15 = 2; goto L26;
-L8:;
-	if (v61 == 8) { v17 = (ptr)8ull; v18 = 0; v19 = 0; v20 = 3; v21 = 0; v22 = 0; v23 = 0; v24 = 0; v25 = (u64)(v8+4); goto L31; }
-	v12 = 0; v13 = 0; v14 = 0; v15 = 4611; goto L26;
-L9:;
-	if (v61 == 17) { v17 = (ptr)17ull; v18 = 0; v19 = 0; v20 = 4; v21 = 0; v22 = 0; v23 = 0; v24 = 0; v25 = (u64)(v8+4); goto L31; }
-	v12 = 0; v13 = 0; v14 = 0; v15 = 4867; goto L26;
-L10:;
-	if (v61 == 6) { v17 = (ptr)6ull; v18 = 0; v19 = 0; v20 = 5; v21 = 0; v22 = 0; v23 = 0; v24 = 0; v25 = (u64)(v8+4); goto L31; }
-	v12 = 0; v13 = 0; v14 = 0; v15 = 5123; goto L26;
-L11:;
-	if (v61 != 8) { v12 = 0; v13 = 0; v14 = 0; v15 = 5379; goto L26; }
-	u64 v69 = lu64(v8+4);
-	v17 = (ptr)0; v18 = 0; v19 = 0; v20 = 6; v21 = 0; v22 = (u16)v69; v23 = (u16)(v69 >> 16); v24 = (u32)(v69 >> 32); v25 = 0; goto L31;
-L12:;
-	if (v61 != 8) { v12 = 0; v13 = 0; v14 = 0; v15 = 5635; goto L26; }
-	u64 v70 = lu64(v8+4);
-	v17 = (ptr)0; v18 = 0; v19 = 0; v20 = 7; v21 = 0; v22 = (u16)v70; v23 = (u16)(v70 >> 16); v24 = (u32)(v70 >> 32); v25 = 0; goto L31;
-L13:;
-	if (v61 != 1) { v12 = 0; v13 = 0; v14 = 0; v15 = 5891; goto L26; }
-	v17 = (ptr)0; v18 = 0; v19 = 0; v20 = 8; v21 = ld8(v8+4); v22 = 0; v23 = 0; v24 = 0; v25 = 0; goto L31;
-L14:;
-	if (v61 != 4) { v12 = 0; v13 = 0; v14 = 0; v15 = 6147; goto L26; }
-	v17 = (ptr)0; v18 = 0; v19 = lu32(v8+4); v20 = 9; v21 = 0; v22 = 0; v23 = 0; v24 = 0; v25 = 0; goto L31;
-L15:;
-	if (v61 == 0) { v12 = 0; v13 = 0; v14 = 0; v15 = 6403; goto L26; }
-	v17 = (ptr)v62; v18 = 0; v19 = 0; v20 = 10; v21 = 0; v22 = 0; v23 = 0; v24 = 0; v25 = (u64)(v8+4); goto L31;
-L16:;
-	clear(v45, 24);
-	core_str_utf8_from_utf8(v45, v8+4, v62);
-	u64 v71 = ld64(v45+8);
-	if (ld8(v45) != 0) goto L17;
-	v17 = (ptr)ld64(v45+16); v18 = 0; v19 = 0; v20 = 11; v21 = 0; v22 = 0; v23 = 0; v24 = 0; v25 = v71; goto L31;
-L17:;
-	v12 = ld8(v45+17); v13 = ld8(v45+16); v14 = v71; v15 = 2; goto L26;
-L18:;
-	if (v61 != 1) { v12 = 0; v13 = 0; v14 = 0; v15 = 6659; goto L26; }
-	v17 = (ptr)0; v18 = 0; v19 = 0; v20 = 12; v21 = ld8(v8+4); v22 = 0; v23 = 0; v24 = 0; v25 = 0; goto L31;
-L19:;
-	if (v61 != 8) { v12 = 0; v13 = 0; v14 = 0; v15 = 6915; goto L26; }
-	u64 v72 = lu64(v8+4);
-	v17 = (ptr)0; v18 = 0; v19 = 0; v20 = 13; v21 = 0; v22 = (u16)v72; v23 = (u16)(v72 >> 16); v24 = (u32)(v72 >> 32); v25 = 0; goto L31;
-L20:;
-	clear(v44, 24);
-	core_str_utf8_from_utf8(v44, v8+4, v62);
-	u64 v73 = ld64(v44+8);
-	if (ld8(v44) != 0) goto L21;
-	v17 = (ptr)ld64(v44+16); v18 = 0; v19 = 0; v20 = 14; v21 = 0; v22 = 0; v23 = 0; v24 = 0; v25 = v73; goto L31;
-L21:;
-	v12 = ld8(v44+17); v13 = ld8(v44+16); v14 = v73; v15 = 2; goto L26;
-L22:;
-	if (v61 < 4) { v9 = 0; v10 = 0; v11 = 1; goto L24; }
-	u32 v74 = lu32(v8+4);
-	clear(v43, 24);
-	core_str_utf8_from_utf8(v43, v8+8, v62 - 4);
-	u64 v75 = ld64(v43+8);
-	if (ld8(v43) != 0) goto L23;
-	v17 = (ptr)v75; v18 = ld64(v43+16); v19 = 0; v20 = 16; v21 = 0; v22 = v59; v23 = 0; v24 = v74; v25 = 0; goto L31;
-L23:;
-	v9 = (u64)ld16(v43+16); v10 = v75; v11 = 2;
-L24:;
-	v12 = (u8)(v9 >> 8); v13 = (u8)v9; v14 = v10; v15 = v11; goto L26;
-L25:;
-	if (v61 >= 4) goto L30;
-	v12 = 0; v13 = 0; v14 = 0; v15 = 1;
-L26:;
-	ptr v76 = ldp(v50);
-	u64 v77 = ld64(v50+16);
-	if (v5 == 0) goto L28;
-	v16 = 0;
-L27:;
-	ptr v78 = at(v76, v16 * 48);
-	u8 v79 = ld8(v78);
-	u8 v80 = ld8(v78+1);
-	u32 v81 = lu32(v78+4);
-	u64 v82 = lu64(v78+8);
-	st64(v42, 0);
-	st8(v42, v79);
-	st8(v42+1, v80);
-	st32(v42+4, v81);
-	st64(v42+8, v82);
-	copy(v42+16, v78+16, 32);
-	ptions_interface_option_InterfaceDescriptionOption_Destruct_drop(v42);
-	u64 v83 = v16 + 1;
-	if (v83 != v5) { v16 = v83; goto L27; }
-L28:;
-	if (v77 == 0) goto L29;
-	deallocate(v76);
-L29:;
-	v29 = v15; v30 = v14; v31 = ((u32)v12 << 8) | (u32)v13; goto L38;
-L30:;
-	v17 = v8+8; v18 = v62 - 4; v19 = 0; v20 = 15; v21 = 0; v22 = v59; v23 = 0; v24 = lu32(v8+4); v25 = 0;
-L31:;
-	u64 v84 = ((u64)v24 << 32) | ((u64)v23 << 16) | (u64)v22;
-	st64(v49, 0);
-	if (v5 != 0) goto L34;
-	t_64_64 v85 = allocate(384, 8);
-	if (!(v85.f0 & 1)) goto L33;
-	ptr v86 = ldp(v50);
-	u64 v87 = ld64(v50+16);
-	stp(v50, (ptr)v85.f1);
-	st64(v50+8, 0);
-	st64(v50+16, 8);
-	if (v87 == 0) goto L32;
-	deallocate(v86);
-L32:;
-	st8((ptr)v85.f1, v20);
-	st8((ptr)v85.f1+1, v21);
-	su32((ptr)v85.f1+4, v19);
-	su64((ptr)v85.f1+8, v84);
-	su64((ptr)v85.f1+16, v25);
-	sup((ptr)v85.f1+24, v17);
-	su64((ptr)v85.f1+32, v18);
-	su64((ptr)v85.f1+40, 0);
-	v33 = v85.f1; v34 = 1; goto L40;
-L33:;
-	st8(v49, v20);
-	st8(v49+1, v21);
-	st32(v49+4, v19);
-	st64(v49+8, v84);
-	st64(v49+16, v25);
-	stp(v49+24, v17);
-	st64(v49+32, v18);
-	st64(v49+40, 0);
-	ptions_interface_option_InterfaceDescriptionOption_Destruct_drop(v49);
-	v27 = ld64(v50+16); v28 = ldp(v50); goto L37;
-L34:;
-	if (ld64(v50+16) != v5) { v32 = v5; goto L39; }
-	u8 v88 = std_alloc_vec_Vec_grow_amortized_05c7(v50);
-	if (!v88) goto L35;
-	v32 = ld64(v50+8); goto L39;
-L35:;
-	st64(v41+16, v25);
-	stp(v41+24, v17);
-	st64(v41+32, v18);
-	st64(v41+40, 0);
-	st64(v41, 0);
-	st8(v41, v20);
-	st8(v41+1, v21);
-	st32(v41+4, v19);
-	st64(v41+8, v84);
-	ptions_interface_option_InterfaceDescriptionOption_Destruct_drop(v41);
-	u64 v89 = ld64(v50+8);
-	ptr v90 = ldp(v50);
-	u64 v91 = ld64(v50+16);
-	if (v89 == 0) { v27 = v91; v28 = v90; goto L37; }
-	v26 = 0;
-L36:;
-	ptr v92 = at(v90, v26 * 48);
-	u8 v93 = ld8(v92);
-	u8 v94 = ld8(v92+1);
-	u32 v95 = lu32(v92+4);
-	u64 v96 = lu64(v92+8);
-	st64(v40, 0);
-	st8(v40, v93);
-	st8(v40+1, v94);
-	st32(v40+4, v95);
-	st64(v40+8, v96);
-	copy(v40+16, v92+16, 32);
-	ptions_interface_option_InterfaceDescriptionOption_Destruct_drop(v40);
-	u64 v97 = v26 + 1;
-	if (v97 != v89) { v26 = v97; goto L36; }
-	v27 = v91; v28 = v90;
-L37:;
-	if (v27 == 0) { v29 = 0; v30 = 0; v31 = 0; goto L38; }
-	deallocate(v28);
-	v29 = 0; v30 = 0; v31 = 0;
-L38:;
-	su64(v1, 1);
-	su16(v1+8, v29);
-	st_bytes(v1+10, 0, 6);
-	su64(v1+16, v30);
-	su32(v1+24, v31);
-	clear(v1+28, 36);
-	goto L42;
-L39:;
-	ptr v98 = ldp(v50);
-	ptr v99 = at(v98, v32 * 48);
-	st8(v99, v20);
-	st8(v99+1, v21);
-	su32(v99+4, v19);
-	su64(v99+8, v84);
-	su64(v99+16, v25);
-	sup(v99+24, v17);
-	su64(v99+32, v18);
-	su64(v99+40, 0);
-	v33 = (u64)v98; v34 = v32 + 1;
-L40:;
-	u8 v100 = (u8)(v33 >> 8);
-	st64(v50+8, v34);
-	if (v65 != 0) { v4 = (u8)v33; v5 = v34; v6 = v100; v7 = v65; v8 = v64; goto L1; }
-	v35 = v64; v36 = 0; v37 = (u8)v33; v38 = v100;
-L41:;
-	copy(v51, v50+2, 22);
-	t_8_32 v101 = pcap_core_link_DataLinkFromU32_from((u32)v52);
-	su64(v1, 0);
-	su64(v1+8, (u64)v35);
-	su64(v1+16, v36);
-	su32(v1+24, (u32)v101.f0);
-	su32(v1+28, v101.f1);
-	su16(v1+32, v53);
-	su16(v1+34, 0);
-	su32(v1+36, v55);
-	st8(v1+40, v37);
-	st8(v1+41, v38);
-	copy(v1+42, v51, 6);
-	copy(v1+48, v51+6, 16);
-L42:;
-	return;
-}
-static __attribute__((noinline)) void pcap_options_records_records_from_slice_7f02(ptr v1, ptr v2, u64 v3) {
-	u64 v4, v7, v8, v10, v11, v12, v13, v16;
-	ptr v5, v6, v9;
-	u8 v14, v15;
-	_Alignas(8) u8 v17[1], v18[64], v19[64], v20[64], v21[72], v22[24], v23[16];
-	clear(v23, 16);
-	stp(v22, v17);
-	clear(v22+8, 16);
-	clear(v21+8, 64);
-	if (v3 < 4) { v12 = 1; v13 = 0; v14 = 0; v15 = 0; goto L22; }
-	v4 = v3; v5 = v2; v6 = v17;
-L0:;
-	u64 v24 = v4 - 4;
-	u16 v25 = lu16(v5+2);
-	u64 v26 = (u64)v25;
-	if (v24 < v26) { v12 = 8451; v13 = 0; v14 = 0; v15 = 0; goto L22; }
-	pcap_options_record_Record_from_value(v21, lu16(v5), v25, v5+4, v26);
-	u16 v27 = ld16(v21+8);
-	u64 v28 = ld64(v21+16);
-	u16 v29 = (u16)v28;
-	u16 v30 = (u16)(v28 >> 16);
-	u16 v31 = ld16(v21+24);
-	u8 v32 = (u8)v31;
-	u16 v33 = v31 >> 8;
-	if (ld8(v21) != 0) goto L21;
-	u64 v34 = (u64)ld_bytes(v21+26, 6) & 0xffffffffffffull;
-	u64 v35 = ld64(v21+32);
-	u64 v36 = ld64(v21+40);
-	u64 v37 = ld64(v21+48);
-	u64 v38 = ((0ull - v26) & 3) + v26;
-	if (v24 >= v38) goto L14;
-	u8 v39 = (u8)v28;
-	u8 v40 = (u8)v27;
-	switch (v40) {
-	case 1: goto L1;
-	case 2: goto L6;
-	case 3: goto L11;
-	case 0: v12 = 9731; v13 = 0; v14 = v40; v15 = v40; goto L22;
-	default: goto L13;
-	}
-L1:;
-	if ((v39 != 1) || (v36 == 0)) goto L2;
-	deallocate((ptr)((v34 << 16) | (u64)v31));
-L2:;
-	u64 v41 = ld64(v21+56);
-	u64 v42 = ld64(v21+64);
-	if (v41 == 0) goto L5;
-	v7 = 0;
-L3:;
-	ptr v43 = at((ptr)v37, v7 << 5);
-	if ((ld8(v43) == 0) || (lu64(v43+24) == 0)) goto L4;
-	deallocate(lup(v43+8));
-L4:;
-	u64 v44 = v7 + 1;
-	if (v44 != v41) { v7 = v44; goto L3; }
-L5:;
-	if (v42 == 0) { v12 = 9731; v13 = 0; v14 = 0; v15 = 0; goto L22; }
-	v9 = (ptr)v37; goto L12;
-L6:;
-	if ((v39 != 1) || (v36 == 0)) goto L7;
-	deallocate((ptr)((v34 << 16) | (u64)v31));
-L7:;
-	u64 v45 = ld64(v21+56);
-	u64 v46 = ld64(v21+64);
-	if (v45 == 0) goto L10;
-	v8 = 0;
-L8:;
-	ptr v47 = at((ptr)v37, v8 << 5);
-	if ((ld8(v47) == 0) || (lu64(v47+24) == 0)) goto L9;
-	deallocate(lup(v47+8));
-L9:;
-	u64 v48 = v8 + 1;
-	if (v48 != v45) { v8 = v48; goto L8; }
-L10:;
-	if (v46 == 0) { v12 = 9731; v13 = 0; v14 = 0; v15 = 0; goto L22; }
-	v9 = (ptr)v37; goto L12;
-L11:;
-	if ((v32 != 1) || (v37 == 0)) { v12 = 9731; v13 = 0; v14 = 0; v15 = 0; goto L22; }
-	v9 = (ptr)v35;
-L12:;
-	deallocate(v9);
-	v12 = 9731; v13 = 0; v14 = 0; v15 = 0; goto L22;
-L13:;
-	__builtin_trap();
-L14:;
-	ptr v49 = at(v5+4, v38);
-	u64 v50 = v24 - v38;
-	u64 v51 = ((v34 << 8) & 0xffffffffffffffull) | (u64)v33;
-	copy(v23, v21+56, 16);
-	if ((v27 & 255) != 0) goto L15;
-	u8 v52 = ld8(v22);
-	su64(v1, 0);
-	sup(v1+8, v49);
-	su64(v1+16, v50);
-	st8(v1+24, v52);
-	st8(v1+25, (u8)((u64)v6 >> 8));
-	copy(v1+26, v22+2, 22);
-	goto L26;
-L15:;
-	u64 v53 = (u64)(v27 & 255);
-	u64 v54 = ld64(v22+8);
-	if (ld64(v22+16) != v54) { v11 = v54; goto L20; }
-	u8 v55 = std_alloc_vec_Vec_grow_amortized_8416(v22);
-	if (!v55) goto L16;
-	v11 = ld64(v22+8); goto L20;
-L16:;
-	st64(v19+8, 0);
-	st64(v19, v53);
-	st16(v19+8, v29);
-	st16(v19+10, v30);
-	st8(v19+16, v32);
-	st_bytes(v19+17, v51, 7);
-	st64(v19+24, v35);
-	st64(v19+32, v36);
-	st64(v19+40, v37);
-	copy(v19+48, v23, 16);
-	pcap_options_pcap_options_record_Record_Destruct_drop(v19);
-	ptr v56 = ldp(v22);
-	u64 v57 = ld64(v22+8);
-	u64 v58 = ld64(v22+16);
-	if (v57 == 0) goto L18;
-	v10 = 0;
-L17:;
-	ptr v59 = at(v56, v10 << 6);
-	u64 v60 = (u64)ld8(v59);
-	u16 v61 = lu16(v59+8);
-	u16 v62 = lu16(v59+10);
-	st64(v18+8, 0);
-	st64(v18, v60);
-	st16(v18+8, v61);
-	st16(v18+10, v62);
-	copy(v18+16, v59+16, 48);
-	pcap_options_pcap_options_record_Record_Destruct_drop(v18);
-	u64 v63 = v10 + 1;
-	if (v63 != v57) { v10 = v63; goto L17; }
-L18:;
-	if (v58 == 0) goto L19;
-	deallocate(v56);
-L19:;
-	su64(v1, 1);
-	clear(v1+8, 40);
-	goto L26;
-L20:;
-	ptr v64 = ldp(v22);
-	ptr v65 = at(v64, v11 << 6);
-	su64(v65, v53);
-	su16(v65+8, v29);
-	su16(v65+10, v30);
-	st8(v65+16, v32);
-	st_bytes(v65+17, v51, 7);
-	su64(v65+24, v35);
-	su64(v65+32, v36);
-	su64(v65+40, v37);
-	copy(v65+48, v23, 16);
-	st64(v22+8, v11 + 1);
-	clear(v21+8, 64);
-	if (v50 < 4) { v12 = 1; v13 = 0; v14 = 0; v15 = 0; goto L22; }
-	v4 = v50; v5 = v49; v6 = v64; goto L0;
-L21:;
-	v12 = (u64)v27; v13 = v28; v14 = v32; v15 = (u8)v33;
-L22:;
-	ptr v66 = ldp(v22);
-	u64 v67 = ld64(v22+8);
-	u64 v68 = ld64(v22+16);
-	if (v67 == 0) goto L24;
-	v16 = 0;
-L23:;
-	ptr v69 = at(v66, v16 << 6);
-	u64 v70 = (u64)ld8(v69);
-	u16 v71 = lu16(v69+8);
-	u16 v72 = lu16(v69+10);
-	st64(v20+8, 0);
-	st64(v20, v70);
-	st16(v20+8, v71);
-	st16(v20+10, v72);
-	copy(v20+16, v69+16, 48);
-	pcap_options_pcap_options_record_Record_Destruct_drop(v20);
-	u64 v73 = v16 + 1;
-	if (v73 != v67) { v16 = v73; goto L23; }
-L24:;
-	if (v68 == 0) goto L25;
-	deallocate(v66);
-L25:;
-	su64(v1, 1);
-	sup(v1+8, (ptr)v12);
-	su64(v1+16, v13);
-	st8(v1+24, v14);
-	st8(v1+25, v15);
-	clear(v1+26, 22);
-L26:;
-	return;
-}
-static void pcap_blocks_enhanced_packet_EnhancedPacketBlock_read_7f02(ptr v1, ptr v2, u64 v3) {
-	u8 v4, v6, v13, v23, v24, v32, v33;
-	u64 v5, v7, v10, v17, v18, v19, v21, v25, v27, v28, v29, v31;
-	ptr v8, v30;
-	u16 v9, v11, v14, v15, v20;
-	u32 v12, v16, v22, v26;
-	_Alignas(8) u8 v34[1], v35[24], v36[24], v37[24], v38[24], v41[16], v43[16];
-	_Alignas(2) u8 v39[22], v40[6], v42[6];
-	clear(v42, 6);
-	clear(v43, 16);
-	if (v3 >= 20) goto L0;
-	su64(v1, 1);
-	st8(v1+8, 3);
-	st8(v1+9, 12);
-	clear(v1+10, 94);
-	goto L29;
-L0:;
-	u32 v44 = lu32(v2);
-	clear(v40, 6);
-	clear(v41, 16);
-	u32 v45 = lu32(v2+8);
-	u64 v46 = (u64)lu32(v2+4) << 32;
-	u32 v47 = lu32(v2+12);
-	u64 v48 = v3 - 20;
-	u32 v49 = lu32(v2+16);
-	u64 v50 = (u64)v47;
-	u64 v51 = ((0ull - v50) & 3) + v50;
-	if (v48 < v51) { v23 = 3; v24 = 13; v25 = 0; v26 = 0; goto L24; }
-	ptr v52 = at(v2+20, v51);
-	u64 v53 = v48 - v51;
-	clear(v39, 22);
-	stp(v38, v34);
-	clear(v38+8, 16);
-	u64 v54 = (u64)v34;
-	u8 v55 = (u8)(v54 >> 8);
-	u8 v56 = (u8)v54;
-	if (v53 == 0) { v30 = v52; v31 = 0; v32 = v56; v33 = v55; goto L28; }
-	v4 = v56; v5 = 0; v6 = v55; v7 = v53; v8 = v52;
-L1:;
-	if (v7 < 4) { v20 = 4099; v21 = 0; v22 = 0; goto L23; }
-	u16 v57 = lu16(v8);
-	u64 v58 = v7 - 4;
-	u16 v59 = lu16(v8+2);
-	if (v57 == 0) { v30 = v8+4; v31 = v58; v32 = v4; v33 = v6; goto L28; }
-	u64 v60 = (u64)v59;
-	u64 v61 = ((0ull - v60) & 3) + v60;
-	if (v58 < v61) { v20 = 4355; v21 = 0; v22 = 0; goto L23; }
-	ptr v62 = at(v8+4, v61);
-	u64 v63 = v58 - v61;
-	switch (v57) {
-	case 1: goto L2;
-	case 2: goto L4;
-	case 3: goto L5;
-	case 4: goto L6;
-	case 2988: case 19372: goto L7;
-	case 2989: case 19373: goto L9;
-	default: goto L12;
-	}
-L2:;
-	clear(v36, 24);
-	core_str_utf8_from_utf8(v36, v8+4, v60);
-	u64 v64 = ld64(v36+8);
-	if (ld8(v36) != 0) goto L3;
-	v12 = 0; v13 = 0; v14 = 0; v15 = 0; v16 = 0; v17 = ld64(v36+16); v18 = 0; v19 = v64; goto L13;
-L3:;
-	v9 = 2; v10 = v64; v11 = ld16(v36+16); goto L10;
-L4:;
-	if (v59 != 4) { v9 = 7171; v10 = 0; v11 = 0; goto L10; }
-	v12 = lu32(v8+4); v13 = 1; v14 = 0; v15 = 0; v16 = 0; v17 = 0; v18 = 0; v19 = 0; goto L13;
-L5:;
-	v12 = 0; v13 = 2; v14 = 0; v15 = 0; v16 = 0; v17 = v60; v18 = 0; v19 = (u64)(v8+4); goto L13;
-L6:;
-	if (v59 != 8) { v9 = 7427; v10 = 0; v11 = 0; goto L10; }
-	u64 v65 = lu64(v8+4);
-	v12 = 0; v13 = 3; v14 = (u16)v65; v15 = (u16)(v65 >> 16); v16 = (u32)(v65 >> 32); v17 = 0; v18 = 0; v19 = 0; goto L13;
-L7:;
-	if (v59 < 4) { v9 = 1; v10 = 0; v11 = 0; goto L10; }
-	u32 v66 = lu32(v8+4);
-	clear(v35, 24);
-	core_str_utf8_from_utf8(v35, v8+8, v60 - 4);
-	u64 v67 = ld64(v35+8);
-	if (ld8(v35) != 0) goto L8;
-	v12 = 0; v13 = 5; v14 = v57; v15 = 0; v16 = v66; v17 = v67; v18 = ld64(v35+16); v19 = 0; goto L13;
-L8:;
-	v9 = 2; v10 = v67; v11 = ld16(v35+16); goto L10;
-L9:;
-	if (v59 >= 4) goto L11;
-	v9 = 1; v10 = 0; v11 = 0;
-L10:;
-	v20 = v9; v21 = v10; v22 = (u32)v11; goto L23;
-L11:;
-	v12 = 0; v13 = 4; v14 = v57; v15 = 0; v16 = lu32(v8+4); v17 = (u64)(v8+8); v18 = v60 - 4; v19 = 0; goto L13;
-L12:;
-	v12 = 0; v13 = 6; v14 = v57; v15 = v59; v16 = 0; v17 = (u64)(v8+4); v18 = v60; v19 = 0;
-L13:;
-	u64 v68 = ((u64)v16 << 32) | ((u64)v15 << 16) | (u64)v14;
-	u32 v69 = (u32)v13;
-	if (v5 != 0) goto L17;
-	t_64_64 v70 = allocate(384, 8);
-	if (!(v70.f0 & 1)) goto L14;
-	copy(v37, v38, 24);
-	stp(v38, (ptr)v70.f1);
-	st64(v38+16, 8);
-	std_alloc_vec_Vec_drop_015c(v37);
-	su32((ptr)v70.f1, v69);
-	su32((ptr)v70.f1+4, v12);
-	su64((ptr)v70.f1+8, v68);
-	su64((ptr)v70.f1+16, v19);
-	su64((ptr)v70.f1+24, v17);
-	su64((ptr)v70.f1+32, v18);
-	su64((ptr)v70.f1+40, 0);
-	v28 = v70.f1; v29 = 1; goto L27;
-L14:;
-	u8 v71 = (u8)v14;
-	switch (v13) {
-	case 0: goto L15;
-	case 1: case 3: case 4: case 5: case 6: goto L22;
-	case 2: goto L16;
-	default: goto L25;
-	}
-L15:;
-	if ((v71 == 0) || (v18 == 0)) goto L22;
-	goto L21;
-L16:;
-	if ((v71 == 0) || (v18 == 0)) goto L22;
-	goto L21;
-L17:;
-	if (ld64(v38+16) != v5) { v27 = v5; goto L26; }
-	u8 v72 = std_alloc_vec_Vec_grow_amortized_05c7(v38);
-	if (!v72) goto L18;
-	v27 = ld64(v38+8); goto L26;
-L18:;
-	u8 v73 = (u8)v14;
-	switch (v13) {
-	case 0: goto L19;
-	case 1: case 3: case 4: case 5: case 6: goto L22;
-	case 2: goto L20;
-	default: goto L25;
-	}
-L19:;
-	if ((v73 == 0) || (v18 == 0)) goto L22;
-	goto L21;
-L20:;
-	if ((v73 == 0) || (v18 == 0)) goto L22;
-L21:;
-	deallocate((ptr)v19);
-L22:;
-	v20 = 0; v21 = 0; v22 = 0;
-L23:;
-	std_alloc_vec_Vec_drop_015c(v38);
-	v23 = (u8)v20; v24 = (u8)(v20 >> 8); v25 = v21; v26 = v22;
-L24:;
-	su64(v1, 1);
-	st8(v1+8, v23);
-	st8(v1+9, v24);
-	st_bytes(v1+10, 0, 6);
-	su64(v1+16, v25);
-	su32(v1+24, v26);
-	clear(v1+28, 76);
-	goto L29;
-L25:;
-	__builtin_trap();
-L26:;
-	ptr v74 = ldp(v38);
-	ptr v75 = at(v74, v27 * 48);
-	su32(v75, v69);
-	su32(v75+4, v12);
-	su64(v75+8, v68);
-	su64(v75+16, v19);
-	su64(v75+24, v17);
-	su64(v75+32, v18);
-	su64(v75+40, 0);
-	v28 = (u64)v74; v29 = v27 + 1;
-L27:;
-	u8 v76 = (u8)v28;
-	u8 v77 = (u8)(v28 >> 8);
-	st64(v38+8, v29);
-	if (v63 != 0) { v4 = v76; v5 = v29; v6 = v77; v7 = v63; v8 = v62; goto L1; }
-	v30 = v62; v31 = 0; v32 = v76; v33 = v77;
-L28:;
-	copy(v39, v38+2, 22);
-	copy(v40, v39, 6);
-	copy(v41, v39+6, 16);
-	copy(v42, v40, 6);
-	copy(v43, v41, 16);
-	su64(v1, 0);
-	su64(v1+8, (u64)v30);
-	su64(v1+16, v31);
-	su32(v1+24, v44);
-	su32(v1+28, 0);
-	su64(v1+32, v46 | (u64)(v45 & 4294967040u) | (u64)(v45 & 255));
-	su32(v1+40, v47);
-	su32(v1+44, v49);
-	su64(v1+48, 0);
-	sup(v1+56, v2+20);
-	su64(v1+64, v50);
-	su64(v1+72, 0);
-	st8(v1+80, v32);
-	st8(v1+81, v33);
-	copy(v1+82, v42, 6);
-	copy(v1+88, v43, 16);
-L29:;
-	return;
 }
 static void std_alloc_vec_Vec_drop_37c7(ptr v1) {
 	u64 v2, v3;
 	ptr v4 = lup(v1);
-	u64 v5 = lu64(v1+8);
-	u64 v6 = lu64(v1+16);
-	if (v5 == 0) goto L15;
+	u64 v5 = lu64(v1+8), v6 = lu64(v1+16);
+	if (!v5) goto L15;
 	v2 = 0;
 L0:;
 	ptr v7 = at(v4, v2 * 48);
-	u64 v8 = lu64(v7+16);
-	u64 v9 = lu64(v7+24);
-	u64 v10 = lu64(v7+32);
-	u64 v11 = lu64(v7+40);
-	u8 v12 = (u8)lu64(v7+8);
-	u8 v13 = (u8)v8;
+	u64 v8 = lu64(v7+16), v9 = lu64(v7+24), v10 = lu64(v7+32), v11 = lu64(v7+40);
+	u8 v12 = (u8)lu64(v7+8), v13 = (u8)v8;
 	switch (ld8(v7)) {
 	case 0: goto L1;
 	case 1: goto L2;
@@ -5320,53 +4470,485 @@ L0:;
 	case 17: goto L12;
 	default: goto L17;
 	}
-L1:;
-	if ((v12 == 0) || (v10 == 0)) goto L14;
+L1:
+	if (!v12 || !v10) goto L14;
 	v3 = v8; goto L13;
-L2:;
-	if ((v12 == 0) || (v10 == 0)) goto L14;
+L2:
+	if (!v12 || !v10) goto L14;
 	v3 = v8; goto L13;
-L3:;
-	if ((v12 == 0) || (v10 == 0)) goto L14;
+L3:
+	if (!v12 || !v10) goto L14;
 	v3 = v8; goto L13;
-L4:;
-	if ((v12 == 0) || (v10 == 0)) goto L14;
+L4:
+	if (!v12 || !v10) goto L14;
 	v3 = v8; goto L13;
-L5:;
-	if ((v12 == 0) || (v10 == 0)) goto L14;
+L5:
+	if (!v12 || !v10) goto L14;
 	v3 = v8; goto L13;
-L6:;
-	if ((v12 == 0) || (v10 == 0)) goto L14;
+L6:
+	if (!v12 || !v10) goto L14;
 	v3 = v8; goto L13;
-L7:;
-	if ((v12 == 0) || (v10 == 0)) goto L14;
+L7:
+	if (!v12 || !v10) goto L14;
 	v3 = v8; goto L13;
-L8:;
-	if ((v12 == 0) || (v10 == 0)) goto L14;
+L8:
+	if (!v12 || !v10) goto L14;
 	v3 = v8; goto L13;
-L9:;
-	if ((v12 == 0) || (v10 == 0)) goto L14;
+L9:
+	if (!v12 || !v10) goto L14;
 	v3 = v8; goto L13;
-L10:;
-	if ((v13 == 0) || (v11 == 0)) goto L14;
+L10:
+	if (!v13 || !v11) goto L14;
 	v3 = v9; goto L13;
-L11:;
-	if ((v13 == 0) || (v11 == 0)) goto L14;
+L11:
+	if (!v13 || !v11) goto L14;
 	v3 = v9; goto L13;
-L12:;
-	if ((v13 == 0) || (v11 == 0)) goto L14;
+L12:
+	if (!v13 || !v11) goto L14;
 	v3 = v9;
-L13:;
+L13:
 	deallocate((ptr)v3);
 L14:;
 	u64 v14 = v2 + 1;
 	if (v14 != v5) { v2 = v14; goto L0; }
-L15:;
-	if (v6 == 0) goto L16;
+L15:
+	if (!v6) goto L16;
 	deallocate(v4);
-L16:;
+L16:
 	return;
-L17:;
+L17:
+	__builtin_trap();
+}
+static void pcap_ng_pcapng_block_Block_first_section(ptr v1, ptr v2) {
+	u64 v3, v4, v5, v6, v7, v9, v10, v11, v12, v13, v14;
+	ptr v8;
+	_Alignas(8) u8 v15[112] = {0}, v16[24];
+	u8 v17 = ld8(v2);
+	u32 v18 = lu32(v2+4);
+	u64 v19 = ld64(v2+32);
+	ptr v20 = ldp(v2+24);
+	u8 v21 = ld8(v2+52);
+	if (v21) goto L0;
+	pcap_blocks_parsed_block_ParsedBlock_from_slice_4da0(v15, v17, v18, v20, v19);
+	goto L1;
+L0:
+	pcap_blocks_parsed_block_ParsedBlock_from_slice_7f02(v15, v17, v18, v20, v19);
+L1:;
+	u8 v22 = ld8(v15+8);
+	u64 v23 = ld64(v15+16), v24 = ld64(v15+24), v25 = ld64(v15+32), v26 = ld64(v15+40);
+	u64 v27 = ld64(v15+48), v28 = ld64(v15+56), v29 = ld64(v15+64), v30 = ld64(v15+72);
+	u64 v31 = ld64(v15+80), v32 = ld64(v15+88), v33 = ld64(v15+96), v34 = ld64(v15+104);
+	if (ld8(v15)) goto L73;
+	u8 v35 = (u8)v24, v36 = (u8)v28;
+	if (v35) goto L2;
+	su64(v1, 0);
+	su64(v1+8, v25);
+	su64(v1+16, v26);
+	su64(v1+24, v27);
+	su64(v1+32, v28);
+	su64(v1+40, v29);
+	clear(v1+48, 56);
+	goto L74;
+L2:;
+	u64 v37 = ((u64)(ptr)static_9 >> 8) & 0xffffffffffffffull;
+	switch (v35) {
+	case 1: goto L3;
+	case 2: goto L4;
+	case 3: goto L16;
+	case 4: goto L17;
+	case 5: goto L47;
+	case 6: goto L57;
+	case 7: goto L69;
+	case 8: goto L70;
+	default: goto L72;
+	}
+L3:
+	st64(v16, v27);
+	st64(v16+8, v28);
+	st64(v16+16, v29);
+	std_alloc_vec_Vec_drop_37c7(v16);
+	goto L71;
+L4:
+	if (v36 != 1 || !v31) goto L5;
+	deallocate((ptr)v29);
+L5:
+	if (!v33) goto L14;
+	v3 = 0;
+L6:;
+	ptr v38 = at((ptr)v32, v3 * 48);
+	u64 v39 = lu64(v38+16), v40 = lu64(v38+24), v41 = lu64(v38+32), v42 = lu64(v38+40);
+	u8 v43 = (u8)lu16(v38+8), v44 = (u8)v39;
+	switch (ld8(v38)) {
+	case 0: goto L7;
+	case 1: goto L13;
+	case 2: goto L8;
+	case 3: goto L9;
+	case 4: goto L10;
+	case 5: goto L11;
+	default: goto L15;
+	}
+L7:
+	if (!v43 || !v41) goto L13;
+	v4 = v39; goto L12;
+L8:
+	if (!v43 || !v41) goto L13;
+	v4 = v39; goto L12;
+L9:
+	if (!v44 || !v42) goto L13;
+	v4 = v40; goto L12;
+L10:
+	if (!v44 || !v42) goto L13;
+	v4 = v40; goto L12;
+L11:
+	if (!v44 || !v42) goto L13;
+	v4 = v40;
+L12:
+	deallocate((ptr)v4);
+L13:;
+	u64 v45 = v3 + 1;
+	if (v45 != v33) { v3 = v45; goto L6; }
+L14:
+	if (!v34) goto L71;
+	deallocate((ptr)v32);
+	goto L71;
+L15:
+	__builtin_trap();
+L16:
+	if ((v26 & 255) != 1 || !v29) goto L71;
+	deallocate((ptr)v27);
+	goto L71;
+L17:
+	if (!v26) goto L32;
+	v5 = 0;
+L18:;
+	ptr v46 = at((ptr)v25, v5 << 6);
+	u64 v47 = lu64(v46+16), v48 = lu64(v46+24), v49 = lu64(v46+32), v50 = lu64(v46+40);
+	u64 v51 = lu64(v46+48), v52 = lu64(v46+56);
+	u8 v53 = (u8)lu16(v46+8);
+	switch (ld8(v46)) {
+	case 0: goto L31;
+	case 1: goto L19;
+	case 2: goto L24;
+	case 3: goto L29;
+	default: goto L46;
+	}
+L19:
+	if (!v53 || !v49) goto L20;
+	deallocate((ptr)v47);
+L20:
+	if (!v51) goto L23;
+	v6 = 0;
+L21:;
+	ptr v54 = at((ptr)v50, v6 << 5);
+	if (!ld8(v54) || !lu64(v54+24)) goto L22;
+	deallocate(lup(v54+8));
+L22:;
+	u64 v55 = v6 + 1;
+	if (v55 != v51) { v6 = v55; goto L21; }
+L23:
+	if (!v52) goto L31;
+	v8 = (ptr)v50; goto L30;
+L24:
+	if (!v53 || !v49) goto L25;
+	deallocate((ptr)v47);
+L25:
+	if (!v51) goto L28;
+	v7 = 0;
+L26:;
+	ptr v56 = at((ptr)v50, v7 << 5);
+	if (!ld8(v56) || !lu64(v56+24)) goto L27;
+	deallocate(lup(v56+8));
+L27:;
+	u64 v57 = v7 + 1;
+	if (v57 != v51) { v7 = v57; goto L26; }
+L28:
+	if (!v52) goto L31;
+	v8 = (ptr)v50; goto L30;
+L29:
+	if (!(v47 & 255) || !v50) goto L31;
+	v8 = (ptr)v48;
+L30:
+	deallocate(v8);
+L31:;
+	u64 v58 = v5 + 1;
+	if (v58 != v26) { v5 = v58; goto L18; }
+L32:
+	if (!v27) goto L33;
+	deallocate((ptr)v25);
+L33:
+	if (!v29) goto L44;
+	v9 = 0;
+L34:;
+	ptr v59 = at((ptr)v28, v9 * 48);
+	u64 v60 = lu64(v59+16), v61 = lu64(v59+24), v62 = lu64(v59+32), v63 = lu64(v59+40);
+	u8 v64 = (u8)lu16(v59+8), v65 = (u8)v60;
+	switch (ld8(v59)) {
+	case 0: goto L35;
+	case 1: goto L36;
+	case 2: goto L37;
+	case 3: goto L38;
+	case 4: goto L39;
+	case 5: goto L40;
+	case 6: goto L41;
+	default: goto L45;
+	}
+L35:
+	if (!v64 || !v62) goto L43;
+	v10 = v60; goto L42;
+L36:
+	if (!v64 || !v62) goto L43;
+	v10 = v60; goto L42;
+L37:
+	if (!v64 || !v62) goto L43;
+	v10 = v60; goto L42;
+L38:
+	if (!v64 || !v62) goto L43;
+	v10 = v60; goto L42;
+L39:
+	if (!v65 || !v63) goto L43;
+	v10 = v61; goto L42;
+L40:
+	if (!v65 || !v63) goto L43;
+	v10 = v61; goto L42;
+L41:
+	if (!v65 || !v63) goto L43;
+	v10 = v61;
+L42:
+	deallocate((ptr)v10);
+L43:;
+	u64 v66 = v9 + 1;
+	if (v66 != v29) { v9 = v66; goto L34; }
+L44:
+	if (!v30) goto L71;
+	deallocate((ptr)v28);
+	goto L71;
+L45:
+	__builtin_trap();
+L46:
+	__builtin_trap();
+L47:
+	if (!v28) goto L55;
+	v11 = 0;
+L48:;
+	ptr v67 = at((ptr)v27, v11 * 48);
+	u64 v68 = lu64(v67+16), v69 = lu64(v67+24), v70 = lu64(v67+40);
+	u8 v71 = (u8)v68;
+	switch (ld8(v67)) {
+	case 0: goto L49;
+	case 1: case 2: case 3: case 4: case 5: case 6: case 7: goto L54;
+	case 8: goto L50;
+	case 9: goto L51;
+	case 10: goto L52;
+	default: goto L56;
+	}
+L49:
+	if (!(lu64(v67+8) & 255) || !lu64(v67+32)) goto L54;
+	v12 = v68; goto L53;
+L50:
+	if (!v71 || !v70) goto L54;
+	v12 = v69; goto L53;
+L51:
+	if (!v71 || !v70) goto L54;
+	v12 = v69; goto L53;
+L52:
+	if (!v71 || !v70) goto L54;
+	v12 = v69;
+L53:
+	deallocate((ptr)v12);
+L54:;
+	u64 v72 = v11 + 1;
+	if (v72 != v28) { v11 = v72; goto L48; }
+L55:
+	if (!v29) goto L71;
+	deallocate((ptr)v27);
+	goto L71;
+L56:
+	__builtin_trap();
+L57:
+	if (v36 != 1 || !v31) goto L58;
+	deallocate((ptr)v29);
+L58:
+	if (!v33) goto L67;
+	v13 = 0;
+L59:;
+	ptr v73 = at((ptr)v32, v13 * 48);
+	u64 v74 = lu64(v73+16), v75 = lu64(v73+24), v76 = lu64(v73+32), v77 = lu64(v73+40);
+	u8 v78 = (u8)lu64(v73+8), v79 = (u8)v74;
+	switch (ld8(v73)) {
+	case 0: goto L60;
+	case 1: case 3: goto L66;
+	case 2: goto L61;
+	case 4: goto L62;
+	case 5: goto L63;
+	case 6: goto L64;
+	default: goto L68;
+	}
+L60:
+	if (!v78 || !v76) goto L66;
+	v14 = v74; goto L65;
+L61:
+	if (!v78 || !v76) goto L66;
+	v14 = v74; goto L65;
+L62:
+	if (!v79 || !v77) goto L66;
+	v14 = v75; goto L65;
+L63:
+	if (!v79 || !v77) goto L66;
+	v14 = v75; goto L65;
+L64:
+	if (!v79 || !v77) goto L66;
+	v14 = v75;
+L65:
+	deallocate((ptr)v14);
+L66:;
+	u64 v80 = v13 + 1;
+	if (v80 != v33) { v13 = v80; goto L59; }
+L67:
+	if (!v34) goto L71;
+	deallocate((ptr)v32);
+	goto L71;
+L68:
+	__builtin_trap();
+L69:
+	if ((v25 & 255) != 1 || !v28) goto L71;
+	deallocate((ptr)v26);
+	goto L71;
+L70:
+	if ((v27 & 255) != 1 || !v30) goto L71;
+	deallocate((ptr)v28);
+L71:
+	su64(v1, 1);
+	st8(v1+8, 2);
+	st_bytes(v1+9, 0, 3);
+	su32(v1+12, 0);
+	st8(v1+16, (u64)(ptr)static_9);
+	st_bytes(v1+17, v37, 7);
+	st8(v1+24, 21);
+	clear(v1+25, 79);
+	goto L74;
+L72:
+	__builtin_trap();
+L73:;
+	u64 v81 = (((v23 & 0xffffffffffffffull) >> 8) & 16777215) | ((v23 >> 8) & 0xffffffffffffffull & 0xffffffff000000ull);
+	su64(v1, 1);
+	st8(v1+8, v22);
+	st_bytes(v1+9, 0, 3);
+	su32(v1+12, 0);
+	st8(v1+16, (u8)v23);
+	st_bytes(v1+17, v81, 7);
+	su64(v1+24, v24);
+	su64(v1+32, v25);
+	su64(v1+40, v26);
+	su64(v1+48, v27);
+	su64(v1+56, v28);
+	su64(v1+64, v29);
+	sup(v1+72, (ptr)v30);
+	su64(v1+80, v31);
+	su64(v1+88, v32);
+	su64(v1+96, v33);
+L74:
+	return;
+}
+static void std_alloc_vec_deque_VecDeque_drop_0fd4(ptr v1) {
+	u64 v2, v3, v4, v5;
+	ptr v6 = lup(v1);
+	u64 v7 = lu64(v1+8), v8 = lu64(v1+16), v9 = lu64(v1+32);
+	if (!v7) goto L22;
+	u64 v10 = lu64(v1+24), v11 = v10 + (v7 - v9);
+	if (v10 >= v11) goto L11;
+	v2 = v10;
+L0:;
+	ptr v12 = at(v6, v2 * 48);
+	u64 v13 = lu64(v12+16), v14 = lu64(v12+24), v15 = lu64(v12+32), v16 = lu64(v12+40);
+	u8 v17 = (u8)lu16(v12+8), v18 = (u8)v13;
+	switch (ld8(v12)) {
+	case 0: goto L1;
+	case 1: goto L2;
+	case 2: goto L3;
+	case 3: goto L4;
+	case 4: goto L5;
+	case 5: goto L6;
+	case 6: goto L7;
+	default: goto L10;
+	}
+L1:
+	if (!v17 || !v15) goto L9;
+	v3 = v13; goto L8;
+L2:
+	if (!v17 || !v15) goto L9;
+	v3 = v13; goto L8;
+L3:
+	if (!v17 || !v15) goto L9;
+	v3 = v13; goto L8;
+L4:
+	if (!v17 || !v15) goto L9;
+	v3 = v13; goto L8;
+L5:
+	if (!v18 || !v16) goto L9;
+	v3 = v14; goto L8;
+L6:
+	if (!v18 || !v16) goto L9;
+	v3 = v14; goto L8;
+L7:
+	if (!v18 || !v16) goto L9;
+	v3 = v14;
+L8:
+	deallocate((ptr)v3);
+L9:;
+	u64 v19 = v2 + 1;
+	if (v19 == v11) goto L11;
+	v2 = v19; goto L0;
+L10:
+	__builtin_trap();
+L11:
+	if (!v9) goto L22;
+	v4 = 0;
+L12:;
+	ptr v20 = at(v6, v4 * 48);
+	u64 v21 = lu64(v20+16), v22 = lu64(v20+24), v23 = lu64(v20+32), v24 = lu64(v20+40);
+	u8 v25 = (u8)lu16(v20+8), v26 = (u8)v21;
+	switch (ld8(v20)) {
+	case 0: goto L13;
+	case 1: goto L14;
+	case 2: goto L15;
+	case 3: goto L16;
+	case 4: goto L17;
+	case 5: goto L18;
+	case 6: goto L19;
+	default: goto L24;
+	}
+L13:
+	if (!v25 || !v23) goto L21;
+	v5 = v21; goto L20;
+L14:
+	if (!v25 || !v23) goto L21;
+	v5 = v21; goto L20;
+L15:
+	if (!v25 || !v23) goto L21;
+	v5 = v21; goto L20;
+L16:
+	if (!v25 || !v23) goto L21;
+	v5 = v21; goto L20;
+L17:
+	if (!v26 || !v24) goto L21;
+	v5 = v22; goto L20;
+L18:
+	if (!v26 || !v24) goto L21;
+	v5 = v22; goto L20;
+L19:
+	if (!v26 || !v24) goto L21;
+	v5 = v22;
+L20:
+	deallocate((ptr)v5);
+L21:;
+	u64 v27 = v4 + 1;
+	if (v27 != v9) { v4 = v27; goto L12; }
+L22:
+	if (!v8) goto L23;
+	deallocate(v6);
+L23:
+	return;
+L24:
 	__builtin_trap();
 }
 static void pcap_blocks_section_header_SectionHeaderBlock_into_owned(ptr v1, ptr v2) {
@@ -5374,43 +4956,33 @@ static void pcap_blocks_section_header_SectionHeaderBlock_into_owned(ptr v1, ptr
 	u64 v4, v5, v6, v8, v10, v12, v14, v16, v18, v20, v22, v24, v26, v28, v30, v31, v35, v36, v38;
 	u16 v32, v33;
 	u32 v34;
-	_Alignas(8) u8 v40[1], v41[24], v42[24], v43[40], v44[40], v45[40], v55[24];
-	_Alignas(1) u8 v46[31], v47[56];
+	_Alignas(8) u8 v40[1], v41[24] = {0}, v42[24], v43[40] = {0}, v44[40] = {0}, v45[40], v55[24];
+	_Alignas(1) u8 v46[31], v47[56] = {0};
 	u32 v48 = lu32(v2);
-	u16 v49 = lu16(v2+4);
-	u16 v50 = lu16(v2+6);
+	u16 v49 = lu16(v2+4), v50 = lu16(v2+6);
 	u64 v51 = lu64(v2+8);
 	ptr v52 = lup(v2+16);
-	u64 v53 = lu64(v2+24);
-	u64 v54 = lu64(v2+32);
-	clear(v47, 56);
+	u64 v53 = lu64(v2+24), v54 = lu64(v2+32);
 	clear(v46, 7);
-	clear(v41, 24);
-	clear(v43, 40);
-	clear(v44, 40);
-	if (v53 != 0) goto L0;
+	if (v53) goto L0;
 	stp(v41, v40);
 	goto L48;
-L0:;
+L0:
 	if (v53 >= 0x2aaaaaaaaaaaaabull) goto L50;
 	t_64_64 v56 = allocate(v53 * 48, 8);
 	if (!(v56.f0 & 1)) goto L50;
 	stp(v41, (ptr)v56.f1);
 	st64(v41+8, 0);
 	st64(v41+16, v53);
-	v3 = (ptr)v56.f1; v4 = 0; v5 = 0; v6 = v53;
+	v3 = (ptr)v56.f1; v6 = v53; v4 = v5 = 0;
 L1:;
-	u64 v57 = v5 + 1;
-	u64 v58 = v6 - 1;
+	u64 v57 = v5 + 1, v58 = v6 - 1;
 	ptr v59 = at(v52, v5 * 48);
 	u8 v60 = ld8(v59);
-	u16 v61 = lu16(v59+8);
-	u16 v62 = lu16(v59+10);
+	u16 v61 = lu16(v59+8), v62 = lu16(v59+10);
 	u32 v63 = lu32(v59+12);
 	u8 v64 = ld8(v59+16);
-	u64 v65 = (u64)ld_bytes(v59+17, 7) & 0xffffffffffffffull;
-	u64 v66 = lu64(v59+24);
-	u64 v67 = lu64(v59+32);
+	u64 v65 = (u64)ld_bytes(v59+17, 7) & 0xffffffffffffffull, v66 = lu64(v59+24), v67 = lu64(v59+32);
 	u64 v68 = lu64(v59+40);
 	u8 v69 = (u8)v61;
 	switch (v60) {
@@ -5425,143 +4997,143 @@ L1:;
 	}
 L2:;
 	u64 v70 = (v65 << 8) | (u64)v64;
-	if (v69 != 0) { v9 = (ptr)v70; v10 = v67; goto L6; }
-	if (v66 == 0) { v7 = v40; goto L3; }
+	if (v69) { v9 = (ptr)v70; v10 = v67; goto L6; }
+	if (!v66) { v7 = v40; goto L3; }
 	if ((s64)v66 <= -1) goto L34;
 	t_64_64 v71 = allocate(v66, 1);
 	if (!(v71.f0 & 1)) goto L34;
 	v7 = (ptr)v71.f1;
-L3:;
-	if (((u64)v7 - v70) >= v66) goto L5;
+L3:
+	if ((u64)v7 - v70 >= v66) goto L5;
 	v8 = 0;
-L4:;
+L4:
 	st8(at(v7, v8), ld8(at((ptr)v70, v8)));
 	u64 v72 = v8 + 1;
 	if (v72 == v66) { v9 = v7; v10 = v66; goto L6; }
 	v8 = v72; goto L4;
-L5:;
+L5:
 	move(v7, (ptr)v70, v66);
 	v9 = v7; v10 = v66;
-L6:;
-	v29 = (ptr)v66; v30 = v10; v31 = 0; v32 = 1; v33 = 0; v34 = 0; v35 = (u64)v9; goto L35;
+L6:
+	v29 = (ptr)v66; v30 = v10; v35 = (u64)v9; v31 = v33 = v34 = 0; v32 = 1; goto L35;
 L7:;
 	u64 v73 = (v65 << 8) | (u64)v64;
-	if (v69 != 0) { v13 = (ptr)v73; v14 = v67; goto L11; }
-	if (v66 == 0) { v11 = v40; goto L8; }
+	if (v69) { v13 = (ptr)v73; v14 = v67; goto L11; }
+	if (!v66) { v11 = v40; goto L8; }
 	if ((s64)v66 <= -1) goto L34;
 	t_64_64 v74 = allocate(v66, 1);
 	if (!(v74.f0 & 1)) goto L34;
 	v11 = (ptr)v74.f1;
-L8:;
-	if (((u64)v11 - v73) >= v66) goto L10;
+L8:
+	if ((u64)v11 - v73 >= v66) goto L10;
 	v12 = 0;
-L9:;
+L9:
 	st8(at(v11, v12), ld8(at((ptr)v73, v12)));
 	u64 v75 = v12 + 1;
 	if (v75 == v66) { v13 = v11; v14 = v66; goto L11; }
 	v12 = v75; goto L9;
-L10:;
+L10:
 	move(v11, (ptr)v73, v66);
 	v13 = v11; v14 = v66;
-L11:;
-	v29 = (ptr)v66; v30 = v14; v31 = 0; v32 = 1; v33 = 0; v34 = 0; v35 = (u64)v13; goto L35;
+L11:
+	v29 = (ptr)v66; v30 = v14; v35 = (u64)v13; v31 = v33 = v34 = 0; v32 = 1; goto L35;
 L12:;
 	u64 v76 = (v65 << 8) | (u64)v64;
-	if (v69 != 0) { v17 = (ptr)v76; v18 = v67; goto L16; }
-	if (v66 == 0) { v15 = v40; goto L13; }
+	if (v69) { v17 = (ptr)v76; v18 = v67; goto L16; }
+	if (!v66) { v15 = v40; goto L13; }
 	if ((s64)v66 <= -1) goto L34;
 	t_64_64 v77 = allocate(v66, 1);
 	if (!(v77.f0 & 1)) goto L34;
 	v15 = (ptr)v77.f1;
-L13:;
-	if (((u64)v15 - v76) >= v66) goto L15;
+L13:
+	if ((u64)v15 - v76 >= v66) goto L15;
 	v16 = 0;
-L14:;
+L14:
 	st8(at(v15, v16), ld8(at((ptr)v76, v16)));
 	u64 v78 = v16 + 1;
 	if (v78 == v66) { v17 = v15; v18 = v66; goto L16; }
 	v16 = v78; goto L14;
-L15:;
+L15:
 	move(v15, (ptr)v76, v66);
 	v17 = v15; v18 = v66;
-L16:;
-	v29 = (ptr)v66; v30 = v18; v31 = 0; v32 = 1; v33 = 0; v34 = 0; v35 = (u64)v17; goto L35;
+L16:
+	v29 = (ptr)v66; v30 = v18; v35 = (u64)v17; v31 = v33 = v34 = 0; v32 = 1; goto L35;
 L17:;
 	u64 v79 = (v65 << 8) | (u64)v64;
-	if (v69 != 0) { v21 = (ptr)v79; v22 = v67; goto L21; }
-	if (v66 == 0) { v19 = v40; goto L18; }
+	if (v69) { v21 = (ptr)v79; v22 = v67; goto L21; }
+	if (!v66) { v19 = v40; goto L18; }
 	if ((s64)v66 <= -1) goto L34;
 	t_64_64 v80 = allocate(v66, 1);
 	if (!(v80.f0 & 1)) goto L34;
 	v19 = (ptr)v80.f1;
-L18:;
-	if (((u64)v19 - v79) >= v66) goto L20;
+L18:
+	if ((u64)v19 - v79 >= v66) goto L20;
 	v20 = 0;
-L19:;
+L19:
 	st8(at(v19, v20), ld8(at((ptr)v79, v20)));
 	u64 v81 = v20 + 1;
 	if (v81 == v66) { v21 = v19; v22 = v66; goto L21; }
 	v20 = v81; goto L19;
-L20:;
+L20:
 	move(v19, (ptr)v79, v66);
 	v21 = v19; v22 = v66;
-L21:;
-	v29 = (ptr)v66; v30 = v22; v31 = 0; v32 = 1; v33 = 0; v34 = 0; v35 = (u64)v21; goto L35;
-L22:;
-	if (v64 != 0) { v29 = (ptr)v66; v30 = v67; v31 = v68; v32 = v61; v33 = 0; v34 = v63; v35 = 1; goto L35; }
-	if (v67 == 0) { v23 = v40; goto L23; }
+L21:
+	v29 = (ptr)v66; v30 = v22; v35 = (u64)v21; v31 = v33 = v34 = 0; v32 = 1; goto L35;
+L22:
+	if (v64) { M12: v29 = (ptr)v66; v30 = v67; v31 = v68; v32 = v61; v34 = v63; v33 = 0; v35 = 1; goto L35; }
+	if (!v67) { v23 = v40; goto L23; }
 	if ((s64)v67 <= -1) goto L34;
 	t_64_64 v82 = allocate(v67, 1);
 	if (!(v82.f0 & 1)) goto L34;
 	v23 = (ptr)v82.f1;
-L23:;
-	if (((u64)v23 - v66) >= v67) goto L25;
+L23:
+	if ((u64)v23 - v66 >= v67) goto L25;
 	v24 = 0;
-L24:;
+L24:
 	st8(at(v23, v24), ld8(at((ptr)v66, v24)));
 	u64 v83 = v24 + 1;
-	if (v83 == v67) { v29 = v23; v30 = v67; v31 = v67; v32 = v61; v33 = 0; v34 = v63; v35 = 1; goto L35; }
+	if (v83 == v67) { M13: v29 = v23; v30 = v67; v31 = v67; v32 = v61; v34 = v63; v33 = 0; v35 = 1; goto L35; }
 	v24 = v83; goto L24;
-L25:;
+L25:
 	move(v23, (ptr)v66, v67);
-	v29 = v23; v30 = v67; v31 = v67; v32 = v61; v33 = 0; v34 = v63; v35 = 1; goto L35;
-L26:;
-	if (v64 != 0) { v29 = (ptr)v66; v30 = v67; v31 = v68; v32 = v61; v33 = 0; v34 = v63; v35 = 1; goto L35; }
-	if (v67 == 0) { v25 = v40; goto L27; }
+	goto M13;
+L26:
+	if (v64) goto M12;
+	if (!v67) { v25 = v40; goto L27; }
 	if ((s64)v67 <= -1) goto L34;
 	t_64_64 v84 = allocate(v67, 1);
 	if (!(v84.f0 & 1)) goto L34;
 	v25 = (ptr)v84.f1;
-L27:;
-	if (((u64)v25 - v66) >= v67) goto L29;
+L27:
+	if ((u64)v25 - v66 >= v67) goto L29;
 	v26 = 0;
-L28:;
+L28:
 	st8(at(v25, v26), ld8(at((ptr)v66, v26)));
 	u64 v85 = v26 + 1;
-	if (v85 == v67) { v29 = v25; v30 = v67; v31 = v67; v32 = v61; v33 = 0; v34 = v63; v35 = 1; goto L35; }
+	if (v85 == v67) { M14: v29 = v25; v30 = v67; v31 = v67; v32 = v61; v34 = v63; v33 = 0; v35 = 1; goto L35; }
 	v26 = v85; goto L28;
-L29:;
+L29:
 	move(v25, (ptr)v66, v67);
-	v29 = v25; v30 = v67; v31 = v67; v32 = v61; v33 = 0; v34 = v63; v35 = 1; goto L35;
-L30:;
-	if (v64 != 0) { v29 = (ptr)v66; v30 = v67; v31 = v68; v32 = v61; v33 = v62; v34 = 0; v35 = 1; goto L35; }
-	if (v67 == 0) { v27 = v40; goto L31; }
+	goto M14;
+L30:
+	if (v64) { v29 = (ptr)v66; v30 = v67; v31 = v68; v32 = v61; v33 = v62; v34 = 0; v35 = 1; goto L35; }
+	if (!v67) { v27 = v40; goto L31; }
 	if ((s64)v67 <= -1) goto L34;
 	t_64_64 v86 = allocate(v67, 1);
 	if (!(v86.f0 & 1)) goto L34;
 	v27 = (ptr)v86.f1;
-L31:;
-	if (((u64)v27 - v66) >= v67) goto L33;
+L31:
+	if ((u64)v27 - v66 >= v67) goto L33;
 	v28 = 0;
-L32:;
+L32:
 	st8(at(v27, v28), ld8(at((ptr)v66, v28)));
 	u64 v87 = v28 + 1;
-	if (v87 == v67) { v29 = v27; v30 = v67; v31 = v67; v32 = v61; v33 = v62; v34 = 0; v35 = 1; goto L35; }
+	if (v87 == v67) { M16: v29 = v27; v30 = v67; v31 = v67; v32 = v61; v33 = v62; v34 = 0; v35 = 1; goto L35; }
 	v28 = v87; goto L32;
-L33:;
+L33:
 	move(v27, (ptr)v66, v67);
-	v29 = v27; v30 = v67; v31 = v67; v32 = v61; v33 = v62; v34 = 0; v35 = 1; goto L35;
-L34:;
+	goto M16;
+L34:
 	stp(v43, v52);
 	st64(v43+8, v58);
 	st64(v43+16, v54);
@@ -5577,8 +5149,7 @@ L35:;
 	v37 = ldp(v41); v38 = ld64(v41+8); goto L47;
 L36:;
 	u64 v90 = (u64)v29;
-	u8 v91 = (u8)v32;
-	u8 v92 = (u8)v35;
+	u8 v91 = (u8)v32, v92 = (u8)v35;
 	switch (v60) {
 	case 0: goto L37;
 	case 1: goto L38;
@@ -5589,30 +5160,30 @@ L36:;
 	case 6: goto L43;
 	default: goto L46;
 	}
-L37:;
-	if ((v91 == 0) || (v30 == 0)) goto L45;
+L37:
+	if (!v91 || !v30) goto L45;
 	v36 = v35; goto L44;
-L38:;
-	if ((v91 == 0) || (v30 == 0)) goto L45;
+L38:
+	if (!v91 || !v30) goto L45;
 	v36 = v35; goto L44;
-L39:;
-	if ((v91 == 0) || (v30 == 0)) goto L45;
+L39:
+	if (!v91 || !v30) goto L45;
 	v36 = v35; goto L44;
-L40:;
-	if ((v91 == 0) || (v30 == 0)) goto L45;
+L40:
+	if (!v91 || !v30) goto L45;
 	v36 = v35; goto L44;
-L41:;
-	if ((v92 == 0) || (v31 == 0)) goto L45;
+L41:
+	if (!v92 || !v31) goto L45;
 	v36 = v90; goto L44;
-L42:;
-	if ((v92 == 0) || (v31 == 0)) goto L45;
+L42:
+	if (!v92 || !v31) goto L45;
 	v36 = v90; goto L44;
-L43:;
-	if ((v92 == 0) || (v31 == 0)) goto L45;
+L43:
+	if (!v92 || !v31) goto L45;
 	v36 = v90;
-L44:;
+L44:
 	deallocate((ptr)v36);
-L45:;
+L45:
 	stp(v44, v52);
 	st64(v44+8, v58);
 	st64(v44+16, v54);
@@ -5620,7 +5191,7 @@ L45:;
 	st64(v44+32, 0);
 	std_alloc_vec_deque_VecDeque_drop_0fd4(v44);
 	v39 = v41; goto L51;
-L46:;
+L46:
 	__builtin_trap();
 L47:;
 	ptr v93 = at(v37, v38 * 48);
@@ -5634,8 +5205,8 @@ L47:;
 	su64(v93+40, v31);
 	u64 v94 = v38 + 1;
 	st64(v41+8, v94);
-	if (v58 != 0) { v3 = v37; v4 = v94; v5 = v57; v6 = v58; goto L1; }
-L48:;
+	if (v58) { v3 = v37; v4 = v94; v5 = v57; v6 = v58; goto L1; }
+L48:
 	stp(v45, v52);
 	st64(v45+8, 0);
 	st64(v45+16, v54);
@@ -5652,151 +5223,55 @@ L48:;
 	copy(v1+24, v55, 24);
 	copy(v1+48, v47, 56);
 	goto L52;
-L49:;
+L49:
 	__builtin_trap();
-L50:;
+L50:
 	stp(v42, v52);
 	st64(v42+8, v53);
 	st64(v42+16, v54);
 	v39 = v42;
-L51:;
+L51:
 	std_alloc_vec_Vec_drop_050b(v39);
 	su64(v1, 1);
 	st8(v1+8, 5);
 	clear(v1+9, 95);
-L52:;
+L52:
 	return;
 }
-static void std_alloc_vec_deque_VecDeque_drop_0fd4(ptr v1) {
-	u64 v2, v3, v4, v5;
-	ptr v6 = lup(v1);
-	u64 v7 = lu64(v1+8);
-	u64 v8 = lu64(v1+16);
-	u64 v9 = lu64(v1+32);
-	if (v7 == 0) goto L22;
-	u64 v10 = lu64(v1+24);
-	u64 v11 = v10 + (v7 - v9);
-	if (v10 >= v11) goto L11;
-	v2 = v10;
+static APART RARE u8 std_alloc_vec_Vec_grow_amortized_d1d7(ptr v1) {
+	t_64_64 v2;
+	u8 v3;
+	u64 v4 = ld64(v1+8);
+	if (v4 == ~0ull) { v3 = 0; goto L2; }
+	u64 v5 = ld64(v1+16), v6 = (v4 > 3 ? v4 : 3) + 1, v7 = v5 << 1, v8 = v6 > v7 ? v6 : v7;
+	u64 v9 = v5 < 0x4000000000000000ull ? v8 : v6;
+	if (v9 >= 0x333333333333334ull) { v3 = 0; goto L2; }
+	if (v5) goto L0;
+	t_64_64 v10 = allocate(v8 * 40, 8);
+	if (v10.f0 & 1) { v2 = v10; goto L1; }
+	v3 = 0; goto L2;
 L0:;
-	ptr v12 = at(v6, v2 * 48);
-	u64 v13 = lu64(v12+16);
-	u64 v14 = lu64(v12+24);
-	u64 v15 = lu64(v12+32);
-	u64 v16 = lu64(v12+40);
-	u8 v17 = (u8)lu16(v12+8);
-	u8 v18 = (u8)v13;
-	switch (ld8(v12)) {
-	case 0: goto L1;
-	case 1: goto L2;
-	case 2: goto L3;
-	case 3: goto L4;
-	case 4: goto L5;
-	case 5: goto L6;
-	case 6: goto L7;
-	default: goto L10;
-	}
-L1:;
-	if ((v17 == 0) || (v15 == 0)) goto L9;
-	v3 = v13; goto L8;
-L2:;
-	if ((v17 == 0) || (v15 == 0)) goto L9;
-	v3 = v13; goto L8;
-L3:;
-	if ((v17 == 0) || (v15 == 0)) goto L9;
-	v3 = v13; goto L8;
-L4:;
-	if ((v17 == 0) || (v15 == 0)) goto L9;
-	v3 = v13; goto L8;
-L5:;
-	if ((v18 == 0) || (v16 == 0)) goto L9;
-	v3 = v14; goto L8;
-L6:;
-	if ((v18 == 0) || (v16 == 0)) goto L9;
-	v3 = v14; goto L8;
-L7:;
-	if ((v18 == 0) || (v16 == 0)) goto L9;
-	v3 = v14;
-L8:;
-	deallocate((ptr)v3);
-L9:;
-	u64 v19 = v2 + 1;
-	if (v19 == v11) goto L11;
-	v2 = v19; goto L0;
-L10:;
-	__builtin_trap();
-L11:;
-	if (v9 == 0) goto L22;
-	v4 = 0;
-L12:;
-	ptr v20 = at(v6, v4 * 48);
-	u64 v21 = lu64(v20+16);
-	u64 v22 = lu64(v20+24);
-	u64 v23 = lu64(v20+32);
-	u64 v24 = lu64(v20+40);
-	u8 v25 = (u8)lu16(v20+8);
-	u8 v26 = (u8)v21;
-	switch (ld8(v20)) {
-	case 0: goto L13;
-	case 1: goto L14;
-	case 2: goto L15;
-	case 3: goto L16;
-	case 4: goto L17;
-	case 5: goto L18;
-	case 6: goto L19;
-	default: goto L24;
-	}
-L13:;
-	if ((v25 == 0) || (v23 == 0)) goto L21;
-	v5 = v21; goto L20;
-L14:;
-	if ((v25 == 0) || (v23 == 0)) goto L21;
-	v5 = v21; goto L20;
-L15:;
-	if ((v25 == 0) || (v23 == 0)) goto L21;
-	v5 = v21; goto L20;
-L16:;
-	if ((v25 == 0) || (v23 == 0)) goto L21;
-	v5 = v21; goto L20;
-L17:;
-	if ((v26 == 0) || (v24 == 0)) goto L21;
-	v5 = v22; goto L20;
-L18:;
-	if ((v26 == 0) || (v24 == 0)) goto L21;
-	v5 = v22; goto L20;
-L19:;
-	if ((v26 == 0) || (v24 == 0)) goto L21;
-	v5 = v22;
-L20:;
-	deallocate((ptr)v5);
-L21:;
-	u64 v27 = v4 + 1;
-	if (v27 != v9) { v4 = v27; goto L12; }
-L22:;
-	if (v8 == 0) goto L23;
-	deallocate(v6);
-L23:;
-	return;
-L24:;
-	__builtin_trap();
+	t_64_64 v11 = reallocate(ldp(v1), v4 * 40, v9 * 40, 8);
+	if (!(v11.f0 & 1)) { v3 = 0; goto L2; }
+	v2 = v11;
+L1:
+	stp(v1, (ptr)v2.f1);
+	st64(v1+16, v9);
+	v3 = 1;
+L2:
+	return v3;
 }
-static __attribute__((noinline)) void pcap_ng_pcapng_block_Block_new_section(ptr v1, ptr v2, u64 v3) {
+static APART void pcap_ng_pcapng_block_Block_new_section(ptr v1, ptr v2, u64 v3) {
 	u64 v4, v5;
-	_Alignas(8) u8 v6[96], v7[24], v8[64], v9[40];
-	clear(v8, 64);
+	_Alignas(8) u8 v6[96], v7[24], v8[64] = {0}, v9[40];
 	pcap_blocks_section_header_SectionHeaderBlock_read(v8, v2, v3);
-	u8 v10 = ld8(v8+24);
-	u8 v11 = ld8(v8+25);
-	if (ld8(v8) != 0) goto L0;
+	u8 v10 = ld8(v8+24), v11 = ld8(v8+25);
+	if (ld8(v8)) goto L0;
 	u64 v12 = (u64)ld_bytes(v8+26, 6) & 0xffffffffffffull;
-	u8 v13 = ld8(v8+32);
-	u8 v14 = ld8(v8+33);
+	u8 v13 = ld8(v8+32), v14 = ld8(v8+33);
 	u64 v15 = (u64)ld_bytes(v8+34, 6) & 0xffffffffffffull;
-	u8 v16 = ld8(v8+40);
-	u8 v17 = ld8(v8+41);
-	u64 v18 = (u64)ld_bytes(v8+42, 6) & 0xffffffffffffull;
-	u64 v19 = ld64(v8+48);
-	u64 v20 = ld64(v8+56);
+	u8 v16 = ld8(v8+40), v17 = ld8(v8+41);
+	u64 v18 = (u64)ld_bytes(v8+42, 6) & 0xffffffffffffull, v19 = ld64(v8+48), v20 = ld64(v8+56);
 	su64(v1, 0);
 	st8(v1+8, 0);
 	st8(v1+16, v10);
@@ -5813,8 +5288,7 @@ static __attribute__((noinline)) void pcap_ng_pcapng_block_Block_new_section(ptr
 	v4 = v20; v5 = 0; goto L1;
 L0:;
 	u64 v21 = ld64(v8+16);
-	u8 v22 = ld8(v8+9);
-	u8 v23 = ld8(v8+8);
+	u8 v22 = ld8(v8+9), v23 = ld8(v8+8);
 	clear(v6, 96);
 	clear(v7, 24);
 	st8(v7, v23);
@@ -5825,17 +5299,12 @@ L0:;
 	pcap_options_refusal_PcapErrorFromRefusal_from(v6, v7);
 	u8 v24 = ld8(v6);
 	u64 v25 = ld64(v6+8);
-	u8 v26 = ld8(v6+16);
-	u8 v27 = ld8(v6+17);
+	u8 v26 = ld8(v6+16), v27 = ld8(v6+17);
 	u64 v28 = (u64)ld_bytes(v6+18, 6) & 0xffffffffffffull;
-	u8 v29 = ld8(v6+24);
-	u8 v30 = ld8(v6+25);
+	u8 v29 = ld8(v6+24), v30 = ld8(v6+25);
 	u64 v31 = (u64)ld_bytes(v6+26, 6) & 0xffffffffffffull;
-	u8 v32 = ld8(v6+32);
-	u8 v33 = ld8(v6+33);
-	u64 v34 = (u64)ld_bytes(v6+34, 6) & 0xffffffffffffull;
-	u64 v35 = ld64(v6+40);
-	u64 v36 = ld64(v6+48);
+	u8 v32 = ld8(v6+32), v33 = ld8(v6+33);
+	u64 v34 = (u64)ld_bytes(v6+34, 6) & 0xffffffffffffull, v35 = ld64(v6+40), v36 = ld64(v6+48);
 	copy(v9, v6+56, 40);
 	su64(v1, 1);
 	st8(v1+8, v24);
@@ -5851,36 +5320,31 @@ L0:;
 	st_bytes(v1+42, v34, 6);
 	copy(v1+64, v9, 40);
 	v4 = v35; v5 = v36;
-L1:;
+L1:
 	su64(v1+48, v4);
 	su64(v1+56, v5);
 	return;
 }
-static __attribute__((noinline)) void pcap_ng_pcapng_block_Block_new_interface(ptr v1, ptr v2) {
+static APART void pcap_ng_pcapng_block_Block_new_interface(ptr v1, ptr v2) {
 	u64 v3, v6, v9, v10, v11, v14, v17, v20, v23, v24, v25, v28, v31, v34, v37, v38, v39, v42, v46, v47, v48;
 	u8 v4, v5, v7, v8, v12, v13, v15, v16, v18, v19, v21, v22, v26, v27, v29, v30, v32, v33, v35, v36, v40, v41, v43, v44, v45;
 	_Alignas(8) u8 v49[96], v50[24], v51[64], v52[96], v53[24], v54[64], v55[40], v56[40];
 	u64 v57 = ld64(v2+32);
 	ptr v58 = ldp(v2+24);
-	if (ld8(v2+52) != 0) goto L2;
+	if (ld8(v2+52)) goto L2;
 	clear(v54, 64);
 	blocks_interface_description_InterfaceDescriptionBlock_read_4da0(v54, v58, v57);
 	u8 v59 = ld8(v54+8);
 	u64 v60 = ld64(v54+16);
-	u8 v61 = ld8(v54+24);
-	u8 v62 = ld8(v54+25);
-	if (ld8(v54) != 0) goto L0;
+	u8 v61 = ld8(v54+24), v62 = ld8(v54+25);
+	if (ld8(v54)) goto L0;
 	u64 v63 = (u64)ld_bytes(v54+26, 6) & 0xffffffffffffull;
-	u8 v64 = ld8(v54+32);
-	u8 v65 = ld8(v54+33);
+	u8 v64 = ld8(v54+32), v65 = ld8(v54+33);
 	u64 v66 = (u64)ld_bytes(v54+34, 6) & 0xffffffffffffull;
-	u8 v67 = ld8(v54+40);
-	u8 v68 = ld8(v54+41);
-	u64 v69 = (u64)ld_bytes(v54+42, 6) & 0xffffffffffffull;
-	u64 v70 = ld64(v54+48);
-	u64 v71 = ld64(v54+56);
+	u8 v67 = ld8(v54+40), v68 = ld8(v54+41);
+	u64 v69 = (u64)ld_bytes(v54+42, 6) & 0xffffffffffffull, v70 = ld64(v54+48), v71 = ld64(v54+56);
 	clear(v55, 40);
-	v3 = v63; v4 = v64; v5 = v65; v6 = v66; v7 = v67; v8 = v68; v9 = v69; v10 = v70; v11 = v71; v12 = 0; v13 = v59; v14 = v60; v15 = v61; v16 = v62; goto L1;
+	v3 = v63; v4 = v64; v5 = v65; v6 = v66; v7 = v67; v8 = v68; v9 = v69; v10 = v70; v11 = v71; v13 = v59; v14 = v60; v15 = v61; v16 = v62; v12 = 0; goto L1;
 L0:;
 	u8 v72 = ld8(v54+9);
 	clear(v52, 96);
@@ -5893,40 +5357,30 @@ L0:;
 	pcap_options_refusal_PcapErrorFromRefusal_from(v52, v53);
 	u8 v73 = ld8(v52);
 	u64 v74 = ld64(v52+8);
-	u8 v75 = ld8(v52+16);
-	u8 v76 = ld8(v52+17);
+	u8 v75 = ld8(v52+16), v76 = ld8(v52+17);
 	u64 v77 = (u64)ld_bytes(v52+18, 6) & 0xffffffffffffull;
-	u8 v78 = ld8(v52+24);
-	u8 v79 = ld8(v52+25);
+	u8 v78 = ld8(v52+24), v79 = ld8(v52+25);
 	u64 v80 = (u64)ld_bytes(v52+26, 6) & 0xffffffffffffull;
-	u8 v81 = ld8(v52+32);
-	u8 v82 = ld8(v52+33);
-	u64 v83 = (u64)ld_bytes(v52+34, 6) & 0xffffffffffffull;
-	u64 v84 = ld64(v52+40);
-	u64 v85 = ld64(v52+48);
+	u8 v81 = ld8(v52+32), v82 = ld8(v52+33);
+	u64 v83 = (u64)ld_bytes(v52+34, 6) & 0xffffffffffffull, v84 = ld64(v52+40), v85 = ld64(v52+48);
 	copy(v55, v52+56, 40);
-	v3 = v77; v4 = v78; v5 = v79; v6 = v80; v7 = v81; v8 = v82; v9 = v83; v10 = v84; v11 = v85; v12 = 1; v13 = v73; v14 = v74; v15 = v75; v16 = v76;
-L1:;
+	v3 = v77; v4 = v78; v5 = v79; v6 = v80; v7 = v81; v8 = v82; v9 = v83; v10 = v84; v11 = v85; v13 = v73; v14 = v74; v15 = v75; v16 = v76; v12 = 1;
+L1:
 	v31 = v3; v32 = v4; v33 = v5; v34 = v6; v35 = v7; v36 = v8; v37 = v9; v38 = v10; v39 = v11; v40 = v12; v41 = v13; v42 = v14; v43 = v15; v44 = v16; goto L5;
-L2:;
+L2:
 	clear(v51, 64);
 	blocks_interface_description_InterfaceDescriptionBlock_read_7f02(v51, v58, v57);
 	u8 v86 = ld8(v51+8);
 	u64 v87 = ld64(v51+16);
-	u8 v88 = ld8(v51+24);
-	u8 v89 = ld8(v51+25);
-	if (ld8(v51) != 0) goto L3;
+	u8 v88 = ld8(v51+24), v89 = ld8(v51+25);
+	if (ld8(v51)) goto L3;
 	u64 v90 = (u64)ld_bytes(v51+26, 6) & 0xffffffffffffull;
-	u8 v91 = ld8(v51+32);
-	u8 v92 = ld8(v51+33);
+	u8 v91 = ld8(v51+32), v92 = ld8(v51+33);
 	u64 v93 = (u64)ld_bytes(v51+34, 6) & 0xffffffffffffull;
-	u8 v94 = ld8(v51+40);
-	u8 v95 = ld8(v51+41);
-	u64 v96 = (u64)ld_bytes(v51+42, 6) & 0xffffffffffffull;
-	u64 v97 = ld64(v51+48);
-	u64 v98 = ld64(v51+56);
+	u8 v94 = ld8(v51+40), v95 = ld8(v51+41);
+	u64 v96 = (u64)ld_bytes(v51+42, 6) & 0xffffffffffffull, v97 = ld64(v51+48), v98 = ld64(v51+56);
 	clear(v55, 40);
-	v17 = v90; v18 = v91; v19 = v92; v20 = v93; v21 = v94; v22 = v95; v23 = v96; v24 = v97; v25 = v98; v26 = 0; v27 = v86; v28 = v87; v29 = v88; v30 = v89; goto L4;
+	v17 = v90; v18 = v91; v19 = v92; v20 = v93; v21 = v94; v22 = v95; v23 = v96; v24 = v97; v25 = v98; v27 = v86; v28 = v87; v29 = v88; v30 = v89; v26 = 0; goto L4;
 L3:;
 	u8 v99 = ld8(v51+9);
 	clear(v49, 96);
@@ -5939,24 +5393,19 @@ L3:;
 	pcap_options_refusal_PcapErrorFromRefusal_from(v49, v50);
 	u8 v100 = ld8(v49);
 	u64 v101 = ld64(v49+8);
-	u8 v102 = ld8(v49+16);
-	u8 v103 = ld8(v49+17);
+	u8 v102 = ld8(v49+16), v103 = ld8(v49+17);
 	u64 v104 = (u64)ld_bytes(v49+18, 6) & 0xffffffffffffull;
-	u8 v105 = ld8(v49+24);
-	u8 v106 = ld8(v49+25);
+	u8 v105 = ld8(v49+24), v106 = ld8(v49+25);
 	u64 v107 = (u64)ld_bytes(v49+26, 6) & 0xffffffffffffull;
-	u8 v108 = ld8(v49+32);
-	u8 v109 = ld8(v49+33);
-	u64 v110 = (u64)ld_bytes(v49+34, 6) & 0xffffffffffffull;
-	u64 v111 = ld64(v49+40);
-	u64 v112 = ld64(v49+48);
+	u8 v108 = ld8(v49+32), v109 = ld8(v49+33);
+	u64 v110 = (u64)ld_bytes(v49+34, 6) & 0xffffffffffffull, v111 = ld64(v49+40), v112 = ld64(v49+48);
 	copy(v55, v49+56, 40);
-	v17 = v104; v18 = v105; v19 = v106; v20 = v107; v21 = v108; v22 = v109; v23 = v110; v24 = v111; v25 = v112; v26 = 1; v27 = v100; v28 = v101; v29 = v102; v30 = v103;
-L4:;
+	v17 = v104; v18 = v105; v19 = v106; v20 = v107; v21 = v108; v22 = v109; v23 = v110; v24 = v111; v25 = v112; v27 = v100; v28 = v101; v29 = v102; v30 = v103; v26 = 1;
+L4:
 	v31 = v17; v32 = v18; v33 = v19; v34 = v20; v35 = v21; v36 = v22; v37 = v23; v38 = v24; v39 = v25; v40 = v26; v41 = v27; v42 = v28; v43 = v29; v44 = v30;
-L5:;
+L5:
 	copy(v56, v55, 40);
-	if (v40 != 0) goto L6;
+	if (v40) goto L6;
 	su64(v1, 0);
 	st8(v1+8, 1);
 	st8(v1+16, v43);
@@ -5969,7 +5418,7 @@ L5:;
 	su64(v1+40, v38);
 	clear(v1+64, 40);
 	v45 = v36; v46 = v37; v47 = v39; v48 = 0; goto L7;
-L6:;
+L6:
 	su64(v1, 1);
 	st8(v1+8, v41);
 	su64(v1+16, v42);
@@ -5982,41 +5431,33 @@ L6:;
 	st_bytes(v1+42, v37, 6);
 	copy(v1+64, v56, 40);
 	v45 = v33; v46 = v34; v47 = v38; v48 = v39;
-L7:;
+L7:
 	st8(v1+33, v45);
 	st_bytes(v1+34, v46, 6);
 	su64(v1+48, v47);
 	su64(v1+56, v48);
 	return;
 }
-static __attribute__((noinline)) void pcap_ng_pcapng_state_InForce_begin_section(ptr v1, ptr v2, ptr v3) {
+static APART void pcap_ng_pcapng_state_InForce_begin_section(ptr v1, ptr v2, ptr v3) {
 	u64 v4, v5, v6;
-	_Alignas(8) u8 v7[24], v10[104], v11[40];
-	_Alignas(1) u8 v8[95], v9[95];
-	clear(v10, 104);
+	_Alignas(8) u8 v7[24], v10[104] = {0}, v11[40];
+	_Alignas(1) u8 v8[95] = {0}, v9[95];
 	copy(v11, v3, 40);
 	pcap_blocks_section_header_SectionHeaderBlock_into_owned(v10, v11);
-	u8 v12 = ld8(v10+8);
-	u8 v13 = ld8(v10);
-	clear(v8, 95);
-	if (v13 != 0) goto L15;
+	u8 v12 = ld8(v10+8), v13 = ld8(v10);
+	if (v13) goto L15;
 	copy(v8, v10+9, 39);
 	copy(v9, v8, 95);
 	ptr v14 = lup(v2+16);
-	u64 v15 = lu64(v2+24);
-	u64 v16 = lu64(v2+32);
+	u64 v15 = lu64(v2+24), v16 = lu64(v2+32);
 	st8(v2, v12);
 	copy(v2+1, v9, 39);
-	if (v15 == 0) goto L10;
+	if (!v15) goto L10;
 	v4 = 0;
 L0:;
 	ptr v17 = at(v14, v4 * 48);
-	u64 v18 = lu64(v17+16);
-	u64 v19 = lu64(v17+24);
-	u64 v20 = lu64(v17+32);
-	u64 v21 = lu64(v17+40);
-	u8 v22 = (u8)lu16(v17+8);
-	u8 v23 = (u8)v18;
+	u64 v18 = lu64(v17+16), v19 = lu64(v17+24), v20 = lu64(v17+32), v21 = lu64(v17+40);
+	u8 v22 = (u8)lu16(v17+8), v23 = (u8)v18;
 	switch (ld8(v17)) {
 	case 0: goto L1;
 	case 1: goto L2;
@@ -6027,43 +5468,43 @@ L0:;
 	case 6: goto L7;
 	default: goto L14;
 	}
-L1:;
-	if ((v22 == 0) || (v20 == 0)) goto L9;
+L1:
+	if (!v22 || !v20) goto L9;
 	v5 = v18; goto L8;
-L2:;
-	if ((v22 == 0) || (v20 == 0)) goto L9;
+L2:
+	if (!v22 || !v20) goto L9;
 	v5 = v18; goto L8;
-L3:;
-	if ((v22 == 0) || (v20 == 0)) goto L9;
+L3:
+	if (!v22 || !v20) goto L9;
 	v5 = v18; goto L8;
-L4:;
-	if ((v22 == 0) || (v20 == 0)) goto L9;
+L4:
+	if (!v22 || !v20) goto L9;
 	v5 = v18; goto L8;
-L5:;
-	if ((v23 == 0) || (v21 == 0)) goto L9;
+L5:
+	if (!v23 || !v21) goto L9;
 	v5 = v19; goto L8;
-L6:;
-	if ((v23 == 0) || (v21 == 0)) goto L9;
+L6:
+	if (!v23 || !v21) goto L9;
 	v5 = v19; goto L8;
-L7:;
-	if ((v23 == 0) || (v21 == 0)) goto L9;
+L7:
+	if (!v23 || !v21) goto L9;
 	v5 = v19;
-L8:;
+L8:
 	deallocate((ptr)v5);
 L9:;
 	u64 v24 = v4 + 1;
 	if (v24 != v15) { v4 = v24; goto L0; }
-L10:;
-	if (v16 == 0) goto L11;
+L10:
+	if (!v16) goto L11;
 	deallocate(v14);
 L11:;
 	u64 v25 = ld64(v2+48);
-	if (v25 == 0) goto L13;
+	if (!v25) goto L13;
 	ptr v26 = ldp(v2+40);
 	u64 v27 = ld64(v2+56);
 	clear(v2+48, 16);
 	v6 = 0;
-L12:;
+L12:
 	copy(v7, at(v26, v6 * 40)+16, 24);
 	std_alloc_vec_Vec_drop_37c7(v7);
 	u64 v28 = v6 + 1;
@@ -6071,66 +5512,122 @@ L12:;
 	stp(v2+40, v26);
 	st64(v2+48, 0);
 	st64(v2+56, v27);
-L13:;
+L13:
 	st8(v1, 0);
 	st8(v1+8, 0);
 	clear(v1+16, 88);
 	goto L16;
-L14:;
+L14:
 	__builtin_trap();
-L15:;
+L15:
 	copy(v8+7, v10+16, 88);
 	copy(v9, v8, 95);
 	st8(v1, 1);
 	st8(v1+8, v12);
 	copy(v1+16, v9+7, 88);
-L16:;
+L16:
 	return;
 }
-static __attribute__((noinline)) void pcap_ng_pcapng_state_InForce_add_interface(ptr v1, ptr v2, ptr v3) {
+static void std_alloc_vec_deque_VecDeque_drop_af98(ptr v1) {
+	u64 v2, v3;
+	_Alignas(8) u8 v4[48], v5[48];
+	ptr v6 = lup(v1);
+	u64 v7 = lu64(v1+8), v8 = lu64(v1+16), v9 = lu64(v1+24), v10 = lu64(v1+32);
+	if (!v7) goto L3;
+	u64 v11 = v7 - v10 + v9;
+	if (v9 >= v11) goto L1;
+	v2 = v9;
+L0:;
+	ptr v12 = at(v6, v2 * 48);
+	u8 v13 = ld8(v12), v14 = ld8(v12+1);
+	u32 v15 = lu32(v12+4);
+	u64 v16 = lu64(v12+8);
+	st64(v5, 0);
+	st8(v5, v13);
+	st8(v5+1, v14);
+	st32(v5+4, v15);
+	st64(v5+8, v16);
+	copy(v5+16, v12+16, 32);
+	ptions_interface_option_InterfaceDescriptionOption_Destruct_drop(v5);
+	u64 v17 = v2 + 1;
+	if (v17 != v11) { v2 = v17; goto L0; }
+L1:
+	if (!v10) goto L3;
+	v3 = 0;
+L2:;
+	ptr v18 = at(v6, v3 * 48);
+	u8 v19 = ld8(v18), v20 = ld8(v18+1);
+	u32 v21 = lu32(v18+4);
+	u64 v22 = lu64(v18+8);
+	st64(v4, 0);
+	st8(v4, v19);
+	st8(v4+1, v20);
+	st32(v4+4, v21);
+	st64(v4+8, v22);
+	copy(v4+16, v18+16, 32);
+	ptions_interface_option_InterfaceDescriptionOption_Destruct_drop(v4);
+	u64 v23 = v3 + 1;
+	if (v23 != v10) { v3 = v23; goto L2; }
+L3:
+	if (!v8) goto L4;
+	deallocate(v6);
+L4:
+	return;
+}
+static APART RARE u8 std_alloc_vec_Vec_grow_amortized_1728(ptr v1) {
+	t_64_64 v2;
+	u8 v3;
+	u64 v4 = ld64(v1+8);
+	if (v4 == ~0ull) { v3 = 0; goto L2; }
+	u64 v5 = ld64(v1+16), v6 = (v4 > 3 ? v4 : 3) + 1, v7 = v5 << 1, v8 = v6 > v7 ? v6 : v7;
+	u64 v9 = v5 < 0x4000000000000000ull ? v8 : v6;
+	if (v9 >= 0x333333333333334ull) { v3 = 0; goto L2; }
+	if (v5) goto L0;
+	t_64_64 v10 = allocate(v8 * 40, 8);
+	if (v10.f0 & 1) { v2 = v10; goto L1; }
+	v3 = 0; goto L2;
+L0:;
+	t_64_64 v11 = reallocate(ldp(v1), v4 * 40, v9 * 40, 8);
+	if (!(v11.f0 & 1)) { v3 = 0; goto L2; }
+	v2 = v11;
+L1:
+	stp(v1, (ptr)v2.f1);
+	st64(v1+16, v9);
+	v3 = 1;
+L2:
+	return v3;
+}
+static APART void pcap_ng_pcapng_state_InForce_add_interface(ptr v1, ptr v2, ptr v3) {
 	ptr v4, v8, v10, v12, v14, v16, v18, v20, v22, v24, v26, v28, v30, v32, v34, v36, v38, v40, v42, v44, v46, v48, v50, v52, v55, v58, v65;
 	u64 v5, v6, v7, v9, v11, v13, v15, v17, v19, v21, v23, v25, v27, v29, v31, v33, v35, v37, v39, v41, v43, v45, v47, v49, v51, v53, v54, v56, v57, v59, v60, v63, v64, v66, v67, v68;
 	u32 v61;
 	u8 v62;
-	_Alignas(8) u8 v69[1], v70[48], v71[48], v72[48], v73[48], v74[24], v75[40], v76[40], v77[40], v79[24], v89[24];
-	_Alignas(1) u8 v78[31], v80[24], v81[56];
+	_Alignas(8) u8 v69[1], v70[48], v71[48], v72[48], v73[48], v74[24] = {0}, v75[40] = {0}, v76[40] = {0}, v77[40] = {0}, v79[24] = {0}, v89[24] = {0};
+	_Alignas(1) u8 v78[31] = {0}, v80[24] = {0}, v81[56] = {0};
 	u8 v82 = ld8(v3);
 	u32 v83 = lu32(v3+4);
 	u16 v84 = lu16(v3+8);
 	u32 v85 = lu32(v3+12);
 	ptr v86 = lup(v3+16);
-	u64 v87 = lu64(v3+24);
-	u64 v88 = lu64(v3+32);
-	clear(v80, 24);
-	clear(v81, 56);
-	clear(v89, 24);
-	clear(v79, 24);
-	clear(v78, 31);
-	clear(v74, 24);
-	clear(v75, 40);
-	clear(v76, 40);
-	clear(v77, 40);
-	if (v87 != 0) goto L0;
+	u64 v87 = lu64(v3+24), v88 = lu64(v3+32);
+	if (v87) goto L0;
 	stp(v74, v69);
 	goto L72;
-L0:;
+L0:
 	if (v87 >= 0x2aaaaaaaaaaaaabull) goto L76;
 	t_64_64 v90 = allocate(v87 * 48, 8);
 	if (!(v90.f0 & 1)) goto L76;
 	stp(v74, (ptr)v90.f1);
 	st64(v74+8, 0);
 	st64(v74+16, v87);
-	v4 = (ptr)v90.f1; v5 = 0; v6 = 0; v7 = v87;
+	v4 = (ptr)v90.f1; v7 = v87; v5 = v6 = 0;
 L1:;
-	u64 v91 = v6 + 1;
-	u64 v92 = v7 - 1;
+	u64 v91 = v6 + 1, v92 = v7 - 1;
 	ptr v93 = at(v86, v6 * 48);
 	u8 v94 = ld8(v93);
 	u64 v95 = lu64(v93+8);
 	u8 v96 = ld8(v93+16);
-	u64 v97 = (u64)ld_bytes(v93+17, 7) & 0xffffffffffffffull;
-	u64 v98 = lu64(v93+24);
-	u64 v99 = lu64(v93+32);
+	u64 v97 = (u64)ld_bytes(v93+17, 7) & 0xffffffffffffffull, v98 = lu64(v93+24), v99 = lu64(v93+32);
 	u64 v100 = lu64(v93+40);
 	switch (v94) {
 	case 0: goto L2;
@@ -6139,7 +5636,7 @@ L1:;
 	case 3: goto L17;
 	case 4: goto L22;
 	case 5: goto L27;
-	case 6: case 7: case 13: v57 = 0; v58 = (ptr)0; v59 = 0; v60 = 0; v61 = 0; v62 = 0; v63 = v95; goto L67;
+	case 6: case 7: case 13: v58 = (ptr)0; v63 = v95; v57 = v59 = v60 = v61 = v62 = 0; goto L67;
 	case 8: case 12: goto L32;
 	case 9: goto L33;
 	case 10: goto L34;
@@ -6152,256 +5649,256 @@ L1:;
 	}
 L2:;
 	u64 v101 = (v97 << 8) | (u64)v96;
-	if ((v95 & 255) != 0) { v10 = (ptr)v101; v11 = v99; goto L6; }
-	if (v98 == 0) { v8 = v69; goto L3; }
+	if (v95 & 255) { v10 = (ptr)v101; v11 = v99; goto L6; }
+	if (!v98) { v8 = v69; goto L3; }
 	if ((s64)v98 <= -1) goto L63;
 	t_64_64 v102 = allocate(v98, 1);
 	if (!(v102.f0 & 1)) goto L63;
 	v8 = (ptr)v102.f1;
-L3:;
-	if (((u64)v8 - v101) >= v98) goto L5;
+L3:
+	if ((u64)v8 - v101 >= v98) goto L5;
 	v9 = 0;
-L4:;
+L4:
 	st8(at(v8, v9), ld8(at((ptr)v101, v9)));
 	u64 v103 = v9 + 1;
 	if (v103 == v98) { v10 = v8; v11 = v98; goto L6; }
 	v9 = v103; goto L4;
-L5:;
+L5:
 	move(v8, (ptr)v101, v98);
 	v10 = v8; v11 = v98;
-L6:;
-	v57 = (u64)v10; v58 = (ptr)v98; v59 = v11; v60 = 0; v61 = 0; v62 = 0; v63 = 1; goto L67;
+L6:
+	v57 = (u64)v10; v58 = (ptr)v98; v59 = v11; v60 = v61 = v62 = 0; v63 = 1; goto L67;
 L7:;
 	u64 v104 = (v97 << 8) | (u64)v96;
-	if ((v95 & 255) != 0) { v14 = (ptr)v104; v15 = v99; goto L11; }
-	if (v98 == 0) { v12 = v69; goto L8; }
+	if (v95 & 255) { v14 = (ptr)v104; v15 = v99; goto L11; }
+	if (!v98) { v12 = v69; goto L8; }
 	if ((s64)v98 <= -1) goto L63;
 	t_64_64 v105 = allocate(v98, 1);
 	if (!(v105.f0 & 1)) goto L63;
 	v12 = (ptr)v105.f1;
-L8:;
-	if (((u64)v12 - v104) >= v98) goto L10;
+L8:
+	if ((u64)v12 - v104 >= v98) goto L10;
 	v13 = 0;
-L9:;
+L9:
 	st8(at(v12, v13), ld8(at((ptr)v104, v13)));
 	u64 v106 = v13 + 1;
 	if (v106 == v98) { v14 = v12; v15 = v98; goto L11; }
 	v13 = v106; goto L9;
-L10:;
+L10:
 	move(v12, (ptr)v104, v98);
 	v14 = v12; v15 = v98;
-L11:;
-	v57 = (u64)v14; v58 = (ptr)v98; v59 = v15; v60 = 0; v61 = 0; v62 = 0; v63 = 1; goto L67;
+L11:
+	v57 = (u64)v14; v58 = (ptr)v98; v59 = v15; v60 = v61 = v62 = 0; v63 = 1; goto L67;
 L12:;
 	u64 v107 = (v97 << 8) | (u64)v96;
-	if ((v95 & 255) != 0) { v18 = (ptr)v107; v19 = v99; goto L16; }
-	if (v98 == 0) { v16 = v69; goto L13; }
+	if (v95 & 255) { v18 = (ptr)v107; v19 = v99; goto L16; }
+	if (!v98) { v16 = v69; goto L13; }
 	if ((s64)v98 <= -1) goto L63;
 	t_64_64 v108 = allocate(v98, 1);
 	if (!(v108.f0 & 1)) goto L63;
 	v16 = (ptr)v108.f1;
-L13:;
-	if (((u64)v16 - v107) >= v98) goto L15;
+L13:
+	if ((u64)v16 - v107 >= v98) goto L15;
 	v17 = 0;
-L14:;
+L14:
 	st8(at(v16, v17), ld8(at((ptr)v107, v17)));
 	u64 v109 = v17 + 1;
 	if (v109 == v98) { v18 = v16; v19 = v98; goto L16; }
 	v17 = v109; goto L14;
-L15:;
+L15:
 	move(v16, (ptr)v107, v98);
 	v18 = v16; v19 = v98;
-L16:;
-	v57 = (u64)v18; v58 = (ptr)v98; v59 = v19; v60 = 0; v61 = 0; v62 = 0; v63 = 1; goto L67;
+L16:
+	v57 = (u64)v18; v58 = (ptr)v98; v59 = v19; v60 = v61 = v62 = 0; v63 = 1; goto L67;
 L17:;
 	u64 v110 = (v97 << 8) | (u64)v96;
-	if ((v95 & 255) != 0) { v22 = (ptr)v110; v23 = v99; goto L21; }
-	if (v98 == 0) { v20 = v69; goto L18; }
+	if (v95 & 255) { v22 = (ptr)v110; v23 = v99; goto L21; }
+	if (!v98) { v20 = v69; goto L18; }
 	if ((s64)v98 <= -1) goto L63;
 	t_64_64 v111 = allocate(v98, 1);
 	if (!(v111.f0 & 1)) goto L63;
 	v20 = (ptr)v111.f1;
-L18:;
-	if (((u64)v20 - v110) >= v98) goto L20;
+L18:
+	if ((u64)v20 - v110 >= v98) goto L20;
 	v21 = 0;
-L19:;
+L19:
 	st8(at(v20, v21), ld8(at((ptr)v110, v21)));
 	u64 v112 = v21 + 1;
 	if (v112 == v98) { v22 = v20; v23 = v98; goto L21; }
 	v21 = v112; goto L19;
-L20:;
+L20:
 	move(v20, (ptr)v110, v98);
 	v22 = v20; v23 = v98;
-L21:;
-	v57 = (u64)v22; v58 = (ptr)v98; v59 = v23; v60 = 0; v61 = 0; v62 = 0; v63 = 1; goto L67;
+L21:
+	v57 = (u64)v22; v58 = (ptr)v98; v59 = v23; v60 = v61 = v62 = 0; v63 = 1; goto L67;
 L22:;
 	u64 v113 = (v97 << 8) | (u64)v96;
-	if ((v95 & 255) != 0) { v26 = (ptr)v113; v27 = v99; goto L26; }
-	if (v98 == 0) { v24 = v69; goto L23; }
+	if (v95 & 255) { v26 = (ptr)v113; v27 = v99; goto L26; }
+	if (!v98) { v24 = v69; goto L23; }
 	if ((s64)v98 <= -1) goto L63;
 	t_64_64 v114 = allocate(v98, 1);
 	if (!(v114.f0 & 1)) goto L63;
 	v24 = (ptr)v114.f1;
-L23:;
-	if (((u64)v24 - v113) >= v98) goto L25;
+L23:
+	if ((u64)v24 - v113 >= v98) goto L25;
 	v25 = 0;
-L24:;
+L24:
 	st8(at(v24, v25), ld8(at((ptr)v113, v25)));
 	u64 v115 = v25 + 1;
 	if (v115 == v98) { v26 = v24; v27 = v98; goto L26; }
 	v25 = v115; goto L24;
-L25:;
+L25:
 	move(v24, (ptr)v113, v98);
 	v26 = v24; v27 = v98;
-L26:;
-	v57 = (u64)v26; v58 = (ptr)v98; v59 = v27; v60 = 0; v61 = 0; v62 = 0; v63 = 1; goto L67;
+L26:
+	v57 = (u64)v26; v58 = (ptr)v98; v59 = v27; v60 = v61 = v62 = 0; v63 = 1; goto L67;
 L27:;
 	u64 v116 = (v97 << 8) | (u64)v96;
-	if ((v95 & 255) != 0) { v30 = (ptr)v116; v31 = v99; goto L31; }
-	if (v98 == 0) { v28 = v69; goto L28; }
+	if (v95 & 255) { v30 = (ptr)v116; v31 = v99; goto L31; }
+	if (!v98) { v28 = v69; goto L28; }
 	if ((s64)v98 <= -1) goto L63;
 	t_64_64 v117 = allocate(v98, 1);
 	if (!(v117.f0 & 1)) goto L63;
 	v28 = (ptr)v117.f1;
-L28:;
-	if (((u64)v28 - v116) >= v98) goto L30;
+L28:
+	if ((u64)v28 - v116 >= v98) goto L30;
 	v29 = 0;
-L29:;
+L29:
 	st8(at(v28, v29), ld8(at((ptr)v116, v29)));
 	u64 v118 = v29 + 1;
 	if (v118 == v98) { v30 = v28; v31 = v98; goto L31; }
 	v29 = v118; goto L29;
-L30:;
+L30:
 	move(v28, (ptr)v116, v98);
 	v30 = v28; v31 = v98;
-L31:;
-	v57 = (u64)v30; v58 = (ptr)v98; v59 = v31; v60 = 0; v61 = 0; v62 = 0; v63 = 1; goto L67;
-L32:;
-	v57 = 0; v58 = (ptr)0; v59 = 0; v60 = 0; v61 = 0; v62 = ld8(v93+1); v63 = 0; goto L67;
-L33:;
-	v57 = 0; v58 = (ptr)0; v59 = 0; v60 = 0; v61 = lu32(v93+4); v62 = 0; v63 = 0; goto L67;
+L31:
+	v57 = (u64)v30; v58 = (ptr)v98; v59 = v31; v60 = v61 = v62 = 0; v63 = 1; goto L67;
+L32:
+	v58 = (ptr)0; v62 = ld8(v93+1); v57 = v59 = v60 = v61 = v63 = 0; goto L67;
+L33:
+	v58 = (ptr)0; v61 = lu32(v93+4); v57 = v59 = v60 = v62 = v63 = 0; goto L67;
 L34:;
 	u64 v119 = (v97 << 8) | (u64)v96;
-	if ((v95 & 255) != 0) { v34 = (ptr)v119; v35 = v99; goto L38; }
-	if (v98 == 0) { v32 = v69; goto L35; }
+	if (v95 & 255) { v34 = (ptr)v119; v35 = v99; goto L38; }
+	if (!v98) { v32 = v69; goto L35; }
 	if ((s64)v98 <= -1) goto L63;
 	t_64_64 v120 = allocate(v98, 1);
 	if (!(v120.f0 & 1)) goto L63;
 	v32 = (ptr)v120.f1;
-L35:;
-	if (((u64)v32 - v119) >= v98) goto L37;
+L35:
+	if ((u64)v32 - v119 >= v98) goto L37;
 	v33 = 0;
-L36:;
+L36:
 	st8(at(v32, v33), ld8(at((ptr)v119, v33)));
 	u64 v121 = v33 + 1;
 	if (v121 == v98) { v34 = v32; v35 = v98; goto L38; }
 	v33 = v121; goto L36;
-L37:;
+L37:
 	move(v32, (ptr)v119, v98);
 	v34 = v32; v35 = v98;
-L38:;
-	v57 = (u64)v34; v58 = (ptr)v98; v59 = v35; v60 = 0; v61 = 0; v62 = 0; v63 = 1; goto L67;
+L38:
+	v57 = (u64)v34; v58 = (ptr)v98; v59 = v35; v60 = v61 = v62 = 0; v63 = 1; goto L67;
 L39:;
 	u64 v122 = (v97 << 8) | (u64)v96;
-	if ((v95 & 255) != 0) { v38 = (ptr)v122; v39 = v99; goto L43; }
-	if (v98 == 0) { v36 = v69; goto L40; }
+	if (v95 & 255) { v38 = (ptr)v122; v39 = v99; goto L43; }
+	if (!v98) { v36 = v69; goto L40; }
 	if ((s64)v98 <= -1) goto L63;
 	t_64_64 v123 = allocate(v98, 1);
 	if (!(v123.f0 & 1)) goto L63;
 	v36 = (ptr)v123.f1;
-L40:;
-	if (((u64)v36 - v122) >= v98) goto L42;
+L40:
+	if ((u64)v36 - v122 >= v98) goto L42;
 	v37 = 0;
-L41:;
+L41:
 	st8(at(v36, v37), ld8(at((ptr)v122, v37)));
 	u64 v124 = v37 + 1;
 	if (v124 == v98) { v38 = v36; v39 = v98; goto L43; }
 	v37 = v124; goto L41;
-L42:;
+L42:
 	move(v36, (ptr)v122, v98);
 	v38 = v36; v39 = v98;
-L43:;
-	v57 = (u64)v38; v58 = (ptr)v98; v59 = v39; v60 = 0; v61 = 0; v62 = 0; v63 = 1; goto L67;
+L43:
+	v57 = (u64)v38; v58 = (ptr)v98; v59 = v39; v60 = v61 = v62 = 0; v63 = 1; goto L67;
 L44:;
 	u64 v125 = (v97 << 8) | (u64)v96;
-	if ((v95 & 255) != 0) { v42 = (ptr)v125; v43 = v99; goto L48; }
-	if (v98 == 0) { v40 = v69; goto L45; }
+	if (v95 & 255) { v42 = (ptr)v125; v43 = v99; goto L48; }
+	if (!v98) { v40 = v69; goto L45; }
 	if ((s64)v98 <= -1) goto L63;
 	t_64_64 v126 = allocate(v98, 1);
 	if (!(v126.f0 & 1)) goto L63;
 	v40 = (ptr)v126.f1;
-L45:;
-	if (((u64)v40 - v125) >= v98) goto L47;
+L45:
+	if ((u64)v40 - v125 >= v98) goto L47;
 	v41 = 0;
-L46:;
+L46:
 	st8(at(v40, v41), ld8(at((ptr)v125, v41)));
 	u64 v127 = v41 + 1;
 	if (v127 == v98) { v42 = v40; v43 = v98; goto L48; }
 	v41 = v127; goto L46;
-L47:;
+L47:
 	move(v40, (ptr)v125, v98);
 	v42 = v40; v43 = v98;
-L48:;
-	v57 = (u64)v42; v58 = (ptr)v98; v59 = v43; v60 = 0; v61 = 0; v62 = 0; v63 = 1; goto L67;
-L49:;
-	if (v96 != 0) { v46 = (ptr)v98; v47 = v100; goto L53; }
-	if (v99 == 0) { v44 = v69; goto L50; }
+L48:
+	v57 = (u64)v42; v58 = (ptr)v98; v59 = v43; v60 = v61 = v62 = 0; v63 = 1; goto L67;
+L49:
+	if (v96) { v46 = (ptr)v98; v47 = v100; goto L53; }
+	if (!v99) { v44 = v69; goto L50; }
 	if ((s64)v99 <= -1) goto L63;
 	t_64_64 v128 = allocate(v99, 1);
 	if (!(v128.f0 & 1)) goto L63;
 	v44 = (ptr)v128.f1;
-L50:;
-	if (((u64)v44 - v98) >= v99) goto L52;
+L50:
+	if ((u64)v44 - v98 >= v99) goto L52;
 	v45 = 0;
-L51:;
+L51:
 	st8(at(v44, v45), ld8(at((ptr)v98, v45)));
 	u64 v129 = v45 + 1;
 	if (v129 == v99) { v46 = v44; v47 = v99; goto L53; }
 	v45 = v129; goto L51;
-L52:;
+L52:
 	move(v44, (ptr)v98, v99);
 	v46 = v44; v47 = v99;
-L53:;
-	v57 = 1; v58 = v46; v59 = v99; v60 = v47; v61 = 0; v62 = 0; v63 = v95 & 0xffffffff0000ffffull; goto L67;
-L54:;
-	if (v96 != 0) { v50 = (ptr)v98; v51 = v100; goto L58; }
-	if (v99 == 0) { v48 = v69; goto L55; }
+L53:
+	v58 = v46; v59 = v99; v60 = v47; v63 = v95 & 0xffffffff0000ffffull; v57 = 1; v61 = v62 = 0; goto L67;
+L54:
+	if (v96) { v50 = (ptr)v98; v51 = v100; goto L58; }
+	if (!v99) { v48 = v69; goto L55; }
 	if ((s64)v99 <= -1) goto L63;
 	t_64_64 v130 = allocate(v99, 1);
 	if (!(v130.f0 & 1)) goto L63;
 	v48 = (ptr)v130.f1;
-L55:;
-	if (((u64)v48 - v98) >= v99) goto L57;
+L55:
+	if ((u64)v48 - v98 >= v99) goto L57;
 	v49 = 0;
-L56:;
+L56:
 	st8(at(v48, v49), ld8(at((ptr)v98, v49)));
 	u64 v131 = v49 + 1;
 	if (v131 == v99) { v50 = v48; v51 = v99; goto L58; }
 	v49 = v131; goto L56;
-L57:;
+L57:
 	move(v48, (ptr)v98, v99);
 	v50 = v48; v51 = v99;
-L58:;
-	v57 = 1; v58 = v50; v59 = v99; v60 = v51; v61 = 0; v62 = 0; v63 = v95 & 0xffffffff0000ffffull; goto L67;
-L59:;
-	if (v96 != 0) { v55 = (ptr)v98; v56 = v100; goto L66; }
-	if (v99 == 0) { v52 = v69; goto L60; }
+L58:
+	v58 = v50; v59 = v99; v60 = v51; v63 = v95 & 0xffffffff0000ffffull; v57 = 1; v61 = v62 = 0; goto L67;
+L59:
+	if (v96) { v55 = (ptr)v98; v56 = v100; goto L66; }
+	if (!v99) { v52 = v69; goto L60; }
 	if ((s64)v99 <= -1) goto L63;
 	t_64_64 v132 = allocate(v99, 1);
 	if (!(v132.f0 & 1)) goto L63;
 	v52 = (ptr)v132.f1;
-L60:;
-	if (((u64)v52 - v98) >= v99) goto L62;
+L60:
+	if ((u64)v52 - v98 >= v99) goto L62;
 	v53 = 0;
-L61:;
+L61:
 	st8(at(v52, v53), ld8(at((ptr)v98, v53)));
 	u64 v133 = v53 + 1;
-	if (v133 == v99) { v55 = v52; v56 = v99; goto L66; }
+	if (v133 == v99) { M37: v55 = v52; v56 = v99; goto L66; }
 	v53 = v133; goto L61;
-L62:;
+L62:
 	move(v52, (ptr)v98, v99);
-	v55 = v52; v56 = v99; goto L66;
-L63:;
+	goto M37;
+L63:
 	stp(v75, v86);
 	st64(v75+8, v92);
 	st64(v75+16, v88);
@@ -6409,12 +5906,11 @@ L63:;
 	st64(v75+32, 0);
 	std_alloc_vec_deque_VecDeque_drop_af98(v75);
 	u64 v134 = ld64(v74+16);
-	if (v5 == 0) goto L65;
+	if (!v5) goto L65;
 	v54 = 0;
 L64:;
 	ptr v135 = at(v4, v54 * 48);
-	u8 v136 = ld8(v135);
-	u8 v137 = ld8(v135+1);
+	u8 v136 = ld8(v135), v137 = ld8(v135+1);
 	u32 v138 = lu32(v135+4);
 	u64 v139 = lu64(v135+8);
 	st64(v72, 0);
@@ -6426,18 +5922,18 @@ L64:;
 	ptions_interface_option_InterfaceDescriptionOption_Destruct_drop(v72);
 	u64 v140 = v54 + 1;
 	if (v140 != v5) { v54 = v140; goto L64; }
-L65:;
-	if (v134 == 0) goto L78;
+L65:
+	if (!v134) goto L78;
 	deallocate(v4);
 	goto L78;
-L66:;
-	v57 = 1; v58 = v55; v59 = v99; v60 = v56; v61 = 0; v62 = 0; v63 = v95 & 4294967295u;
-L67:;
+L66:
+	v58 = v55; v59 = v99; v60 = v56; v63 = v95 & 4294967295u; v57 = 1; v61 = v62 = 0;
+L67:
 	if (ld64(v74+16) != v5) { v65 = v4; v66 = v5; goto L71; }
 	u8 v141 = std_alloc_vec_Vec_grow_amortized_05c7(v74);
 	if (!v141) goto L68;
 	v65 = ldp(v74); v66 = ld64(v74+8); goto L71;
-L68:;
+L68:
 	st64(v71+16, v57);
 	stp(v71+24, v58);
 	st64(v71+32, v59);
@@ -6455,14 +5951,12 @@ L68:;
 	st64(v76+32, 0);
 	std_alloc_vec_deque_VecDeque_drop_af98(v76);
 	ptr v142 = ldp(v74);
-	u64 v143 = ld64(v74+8);
-	u64 v144 = ld64(v74+16);
-	if (v143 == 0) goto L70;
+	u64 v143 = ld64(v74+8), v144 = ld64(v74+16);
+	if (!v143) goto L70;
 	v64 = 0;
 L69:;
 	ptr v145 = at(v142, v64 * 48);
-	u8 v146 = ld8(v145);
-	u8 v147 = ld8(v145+1);
+	u8 v146 = ld8(v145), v147 = ld8(v145+1);
 	u32 v148 = lu32(v145+4);
 	u64 v149 = lu64(v145+8);
 	st64(v70, 0);
@@ -6474,8 +5968,8 @@ L69:;
 	ptions_interface_option_InterfaceDescriptionOption_Destruct_drop(v70);
 	u64 v150 = v64 + 1;
 	if (v150 != v143) { v64 = v150; goto L69; }
-L70:;
-	if (v144 == 0) goto L78;
+L70:
+	if (!v144) goto L78;
 	deallocate(v142);
 	goto L78;
 L71:;
@@ -6490,8 +5984,8 @@ L71:;
 	su64(v151+40, v60);
 	u64 v152 = v66 + 1;
 	st64(v74+8, v152);
-	if (v92 != 0) { v4 = v65; v5 = v152; v6 = v91; v7 = v92; goto L1; }
-L72:;
+	if (v92) { v4 = v65; v5 = v152; v6 = v91; v7 = v92; goto L1; }
+L72:
 	stp(v77, v86);
 	st64(v77+8, 0);
 	st64(v77+16, v88);
@@ -6506,7 +6000,7 @@ L72:;
 	u8 v154 = std_alloc_vec_Vec_grow_amortized_1728(v2+40);
 	if (!v154) goto L73;
 	v67 = ld64(v2+48); goto L74;
-L73:;
+L73:
 	std_alloc_vec_Vec_drop_37c7(v89);
 	st8(v1, 1);
 	st8(v1+8, 5);
@@ -6528,14 +6022,13 @@ L74:;
 	copy(v1+24, v80, 24);
 	copy(v1+48, v81, 56);
 	goto L79;
-L75:;
+L75:
 	__builtin_trap();
-L76:;
+L76:
 	v68 = 0;
 L77:;
 	ptr v156 = at(v86, v68 * 48);
-	u8 v157 = ld8(v156);
-	u8 v158 = ld8(v156+1);
+	u8 v157 = ld8(v156), v158 = ld8(v156+1);
 	u32 v159 = lu32(v156+4);
 	u64 v160 = lu64(v156+8);
 	st64(v73, 0);
@@ -6547,104 +6040,24 @@ L77:;
 	ptions_interface_option_InterfaceDescriptionOption_Destruct_drop(v73);
 	u64 v161 = v68 + 1;
 	if (v161 != v87) { v68 = v161; goto L77; }
-	if (v88 == 0) goto L78;
+	if (!v88) goto L78;
 	deallocate(v86);
-L78:;
+L78:
 	st8(v1, 1);
 	st8(v1+8, 5);
 	clear(v1+16, 88);
-L79:;
+L79:
 	return;
 }
-static void std_alloc_vec_deque_VecDeque_drop_af98(ptr v1) {
-	u64 v2, v3;
-	_Alignas(8) u8 v4[48], v5[48];
-	ptr v6 = lup(v1);
-	u64 v7 = lu64(v1+8);
-	u64 v8 = lu64(v1+16);
-	u64 v9 = lu64(v1+24);
-	u64 v10 = lu64(v1+32);
-	if (v7 == 0) goto L3;
-	u64 v11 = v7 - v10 + v9;
-	if (v9 >= v11) goto L1;
-	v2 = v9;
-L0:;
-	ptr v12 = at(v6, v2 * 48);
-	u8 v13 = ld8(v12);
-	u8 v14 = ld8(v12+1);
-	u32 v15 = lu32(v12+4);
-	u64 v16 = lu64(v12+8);
-	st64(v5, 0);
-	st8(v5, v13);
-	st8(v5+1, v14);
-	st32(v5+4, v15);
-	st64(v5+8, v16);
-	copy(v5+16, v12+16, 32);
-	ptions_interface_option_InterfaceDescriptionOption_Destruct_drop(v5);
-	u64 v17 = v2 + 1;
-	if (v17 != v11) { v2 = v17; goto L0; }
-L1:;
-	if (v10 == 0) goto L3;
-	v3 = 0;
-L2:;
-	ptr v18 = at(v6, v3 * 48);
-	u8 v19 = ld8(v18);
-	u8 v20 = ld8(v18+1);
-	u32 v21 = lu32(v18+4);
-	u64 v22 = lu64(v18+8);
-	st64(v4, 0);
-	st8(v4, v19);
-	st8(v4+1, v20);
-	st32(v4+4, v21);
-	st64(v4+8, v22);
-	copy(v4+16, v18+16, 32);
-	ptions_interface_option_InterfaceDescriptionOption_Destruct_drop(v4);
-	u64 v23 = v3 + 1;
-	if (v23 != v10) { v3 = v23; goto L2; }
-L3:;
-	if (v8 == 0) goto L4;
-	deallocate(v6);
-L4:;
-	return;
-}
-static __attribute__((noinline, cold)) u8 std_alloc_vec_Vec_grow_amortized_1728(ptr v1) {
+static APART RARE u8 std_alloc_vec_Vec_grow_amortized_62d2(ptr v1) {
 	t_64_64 v2;
 	u8 v3;
 	u64 v4 = ld64(v1+8);
 	if (v4 == ~0ull) { v3 = 0; goto L2; }
-	u64 v5 = ld64(v1+16);
-	u64 v6 = (v4 > 3 ? v4 : 3) + 1;
-	u64 v7 = v5 << 1;
-	u64 v8 = v6 > v7 ? v6 : v7;
-	u64 v9 = v5 < 0x4000000000000000ull ? v8 : v6;
-	if (v9 >= 0x333333333333334ull) { v3 = 0; goto L2; }
-	if (v5 != 0) goto L0;
-	t_64_64 v10 = allocate(v8 * 40, 8);
-	if (v10.f0 & 1) { v2 = v10; goto L1; }
-	v3 = 0; goto L2;
-L0:;
-	t_64_64 v11 = reallocate(ldp(v1), v4 * 40, v9 * 40, 8);
-	if (!(v11.f0 & 1)) { v3 = 0; goto L2; }
-	v2 = v11;
-L1:;
-	stp(v1, (ptr)v2.f1);
-	st64(v1+16, v9);
-	v3 = 1;
-L2:;
-	return v3;
-}
-static __attribute__((noinline, cold)) u8 std_alloc_vec_Vec_grow_amortized_62d2(ptr v1) {
-	t_64_64 v2;
-	u8 v3;
-	u64 v4 = ld64(v1+8);
-	if (v4 == ~0ull) { v3 = 0; goto L2; }
-	u64 v5 = ld64(v1+16);
-	u64 v6 = (v4 > 3 ? v4 : 3) + 1;
-	u64 v7 = v5 << 1;
-	u64 v8 = v6 > v7 ? v6 : v7;
+	u64 v5 = ld64(v1+16), v6 = (v4 > 3 ? v4 : 3) + 1, v7 = v5 << 1, v8 = v6 > v7 ? v6 : v7;
 	u64 v9 = v5 < 0x4000000000000000ull ? v8 : v6;
 	if (v9 >= 0x1000000000000000ull) { v3 = 0; goto L2; }
-	if (v5 != 0) goto L0;
+	if (v5) goto L0;
 	t_64_64 v10 = allocate(v8 << 3, 8);
 	if (v10.f0 & 1) { v2 = v10; goto L1; }
 	v3 = 0; goto L2;
@@ -6652,61 +6065,28 @@ L0:;
 	t_64_64 v11 = reallocate(ldp(v1), v4 << 3, v9 << 3, 8);
 	if (!(v11.f0 & 1)) { v3 = 0; goto L2; }
 	v2 = v11;
-L1:;
+L1:
 	stp(v1, (ptr)v2.f1);
 	st64(v1+16, v9);
 	v3 = 1;
-L2:;
-	return v3;
-}
-static __attribute__((noinline, cold)) u8 std_alloc_vec_Vec_grow_amortized_d1d7(ptr v1) {
-	t_64_64 v2;
-	u8 v3;
-	u64 v4 = ld64(v1+8);
-	if (v4 == ~0ull) { v3 = 0; goto L2; }
-	u64 v5 = ld64(v1+16);
-	u64 v6 = (v4 > 3 ? v4 : 3) + 1;
-	u64 v7 = v5 << 1;
-	u64 v8 = v6 > v7 ? v6 : v7;
-	u64 v9 = v5 < 0x4000000000000000ull ? v8 : v6;
-	if (v9 >= 0x333333333333334ull) { v3 = 0; goto L2; }
-	if (v5 != 0) goto L0;
-	t_64_64 v10 = allocate(v8 * 40, 8);
-	if (v10.f0 & 1) { v2 = v10; goto L1; }
-	v3 = 0; goto L2;
-L0:;
-	t_64_64 v11 = reallocate(ldp(v1), v4 * 40, v9 * 40, 8);
-	if (!(v11.f0 & 1)) { v3 = 0; goto L2; }
-	v2 = v11;
-L1:;
-	stp(v1, (ptr)v2.f1);
-	st64(v1+16, v9);
-	v3 = 1;
-L2:;
+L2:
 	return v3;
 }
 static void std_alloc_vec_Vec_drop_e386(ptr v1) {
 	u64 v2, v3, v4;
 	ptr v5 = lup(v1);
-	u64 v6 = lu64(v1+8);
-	u64 v7 = lu64(v1+16);
-	if (v6 == 0) goto L18;
+	u64 v6 = lu64(v1+8), v7 = lu64(v1+16);
+	if (!v6) goto L18;
 	v2 = 0;
 L0:;
-	ptr v8 = at(v5, v2 * 40);
-	ptr v9 = lup(v8+16);
-	u64 v10 = lu64(v8+24);
-	u64 v11 = lu64(v8+32);
-	if (v10 == 0) goto L16;
+	ptr v8 = at(v5, v2 * 40), v9 = lup(v8+16);
+	u64 v10 = lu64(v8+24), v11 = lu64(v8+32);
+	if (!v10) goto L16;
 	v3 = 0;
 L1:;
 	ptr v12 = at(v9, v3 * 48);
-	u64 v13 = lu64(v12+16);
-	u64 v14 = lu64(v12+24);
-	u64 v15 = lu64(v12+32);
-	u64 v16 = lu64(v12+40);
-	u8 v17 = (u8)lu64(v12+8);
-	u8 v18 = (u8)v13;
+	u64 v13 = lu64(v12+16), v14 = lu64(v12+24), v15 = lu64(v12+32), v16 = lu64(v12+40);
+	u8 v17 = (u8)lu64(v12+8), v18 = (u8)v13;
 	switch (ld8(v12)) {
 	case 0: goto L2;
 	case 1: goto L3;
@@ -6723,60 +6103,379 @@ L1:;
 	case 17: goto L13;
 	default: goto L20;
 	}
-L2:;
-	if ((v17 == 0) || (v15 == 0)) goto L15;
+L2:
+	if (!v17 || !v15) goto L15;
 	v4 = v13; goto L14;
-L3:;
-	if ((v17 == 0) || (v15 == 0)) goto L15;
+L3:
+	if (!v17 || !v15) goto L15;
 	v4 = v13; goto L14;
-L4:;
-	if ((v17 == 0) || (v15 == 0)) goto L15;
+L4:
+	if (!v17 || !v15) goto L15;
 	v4 = v13; goto L14;
-L5:;
-	if ((v17 == 0) || (v15 == 0)) goto L15;
+L5:
+	if (!v17 || !v15) goto L15;
 	v4 = v13; goto L14;
-L6:;
-	if ((v17 == 0) || (v15 == 0)) goto L15;
+L6:
+	if (!v17 || !v15) goto L15;
 	v4 = v13; goto L14;
-L7:;
-	if ((v17 == 0) || (v15 == 0)) goto L15;
+L7:
+	if (!v17 || !v15) goto L15;
 	v4 = v13; goto L14;
-L8:;
-	if ((v17 == 0) || (v15 == 0)) goto L15;
+L8:
+	if (!v17 || !v15) goto L15;
 	v4 = v13; goto L14;
-L9:;
-	if ((v17 == 0) || (v15 == 0)) goto L15;
+L9:
+	if (!v17 || !v15) goto L15;
 	v4 = v13; goto L14;
-L10:;
-	if ((v17 == 0) || (v15 == 0)) goto L15;
+L10:
+	if (!v17 || !v15) goto L15;
 	v4 = v13; goto L14;
-L11:;
-	if ((v18 == 0) || (v16 == 0)) goto L15;
+L11:
+	if (!v18 || !v16) goto L15;
 	v4 = v14; goto L14;
-L12:;
-	if ((v18 == 0) || (v16 == 0)) goto L15;
+L12:
+	if (!v18 || !v16) goto L15;
 	v4 = v14; goto L14;
-L13:;
-	if ((v18 == 0) || (v16 == 0)) goto L15;
+L13:
+	if (!v18 || !v16) goto L15;
 	v4 = v14;
-L14:;
+L14:
 	deallocate((ptr)v4);
 L15:;
 	u64 v19 = v3 + 1;
 	if (v19 != v10) { v3 = v19; goto L1; }
-L16:;
-	if (v11 == 0) goto L17;
+L16:
+	if (!v11) goto L17;
 	deallocate(v9);
 L17:;
 	u64 v20 = v2 + 1;
 	if (v20 != v6) { v2 = v20; goto L0; }
-L18:;
-	if (v7 == 0) goto L19;
+L18:
+	if (!v7) goto L19;
 	deallocate(v5);
-L19:;
+L19:
 	return;
-L20:;
+L20:
 	__builtin_trap();
+}
+static void pcap_parts_cut_ng_cut_ng_by(ptr v1, ptr v2, u64 v3, u8 v4, u64 v5) {
+	u64 v6, v8, v9, v11, v12, v13, v14, v16, v17, v19, v20, v21, v24, v25, v27, v28, v29, v30, v31, v33, v49, v51, v53, v55, v56;
+	ptr v7, v10, v15, v23, v34, v35, v36, v37, v38, v39, v40, v41, v42, v43, v45, v47, v50, v52, v54;
+	u8 v18, v22, v26, v32, v44, v46, v48;
+	_Alignas(8) u8 v57[1], v58[104], v59[104], v60[40], v61[40], v62[56], v63[104], v65[24], v66[104], v67[40], v68[104], v69[56], v70[104], v71[16], v73[104] = {0}, v74[16] = {0};
+	_Alignas(1) u8 v64[7], v72[16] = {0}, v75[7] = {0};
+	pcap_ng_pcapng_block_Block_from_slice(v70, 0, v2, v3);
+	u8 v76 = ld8(v70+8);
+	if (ld8(v70)) goto L45;
+	ptr v77 = ldp(v70+16);
+	u64 v78 = ld64(v70+40);
+	ptr v79 = ldp(v70+48), v80 = ldp(v70+64);
+	u64 v81 = (u64)ld_bytes(v70+25, 7) & 0xffffffffffffffull;
+	ptr v82 = ldp(v70+32);
+	u64 v83 = ld64(v70+56), v84 = ld64(v70+72);
+	st8(v69, ld8(v70+24));
+	st_bytes(v69+1, v81, 7);
+	stp(v69+8, v82);
+	st64(v69+16, v78);
+	stp(v69+24, v79);
+	st64(v69+32, v83);
+	stp(v69+40, v80);
+	st64(v69+48, v84);
+	clear(v66, 104);
+	clear(v68, 104);
+	pcap_ng_pcapng_block_Block_first_section(v68, v69);
+	u8 v85 = ld8(v68+8), v86 = (u8)v78;
+	if (ld8(v68)) { v34 = v68+16; v35 = v68+24; v36 = v68+32; v37 = v68+40; v38 = v68+48; v39 = v68+56; v40 = v68+72; v41 = v68+64; v42 = v68+80; v43 = v68+88; v44 = v85; goto L43; }
+	st8(v67, v85);
+	copy(v67+1, v68+9, 39);
+	pcap_blocks_section_header_SectionHeaderBlock_into_owned(v66, v67);
+	u8 v87 = ld8(v66+8);
+	if (ld8(v66)) { v34 = v66+16; v35 = v66+24; v36 = v66+32; v37 = v66+40; v38 = v66+48; v39 = v66+56; v40 = v66+72; v41 = v66+64; v42 = v66+80; v43 = v66+88; v44 = v87; goto L43; }
+	u64 v88 = (u64)ld_bytes(v66+9, 7) & 0xffffffffffffffull;
+	ptr v89 = ldp(v66+16);
+	u64 v90 = ld64(v66+24);
+	ptr v91 = ldp(v66+32);
+	u64 v92 = ld64(v66+40);
+	if (v86 != 1 || !v80) goto L0;
+	deallocate(v79);
+L0:;
+	u64 v93 = (u64)ld_bytes(v70+9, 7) & 0xffffffffffffffull;
+	clear(v74, 16);
+	u64 v94 = (u64)v77;
+	st64(v73, (v88 << 8) | (u64)v87);
+	stp(v73+8, v89);
+	st64(v73+16, v90);
+	stp(v73+24, v91);
+	st64(v73+32, v92);
+	stp(v73+40, v57);
+	clear(v73+48, 24);
+	stp(v73+72, v57);
+	clear(v73+80, 24);
+	clear(v64, 7);
+	stp(v65, v57);
+	clear(v65+8, 16);
+	u64 v95 = ld64(v73+80);
+	u8 v96 = std_alloc_vec_Vec_grow_amortized_d1d7(v65);
+	if (!v96) goto L39;
+	u64 v97 = ld64(v65+8);
+	ptr v98 = ldp(v65), v99 = at(v98, v97 * 40);
+	su64(v99, v3 - v94);
+	clear(v99+8, 24);
+	su64(v99+32, v95);
+	u8 v100 = v4 & 1, v101 = v5 < 2;
+	u64 v102 = v94 > 1 ? v94 - 1 : 0, v103 = v5 - 1;
+	v6 = v95; v7 = v98; v8 = v97; v9 = v94; v10 = (ptr)((v93 << 8) | (u64)v76); v11 = 0;
+L1:;
+	u64 v104 = v8 + 1;
+	st64(v65+8, v104);
+	u64 v105 = v94 - v9;
+	if (v100) { v12 = v5; goto L2; }
+	if (v101) goto L37;
+	u64 v106 = (v102 / v5) + 1, v107 = v105 % v106;
+	if (v103 <= v105 / v106) goto L37;
+	v12 = v106 - v107;
+L2:;
+	u64 v108 = v9 > v12 ? v9 - v12 : 0;
+	if (v108 >= v9) { v23 = v10; v24 = v9; v25 = 0; goto L31; }
+	v14 = v9; v15 = v10; v13 = 0;
+L3:;
+	u64 v109 = v3 - v14;
+	pcap_ng_pcapng_block_Block_from_slice(v63, ld32(v73) != 439041101, v15, v14);
+	u8 v110 = ld8(v63+8);
+	u64 v111 = ld64(v63+16);
+	if (ld8(v63)) goto L25;
+	u8 v112 = ld8(v63+24), v113 = ld8(v63+40);
+	ptr v114 = ldp(v63+48);
+	u64 v115 = ld64(v63+56), v116 = ld64(v63+64), v117 = (u64)ld_bytes(v63+9, 7) & 0xffffffffffffffull;
+	u64 v118 = ld64(v63+72);
+	st8(v62, v112);
+	copy(v62+1, v63+25, 15);
+	st8(v62+16, v113);
+	copy(v62+17, v63+41, 7);
+	stp(v62+24, v114);
+	st64(v62+32, v115);
+	st64(v62+40, v116);
+	st64(v62+48, v118);
+	clear(v59, 104);
+	clear(v58, 104);
+	switch (v112) {
+	case 0: goto L4;
+	case 1: goto L5;
+	case 2: case 3: case 4: case 5: case 6: case 7: case 8: goto L13;
+	default: goto L24;
+	}
+L4:
+	pcap_ng_pcapng_block_Block_new_section(v58, v114, v115);
+	goto L6;
+L5:
+	pcap_ng_pcapng_block_Block_new_interface(v58, v62);
+L6:;
+	u8 v119 = ld8(v58+8);
+	u64 v120 = ld64(v58+16);
+	u8 v121 = ld8(v58+24);
+	u64 v122 = (u64)ld_bytes(v58+25, 7) & 0xffffffffffffffull, v123 = ld64(v58+32);
+	u8 v124 = ld8(v58+40);
+	u64 v125 = (u64)ld_bytes(v58+41, 7) & 0xffffffffffffffull;
+	ptr v126 = ldp(v58+48);
+	if (ld8(v58)) goto L11;
+	switch (v119) {
+	case 0: goto L7;
+	case 1: goto L8;
+	case 2: goto L14;
+	default: goto L10;
+	}
+L7:
+	st64(v60, v120);
+	st8(v60+8, v121);
+	st_bytes(v60+9, v122, 7);
+	st64(v60+16, v123);
+	st8(v60+24, v124);
+	st_bytes(v60+25, v125, 7);
+	stp(v60+32, v126);
+	pcap_ng_pcapng_state_InForce_begin_section(v59, v73, v60);
+	goto L9;
+L8:
+	st64(v61, v120);
+	st8(v61+8, v121);
+	st_bytes(v61+9, v122, 7);
+	st64(v61+16, v123);
+	st8(v61+24, v124);
+	st_bytes(v61+25, v125, 7);
+	stp(v61+32, v126);
+	pcap_ng_pcapng_state_InForce_add_interface(v59, v73, v61);
+L9:
+	if (!ld8(v59)) goto L15;
+	v16 = ld64(v59+32); v17 = ld64(v59+16); v18 = ld8(v59+8); goto L12;
+L10:
+	__builtin_trap();
+L11:
+	v16 = v123; v17 = v120; v18 = v119;
+L12:
+	if (v113 != 1 || !v116) { M4: v20 = v16; v21 = v17; v22 = v18; goto L26; }
+	deallocate(v114);
+	goto M4;
+L13:
+L14:
+L15:;
+	u64 v127 = v117 << 8;
+	switch (v112) {
+	case 0: goto L16;
+	case 1: goto L17;
+	case 2: case 3: case 4: case 5: case 6: case 7: case 8: goto L20;
+	default: goto L23;
+	}
+L16:
+	st64(v73+64, v109);
+	st64(v73+96, ld64(v73+80));
+	if (v113 != 1 || !v116) goto L22;
+	goto L21;
+L17:;
+	u64 v128 = ld64(v73+80);
+	if (ld64(v73+88) != v128) { v19 = v128; goto L19; }
+	u8 v129 = std_alloc_vec_Vec_grow_amortized_62d2(v73+72);
+	if (!v129) goto L18;
+	v19 = ld64(v73+80); goto L19;
+L18:
+	if (v113 != 1 || !v116) goto L28;
+	deallocate(v114);
+	goto L28;
+L19:
+	st64(at(ldp(v73+72), v19 << 3), v109);
+	st64(v73+80, v19 + 1);
+	if (v113 != 1 || !v116) goto L22;
+	goto L21;
+L20:
+	if (v113 != 1 || !v116) goto L22;
+L21:
+	deallocate(v114);
+L22:;
+	ptr v130 = (ptr)(v127 | (u64)v110);
+	u64 v131 = v13 + 1;
+	if (v108 < v111) { v13 = v131; v14 = v111; v15 = v130; goto L3; }
+	v23 = v130; v24 = v111; v25 = v131; goto L31;
+L23:
+	__builtin_trap();
+L24:
+	__builtin_trap();
+L25:
+	v20 = ld64(v63+32); v21 = v111; v22 = v110;
+L26:
+	switch (v22) {
+	case 0: goto L27;
+	case 5: goto L28;
+	case 1: case 2: case 3: case 4: case 6: goto L29;
+	default: goto L30;
+	}
+L27:;
+	u8 v132 = ld8(v65);
+	copy(v64, v65+1, 7);
+	v26 = v132; v27 = ld64(v65+8); v28 = ld64(v65+16); goto L33;
+L28:
+	if (!ld64(v65+16)) goto L41;
+	goto L40;
+L29:;
+	u8 v133 = ld8(v65);
+	copy(v64, v65+1, 7);
+	u64 v134 = ld64(v65+8), v135 = ld64(v65+16);
+	if (v22 != 4 || !v20) { M8: v26 = v133; v27 = v134; v28 = v135; goto L33; }
+	deallocate((ptr)v21);
+	goto M8;
+L30:
+	__builtin_trap();
+L31:
+	if (v9 >= v12) goto L32;
+	u8 v136 = ld8(v65);
+	copy(v64, v65+1, 7);
+	v26 = v136; v27 = ld64(v65+8); v28 = ld64(v65+16); goto L33;
+L32:
+	if (v24) goto L34;
+	u8 v137 = ld8(v65);
+	copy(v64, v65+1, 7);
+	v26 = v137; v27 = ld64(v65+8); v28 = ld64(v65+16);
+L33:
+	copy(v75, v64, 7);
+	v30 = ld64(v73+80); v31 = v28; v32 = v26; v33 = v27; goto L38;
+L34:;
+	u64 v138 = v25 + v11, v139 = v3 - v24, v140 = ld64(v73+64), v141 = ld64(v73+96);
+	u64 v142 = ld64(v73+80), v143 = v142 - v141, v144 = ld64(v65+8);
+	if (ld64(v65+16) != v144) { v29 = v144; goto L36; }
+	u8 v145 = std_alloc_vec_Vec_grow_amortized_d1d7(v65);
+	if (!v145) goto L35;
+	v29 = ld64(v65+8); goto L36;
+L35:
+	if (!ld64(v65+16)) goto L41;
+	goto L40;
+L36:;
+	ptr v146 = ldp(v65), v147 = at(v146, v29 * 40);
+	su64(v147, v139);
+	su64(v147+8, v138);
+	su64(v147+16, v140);
+	su64(v147+24, v141);
+	su64(v147+32, v143);
+	v6 = v142; v7 = v146; v8 = v29; v9 = v24; v10 = v23; v11 = v138; goto L1;
+L37:
+	copy(v75, v65+1, 7);
+	v30 = v6; v31 = ld64(v65+16); v32 = (u8)(u64)v7; v33 = v104;
+L38:;
+	ptr v148 = ldp(v73+72), v149 = ldp(v73+88);
+	std_alloc_vec_Vec_drop_050b(v73+16);
+	std_alloc_vec_Vec_drop_e386(v73+40);
+	su64(v1, 0);
+	st8(v1+8, v32);
+	copy(v1+9, v75, 7);
+	su64(v1+16, v33);
+	su64(v1+24, v31);
+	sup(v1+32, v148);
+	su64(v1+40, v30);
+	sup(v1+48, v149);
+	clear(v1+56, 32);
+	copy(v1+88, v72, 16);
+	goto L47;
+L39:
+	if (!ld64(v65+16)) goto L41;
+L40:
+	deallocate(ldp(v65));
+L41:
+	std_alloc_vec_Vec_drop_050b(v73+16);
+	std_alloc_vec_Vec_drop_e386(v73+40);
+	if (!ld64(v73+88)) goto L42;
+	deallocate(ldp(v73+72));
+L42:
+	su64(v1, 1);
+	st8(v1+8, 5);
+	clear(v1+9, 95);
+	goto L47;
+L43:;
+	ptr v150 = ldp(v34);
+	u64 v151 = ld64(v35);
+	ptr v152 = ldp(v36);
+	u64 v153 = ld64(v37);
+	ptr v154 = lup(v38);
+	u64 v155 = ld64(v39), v156 = ld64(v40), v157 = ld64(v42), v158 = ld64(v41);
+	copy(v71, v43, 16);
+	if (v86 != 1 || !v80) goto L44;
+	deallocate(v79);
+L44:
+	v45 = v71; v46 = v44; v47 = v150; v48 = (u8)v151; v49 = (v151 >> 8) & 0xffffffffffffffull; v50 = v152; v51 = v153; v52 = v154; v53 = v155; v54 = (ptr)v158; v55 = v156; v56 = v157; goto L46;
+L45:
+	v45 = v70+88; v46 = v76; v47 = ldp(v70+16); v48 = ld8(v70+24); v49 = (u64)ld_bytes(v70+25, 7) & 0xffffffffffffffull; v50 = ldp(v70+32); v51 = ld64(v70+40); v52 = ldp(v70+48); v53 = ld64(v70+56); v54 = ldp(v70+64); v55 = ld64(v70+72); v56 = ld64(v70+80);
+L46:
+	copy(v74, v45, 16);
+	su64(v1, 1);
+	st8(v1+8, v46);
+	clear(v1+9, 7);
+	su64(v1+16, (u64)v47);
+	su64(v1+24, (v49 << 8) | (u64)v48);
+	sup(v1+32, v50);
+	su64(v1+40, v51);
+	sup(v1+48, v52);
+	su64(v1+56, v53);
+	sup(v1+64, v54);
+	su64(v1+72, v55);
+	su64(v1+80, v56);
+	copy(v1+88, v74, 16);
+L47:
+	return;
 }
 static u32 pcapfile_values_errors_tell(ptr v1, ptr v2) {
 	u64 v3, v5;
@@ -6794,25 +6493,21 @@ static u32 pcapfile_values_errors_tell(ptr v1, ptr v2) {
 	case 6: goto L51;
 	default: goto L53;
 	}
-L0:;
+L0:
 	st64(v2+8, ld64(v1+8));
 	v8 = 1; goto L52;
 L1:;
 	u64 v9 = ld64(v1+16);
 	ptr v10 = ldp(v1+8);
-	u64 v11 = v9 - 16;
-	u64 v12 = v11 < 32 ? v11 : 32;
-	ptr v13 = at(v10, v12);
-	ptr v14 = at(v10, v11);
-	u64 v15 = v9 - 8;
-	u64 v16 = v15 < 16 ? v15 : 16;
-	ptr v17 = at(v10, v16);
-	ptr v18 = at(v10, v15);
+	u64 v11 = v9 - 16, v12 = v11 < 32 ? v11 : 32;
+	ptr v13 = at(v10, v12), v14 = at(v10, v11);
+	u64 v15 = v9 - 8, v16 = v15 < 16 ? v15 : 16;
+	ptr v17 = at(v10, v16), v18 = at(v10, v15);
 	v3 = 0;
 L2:;
 	u8 v19 = ld8(at((ptr)static_40, v3));
 	switch (v19) {
-	case 0: v4 = 1; v5 = 29; v6 = (ptr)static_0; goto L42;
+	case 0: v6 = (ptr)static_0; v4 = 1; v5 = 29; goto L42;
 	case 1: goto L3;
 	case 2: goto L4;
 	case 3: goto L5;
@@ -6854,85 +6549,85 @@ L2:;
 	case 39: goto L41;
 	default: goto L47;
 	}
-L3:;
-	v4 = 0; v5 = 40; v6 = (ptr)static_1; goto L42;
-L4:;
-	v4 = 1; v5 = 31; v6 = (ptr)static_2; goto L42;
-L5:;
-	v4 = 1; v5 = 31; v6 = (ptr)static_3; goto L42;
-L6:;
-	v4 = 1; v5 = 32; v6 = (ptr)static_4; goto L42;
-L7:;
-	v4 = 0; v5 = 40; v6 = (ptr)static_5; goto L42;
-L8:;
-	v4 = 1; v5 = 29; v6 = (ptr)static_6; goto L42;
-L9:;
-	v4 = 1; v5 = 23; v6 = (ptr)static_7; goto L42;
-L10:;
-	v4 = 0; v5 = 38; v6 = (ptr)static_8; goto L42;
-L11:;
-	v4 = 1; v5 = 21; v6 = (ptr)static_9; goto L42;
-L12:;
-	v4 = 0; v5 = 37; v6 = (ptr)static_10; goto L42;
-L13:;
-	v4 = 0; v5 = 43; v6 = (ptr)static_11; goto L42;
-L14:;
-	v4 = 0; v5 = 45; v6 = (ptr)static_12; goto L42;
-L15:;
-	v4 = 0; v5 = 58; v6 = (ptr)static_13; goto L42;
-L16:;
-	v4 = 0; v5 = 35; v6 = (ptr)static_14; goto L42;
-L17:;
-	v4 = 0; v5 = 43; v6 = (ptr)static_15; goto L42;
-L18:;
-	v4 = 1; v5 = 23; v6 = (ptr)static_16; goto L42;
-L19:;
-	v4 = 0; v5 = 40; v6 = (ptr)static_17; goto L42;
-L20:;
-	v4 = 0; v5 = 50; v6 = (ptr)static_18; goto L42;
-L21:;
-	v4 = 0; v5 = 51; v6 = (ptr)static_19; goto L42;
-L22:;
-	v4 = 0; v5 = 49; v6 = (ptr)static_20; goto L42;
-L23:;
-	v4 = 0; v5 = 49; v6 = (ptr)static_21; goto L42;
-L24:;
-	v4 = 0; v5 = 47; v6 = (ptr)static_22; goto L42;
-L25:;
-	v4 = 0; v5 = 49; v6 = (ptr)static_23; goto L42;
-L26:;
-	v4 = 0; v5 = 47; v6 = (ptr)static_24; goto L42;
-L27:;
-	v4 = 0; v5 = 45; v6 = (ptr)static_25; goto L42;
-L28:;
-	v4 = 0; v5 = 48; v6 = (ptr)static_26; goto L42;
-L29:;
-	v4 = 0; v5 = 50; v6 = (ptr)static_27; goto L42;
-L30:;
-	v4 = 0; v5 = 39; v6 = (ptr)static_28; goto L42;
-L31:;
-	v4 = 0; v5 = 43; v6 = (ptr)static_29; goto L42;
-L32:;
-	v4 = 1; v5 = 31; v6 = (ptr)static_30; goto L42;
-L33:;
-	v4 = 0; v5 = 47; v6 = (ptr)static_31; goto L42;
-L34:;
-	v4 = 0; v5 = 48; v6 = (ptr)static_32; goto L42;
-L35:;
-	v4 = 0; v5 = 48; v6 = (ptr)static_33; goto L42;
-L36:;
-	v4 = 0; v5 = 47; v6 = (ptr)static_34; goto L42;
-L37:;
-	v4 = 0; v5 = 39; v6 = (ptr)static_35; goto L42;
-L38:;
-	v4 = 0; v5 = 40; v6 = (ptr)static_36; goto L42;
-L39:;
-	v4 = 1; v5 = 26; v6 = (ptr)static_37; goto L42;
-L40:;
-	v4 = 0; v5 = 49; v6 = (ptr)static_38; goto L42;
-L41:;
-	v4 = 0; v5 = 33; v6 = (ptr)static_39;
-L42:;
+L3:
+	v6 = (ptr)static_1; v4 = 0; v5 = 40; goto L42;
+L4:
+	v6 = (ptr)static_2; v4 = 1; v5 = 31; goto L42;
+L5:
+	v6 = (ptr)static_3; v4 = 1; v5 = 31; goto L42;
+L6:
+	v6 = (ptr)static_4; v4 = 1; v5 = 32; goto L42;
+L7:
+	v6 = (ptr)static_5; v4 = 0; v5 = 40; goto L42;
+L8:
+	v6 = (ptr)static_6; v4 = 1; v5 = 29; goto L42;
+L9:
+	v6 = (ptr)static_7; v4 = 1; v5 = 23; goto L42;
+L10:
+	v6 = (ptr)static_8; v4 = 0; v5 = 38; goto L42;
+L11:
+	v6 = (ptr)static_9; v4 = 1; v5 = 21; goto L42;
+L12:
+	v6 = (ptr)static_10; v4 = 0; v5 = 37; goto L42;
+L13:
+	v6 = (ptr)static_11; v4 = 0; v5 = 43; goto L42;
+L14:
+	v6 = (ptr)static_12; v4 = 0; v5 = 45; goto L42;
+L15:
+	v6 = (ptr)static_13; v4 = 0; v5 = 58; goto L42;
+L16:
+	v6 = (ptr)static_14; v4 = 0; v5 = 35; goto L42;
+L17:
+	v6 = (ptr)static_15; v4 = 0; v5 = 43; goto L42;
+L18:
+	v6 = (ptr)static_16; v4 = 1; v5 = 23; goto L42;
+L19:
+	v6 = (ptr)static_17; v4 = 0; v5 = 40; goto L42;
+L20:
+	v6 = (ptr)static_18; v4 = 0; v5 = 50; goto L42;
+L21:
+	v6 = (ptr)static_19; v4 = 0; v5 = 51; goto L42;
+L22:
+	v6 = (ptr)static_20; v4 = 0; v5 = 49; goto L42;
+L23:
+	v6 = (ptr)static_21; v4 = 0; v5 = 49; goto L42;
+L24:
+	v6 = (ptr)static_22; v4 = 0; v5 = 47; goto L42;
+L25:
+	v6 = (ptr)static_23; v4 = 0; v5 = 49; goto L42;
+L26:
+	v6 = (ptr)static_24; v4 = 0; v5 = 47; goto L42;
+L27:
+	v6 = (ptr)static_25; v4 = 0; v5 = 45; goto L42;
+L28:
+	v6 = (ptr)static_26; v4 = 0; v5 = 48; goto L42;
+L29:
+	v6 = (ptr)static_27; v4 = 0; v5 = 50; goto L42;
+L30:
+	v6 = (ptr)static_28; v4 = 0; v5 = 39; goto L42;
+L31:
+	v6 = (ptr)static_29; v4 = 0; v5 = 43; goto L42;
+L32:
+	v6 = (ptr)static_30; v4 = 1; v5 = 31; goto L42;
+L33:
+	v6 = (ptr)static_31; v4 = 0; v5 = 47; goto L42;
+L34:
+	v6 = (ptr)static_32; v4 = 0; v5 = 48; goto L42;
+L35:
+	v6 = (ptr)static_33; v4 = 0; v5 = 48; goto L42;
+L36:
+	v6 = (ptr)static_34; v4 = 0; v5 = 47; goto L42;
+L37:
+	v6 = (ptr)static_35; v4 = 0; v5 = 39; goto L42;
+L38:
+	v6 = (ptr)static_36; v4 = 0; v5 = 40; goto L42;
+L39:
+	v6 = (ptr)static_37; v4 = 1; v5 = 26; goto L42;
+L40:
+	v6 = (ptr)static_38; v4 = 0; v5 = 49; goto L42;
+L41:
+	v6 = (ptr)static_39; v4 = 0; v5 = 33;
+L42:
 	if (v5 != v9) goto L45;
 	if (!v4) goto L43;
 	u8 v20 = (lu64(v6) == lu64(v10)) & (lu64(v6+8) == lu64(v10+8)) & (lu64(at(v6, v16)) == lu64(v17)) & (lu64(at(v6, v15)) == lu64(v18));
@@ -6941,56 +6636,140 @@ L42:;
 L43:;
 	v16u8 v21 = -((v16u8)(LOAD_VECTOR(v16u8, v6) != LOAD_VECTOR(v16u8, v10))) | -((v16u8)(LOAD_VECTOR(v16u8, v6+16) != LOAD_VECTOR(v16u8, v10+16)));
 	v16u8 v22 = v21 | -((v16u8)(LOAD_VECTOR(v16u8, at(v6, v12)) != LOAD_VECTOR(v16u8, v13))) | -((v16u8)(LOAD_VECTOR(v16u8, at(v6, v11)) != LOAD_VECTOR(v16u8, v14)));
-	if ((u16)bits_of_lanes(&v22, 16) != 0) goto L45;
-L44:;
+	if ((u16)bits_of_lanes(&v22, 16)) goto L45;
+L44:
 	v7 = ld32(at((ptr)switch_table_pcapfile_take_block_as_is, (u64)v19 * 4)); goto L46;
 L45:;
 	u64 v23 = v3 + 1;
 	if (v23 != 40) { v3 = v23; goto L2; }
 	v7 = 0;
-L46:;
+L46:
 	st32(v2, v7);
 	v8 = 3; goto L52;
-L47:;
+L47:
 	__builtin_trap();
-L48:;
+L48:
 	v8 = 4; goto L52;
-L49:;
+L49:
 	v8 = 5; goto L52;
-L50:;
+L50:
 	v8 = 6; goto L52;
-L51:;
+L51:
 	v8 = 7;
-L52:;
+L52:
 	return v8;
-L53:;
+L53:
 	__builtin_trap();
+}
+static u32 pcapfile_c_block_cuts_fill_cuts(ptr v1, u64 v2, u8 v3, u64 v4, ptr v5, ptr v6, ptr v7, u64 v8, ptr v9, ptr v10) {
+	u64 v11, v12, v14, v15, v16, v19, v20;
+	ptr v13, v21;
+	u8 v17, v18;
+	u32 v22, v23;
+	_Alignas(8) u8 v24[104], v25[104], v26[48], v27[96];
+	_Alignas(1) u8 v28[48];
+	st64(v27, 0);
+	if (!(v3 & 1)) goto L0;
+	clear(v24, 104);
+	pcap_parts_cut_ng_cut_ng_by(v24, v1, v2, 1, v4 > 1 ? v4 : 1);
+	u8 v29 = ld8(v24), v30 = ld8(v24+8);
+	u64 v31 = (u64)ld_bytes(v24+9, 7) & 0xffffffffffffffull, v32 = ld64(v24+16), v33 = ld64(v24+24);
+	ptr v34 = ldp(v24+32);
+	u64 v35 = ld64(v24+40), v36 = ld64(v24+48);
+	copy(v26, v24+56, 48);
+	v11 = v36; v12 = v35; v13 = v34; v14 = v33; v15 = v32; v16 = v31; v17 = v30; v18 = v29; goto L1;
+L0:
+	clear(v25, 104);
+	pcap_parts_cut_ng_cut_ng_by(v25, v1, v2, 0, v4);
+	u8 v37 = ld8(v25), v38 = ld8(v25+8);
+	u64 v39 = (u64)ld_bytes(v25+9, 7) & 0xffffffffffffffull, v40 = ld64(v25+16), v41 = ld64(v25+24);
+	ptr v42 = ldp(v25+32);
+	u64 v43 = ld64(v25+40), v44 = ld64(v25+48);
+	copy(v26, v25+56, 48);
+	v11 = v44; v12 = v43; v13 = v42; v14 = v41; v15 = v40; v16 = v39; v17 = v38; v18 = v37;
+L1:
+	copy(v28, v26, 48);
+	if (v18) goto L11;
+	u64 v45 = (v16 << 8) | (u64)v17;
+	st64(v9, v12);
+	if (v8 >= v12) goto L3;
+	if (!v14) goto L2;
+	deallocate((ptr)v45);
+L2:
+	if (!v11) { v23 = 11; goto L13; }
+	v21 = v13; v22 = 11; goto L12;
+L3:;
+	u64 v46 = v15 * 40;
+	if ((u64)v5 - v45 >= v46) goto L5;
+	if (!v15) goto L6;
+	v19 = 0;
+L4:;
+	u64 v47 = v19 * 40;
+	move(at(v5, v47), at((ptr)v45, v47), 40);
+	u64 v48 = v19 + 1;
+	if (v48 == v15) goto L6;
+	v19 = v48; goto L4;
+L5:
+	move(v5, (ptr)v45, v46);
+L6:
+	st64(v6, v15);
+	u64 v49 = v12 << 3;
+	if ((u64)v7 - (u64)v13 >= v49) goto L8;
+	if (!v12) goto L9;
+	v20 = 0;
+L7:;
+	u64 v50 = v20 << 3;
+	st64(at(v7, v50), ld64(at(v13, v50)));
+	u64 v51 = v20 + 1;
+	if (v51 == v12) goto L9;
+	v20 = v51; goto L7;
+L8:
+	move(v7, v13, v49);
+L9:
+	if (!v14) goto L10;
+	deallocate((ptr)v45);
+L10:
+	if (!v11) { v23 = 0; goto L13; }
+	v21 = v13; v22 = 0; goto L12;
+L11:
+	st8(v27, v17);
+	st64(v27+8, v15);
+	st64(v27+16, v14);
+	stp(v27+24, v13);
+	st64(v27+32, v12);
+	st64(v27+40, v11);
+	copy(v27+48, v28, 48);
+	u32 v52 = pcapfile_values_errors_tell(v27, v10);
+	if (v17 != 4 || !v13) { v23 = v52; goto L13; }
+	v21 = (ptr)v15; v22 = v52;
+L12:
+	deallocate(v21);
+	v23 = v22;
+L13:
+	return v23;
 }
 static u32 pcapfile_c_cuts_fill_cuts(ptr v1, u8 v2, u64 v3, ptr v4, ptr v5, ptr v6) {
 	u64 v7, v9, v10, v11, v12, v14, v15, v17, v18, v20, v21, v23, v24, v25, v26, v28, v29, v31, v32, v34, v35, v36, v38, v39, v41, v42, v44, v45, v46, v47, v49, v50, v52, v53, v54, v55;
 	ptr v8, v13, v16, v19, v22, v27, v30, v33, v37, v40, v43, v48, v51;
 	u8 v56;
 	u32 v57;
-	_Alignas(8) u8 v58[96];
-	clear(v58, 96);
+	_Alignas(8) u8 v58[96] = {0};
 	ptr v59 = lup(v1);
 	u64 v60 = lu64(v1+8);
 	if (v60 >= 24) goto L0;
-	v54 = 0; v55 = 24ull - v60; v56 = 0; goto L21;
+	v55 = 24ull - v60; v54 = v56 = 0; goto L21;
 L0:;
-	u32 v61 = lu32(v59);
-	u32 v62 = (u32)__builtin_bswap32(v61);
+	u32 v61 = lu32(v59), v62 = (u32)__builtin_bswap32(v61);
 	switch (v62) {
 	case 2712812621u: case 2712847316u: case 1295823521: case 3569595041u: goto L1;
-	default: v54 = 29; v55 = (u64)(ptr)static_0; v56 = 2; goto L21;
+	default: v55 = (u64)(ptr)static_0; v54 = 29; v56 = 2; goto L21;
 	}
 L1:;
 	u64 v63 = v60 - 24;
 	su64(v4, 24);
 	su64(v4+8, 0);
 	u64 v64 = v63 > 1 ? v63 - 1 : 0;
-	u8 v65 = v2 & 1;
-	u8 v66 = v3 < 2;
+	u8 v65 = v2 & 1, v66 = v3 < 2;
 	u64 v67 = v3 - 1;
 	u8 v68 = v61 == 3569595041u;
 	switch (v62) {
@@ -6998,49 +6777,46 @@ L1:;
 	case 3569595041u: v21 = v63; v22 = v59+24; v23 = 0; v24 = 1; goto L8;
 	default: goto L12;
 	}
-L2:;
+L2:
 	v7 = v63; v8 = v59+24; v9 = 0; v10 = 1;
 L3:;
 	u64 v69 = v63 - v7;
 	if (v65) { v11 = v3; goto L4; }
 	if (v66) { v53 = v10; goto L20; }
-	u64 v70 = (v64 / v3) + 1;
-	u64 v71 = v69 % v70;
-	if (v67 <= (v69 / v70)) { v53 = v10; goto L20; }
+	u64 v70 = (v64 / v3) + 1, v71 = v69 % v70;
+	if (v67 <= v69 / v70) { v53 = v10; goto L20; }
 	v11 = v70 - v71;
 L4:;
 	u64 v72 = v7 > v11 ? v7 - v11 : 0;
-	if (v72 >= v7) { v18 = 0; v19 = v8; v20 = v7; goto L7; }
+	if (v72 >= v7) { v19 = v8; v20 = v7; v18 = 0; goto L7; }
 	if (!v68) { v15 = v7; v16 = v8; v17 = 0; goto L6; }
 	v12 = v7; v13 = v8; v14 = 0;
-L5:;
+L5:
 	if (v12 < 16) { v53 = v10; goto L20; }
 	u32 v73 = (u32)__builtin_bswap32(lu32(v13+8));
 	u64 v74 = v12 - 16;
 	u32 v75 = (u32)__builtin_bswap32(lu32(v13+12));
-	u8 v76 = ((((u32)__builtin_bswap32(lu32(v13+4)) > 4294967) || (v73 > 262144)) | (v75 > 262144)) || (v75 < v73);
+	u8 v76 = ((u32)__builtin_bswap32(lu32(v13+4)) > 4294967 || v73 > 262144) | (v75 > 262144) || v75 < v73;
 	if (v76) { v53 = v10; goto L20; }
 	u64 v77 = (u64)v73;
 	if (v74 < v77) { v53 = v10; goto L20; }
 	ptr v78 = at(v13+16, v77);
-	u64 v79 = v74 - v77;
-	u64 v80 = v14 + 1;
+	u64 v79 = v74 - v77, v80 = v14 + 1;
 	if (v72 < v79) { v12 = v79; v13 = v78; v14 = v80; goto L5; }
 	v18 = v80; v19 = v78; v20 = v79; goto L7;
-L6:;
+L6:
 	if (v15 < 16) { v53 = v10; goto L20; }
 	u32 v81 = (u32)__builtin_bswap32(lu32(v16+8));
 	u64 v82 = v15 - 16;
 	u32 v83 = (u32)__builtin_bswap32(lu32(v16+12));
-	if (((v81 > 262144) | (v83 > 262144)) || (v83 < v81)) { v53 = v10; goto L20; }
+	if ((v81 > 262144) | (v83 > 262144) || v83 < v81) { v53 = v10; goto L20; }
 	u64 v84 = (u64)v81;
 	if (v82 < v84) { v53 = v10; goto L20; }
 	ptr v85 = at(v16+16, v84);
-	u64 v86 = v82 - v84;
-	u64 v87 = v17 + 1;
+	u64 v86 = v82 - v84, v87 = v17 + 1;
 	if (v72 < v86) { v15 = v86; v16 = v85; v17 = v87; goto L6; }
 	v18 = v87; v19 = v85; v20 = v86;
-L7:;
+L7:
 	if ((v7 < v11) | (v20 == 0)) { v53 = v10; goto L20; }
 	u64 v88 = v18 + v9;
 	ptr v89 = at(v4, v10 << 4);
@@ -7051,105 +6827,99 @@ L8:;
 	u64 v90 = v63 - v21;
 	if (v65) { v25 = v3; goto L9; }
 	if (v66) { v53 = v24; goto L20; }
-	u64 v91 = (v64 / v3) + 1;
-	u64 v92 = v90 % v91;
-	if (v67 <= (v90 / v91)) { v53 = v24; goto L20; }
+	u64 v91 = (v64 / v3) + 1, v92 = v90 % v91;
+	if (v67 <= v90 / v91) { v53 = v24; goto L20; }
 	v25 = v91 - v92;
 L9:;
 	u64 v93 = v21 > v25 ? v21 - v25 : 0;
-	if (v93 >= v21) { v29 = 0; v30 = v22; v31 = v21; goto L11; }
+	if (v93 >= v21) { v30 = v22; v31 = v21; v29 = 0; goto L11; }
 	v26 = v21; v27 = v22; v28 = 0;
-L10:;
+L10:
 	if (v26 < 16) { v53 = v24; goto L20; }
 	u64 v94 = lu64(v27+8);
 	u32 v95 = (u32)v94;
 	u64 v96 = v26 - 16;
-	u8 v97 = ((lu32(v27+4) > 4294967) || ((v94 > 0x40000ffffffffull) | (v95 > 262144))) || ((u32)(v94 >> 32) < v95);
+	u8 v97 = lu32(v27+4) > 4294967 || (v94 > 0x40000ffffffffull) | (v95 > 262144) || (u32)(v94 >> 32) < v95;
 	if (v97) { v53 = v24; goto L20; }
 	u64 v98 = v94 & 524287;
 	if (v96 < v98) { v53 = v24; goto L20; }
 	ptr v99 = at(v27+16, v98);
-	u64 v100 = v96 - v98;
-	u64 v101 = v28 + 1;
+	u64 v100 = v96 - v98, v101 = v28 + 1;
 	if (v93 < v100) { v26 = v100; v27 = v99; v28 = v101; goto L10; }
 	v29 = v101; v30 = v99; v31 = v100;
-L11:;
+L11:
 	if ((v21 < v25) | (v31 == 0)) { v53 = v24; goto L20; }
 	u64 v102 = v29 + v23;
 	ptr v103 = at(v4, v24 << 4);
 	su64(v103, v60 - v31);
 	su64(v103+8, v102);
 	v21 = v31; v22 = v30; v23 = v102; v24 = v24 + 1; goto L8;
-L12:;
+L12:
 	if (!v65) goto L16;
 	v32 = v63; v33 = v59+24; v34 = 0; v35 = 1;
 L13:;
 	u64 v104 = v32 > v3 ? v32 - v3 : 0;
-	if (v104 >= v32) { v39 = 0; v40 = v33; v41 = v32; goto L15; }
+	if (v104 >= v32) { v40 = v33; v41 = v32; v39 = 0; goto L15; }
 	v36 = v32; v37 = v33; v38 = 0;
-L14:;
+L14:
 	if (v36 < 16) { v53 = v35; goto L20; }
 	u64 v105 = lu64(v37+8);
 	u32 v106 = (u32)v105;
 	u64 v107 = v36 - 16;
-	if (((v105 > 0x40000ffffffffull) | (v106 > 262144)) || ((u32)(v105 >> 32) < v106)) { v53 = v35; goto L20; }
+	if ((v105 > 0x40000ffffffffull) | (v106 > 262144) || (u32)(v105 >> 32) < v106) { v53 = v35; goto L20; }
 	u64 v108 = v105 & 524287;
 	if (v107 < v108) { v53 = v35; goto L20; }
 	ptr v109 = at(v37+16, v108);
-	u64 v110 = v107 - v108;
-	u64 v111 = v38 + 1;
+	u64 v110 = v107 - v108, v111 = v38 + 1;
 	if (v104 < v110) { v36 = v110; v37 = v109; v38 = v111; goto L14; }
 	v39 = v111; v40 = v109; v41 = v110;
-L15:;
+L15:
 	if ((v32 < v3) | (v41 == 0)) { v53 = v35; goto L20; }
 	u64 v112 = v39 + v34;
 	ptr v113 = at(v4, v35 << 4);
 	su64(v113, v60 - v41);
 	su64(v113+8, v112);
 	v32 = v41; v33 = v40; v34 = v112; v35 = v35 + 1; goto L13;
-L16:;
+L16:
 	if (v66) { v53 = 1; goto L20; }
 	u64 v114 = (v64 / v3) + 1;
-	v42 = v63; v43 = v59+24; v44 = 0; v45 = 1; v46 = 0;
+	v42 = v63; v43 = v59+24; v44 = v46 = 0; v45 = 1;
 L17:;
-	u64 v115 = v114 - (v46 % v114);
-	u64 v116 = v42 > v115 ? v42 - v115 : 0;
-	if (v116 >= v42) { v50 = 0; v51 = v43; v52 = v42; goto L19; }
+	u64 v115 = v114 - (v46 % v114), v116 = v42 > v115 ? v42 - v115 : 0;
+	if (v116 >= v42) { v51 = v43; v52 = v42; v50 = 0; goto L19; }
 	v47 = v42; v48 = v43; v49 = 0;
-L18:;
+L18:
 	if (v47 < 16) { v53 = v45; goto L20; }
 	u64 v117 = lu64(v48+8);
 	u32 v118 = (u32)v117;
 	u64 v119 = v47 - 16;
-	if (((v117 > 0x40000ffffffffull) | (v118 > 262144)) || ((u32)(v117 >> 32) < v118)) { v53 = v45; goto L20; }
+	if ((v117 > 0x40000ffffffffull) | (v118 > 262144) || (u32)(v117 >> 32) < v118) { v53 = v45; goto L20; }
 	u64 v120 = v117 & 524287;
 	if (v119 < v120) { v53 = v45; goto L20; }
 	ptr v121 = at(v48+16, v120);
-	u64 v122 = v119 - v120;
-	u64 v123 = v49 + 1;
+	u64 v122 = v119 - v120, v123 = v49 + 1;
 	if (v116 < v122) { v47 = v122; v48 = v121; v49 = v123; goto L18; }
 	v50 = v123; v51 = v121; v52 = v122;
-L19:;
+L19:
 	if ((v42 < v115) | (v52 == 0)) { v53 = v45; goto L20; }
 	u64 v124 = v50 + v44;
 	ptr v125 = at(v4, v45 << 4);
 	su64(v125, v60 - v52);
 	su64(v125+8, v124);
-	u64 v126 = v45 + 1;
-	u64 v127 = v63 - v52;
-	if (v67 > (v127 / v114)) { v42 = v52; v43 = v51; v44 = v124; v45 = v126; v46 = v127; goto L17; }
+	u64 v126 = v45 + 1, v127 = v63 - v52;
+	if (v67 > v127 / v114) { v42 = v52; v43 = v51; v44 = v124; v45 = v126; v46 = v127; goto L17; }
 	v53 = v126;
-L20:;
+L20:
 	st64(v5, v53);
 	v57 = 0; goto L22;
-L21:;
+L21:
 	st8(v58, v56);
 	st64(v58+8, v55);
 	st64(v58+16, v54);
 	clear(v58+24, 72);
 	u32 v128 = pcapfile_values_errors_tell(v58, v6);
 	v57 = v128;
-L22:;
+L22:
 	return v57;
 }
 static u32 pcap_core_link_U32FromDataLink_from(u8 v1, u32 v2) {
@@ -7265,266 +7035,249 @@ static u32 pcap_core_link_U32FromDataLink_from(u8 v1, u32 v2) {
 	case 107: goto L106;
 	default: goto L108;
 	}
-L0:;
+L0:
 	v3 = 1; goto L107;
-L1:;
+L1:
 	v3 = 3; goto L107;
-L2:;
+L2:
 	v3 = 6; goto L107;
-L3:;
+L3:
 	v3 = 7; goto L107;
-L4:;
+L4:
 	v3 = 8; goto L107;
-L5:;
+L5:
 	v3 = 9; goto L107;
-L6:;
+L6:
 	v3 = 10; goto L107;
-L7:;
+L7:
 	v3 = 50; goto L107;
-L8:;
+L8:
 	v3 = 51; goto L107;
-L9:;
+L9:
 	v3 = 100; goto L107;
-L10:;
+L10:
 	v3 = 101; goto L107;
-L11:;
+L11:
 	v3 = 104; goto L107;
-L12:;
+L12:
 	v3 = 105; goto L107;
-L13:;
+L13:
 	v3 = 107; goto L107;
-L14:;
+L14:
 	v3 = 108; goto L107;
-L15:;
+L15:
 	v3 = 113; goto L107;
-L16:;
+L16:
 	v3 = 114; goto L107;
-L17:;
+L17:
 	v3 = 117; goto L107;
-L18:;
+L18:
 	v3 = 119; goto L107;
-L19:;
+L19:
 	v3 = 122; goto L107;
-L20:;
+L20:
 	v3 = 123; goto L107;
-L21:;
+L21:
 	v3 = 127; goto L107;
-L22:;
+L22:
 	v3 = 129; goto L107;
-L23:;
+L23:
 	v3 = 138; goto L107;
-L24:;
+L24:
 	v3 = 139; goto L107;
-L25:;
+L25:
 	v3 = 140; goto L107;
-L26:;
+L26:
 	v3 = 141; goto L107;
-L27:;
+L27:
 	v3 = 142; goto L107;
-L28:;
+L28:
 	v3 = 143; goto L107;
-L29:;
+L29:
 	v3 = 144; goto L107;
-L30:;
+L30:
 	v3 = 147; goto L107;
-L31:;
+L31:
 	v3 = 148; goto L107;
-L32:;
+L32:
 	v3 = 149; goto L107;
-L33:;
+L33:
 	v3 = 150; goto L107;
-L34:;
+L34:
 	v3 = 151; goto L107;
-L35:;
+L35:
 	v3 = 152; goto L107;
-L36:;
+L36:
 	v3 = 153; goto L107;
-L37:;
+L37:
 	v3 = 154; goto L107;
-L38:;
+L38:
 	v3 = 155; goto L107;
-L39:;
+L39:
 	v3 = 156; goto L107;
-L40:;
+L40:
 	v3 = 157; goto L107;
-L41:;
+L41:
 	v3 = 158; goto L107;
-L42:;
+L42:
 	v3 = 159; goto L107;
-L43:;
+L43:
 	v3 = 160; goto L107;
-L44:;
+L44:
 	v3 = 161; goto L107;
-L45:;
+L45:
 	v3 = 162; goto L107;
-L46:;
+L46:
 	v3 = 163; goto L107;
-L47:;
+L47:
 	v3 = 165; goto L107;
-L48:;
+L48:
 	v3 = 166; goto L107;
-L49:;
+L49:
 	v3 = 169; goto L107;
-L50:;
+L50:
 	v3 = 170; goto L107;
-L51:;
+L51:
 	v3 = 171; goto L107;
-L52:;
+L52:
 	v3 = 177; goto L107;
-L53:;
+L53:
 	v3 = 187; goto L107;
-L54:;
+L54:
 	v3 = 189; goto L107;
-L55:;
+L55:
 	v3 = 192; goto L107;
-L56:;
+L56:
 	v3 = 195; goto L107;
-L57:;
+L57:
 	v3 = 196; goto L107;
-L58:;
+L58:
 	v3 = 197; goto L107;
-L59:;
+L59:
 	v3 = 201; goto L107;
-L60:;
+L60:
 	v3 = 202; goto L107;
-L61:;
+L61:
 	v3 = 203; goto L107;
-L62:;
+L62:
 	v3 = 204; goto L107;
-L63:;
+L63:
 	v3 = 205; goto L107;
-L64:;
+L64:
 	v3 = 206; goto L107;
-L65:;
+L65:
 	v3 = 209; goto L107;
-L66:;
+L66:
 	v3 = 215; goto L107;
-L67:;
+L67:
 	v3 = 220; goto L107;
-L68:;
+L68:
 	v3 = 224; goto L107;
-L69:;
+L69:
 	v3 = 225; goto L107;
-L70:;
+L70:
 	v3 = 226; goto L107;
-L71:;
+L71:
 	v3 = 227; goto L107;
-L72:;
+L72:
 	v3 = 228; goto L107;
-L73:;
+L73:
 	v3 = 229; goto L107;
-L74:;
+L74:
 	v3 = 230; goto L107;
-L75:;
+L75:
 	v3 = 231; goto L107;
-L76:;
+L76:
 	v3 = 235; goto L107;
-L77:;
+L77:
 	v3 = 236; goto L107;
-L78:;
+L78:
 	v3 = 237; goto L107;
-L79:;
+L79:
 	v3 = 239; goto L107;
-L80:;
+L80:
 	v3 = 240; goto L107;
-L81:;
+L81:
 	v3 = 241; goto L107;
-L82:;
+L82:
 	v3 = 242; goto L107;
-L83:;
+L83:
 	v3 = 243; goto L107;
-L84:;
+L84:
 	v3 = 244; goto L107;
-L85:;
+L85:
 	v3 = 245; goto L107;
-L86:;
+L86:
 	v3 = 247; goto L107;
-L87:;
+L87:
 	v3 = 248; goto L107;
-L88:;
+L88:
 	v3 = 249; goto L107;
-L89:;
+L89:
 	v3 = 250; goto L107;
-L90:;
+L90:
 	v3 = 251; goto L107;
-L91:;
+L91:
 	v3 = 253; goto L107;
-L92:;
+L92:
 	v3 = 254; goto L107;
-L93:;
+L93:
 	v3 = 255; goto L107;
-L94:;
+L94:
 	v3 = 256; goto L107;
-L95:;
+L95:
 	v3 = 257; goto L107;
-L96:;
+L96:
 	v3 = 258; goto L107;
-L97:;
+L97:
 	v3 = 259; goto L107;
-L98:;
+L98:
 	v3 = 260; goto L107;
-L99:;
+L99:
 	v3 = 261; goto L107;
-L100:;
+L100:
 	v3 = 262; goto L107;
-L101:;
+L101:
 	v3 = 263; goto L107;
-L102:;
+L102:
 	v3 = 264; goto L107;
-L103:;
+L103:
 	v3 = 265; goto L107;
-L104:;
+L104:
 	v3 = 266; goto L107;
-L105:;
+L105:
 	v3 = 268; goto L107;
-L106:;
+L106:
 	v3 = v2;
-L107:;
+L107:
 	return v3;
-L108:;
+L108:
 	__builtin_trap();
 }
 static void pcapfile_values_bodies_interface_of(ptr v1, u8 v2, u8 v3, u32 v4, ptr v5, u64 v6) {
 	u64 v7, v9, v10, v12, v18;
 	u8 v8, v11, v13, v16, v17, v19;
 	u32 v14, v15;
-	_Alignas(8) u8 v20[112], v21[16], v22[16], v23[24], v24[24], v25[24], v26[24], v27[24], v28[24], v29[24];
-	clear(v21, 16);
-	clear(v23, 24);
-	clear(v24, 24);
-	clear(v25, 24);
-	clear(v26, 24);
-	clear(v27, 24);
-	clear(v28, 24);
-	clear(v29, 24);
-	clear(v20, 112);
+	_Alignas(8) u8 v20[112] = {0}, v21[16] = {0}, v22[16], v23[24] = {0}, v24[24] = {0}, v25[24] = {0}, v26[24] = {0}, v27[24] = {0}, v28[24] = {0}, v29[24] = {0};
 	if (!(v2 & 1)) goto L0;
 	pcap_blocks_parsed_block_ParsedBlock_from_slice_7f02(v20, v3, v4, v5, v6);
 	goto L1;
-L0:;
+L0:
 	pcap_blocks_parsed_block_ParsedBlock_from_slice_4da0(v20, v3, v4, v5, v6);
 L1:;
 	u8 v30 = ld8(v20+8);
-	u64 v31 = ld64(v20+16);
-	u64 v32 = ld64(v20+24);
-	u64 v33 = ld64(v20+32);
+	u64 v31 = ld64(v20+16), v32 = ld64(v20+24), v33 = ld64(v20+32);
 	u8 v34 = (u8)v33;
-	u32 v35 = (u32)((v33 >> 8) & 16777215);
-	u32 v36 = (u32)(v33 >> 32);
+	u32 v35 = (u32)((v33 >> 8) & 16777215), v36 = (u32)(v33 >> 32);
 	ptr v37 = ldp(v20+40);
-	u64 v38 = ld64(v20+48);
-	u64 v39 = ld64(v20+56);
-	u64 v40 = ld64(v20+64);
-	u64 v41 = ld64(v20+72);
-	u64 v42 = ld64(v20+80);
-	u64 v43 = ld64(v20+104);
+	u64 v38 = ld64(v20+48), v39 = ld64(v20+56), v40 = ld64(v20+64), v41 = ld64(v20+72);
+	u64 v42 = ld64(v20+80), v43 = ld64(v20+104);
 	u8 v44 = ld8(v20);
 	copy(v22, v20+88, 16);
-	if (v44 != 0) goto L23;
-	u8 v45 = (u8)v32;
-	u8 v46 = (u8)v39;
-	if (v45 != 1) { v14 = 0; v15 = 0; v16 = 0; v17 = 0; v18 = 0; v19 = 0; goto L9; }
-	if (v39 == 0) { v11 = 6; v12 = 0; v13 = 10; goto L8; }
+	if (v44) goto L23;
+	u8 v45 = (u8)v32, v46 = (u8)v39;
+	if (v45 != 1) { v14 = v15 = v16 = v17 = v18 = v19 = 0; goto L9; }
+	if (!v39) { v11 = 6; v12 = 0; v13 = 10; goto L8; }
 	v7 = 0;
 L2:;
 	u64 v47 = v7 * 48;
@@ -7534,7 +7287,7 @@ L3:;
 	u64 v48 = v7 + 1;
 	if (v48 != v39) { v7 = v48; goto L2; }
 	v8 = 6;
-L4:;
+L4:
 	v9 = 0;
 L5:;
 	u64 v49 = v9 * 48;
@@ -7544,12 +7297,12 @@ L6:;
 	u64 v50 = v9 + 1;
 	if (v50 != v39) { v9 = v50; goto L5; }
 	v10 = 0;
-L7:;
+L7:
 	v11 = v8 & 127; v12 = v10; v13 = (s8)v8 > -1 ? 10u : 2u;
 L8:;
 	u32 v51 = pcap_core_link_U32FromDataLink_from(v34, v36);
 	v14 = v51; v15 = (u32)((u64)v37 >> 32); v16 = v13; v17 = v11; v18 = v12; v19 = 1;
-L9:;
+L9:
 	switch (v45) {
 	case 0: goto L10;
 	case 1: goto L11;
@@ -7562,31 +7315,31 @@ L9:;
 	case 8: goto L20;
 	default: goto L22;
 	}
-L10:;
+L10:
 	st64(v23, v38);
 	st64(v23+8, v39);
 	st64(v23+16, v40);
 	std_alloc_vec_Vec_drop_050b(v23);
 	goto L21;
-L11:;
+L11:
 	st64(v24, v38);
 	st64(v24+8, v39);
 	st64(v24+16, v40);
 	std_alloc_vec_Vec_drop_37c7(v24);
 	goto L21;
-L12:;
-	if ((v46 != 1) || (v42 == 0)) goto L13;
+L12:
+	if (v46 != 1 || !v42) goto L13;
 	deallocate((ptr)v40);
-L13:;
+L13:
 	copy(v25, v22, 16);
 	st64(v25+16, v43);
 	std_alloc_vec_Vec_drop_368c(v25);
 	goto L21;
-L14:;
-	if ((((u64)v37 & 255) != 1) || (v40 == 0)) goto L21;
+L14:
+	if (((u64)v37 & 255) != 1 || !v40) goto L21;
 	deallocate((ptr)v38);
 	goto L21;
-L15:;
+L15:
 	st8(v26, v34);
 	st_bytes(v26+1, v35, 3);
 	st32(v26+4, v36);
@@ -7598,28 +7351,28 @@ L15:;
 	st64(v27+16, v41);
 	std_alloc_vec_Vec_drop_050b(v27);
 	goto L21;
-L16:;
+L16:
 	st64(v28, v38);
 	st64(v28+8, v39);
 	st64(v28+16, v40);
 	std_alloc_vec_Vec_drop_15c9(v28);
 	goto L21;
-L17:;
-	if ((v46 != 1) || (v42 == 0)) goto L18;
+L17:
+	if (v46 != 1 || !v42) goto L18;
 	deallocate((ptr)v40);
-L18:;
+L18:
 	copy(v29, v22, 16);
 	st64(v29+16, v43);
 	std_alloc_vec_Vec_drop_015c(v29);
 	goto L21;
-L19:;
-	if ((v34 != 1) || (v39 == 0)) goto L21;
+L19:
+	if (v34 != 1 || !v39) goto L21;
 	deallocate(v37);
 	goto L21;
-L20:;
-	if (((v38 & 255) != 1) || (v41 == 0)) goto L21;
+L20:
+	if ((v38 & 255) != 1 || !v41) goto L21;
 	deallocate((ptr)v39);
-L21:;
+L21:
 	su64(v1, 0);
 	st8(v1+8, v19);
 	su32(v1+16, v14);
@@ -7631,9 +7384,9 @@ L21:;
 	clear(v1+40, 48);
 	copy(v1+88, v21, 16);
 	goto L24;
-L22:;
+L22:
 	__builtin_trap();
-L23:;
+L23:
 	su64(v1, 1);
 	st8(v1+8, v30);
 	su64(v1+16, v31);
@@ -7646,266 +7399,29 @@ L23:;
 	su64(v1+72, v41);
 	su64(v1+80, v42);
 	copy(v1+88, v22, 16);
-L24:;
+L24:
 	return;
 }
-static void std_alloc_vec_Vec_drop_050b(ptr v1) {
-	u64 v2, v3;
-	ptr v4 = lup(v1);
-	u64 v5 = lu64(v1+8);
-	u64 v6 = lu64(v1+16);
-	if (v5 == 0) goto L10;
-	v2 = 0;
-L0:;
-	ptr v7 = at(v4, v2 * 48);
-	u64 v8 = lu64(v7+16);
-	u64 v9 = lu64(v7+24);
-	u64 v10 = lu64(v7+32);
-	u64 v11 = lu64(v7+40);
-	u8 v12 = (u8)lu16(v7+8);
-	u8 v13 = (u8)v8;
-	switch (ld8(v7)) {
-	case 0: goto L1;
-	case 1: goto L2;
-	case 2: goto L3;
-	case 3: goto L4;
-	case 4: goto L5;
-	case 5: goto L6;
-	case 6: goto L7;
-	default: goto L12;
-	}
-L1:;
-	if ((v12 == 0) || (v10 == 0)) goto L9;
-	v3 = v8; goto L8;
-L2:;
-	if ((v12 == 0) || (v10 == 0)) goto L9;
-	v3 = v8; goto L8;
-L3:;
-	if ((v12 == 0) || (v10 == 0)) goto L9;
-	v3 = v8; goto L8;
-L4:;
-	if ((v12 == 0) || (v10 == 0)) goto L9;
-	v3 = v8; goto L8;
-L5:;
-	if ((v13 == 0) || (v11 == 0)) goto L9;
-	v3 = v9; goto L8;
-L6:;
-	if ((v13 == 0) || (v11 == 0)) goto L9;
-	v3 = v9; goto L8;
-L7:;
-	if ((v13 == 0) || (v11 == 0)) goto L9;
-	v3 = v9;
-L8:;
-	deallocate((ptr)v3);
-L9:;
-	u64 v14 = v2 + 1;
-	if (v14 != v5) { v2 = v14; goto L0; }
-L10:;
-	if (v6 == 0) goto L11;
-	deallocate(v4);
-L11:;
-	return;
-L12:;
-	__builtin_trap();
-}
-static void std_alloc_vec_Vec_drop_368c(ptr v1) {
-	u64 v2, v3;
-	ptr v4 = lup(v1);
-	u64 v5 = lu64(v1+8);
-	u64 v6 = lu64(v1+16);
-	if (v5 == 0) goto L8;
-	v2 = 0;
-L0:;
-	ptr v7 = at(v4, v2 * 48);
-	u64 v8 = lu64(v7+16);
-	u64 v9 = lu64(v7+24);
-	u64 v10 = lu64(v7+32);
-	u64 v11 = lu64(v7+40);
-	u8 v12 = (u8)lu16(v7+8);
-	u8 v13 = (u8)v8;
-	switch (ld8(v7)) {
-	case 0: goto L1;
-	case 1: goto L7;
-	case 2: goto L2;
-	case 3: goto L3;
-	case 4: goto L4;
-	case 5: goto L5;
-	default: goto L10;
-	}
-L1:;
-	if ((v12 == 0) || (v10 == 0)) goto L7;
-	v3 = v8; goto L6;
-L2:;
-	if ((v12 == 0) || (v10 == 0)) goto L7;
-	v3 = v8; goto L6;
-L3:;
-	if ((v13 == 0) || (v11 == 0)) goto L7;
-	v3 = v9; goto L6;
-L4:;
-	if ((v13 == 0) || (v11 == 0)) goto L7;
-	v3 = v9; goto L6;
-L5:;
-	if ((v13 == 0) || (v11 == 0)) goto L7;
-	v3 = v9;
-L6:;
-	deallocate((ptr)v3);
-L7:;
-	u64 v14 = v2 + 1;
-	if (v14 != v5) { v2 = v14; goto L0; }
-L8:;
-	if (v6 == 0) goto L9;
-	deallocate(v4);
-L9:;
-	return;
-L10:;
-	__builtin_trap();
-}
-static void std_alloc_vec_Vec_drop_f1dc(ptr v1) {
-	u64 v2, v3, v4;
-	ptr v5;
-	ptr v6 = lup(v1);
-	u64 v7 = lu64(v1+8);
-	u64 v8 = lu64(v1+16);
-	if (v7 == 0) goto L14;
-	v2 = 0;
-L0:;
-	ptr v9 = at(v6, v2 << 6);
-	u64 v10 = lu64(v9+16);
-	u64 v11 = lu64(v9+24);
-	u64 v12 = lu64(v9+32);
-	u64 v13 = lu64(v9+40);
-	u64 v14 = lu64(v9+48);
-	u64 v15 = lu64(v9+56);
-	u8 v16 = (u8)lu16(v9+8);
-	switch (ld8(v9)) {
-	case 0: goto L13;
-	case 1: goto L1;
-	case 2: goto L6;
-	case 3: goto L11;
-	default: goto L16;
-	}
-L1:;
-	if ((v16 == 0) || (v12 == 0)) goto L2;
-	deallocate((ptr)v10);
-L2:;
-	if (v14 == 0) goto L5;
-	v3 = 0;
-L3:;
-	ptr v17 = at((ptr)v13, v3 << 5);
-	if ((ld8(v17) == 0) || (lu64(v17+24) == 0)) goto L4;
-	deallocate(lup(v17+8));
-L4:;
-	u64 v18 = v3 + 1;
-	if (v18 != v14) { v3 = v18; goto L3; }
-L5:;
-	if (v15 == 0) goto L13;
-	v5 = (ptr)v13; goto L12;
-L6:;
-	if ((v16 == 0) || (v12 == 0)) goto L7;
-	deallocate((ptr)v10);
-L7:;
-	if (v14 == 0) goto L10;
-	v4 = 0;
-L8:;
-	ptr v19 = at((ptr)v13, v4 << 5);
-	if ((ld8(v19) == 0) || (lu64(v19+24) == 0)) goto L9;
-	deallocate(lup(v19+8));
-L9:;
-	u64 v20 = v4 + 1;
-	if (v20 != v14) { v4 = v20; goto L8; }
-L10:;
-	if (v15 == 0) goto L13;
-	v5 = (ptr)v13; goto L12;
-L11:;
-	if (((v10 & 255) == 0) || (v13 == 0)) goto L13;
-	v5 = (ptr)v11;
-L12:;
-	deallocate(v5);
-L13:;
-	u64 v21 = v2 + 1;
-	if (v21 != v7) { v2 = v21; goto L0; }
-L14:;
-	if (v8 == 0) goto L15;
-	deallocate(v6);
-L15:;
-	return;
-L16:;
-	__builtin_trap();
-}
-static void std_alloc_vec_Vec_drop_015c(ptr v1) {
-	u64 v2, v3;
-	ptr v4 = lup(v1);
-	u64 v5 = lu64(v1+8);
-	u64 v6 = lu64(v1+16);
-	if (v5 == 0) goto L8;
-	v2 = 0;
-L0:;
-	ptr v7 = at(v4, v2 * 48);
-	u64 v8 = lu64(v7+16);
-	u64 v9 = lu64(v7+24);
-	u64 v10 = lu64(v7+32);
-	u64 v11 = lu64(v7+40);
-	u8 v12 = (u8)lu64(v7+8);
-	u8 v13 = (u8)v8;
-	switch (ld8(v7)) {
-	case 0: goto L1;
-	case 1: case 3: goto L7;
-	case 2: goto L2;
-	case 4: goto L3;
-	case 5: goto L4;
-	case 6: goto L5;
-	default: goto L10;
-	}
-L1:;
-	if ((v12 == 0) || (v10 == 0)) goto L7;
-	v3 = v8; goto L6;
-L2:;
-	if ((v12 == 0) || (v10 == 0)) goto L7;
-	v3 = v8; goto L6;
-L3:;
-	if ((v13 == 0) || (v11 == 0)) goto L7;
-	v3 = v9; goto L6;
-L4:;
-	if ((v13 == 0) || (v11 == 0)) goto L7;
-	v3 = v9; goto L6;
-L5:;
-	if ((v13 == 0) || (v11 == 0)) goto L7;
-	v3 = v9;
-L6:;
-	deallocate((ptr)v3);
-L7:;
-	u64 v14 = v2 + 1;
-	if (v14 != v5) { v2 = v14; goto L0; }
-L8:;
-	if (v6 == 0) goto L9;
-	deallocate(v4);
-L9:;
-	return;
-L10:;
-	__builtin_trap();
-}
-static __attribute__((noinline)) void pcapfile_values_enhanced_options_behind_some_4da0(ptr v1, ptr v2, u64 v3) {
+static APART void pcapfile_values_enhanced_options_behind_some_4da0(ptr v1, ptr v2, u64 v3) {
 	u64 v4;
 	ptr v5, v6;
-	if (v3 == 0) { v6 = v2; goto L6; }
+	if (!v3) { v6 = v2; goto L6; }
 	v4 = v3; v5 = v2;
-L0:;
+L0:
 	if (v4 >= 4) goto L1;
 	clear(v1, 24);
 	goto L8;
 L1:;
-	u16 v7 = lu16(v5);
-	u16 v8 = (u16)__builtin_bswap16(v7);
+	u16 v7 = lu16(v5), v8 = (u16)__builtin_bswap16(v7);
 	u64 v9 = v4 - 4;
 	u16 v10 = lu16(v5+2);
-	if (v7 != 0) goto L2;
+	if (v7) goto L2;
 	su64(v1, 1);
 	sup(v1+8, v5+4);
 	su64(v1+16, v9);
 	goto L8;
 L2:;
-	u64 v11 = (u64)(u16)__builtin_bswap16(v10);
-	u64 v12 = ((0ull - v11) & 3) + v11;
+	u64 v11 = (u64)(u16)__builtin_bswap16(v10), v12 = ((0ull - v11) & 3) + v11;
 	if (v9 < v12) goto L7;
 	ptr v13 = at(v5+4, v12);
 	u64 v14 = v9 - v12;
@@ -7915,38 +7431,35 @@ L2:;
 	case 4: goto L4;
 	default: goto L7;
 	}
-L3:;
+L3:
 	if (v10 == 1024) goto L5;
 	goto L7;
-L4:;
+L4:
 	if (v10 != 2048) goto L7;
-L5:;
-	if (v14 != 0) { v4 = v14; v5 = v13; goto L0; }
+L5:
+	if (v14) { v4 = v14; v5 = v13; goto L0; }
 	v6 = v13;
-L6:;
+L6:
 	su64(v1, 1);
 	sup(v1+8, v6);
 	su64(v1+16, 0);
 	goto L8;
-L7:;
+L7:
 	clear(v1, 24);
-L8:;
+L8:
 	return;
 }
-static __attribute__((noinline, cold)) void pcapfile_values_bodies_read_enhanced_4da0(ptr v1, ptr v2, u64 v3) {
+static APART RARE void pcapfile_values_bodies_read_enhanced_4da0(ptr v1, ptr v2, u64 v3) {
 	u8 v4, v8, v9;
 	ptr v5, v6;
 	u64 v7;
-	_Alignas(8) u8 v10[96], v11[24], v13[72], v14[104], v16[24];
+	_Alignas(8) u8 v10[96], v11[24], v13[72], v14[104] = {0}, v16[24];
 	_Alignas(2) u8 v12[6];
 	_Alignas(1) u8 v15[7];
-	clear(v14, 104);
 	pcap_blocks_enhanced_packet_EnhancedPacketBlock_read_4da0(v14, v2, v3);
 	u8 v17 = ld8(v14+8);
 	u64 v18 = ld64(v14+16);
-	u8 v19 = ld8(v14+24);
-	u8 v20 = ld8(v14+25);
-	u8 v21 = ld8(v14) == 0;
+	u8 v19 = ld8(v14+24), v20 = ld8(v14+25), v21 = ld8(v14) == 0;
 	if (!v21) goto L0;
 	v4 = v17; v5 = v14+26; v6 = v14+32; v7 = v18; v8 = v19; v9 = v20; goto L1;
 L0:;
@@ -7961,26 +7474,23 @@ L0:;
 	pcap_options_refusal_PcapErrorFromRefusal_from(v10, v11);
 	u8 v23 = ld8(v10);
 	u64 v24 = ld64(v10+8);
-	u8 v25 = ld8(v10+16);
-	u8 v26 = ld8(v10+17);
+	u8 v25 = ld8(v10+16), v26 = ld8(v10+17);
 	copy(v12, v10+18, 6);
 	copy(v13, v10+24, 72);
 	v4 = v23; v5 = v12; v6 = v13; v7 = v24; v8 = v25; v9 = v26;
 L1:;
 	u32 v27 = lu32(v5+2);
-	u64 v28 = ld64(v6);
-	u64 v29 = ld64(v6+8);
+	u64 v28 = ld64(v6), v29 = ld64(v6+8);
 	u32 v30 = (u32)(v29 >> 32);
 	u8 v31 = ld8(v6+16);
 	u16 v32 = ld16(v5);
 	copy(v15, v6+17, 7);
 	ptr v33 = ldp(v6+24);
-	u64 v34 = ld64(v6+32);
-	u64 v35 = ld64(v6+40);
+	u64 v34 = ld64(v6+32), v35 = ld64(v6+40);
 	copy(v16, v6+48, 24);
 	u32 v36 = ((u32)v32 << 16) | ((u32)v9 << 8) | (u32)v8;
 	if (!v21) goto L3;
-	if (v31 != 0) goto L2;
+	if (v31) goto L2;
 	std_alloc_vec_Vec_drop_015c(v16);
 	su64(v1, 0);
 	su32(v1+8, 6);
@@ -7992,10 +7502,10 @@ L1:;
 	su64(v1+40, v34);
 	clear(v1+48, 56);
 	goto L4;
-L2:;
+L2:
 	__builtin_trap();
 	__builtin_trap();
-L3:;
+L3:
 	su64(v1, 1);
 	su32(v1+8, (u32)v4);
 	su32(v1+12, 0);
@@ -8009,15 +7519,15 @@ L3:;
 	su64(v1+64, v34);
 	su64(v1+72, v35);
 	copy(v1+80, v16, 24);
-L4:;
+L4:
 	return;
 }
-static __attribute__((noinline)) void pcapfile_values_enhanced_options_behind_some_7f02(ptr v1, ptr v2, u64 v3) {
+static APART void pcapfile_values_enhanced_options_behind_some_7f02(ptr v1, ptr v2, u64 v3) {
 	u64 v4;
 	ptr v5, v6;
-	if (v3 == 0) { v6 = v2; goto L6; }
+	if (!v3) { v6 = v2; goto L6; }
 	v4 = v3; v5 = v2;
-L0:;
+L0:
 	if (v4 >= 4) goto L1;
 	clear(v1, 24);
 	goto L8;
@@ -8025,14 +7535,13 @@ L1:;
 	u16 v7 = lu16(v5);
 	u64 v8 = v4 - 4;
 	u16 v9 = lu16(v5+2);
-	if (v7 != 0) goto L2;
+	if (v7) goto L2;
 	su64(v1, 1);
 	sup(v1+8, v5+4);
 	su64(v1+16, v8);
 	goto L8;
 L2:;
-	u64 v10 = (u64)v9;
-	u64 v11 = ((0ull - v10) & 3) + v10;
+	u64 v10 = (u64)v9, v11 = ((0ull - v10) & 3) + v10;
 	if (v8 < v11) goto L7;
 	ptr v12 = at(v5+4, v11);
 	u64 v13 = v8 - v11;
@@ -8042,38 +7551,35 @@ L2:;
 	case 4: goto L4;
 	default: goto L7;
 	}
-L3:;
+L3:
 	if (v9 == 4) goto L5;
 	goto L7;
-L4:;
+L4:
 	if (v9 != 8) goto L7;
-L5:;
-	if (v13 != 0) { v4 = v13; v5 = v12; goto L0; }
+L5:
+	if (v13) { v4 = v13; v5 = v12; goto L0; }
 	v6 = v12;
-L6:;
+L6:
 	su64(v1, 1);
 	sup(v1+8, v6);
 	su64(v1+16, 0);
 	goto L8;
-L7:;
+L7:
 	clear(v1, 24);
-L8:;
+L8:
 	return;
 }
-static __attribute__((noinline, cold)) void pcapfile_values_bodies_read_enhanced_7f02(ptr v1, ptr v2, u64 v3) {
+static APART RARE void pcapfile_values_bodies_read_enhanced_7f02(ptr v1, ptr v2, u64 v3) {
 	u8 v4, v8, v9;
 	ptr v5, v6;
 	u64 v7;
-	_Alignas(8) u8 v10[96], v11[24], v13[72], v14[104], v16[24];
+	_Alignas(8) u8 v10[96], v11[24], v13[72], v14[104] = {0}, v16[24];
 	_Alignas(2) u8 v12[6];
 	_Alignas(1) u8 v15[7];
-	clear(v14, 104);
 	pcap_blocks_enhanced_packet_EnhancedPacketBlock_read_7f02(v14, v2, v3);
 	u8 v17 = ld8(v14+8);
 	u64 v18 = ld64(v14+16);
-	u8 v19 = ld8(v14+24);
-	u8 v20 = ld8(v14+25);
-	u8 v21 = ld8(v14) == 0;
+	u8 v19 = ld8(v14+24), v20 = ld8(v14+25), v21 = ld8(v14) == 0;
 	if (!v21) goto L0;
 	v4 = v17; v5 = v14+26; v6 = v14+32; v7 = v18; v8 = v19; v9 = v20; goto L1;
 L0:;
@@ -8088,26 +7594,23 @@ L0:;
 	pcap_options_refusal_PcapErrorFromRefusal_from(v10, v11);
 	u8 v23 = ld8(v10);
 	u64 v24 = ld64(v10+8);
-	u8 v25 = ld8(v10+16);
-	u8 v26 = ld8(v10+17);
+	u8 v25 = ld8(v10+16), v26 = ld8(v10+17);
 	copy(v12, v10+18, 6);
 	copy(v13, v10+24, 72);
 	v4 = v23; v5 = v12; v6 = v13; v7 = v24; v8 = v25; v9 = v26;
 L1:;
 	u32 v27 = lu32(v5+2);
-	u64 v28 = ld64(v6);
-	u64 v29 = ld64(v6+8);
+	u64 v28 = ld64(v6), v29 = ld64(v6+8);
 	u32 v30 = (u32)(v29 >> 32);
 	u8 v31 = ld8(v6+16);
 	u16 v32 = ld16(v5);
 	copy(v15, v6+17, 7);
 	ptr v33 = ldp(v6+24);
-	u64 v34 = ld64(v6+32);
-	u64 v35 = ld64(v6+40);
+	u64 v34 = ld64(v6+32), v35 = ld64(v6+40);
 	copy(v16, v6+48, 24);
 	u32 v36 = ((u32)v32 << 16) | ((u32)v9 << 8) | (u32)v8;
 	if (!v21) goto L3;
-	if (v31 != 0) goto L2;
+	if (v31) goto L2;
 	std_alloc_vec_Vec_drop_015c(v16);
 	su64(v1, 0);
 	su32(v1+8, 6);
@@ -8119,10 +7622,10 @@ L1:;
 	su64(v1+40, v34);
 	clear(v1+48, 56);
 	goto L4;
-L2:;
+L2:
 	__builtin_trap();
 	__builtin_trap();
-L3:;
+L3:
 	su64(v1, 1);
 	su32(v1+8, (u32)v4);
 	su32(v1+12, 0);
@@ -8136,43 +7639,33 @@ L3:;
 	su64(v1+64, v34);
 	su64(v1+72, v35);
 	copy(v1+80, v16, 24);
-L4:;
+L4:
 	return;
 }
-static __attribute__((noinline, cold)) void pcapfile_values_bodies_seldom_packet(ptr v1, u8 v2, u8 v3, u32 v4, ptr v5, u64 v6) {
+static APART RARE void pcapfile_values_bodies_seldom_packet(ptr v1, u8 v2, u8 v3, u32 v4, ptr v5, u64 v6) {
 	u8 v7;
 	u32 v8, v9, v10;
 	u64 v11, v13;
 	ptr v12;
-	_Alignas(8) u8 v14[24], v15[24], v16[24], v17[24], v18[24], v19[24], v20[24], v21[112], v22[16], v23[16];
-	clear(v22, 16);
-	clear(v21, 112);
+	_Alignas(8) u8 v14[24], v15[24], v16[24], v17[24], v18[24], v19[24], v20[24], v21[112] = {0}, v22[16] = {0}, v23[16];
 	if (!(v2 & 1)) goto L0;
 	pcap_blocks_parsed_block_ParsedBlock_from_slice_7f02(v21, v3, v4, v5, v6);
 	goto L1;
-L0:;
+L0:
 	pcap_blocks_parsed_block_ParsedBlock_from_slice_4da0(v21, v3, v4, v5, v6);
 L1:;
 	u8 v24 = ld8(v21+8);
-	u64 v25 = ld64(v21+16);
-	u64 v26 = ld64(v21+24);
-	u64 v27 = ld64(v21+32);
-	u32 v28 = (u32)v27;
-	u32 v29 = (u32)(v27 >> 32);
-	u64 v30 = ld64(v21+40);
-	u64 v31 = ld64(v21+48);
-	u32 v32 = (u32)v31;
-	u32 v33 = (u32)(v31 >> 32);
+	u64 v25 = ld64(v21+16), v26 = ld64(v21+24), v27 = ld64(v21+32);
+	u32 v28 = (u32)v27, v29 = (u32)(v27 >> 32);
+	u64 v30 = ld64(v21+40), v31 = ld64(v21+48);
+	u32 v32 = (u32)v31, v33 = (u32)(v31 >> 32);
 	u64 v34 = ld64(v21+56);
 	u8 v35 = (u8)v34;
-	u64 v36 = (v34 >> 8) & 0xffffffffffffffull;
-	u64 v37 = ld64(v21+64);
-	u64 v38 = ld64(v21+72);
-	u64 v39 = ld64(v21+80);
-	u64 v40 = ld64(v21+104);
+	u64 v36 = (v34 >> 8) & 0xffffffffffffffull, v37 = ld64(v21+64), v38 = ld64(v21+72);
+	u64 v39 = ld64(v21+80), v40 = ld64(v21+104);
 	u8 v41 = ld8(v21);
 	copy(v23, v21+88, 16);
-	if (v41 != 0) goto L16;
+	if (v41) goto L16;
 	switch ((u8)v26) {
 	case 6: goto L2;
 	case 3: goto L4;
@@ -8185,47 +7678,47 @@ L1:;
 	case 8: goto L13;
 	default: goto L15;
 	}
-L2:;
-	if (v35 != 0) goto L3;
+L2:
+	if (v35) goto L3;
 	copy(v14, v23, 16);
 	st64(v14+16, v40);
 	std_alloc_vec_Vec_drop_015c(v14);
-	v7 = 1; v8 = 6; v9 = v28; v10 = v33; v11 = v30; v12 = (ptr)v37; v13 = v38; goto L14;
-L3:;
+	v9 = v28; v10 = v33; v11 = v30; v12 = (ptr)v37; v13 = v38; v7 = 1; v8 = 6; goto L14;
+L3:
 	__builtin_trap();
 	__builtin_trap();
-L4:;
-	if ((v30 & 255) != 0) goto L5;
-	v7 = 1; v8 = 3; v9 = 0; v10 = v28; v11 = 0; v12 = (ptr)v31; v13 = v34; goto L14;
-L5:;
+L4:
+	if (v30 & 255) goto L5;
+	v10 = v28; v12 = (ptr)v31; v13 = v34; v7 = 1; v8 = 3; v9 = v11 = 0; goto L14;
+L5:
 	__builtin_trap();
 	__builtin_trap();
-L6:;
-	if (v35 != 0) goto L7;
+L6:
+	if (v35) goto L7;
 	copy(v15, v23, 16);
 	st64(v15+16, v40);
 	std_alloc_vec_Vec_drop_368c(v15);
-	v7 = 1; v8 = 2; v9 = v28 & 65535; v10 = v33; v11 = v30; v12 = (ptr)v37; v13 = v38; goto L14;
-L7:;
+	v9 = v28 & 65535; v10 = v33; v11 = v30; v12 = (ptr)v37; v13 = v38; v7 = 1; v8 = 2; goto L14;
+L7:
 	__builtin_trap();
 	__builtin_trap();
-L8:;
+L8:
 	st32(v16, v32);
 	st32(v16+4, v33);
 	st8(v16+8, v35);
 	st_bytes(v16+9, v36, 7);
 	st64(v16+16, v37);
 	std_alloc_vec_Vec_drop_050b(v16);
-	v7 = 0; v8 = 0; v9 = 0; v10 = 0; v11 = 0; v12 = (ptr)0; v13 = 0; goto L14;
-L9:;
+	M3: v12 = (ptr)0; v7 = v8 = v9 = v10 = v11 = v13 = 0; goto L14;
+L9:
 	st32(v17, v32);
 	st32(v17+4, v33);
 	st8(v17+8, v35);
 	st_bytes(v17+9, v36, 7);
 	st64(v17+16, v37);
 	std_alloc_vec_Vec_drop_37c7(v17);
-	v7 = 0; v8 = 0; v9 = 0; v10 = 0; v11 = 0; v12 = (ptr)0; v13 = 0; goto L14;
-L10:;
+	goto M3;
+L10:
 	st32(v18, v28);
 	st32(v18+4, v29);
 	st64(v18+8, v30);
@@ -8237,24 +7730,24 @@ L10:;
 	st64(v19+8, v37);
 	st64(v19+16, v38);
 	std_alloc_vec_Vec_drop_050b(v19);
-	v7 = 0; v8 = 0; v9 = 0; v10 = 0; v11 = 0; v12 = (ptr)0; v13 = 0; goto L14;
-L11:;
+	goto M3;
+L11:
 	st32(v20, v32);
 	st32(v20+4, v33);
 	st8(v20+8, v35);
 	st_bytes(v20+9, v36, 7);
 	st64(v20+16, v37);
 	std_alloc_vec_Vec_drop_15c9(v20);
-	v7 = 0; v8 = 0; v9 = 0; v10 = 0; v11 = 0; v12 = (ptr)0; v13 = 0; goto L14;
-L12:;
-	if (((v28 & 255) != 1) || (v34 == 0)) { v7 = 0; v8 = 0; v9 = 0; v10 = 0; v11 = 0; v12 = (ptr)0; v13 = 0; goto L14; }
+	goto M3;
+L12:
+	if ((v28 & 255) != 1 || !v34) goto M3;
 	deallocate((ptr)v30);
-	v7 = 0; v8 = 0; v9 = 0; v10 = 0; v11 = 0; v12 = (ptr)0; v13 = 0; goto L14;
-L13:;
-	if (((v32 & 255) != 1) || (v38 == 0)) { v7 = 0; v8 = 0; v9 = 0; v10 = 0; v11 = 0; v12 = (ptr)0; v13 = 0; goto L14; }
+	goto M3;
+L13:
+	if ((v32 & 255) != 1 || !v38) goto M3;
 	deallocate((ptr)v34);
-	v7 = 0; v8 = 0; v9 = 0; v10 = 0; v11 = 0; v12 = (ptr)0; v13 = 0;
-L14:;
+	v12 = (ptr)0; v7 = v8 = v9 = v10 = v11 = v13 = 0;
+L14:
 	su64(v1, 0);
 	st8(v1+8, v7);
 	su32(v1+16, v8);
@@ -8267,9 +7760,9 @@ L14:;
 	clear(v1+56, 32);
 	copy(v1+88, v22, 16);
 	goto L17;
-L15:;
+L15:
 	__builtin_trap();
-L16:;
+L16:
 	su64(v1, 1);
 	st8(v1+8, v24);
 	su64(v1+16, v25);
@@ -8283,13 +7776,13 @@ L16:;
 	su64(v1+72, v38);
 	su64(v1+80, v39);
 	copy(v1+88, v23, 16);
-L17:;
+L17:
 	return;
 }
 static void pcapfile_values_reasons_Reason_from_number(ptr v1, u32 v2) {
 	u8 v3, v4, v5;
 	switch (v2) {
-	case 2001: v3 = 1; v4 = 1; v5 = 0; goto L44;
+	case 2001: v3 = v4 = 1; v5 = 0; goto L44;
 	case 2002: goto L0;
 	case 2003: goto L1;
 	case 2004: goto L2;
@@ -8335,95 +7828,95 @@ static void pcapfile_values_reasons_Reason_from_number(ptr v1, u32 v2) {
 	case 26: goto L42;
 	default: goto L43;
 	}
-L0:;
+L0:
 	v3 = 1; v4 = 2; v5 = 0; goto L44;
-L1:;
+L1:
 	v3 = 1; v4 = 3; v5 = 0; goto L44;
-L2:;
+L2:
 	v3 = 1; v4 = 4; v5 = 0; goto L44;
-L3:;
-	v3 = 1; v4 = 0; v5 = 0; goto L44;
-L4:;
-	v3 = 1; v4 = 0; v5 = 1; goto L44;
-L5:;
+L3:
+	v3 = 1; v4 = v5 = 0; goto L44;
+L4:
+	v3 = v5 = 1; v4 = 0; goto L44;
+L5:
 	v3 = 1; v4 = 0; v5 = 2; goto L44;
-L6:;
+L6:
 	v3 = 1; v4 = 0; v5 = 3; goto L44;
-L7:;
+L7:
 	v3 = 1; v4 = 0; v5 = 4; goto L44;
-L8:;
+L8:
 	v3 = 1; v4 = 0; v5 = 5; goto L44;
-L9:;
+L9:
 	v3 = 1; v4 = 0; v5 = 6; goto L44;
-L10:;
+L10:
 	v3 = 1; v4 = 0; v5 = 7; goto L44;
-L11:;
+L11:
 	v3 = 1; v4 = 0; v5 = 8; goto L44;
-L12:;
+L12:
 	v3 = 1; v4 = 0; v5 = 9; goto L44;
-L13:;
+L13:
 	v3 = 1; v4 = 0; v5 = 10; goto L44;
-L14:;
+L14:
 	v3 = 1; v4 = 0; v5 = 11; goto L44;
-L15:;
+L15:
 	v3 = 1; v4 = 0; v5 = 12; goto L44;
-L16:;
+L16:
 	v3 = 1; v4 = 0; v5 = 13; goto L44;
-L17:;
+L17:
 	v3 = 1; v4 = 0; v5 = 14; goto L44;
-L18:;
+L18:
 	v3 = 1; v4 = 0; v5 = 15; goto L44;
-L19:;
+L19:
 	v3 = 1; v4 = 0; v5 = 16; goto L44;
-L20:;
+L20:
 	v3 = 1; v4 = 0; v5 = 17; goto L44;
-L21:;
+L21:
 	v3 = 1; v4 = 0; v5 = 18; goto L44;
-L22:;
+L22:
 	v3 = 1; v4 = 0; v5 = 19; goto L44;
-L23:;
+L23:
 	v3 = 1; v4 = 0; v5 = 20; goto L44;
-L24:;
+L24:
 	v3 = 1; v4 = 0; v5 = 21; goto L44;
-L25:;
+L25:
 	v3 = 1; v4 = 0; v5 = 22; goto L44;
-L26:;
+L26:
 	v3 = 1; v4 = 0; v5 = 23; goto L44;
-L27:;
+L27:
 	v3 = 1; v4 = 0; v5 = 24; goto L44;
-L28:;
+L28:
 	v3 = 1; v4 = 0; v5 = 25; goto L44;
-L29:;
+L29:
 	v3 = 1; v4 = 0; v5 = 26; goto L44;
-L30:;
+L30:
 	v3 = 1; v4 = 0; v5 = 27; goto L44;
-L31:;
+L31:
 	v3 = 1; v4 = 0; v5 = 28; goto L44;
-L32:;
+L32:
 	v3 = 1; v4 = 0; v5 = 29; goto L44;
-L33:;
+L33:
 	v3 = 1; v4 = 0; v5 = 30; goto L44;
-L34:;
+L34:
 	v3 = 1; v4 = 0; v5 = 31; goto L44;
-L35:;
+L35:
 	v3 = 1; v4 = 0; v5 = 32; goto L44;
-L36:;
+L36:
 	v3 = 1; v4 = 0; v5 = 33; goto L44;
-L37:;
+L37:
 	v3 = 1; v4 = 0; v5 = 34; goto L44;
-L38:;
+L38:
 	v3 = 1; v4 = 0; v5 = 35; goto L44;
-L39:;
+L39:
 	v3 = 1; v4 = 0; v5 = 36; goto L44;
-L40:;
+L40:
 	v3 = 1; v4 = 0; v5 = 37; goto L44;
-L41:;
+L41:
 	v3 = 1; v4 = 0; v5 = 38; goto L44;
-L42:;
+L42:
 	v3 = 1; v4 = 0; v5 = 39; goto L44;
-L43:;
-	v3 = 0; v4 = 0; v5 = 0;
-L44:;
+L43:
+	v3 = v4 = v5 = 0;
+L44:
 	st8(v1, v3);
 	st8(v1+1, v4);
 	st8(v1+2, v5);
@@ -8435,29 +7928,18 @@ static void pcapfile_values_blocks_PcapfileSection_next_block(ptr v1, ptr v2, pt
 	u32 v7, v11, v12, v15, v16, v20, v23, v26, v29;
 	u16 v10, v17, v24, v25, v27, v28;
 	ptr v13, v14;
-	_Alignas(1) u8 v31[40], v35[16], v36[40], v39[7], v40[16], v41[16], v42[24], v44[7], v46[7], v47[16], v48[16], v49[24];
-	_Alignas(8) u8 v32[104], v33[32], v34[104], v37[24], v38[24], v43[40], v45[56], v50[104], v51[16], v52[40];
-	clear(v43, 40);
-	clear(v44, 7);
-	clear(v45, 56);
-	clear(v46, 7);
-	clear(v47, 16);
-	clear(v48, 16);
-	clear(v49, 24);
-	clear(v50, 104);
-	clear(v51, 16);
-	clear(v52, 40);
+	_Alignas(1) u8 v31[40], v35[16], v36[40], v39[7], v40[16], v41[16], v42[24], v44[7] = {0}, v46[7] = {0}, v47[16] = {0}, v48[16] = {0}, v49[24] = {0};
+	_Alignas(8) u8 v32[104], v33[32], v34[104], v37[24], v38[24], v43[40] = {0}, v45[56] = {0}, v50[104] = {0}, v51[16] = {0}, v52[40] = {0};
 	switch (ld32(v2)) {
 	case 0: case 439041101: v5 = 0; goto L1;
 	case 1295788826: goto L0;
 	default: goto L31;
 	}
-L0:;
+L0:
 	v5 = 1;
-L1:;
+L1:
 	pcap_ng_pcapng_block_Block_from_slice(v50, v5, v3, v4);
-	u8 v53 = ld8(v50+8);
-	u8 v54 = ld8(v50);
+	u8 v53 = ld8(v50+8), v54 = ld8(v50);
 	clear(v39, 7);
 	clear(v42, 24);
 	u8 v55 = v54 == 0;
@@ -8467,11 +7949,9 @@ L1:;
 	u64 v57 = ld64(v50+24);
 	copy(v40, v50+32, 16);
 	u32 v58 = ld32(v50+48);
-	u8 v59 = ld8(v50+52);
-	u8 v60 = ld8(v50+53);
+	u8 v59 = ld8(v50+52), v60 = ld8(v50+53);
 	u16 v61 = ld16(v50+54);
-	u32 v62 = ld32(v50+56);
-	u32 v63 = ld32(v50+60);
+	u32 v62 = ld32(v50+56), v63 = ld32(v50+60);
 	copy(v41, v50+64, 16);
 	v6 = v57; v7 = v58; v8 = v59; v9 = v60; v10 = v61; v11 = v62; v12 = v63; v13 = v56; goto L3;
 L2:;
@@ -8479,15 +7959,13 @@ L2:;
 	u64 v65 = ld64(v50+24);
 	copy(v40, v50+32, 16);
 	u32 v66 = ld32(v50+48);
-	u8 v67 = ld8(v50+52);
-	u8 v68 = ld8(v50+53);
+	u8 v67 = ld8(v50+52), v68 = ld8(v50+53);
 	u16 v69 = ld16(v50+54);
-	u32 v70 = ld32(v50+56);
-	u32 v71 = ld32(v50+60);
+	u32 v70 = ld32(v50+56), v71 = ld32(v50+60);
 	copy(v41, v50+64, 16);
 	copy(v42, v50+80, 24);
 	v6 = v65; v7 = v66; v8 = v67; v9 = v68; v10 = v69; v11 = v70; v12 = v71; v13 = v64;
-L3:;
+L3:
 	copy(v46, v39, 7);
 	copy(v47, v40, 16);
 	copy(v48, v41, 16);
@@ -8506,25 +7984,23 @@ L3:;
 	clear(v34, 104);
 	u8 v72 = (u8)v6;
 	u64 v73 = v6 >> 32;
-	if (ld32(v2) != 0) goto L5;
+	if (ld32(v2)) goto L5;
 	pcap_ng_pcapng_block_Block_first_section(v34, v45);
 	u8 v74 = ld8(v34+8);
-	if (ld8(v34) != 0) goto L4;
+	if (ld8(v34)) goto L4;
 	u32 v75 = (u32)ld_bytes(v34+9, 3) & 16777215;
-	u16 v76 = ld16(v34+12);
-	u16 v77 = ld16(v34+14);
+	u16 v76 = ld16(v34+12), v77 = ld16(v34+14);
 	copy(v33, v34+24, 24);
 	st64(v33+24, 0);
 	std_alloc_vec_Vec_drop_050b(v33);
 	v26 = (v75 << 8) | (u32)v74; v27 = v76; v28 = v77; v29 = 0; goto L17;
 L4:;
 	u32 v78 = ld32(v34+16);
-	u16 v79 = ld16(v34+20);
-	u16 v80 = ld16(v34+22);
+	u16 v79 = ld16(v34+20), v80 = ld16(v34+22);
 	u64 v81 = ld64(v34+24);
 	copy(v51, v34+32, 16);
 	v14 = v34+64; v15 = ld32(v34+56); v16 = ld32(v34+60); v17 = ld16(v34+54); v18 = ld8(v34+53); v19 = ld8(v34+52); v20 = ld32(v34+48); v21 = v81; v22 = v74; v23 = v78; v24 = v79; v25 = v80; goto L13;
-L5:;
+L5:
 	clear(v32, 104);
 	switch (v72) {
 	case 0: goto L6;
@@ -8532,23 +8008,20 @@ L5:;
 	case 2: case 3: case 4: case 5: case 6: case 7: case 8: goto L15;
 	default: goto L29;
 	}
-L6:;
+L6:
 	pcap_ng_pcapng_block_Block_new_section(v32, ldp(v45+24), ld64(v45+32));
 	goto L8;
-L7:;
+L7:
 	pcap_ng_pcapng_block_Block_new_interface(v32, v45);
 L8:;
 	u8 v82 = ld8(v32+8);
 	u32 v83 = ld32(v32+16);
-	u16 v84 = ld16(v32+20);
-	u16 v85 = ld16(v32+22);
+	u16 v84 = ld16(v32+20), v85 = ld16(v32+22);
 	u64 v86 = ld64(v32+24);
 	u32 v87 = ld32(v32+48);
-	u8 v88 = ld8(v32+52);
-	u8 v89 = ld8(v32+53);
+	u8 v88 = ld8(v32+52), v89 = ld8(v32+53);
 	u16 v90 = ld16(v32+54);
-	u32 v91 = ld32(v32+56);
-	u32 v92 = ld32(v32+60);
+	u32 v91 = ld32(v32+56), v92 = ld32(v32+60);
 	u8 v93 = ld8(v32) == 0;
 	copy(v35, v32+32, 16);
 	copy(v36, v32+64, 40);
@@ -8559,7 +8032,7 @@ L8:;
 	case 2: goto L16;
 	default: goto L11;
 	}
-L9:;
+L9:
 	copy(v37, v35, 16);
 	st32(v37+16, v87);
 	st8(v37+20, v88);
@@ -8568,28 +8041,26 @@ L9:;
 	std_alloc_vec_Vec_drop_050b(v37);
 	v26 = v83; v27 = v84; v28 = v85; v29 = 0; goto L17;
 L10:;
-	u32 v94 = ld32(v2+8);
-	u32 v95 = ld32(v2);
-	u16 v96 = ld16(v2+4);
-	u16 v97 = ld16(v2+6);
+	u32 v94 = ld32(v2+8), v95 = ld32(v2);
+	u16 v96 = ld16(v2+4), v97 = ld16(v2+6);
 	copy(v38, v35, 16);
 	st32(v38+16, v87);
 	st8(v38+20, v88);
 	st8(v38+21, v89);
 	st16(v38+22, v90);
 	std_alloc_vec_Vec_drop_37c7(v38);
-	v26 = v95; v27 = v96; v28 = v97; v29 = (v94 + 1) < v94 ? 4294967295u : v94 + 1; goto L17;
-L11:;
+	v26 = v95; v27 = v96; v28 = v97; v29 = v94 + 1 < v94 ? 4294967295u : v94 + 1; goto L17;
+L11:
 	__builtin_trap();
-L12:;
+L12:
 	copy(v51, v35, 16);
 	v14 = v36; v15 = v91; v16 = v92; v17 = v90; v18 = v89; v19 = v88; v20 = v87; v21 = v86; v22 = v82; v23 = v83; v24 = v84; v25 = v85;
-L13:;
+L13:
 	copy(v52, v14, 40);
 	ptr v98 = (ptr)(((u64)v25 << 48) | ((u64)v24 << 32) | (u64)v23);
-	if ((ld8(v45+16) != 1) || (ld64(v45+40) == 0)) goto L14;
+	if (ld8(v45+16) != 1 || !ld64(v45+40)) goto L14;
 	deallocate(ldp(v45+24));
-L14:;
+L14:
 	su64(v1, 1);
 	st8(v1+8, v22);
 	clear(v1+9, 7);
@@ -8604,11 +8075,11 @@ L14:;
 	su32(v1+60, v16);
 	copy(v1+64, v52, 40);
 	goto L32;
-L15:;
-L16:;
+L15:
+L16:
 	v26 = lu32(v2); v27 = lu16(v2+4); v28 = lu16(v2+6); v29 = lu32(v2+8);
-L17:;
-	if (ld8(v45+16) != 0) goto L28;
+L17:
+	if (ld8(v45+16)) goto L28;
 	switch (v72) {
 	case 0: v30 = 168627466; goto L26;
 	case 1: goto L18;
@@ -8621,23 +8092,23 @@ L17:;
 	case 8: goto L25;
 	default: goto L27;
 	}
-L18:;
+L18:
 	v30 = 1; goto L26;
-L19:;
+L19:
 	v30 = 2; goto L26;
-L20:;
+L20:
 	v30 = 3; goto L26;
-L21:;
+L21:
 	v30 = 4; goto L26;
-L22:;
+L22:
 	v30 = 5; goto L26;
-L23:;
+L23:
 	v30 = 6; goto L26;
-L24:;
+L24:
 	v30 = 9; goto L26;
-L25:;
+L25:
 	v30 = v73;
-L26:;
+L26:
 	su64(v1, 0);
 	st8(v1+8, v53);
 	copy(v1+9, v44, 7);
@@ -8651,14 +8122,14 @@ L26:;
 	su32(v1+60, 0);
 	copy(v1+64, v43, 40);
 	goto L32;
-L27:;
+L27:
 	__builtin_trap();
-L28:;
+L28:
 	__builtin_trap();
 	__builtin_trap();
-L29:;
+L29:
 	__builtin_trap();
-L30:;
+L30:
 	copy(v31, v48, 16);
 	copy(v31+16, v49, 24);
 	copy(v43, v31, 40);
@@ -8676,14 +8147,14 @@ L30:;
 	su32(v1+60, v12);
 	copy(v1+64, v43, 40);
 	goto L32;
-L31:;
+L31:
 	su64(v1, 1);
 	st8(v1+8, 2);
 	clear(v1+9, 7);
 	sup(v1+16, (ptr)static_5);
 	su64(v1+24, 40);
 	clear(v1+32, 72);
-L32:;
+L32:
 	return;
 }
 static u32 pcapfile_c_pcap_pcapfile_take_header(ptr v1, ptr v2, ptr v3) {
@@ -8696,17 +8167,17 @@ static u32 pcapfile_c_pcap_pcapfile_take_header(ptr v1, ptr v2, ptr v3) {
 	ptr v16 = lup(v1);
 	u64 v17 = lu64(v1+8);
 	if (v17 >= 24) goto L0;
-	v10 = 0; v11 = 24ull - v17; v12 = 0; goto L4;
+	v11 = 24ull - v17; v10 = v12 = 0; goto L4;
 L0:;
 	u32 v18 = (u32)__builtin_bswap32(lu32(v16));
 	switch (v18) {
 	case 2712812621u: case 2712847316u: goto L1;
 	case 1295823521: case 3569595041u: goto L2;
-	default: v10 = 29; v11 = (u64)(ptr)static_0; v12 = 2; goto L4;
+	default: v11 = (u64)(ptr)static_0; v10 = 29; v12 = 2; goto L4;
 	}
-L1:;
+L1:
 	v4 = (u32)__builtin_bswap32(lu32(v16+20)); v5 = (u16)__builtin_bswap16(lu16(v16+4)); v6 = (u16)__builtin_bswap16(lu16(v16+6)); v7 = (u32)__builtin_bswap32(lu32(v16+8)); v8 = (u32)__builtin_bswap32(lu32(v16+12)); v9 = (u32)__builtin_bswap32(lu32(v16+16)); goto L3;
-L2:;
+L2:
 	v4 = lu32(v16+20); v5 = lu16(v16+4); v6 = lu16(v16+6); v7 = lu32(v16+8); v8 = lu32(v16+12); v9 = lu32(v16+16);
 L3:;
 	t_8_32 v19 = pcap_core_link_DataLinkFromU32_from(v4);
@@ -8721,7 +8192,7 @@ L3:;
 	su64(v1, (u64)(v16+24));
 	su64(v1+8, v17 - 24);
 	v13 = 0; goto L5;
-L4:;
+L4:
 	clear(v15, 48);
 	st8(v14, v12);
 	st64(v14+8, v11);
@@ -8730,7 +8201,7 @@ L4:;
 	copy(v14+48, v15, 48);
 	u32 v21 = pcapfile_values_errors_tell(v14, v3);
 	v13 = v21;
-L5:;
+L5:
 	return v13;
 }
 static void pcap_options_names_str_from_u8_null_terminated(ptr v1, ptr v2, u64 v3) {
@@ -8739,15 +8210,14 @@ static void pcap_options_names_str_from_u8_null_terminated(ptr v1, ptr v2, u64 v
 	u8 v7, v8;
 	_Alignas(8) u8 v9[96], v10[24], v11[24], v13[64];
 	_Alignas(2) u8 v12[6], v14[6];
-	if (v3 == 0) { v5 = 9475; v6 = 0; v7 = 0; v8 = 0; goto L3; }
+	if (!v3) { v5 = 9475; v6 = v7 = v8 = 0; goto L3; }
 	v4 = 0;
-L0:;
-	if (ld8(at(v2, v4)) != 0) goto L2;
+L0:
+	if (ld8(at(v2, v4))) goto L2;
 	clear(v11, 24);
 	core_str_utf8_from_utf8(v11, v2, v4);
-	if (ld8(v11) != 0) goto L1;
-	u8 v15 = ld8(v11+8);
-	u8 v16 = ld8(v11+9);
+	if (ld8(v11)) goto L1;
+	u8 v15 = ld8(v11+8), v16 = ld8(v11+9);
 	u64 v17 = ld64(v11+16);
 	copy(v14, v11+10, 6);
 	su64(v1, 0);
@@ -8759,13 +8229,13 @@ L0:;
 	su64(v1+32, v17);
 	clear(v1+40, 64);
 	goto L4;
-L1:;
-	v5 = 2; v6 = ld64(v11+8); v7 = ld8(v11+16); v8 = ld8(v11+17); goto L3;
+L1:
+	v6 = ld64(v11+8); v7 = ld8(v11+16); v8 = ld8(v11+17); v5 = 2; goto L3;
 L2:;
 	u64 v18 = v4 + 1;
 	if (v18 != v3) { v4 = v18; goto L0; }
-	v5 = 9475; v6 = 0; v7 = 0; v8 = 0;
-L3:;
+	v5 = 9475; v6 = v7 = v8 = 0;
+L3:
 	clear(v9, 96);
 	clear(v10, 24);
 	st16(v10, v5);
@@ -8775,8 +8245,7 @@ L3:;
 	pcap_options_refusal_PcapErrorFromRefusal_from(v9, v10);
 	u8 v19 = ld8(v9);
 	u64 v20 = ld64(v9+8);
-	u8 v21 = ld8(v9+16);
-	u8 v22 = ld8(v9+17);
+	u8 v21 = ld8(v9+16), v22 = ld8(v9+17);
 	copy(v12, v9+18, 6);
 	u64 v23 = ld64(v9+24);
 	copy(v13, v9+32, 64);
@@ -8790,20 +8259,18 @@ L3:;
 	copy(v1+26, v12, 6);
 	su64(v1+32, v23);
 	copy(v1+40, v13, 64);
-L4:;
+L4:
 	return;
 }
-static __attribute__((noinline, cold)) void pcapfile_c_batches_any_front(ptr v1, u8 v2, ptr v3, u64 v4) {
+static APART RARE void pcapfile_c_batches_any_front(ptr v1, u8 v2, ptr v3, u64 v4) {
 	u64 v5, v6, v7, v8, v9, v11, v14, v15, v16, v17, v18, v20, v23, v24, v25, v27, v29, v30, v33, v34, v35, v36, v37, v39, v43, v44, v46, v48, v49, v50, v52, v53, v55, v56, v58, v60, v62, v63, v64;
 	ptr v10, v19, v26, v28, v38, v45, v47, v51, v54, v57, v59, v61, v65;
 	u8 v12, v13, v21, v22, v31, v32, v40, v41, v42;
-	_Alignas(8) u8 v66[24], v67[104], v68[24], v69[104], v72[104], v75[24], v77[104];
-	_Alignas(1) u8 v70[7], v71[24], v73[7], v74[24], v76[7], v78[24];
-	clear(v75, 24);
-	clear(v78, 24);
+	_Alignas(8) u8 v66[24], v67[104], v68[24], v69[104], v72[104], v75[24] = {0}, v77[104];
+	_Alignas(1) u8 v70[7], v71[24], v73[7], v74[24], v76[7], v78[24] = {0};
 	pcap_ng_pcapng_block_Block_from_slice(v77, v2, v3, v4);
 	u8 v79 = ld8(v77+8);
-	if (ld8(v77) != 0) goto L20;
+	if (ld8(v77)) goto L20;
 	ptr v80 = ldp(v77+16);
 	u8 v81 = ld8(v77+24);
 	u32 v82 = ld32(v77+28);
@@ -8811,17 +8278,17 @@ static __attribute__((noinline, cold)) void pcapfile_c_batches_any_front(ptr v1,
 	u64 v84 = ld64(v77+56);
 	u8 v85 = ld8(v77+40);
 	copy(v76, v77+9, 7);
-	if (v85 != 0) goto L19;
+	if (v85) goto L19;
 	switch (v81) {
-	case 0: v51 = (ptr)0; v52 = 0; v53 = 0; v54 = v83; v55 = v84; v56 = 2; goto L17;
+	case 0: v51 = (ptr)0; v54 = v83; v55 = v84; v52 = v53 = 0; v56 = 2; goto L17;
 	case 1: goto L0;
 	case 6: case 3: case 2: goto L1;
 	case 4: case 5: case 7: case 8: goto L16;
 	default: goto L18;
 	}
-L0:;
-	v51 = (ptr)0; v52 = 0; v53 = 0; v54 = v83; v55 = v84; v56 = 3; goto L17;
-L1:;
+L0:
+	v51 = (ptr)0; v54 = v83; v55 = v84; v52 = v53 = 0; v56 = 3; goto L17;
+L1:
 	clear(v72, 104);
 	if (v81 != 6) goto L13;
 	u8 v86 = v84 < 20;
@@ -8831,23 +8298,22 @@ L1:;
 	u32 v87 = lu32(v83);
 	u64 v88 = v84 - 20;
 	u32 v89 = lu32(v83+16);
-	u64 v90 = (u64)lu32(v83+12);
-	u64 v91 = ((0ull - v90) & 3) + v90;
+	u64 v90 = (u64)lu32(v83+12), v91 = ((0ull - v90) & 3) + v90;
 	if (v88 < v91) goto L4;
 	u64 v92 = ((u64)lu32(v83+4) << 32) | (u64)lu32(v83+8);
 	clear(v66, 24);
 	if (v88 != v91) goto L2;
 	goto L3;
-L2:;
+L2:
 	pcapfile_values_enhanced_options_behind_some_7f02(v66, at(v83+20, v91), v88 - v91);
 	if (ld8(v66) != 1) goto L4;
-L3:;
+L3:
 	st32(v67+8, 6);
 	st32(v67+12, v87);
 	st32(v67+16, v89);
 	st32(v67+20, 0);
-	v5 = 0; v6 = 0; v7 = 0; v8 = 0; v9 = v90; v10 = v83+20; v11 = v92; v12 = 6; v13 = 0; goto L5;
-L4:;
+	v9 = v90; v10 = v83+20; v11 = v92; v5 = v6 = v7 = v8 = v13 = 0; v12 = 6; goto L5;
+L4:
 	pcapfile_values_bodies_read_enhanced_7f02(v67, v83, v84);
 	v5 = ld64(v67+72); v6 = ld64(v67+64); v7 = ld64(v67+56); v8 = ld64(v67+48); v9 = ld64(v67+40); v10 = ldp(v67+32); v11 = ld64(v67+24); v12 = ld8(v67+8); v13 = ld8(v67);
 L5:;
@@ -8855,29 +8321,28 @@ L5:;
 	copy(v70, v67+9, 7);
 	copy(v71, v67+80, 24);
 	v23 = v5; v24 = v6; v25 = v7; v26 = v93; v27 = v11; v28 = v10; v29 = v9; v30 = v8; v31 = v12; v32 = v13; goto L11;
-L6:;
+L6:
 	clear(v69, 104);
 	if (v86) goto L9;
 	u32 v94 = (u32)__builtin_bswap32(lu32(v83));
 	u64 v95 = v84 - 20;
 	u32 v96 = (u32)__builtin_bswap32(lu32(v83+16));
-	u64 v97 = (u64)(u32)__builtin_bswap32(lu32(v83+12));
-	u64 v98 = ((0ull - v97) & 3) + v97;
+	u64 v97 = (u64)(u32)__builtin_bswap32(lu32(v83+12)), v98 = ((0ull - v97) & 3) + v97;
 	if (v95 < v98) goto L9;
 	u64 v99 = (u64)__builtin_bswap64(lu64(v83+4));
 	clear(v68, 24);
 	if (v95 != v98) goto L7;
 	goto L8;
-L7:;
+L7:
 	pcapfile_values_enhanced_options_behind_some_4da0(v68, at(v83+20, v98), v95 - v98);
 	if (ld8(v68) != 1) goto L9;
-L8:;
+L8:
 	st32(v69+8, 6);
 	st32(v69+12, v94);
 	st32(v69+16, v96);
 	st32(v69+20, 0);
-	v14 = 0; v15 = 0; v16 = 0; v17 = 0; v18 = v97; v19 = v83+20; v20 = v99; v21 = 6; v22 = 0; goto L10;
-L9:;
+	v18 = v97; v19 = v83+20; v20 = v99; v14 = v15 = v16 = v17 = v22 = 0; v21 = 6; goto L10;
+L9:
 	pcapfile_values_bodies_read_enhanced_4da0(v69, v83, v84);
 	v14 = ld64(v69+72); v15 = ld64(v69+64); v16 = ld64(v69+56); v17 = ld64(v69+48); v18 = ld64(v69+40); v19 = ldp(v69+32); v20 = ld64(v69+24); v21 = ld8(v69+8); v22 = ld8(v69);
 L10:;
@@ -8885,17 +8350,17 @@ L10:;
 	copy(v70, v69+9, 7);
 	copy(v71, v69+80, 24);
 	v23 = v14; v24 = v15; v25 = v16; v26 = v100; v27 = v20; v28 = v19; v29 = v18; v30 = v17; v31 = v21; v32 = v22;
-L11:;
+L11:
 	copy(v73, v70, 7);
 	copy(v74, v71, 24);
-	if (v32 != 0) goto L12;
+	if (v32) goto L12;
 	st8(v72+16, v31);
 	copy(v72+17, v73, 7);
-	v33 = 0; v34 = 0; v35 = 0; v36 = v29; v37 = (u64)v28; v38 = (ptr)v27; v39 = (u64)v26; v40 = 1; v41 = 1; goto L14;
-L12:;
+	v36 = v29; v37 = (u64)v28; v38 = (ptr)v27; v39 = (u64)v26; v33 = v34 = v35 = 0; v40 = v41 = 1; goto L14;
+L12:
 	copy(v78, v74, 24);
 	v42 = v31; v43 = v30; v44 = v29; v45 = v28; v46 = v27; v47 = v26; v48 = v23; v49 = v24; v50 = v25; goto L15;
-L13:;
+L13:
 	pcapfile_values_bodies_seldom_packet(v72, v2, v81, v82, v83, v84);
 	v33 = ld64(v72+72); v34 = ld64(v72+64); v35 = ld64(v72+56); v36 = ld64(v72+48); v37 = ld64(v72+40); v38 = ldp(v72+32); v39 = ld64(v72+24); v40 = ld8(v72+8); v41 = ld8(v72) == 0;
 L14:;
@@ -8905,37 +8370,34 @@ L14:;
 	if (v40 == 1) { v51 = v38; v52 = v37; v53 = v36; v54 = v101; v55 = v39; v56 = 0; goto L17; }
 	__builtin_trap();
 	__builtin_trap();
-L15:;
+L15:
 	su64(v1, 1);
 	st8(v1+8, v42);
 	clear(v1+9, 7);
 	v57 = v47; v58 = v46; v59 = v45; v60 = v44; v61 = (ptr)v43; v62 = v50; v63 = v49; v64 = v48; v65 = v78; goto L21;
-L16:;
-	v51 = (ptr)0; v52 = 0; v53 = 0; v54 = (ptr)0; v55 = 0; v56 = 1;
-L17:;
+L16:
+	v51 = (ptr)0; v54 = (ptr)0; v52 = v53 = v55 = 0; v56 = 1;
+L17:
 	su64(v1, 0);
 	st8(v1+8, v79);
 	copy(v1+9, v76, 7);
-	v57 = v80; v58 = v56; v59 = v54; v60 = v55; v61 = v51; v62 = v52; v63 = v53; v64 = 0; v65 = v75; goto L21;
-L18:;
+	v57 = v80; v58 = v56; v59 = v54; v60 = v55; v61 = v51; v62 = v52; v63 = v53; v65 = v75; v64 = 0; goto L21;
+L18:
 	__builtin_trap();
-L19:;
+L19:
 	__builtin_trap();
 	__builtin_trap();
 L20:;
 	ptr v102 = ldp(v77+16);
-	u64 v103 = ld64(v77+24);
-	u64 v104 = ld64(v77+40);
+	u64 v103 = ld64(v77+24), v104 = ld64(v77+40);
 	ptr v105 = ldp(v77+48);
-	u64 v106 = ld64(v77+56);
-	u64 v107 = ld64(v77+64);
-	u64 v108 = ld64(v77+72);
+	u64 v106 = ld64(v77+56), v107 = ld64(v77+64), v108 = ld64(v77+72);
 	ptr v109 = (ptr)ld64(v77+32);
 	su64(v1, 1);
 	st8(v1+8, v79);
 	clear(v1+9, 7);
 	v57 = v102; v58 = v103; v59 = v109; v60 = v104; v61 = v105; v62 = v106; v63 = v107; v64 = v108; v65 = v77+80;
-L21:;
+L21:
 	sup(v1+16, v57);
 	su64(v1+24, v58);
 	sup(v1+32, v59);
@@ -8952,84 +8414,78 @@ static void pcapfile_c_records_record_of(ptr v1, u16 v2, ptr v3, u64 v4) {
 	ptr v6, v11, v17, v19, v25, v27, v32, v34, v36, v38;
 	u16 v7, v31;
 	u8 v9, v13, v21, v30;
-	_Alignas(8) u8 v39[104], v40[104], v41[48], v42[48], v43[48], v44[48];
-	clear(v41, 48);
-	clear(v42, 48);
+	_Alignas(8) u8 v39[104], v40[104], v41[48] = {0}, v42[48] = {0}, v43[48], v44[48];
 	switch (v2) {
 	case 0: goto L0;
 	case 1: goto L2;
 	case 2: goto L7;
-	default: v26 = 0; v27 = v3; v28 = v4; v29 = 0; v30 = 1; v31 = v2; v32 = (ptr)static_41; v33 = 0; goto L12;
+	default: v27 = v3; v28 = v4; v31 = v2; v32 = (ptr)static_41; v26 = v29 = v33 = 0; v30 = 1; goto L12;
 	}
-L0:;
-	if (v4 == 0) { v5 = 0; v6 = (ptr)0; v7 = 0; v8 = 0; v9 = 0; goto L1; }
+L0:
+	if (!v4) { v6 = (ptr)0; v5 = v7 = v8 = v9 = 0; goto L1; }
 	v5 = ((u64)(ptr)static_34 >> 16) & 0xffffffffffffull; v6 = (ptr)47ull; v7 = (u64)(ptr)static_34; v8 = 1; v9 = 2;
-L1:;
+L1:
 	copy(v41, v42, 48);
-	v26 = v5; v27 = v6; v28 = 0; v29 = v8; v30 = v9; v31 = v7; v32 = (ptr)0; v33 = 0; goto L12;
-L2:;
+	v26 = v5; v27 = v6; v29 = v8; v30 = v9; v31 = v7; v32 = (ptr)0; v28 = v33 = 0; goto L12;
+L2:
 	if (v4 >= 6) goto L3;
 	clear(v43, 48);
-	v12 = 0; v13 = 2; v14 = (u64)(ptr)static_35; v15 = 39; v16 = 0; v17 = (ptr)0; goto L6;
+	v14 = (u64)(ptr)static_35; v17 = (ptr)0; v12 = v16 = 0; v13 = 2; v15 = 39; goto L6;
 L3:;
 	u64 v45 = v4 - 4;
 	clear(v40, 104);
 	v10 = v45; v11 = v3+4;
-L4:;
+L4:
 	pcap_options_names_str_from_u8_null_terminated(v40, v11, v10);
 	u8 v46 = ld8(v40+8);
-	if (ld8(v40) != 0) goto L5;
+	if (ld8(v40)) goto L5;
 	u64 v47 = ld64(v40+16);
-	if (v47 != 0) { v10 = v47; v11 = (ptr)((((u64)ld_bytes(v40+9, 7) & 0xffffffffffffffull) << 8) | (u64)v46); goto L4; }
-	v26 = 0; v27 = v3; v28 = 4; v29 = 0; v30 = 1; v31 = 1; v32 = v3+4; v33 = v45; goto L12;
+	if (v47) { v10 = v47; v11 = (ptr)((((u64)ld_bytes(v40+9, 7) & 0xffffffffffffffull) << 8) | (u64)v46); goto L4; }
+	v27 = v3; v32 = v3+4; v33 = v45; v26 = v29 = 0; v28 = 4; v30 = v31 = 1; goto L12;
 L5:;
-	u64 v48 = ld64(v40+16);
-	u64 v49 = ld64(v40+24);
+	u64 v48 = ld64(v40+16), v49 = ld64(v40+24);
 	ptr v50 = ldp(v40+32);
-	u64 v51 = ld64(v40+40);
-	u64 v52 = ld64(v40+48);
+	u64 v51 = ld64(v40+40), v52 = ld64(v40+48);
 	copy(v43, v40+56, 48);
 	v12 = v52; v13 = v46; v14 = v48; v15 = v49; v16 = (u64)v50; v17 = (ptr)v51;
-L6:;
+L6:
 	su64(v1, 1);
 	st8(v1+8, v13);
 	su64(v1+16, v14);
 	v34 = (ptr)v15; v35 = v16; v36 = v17; v37 = v12; v38 = v43; goto L13;
-L7:;
+L7:
 	if (v4 >= 18) goto L8;
 	clear(v44, 48);
-	v20 = 0; v21 = 2; v22 = (u64)(ptr)static_36; v23 = 40; v24 = 0; v25 = (ptr)0; goto L11;
+	v22 = (u64)(ptr)static_36; v25 = (ptr)0; v20 = v24 = 0; v21 = 2; v23 = 40; goto L11;
 L8:;
 	u64 v53 = v4 - 16;
 	clear(v39, 104);
 	v18 = v53; v19 = v3+16;
-L9:;
+L9:
 	pcap_options_names_str_from_u8_null_terminated(v39, v19, v18);
 	u8 v54 = ld8(v39+8);
-	if (ld8(v39) != 0) goto L10;
+	if (ld8(v39)) goto L10;
 	u64 v55 = ld64(v39+16);
-	if (v55 != 0) { v18 = v55; v19 = (ptr)((((u64)ld_bytes(v39+9, 7) & 0xffffffffffffffull) << 8) | (u64)v54); goto L9; }
-	v26 = 0; v27 = v3; v28 = 16; v29 = 0; v30 = 1; v31 = 2; v32 = v3+16; v33 = v53; goto L12;
+	if (v55) { v18 = v55; v19 = (ptr)((((u64)ld_bytes(v39+9, 7) & 0xffffffffffffffull) << 8) | (u64)v54); goto L9; }
+	v27 = v3; v32 = v3+16; v33 = v53; v26 = v29 = 0; v28 = 16; v30 = 1; v31 = 2; goto L12;
 L10:;
-	u64 v56 = ld64(v39+16);
-	u64 v57 = ld64(v39+24);
+	u64 v56 = ld64(v39+16), v57 = ld64(v39+24);
 	ptr v58 = ldp(v39+32);
-	u64 v59 = ld64(v39+40);
-	u64 v60 = ld64(v39+48);
+	u64 v59 = ld64(v39+40), v60 = ld64(v39+48);
 	copy(v44, v39+56, 48);
 	v20 = v60; v21 = v54; v22 = v56; v23 = v57; v24 = (u64)v58; v25 = (ptr)v59;
-L11:;
+L11:
 	su64(v1, 1);
 	st8(v1+8, v21);
 	su64(v1+16, v22);
 	v34 = (ptr)v23; v35 = v24; v36 = v25; v37 = v20; v38 = v44; goto L13;
-L12:;
+L12:
 	su64(v1, v29);
 	st8(v1+8, v30);
 	su16(v1+16, v31);
 	st_bytes(v1+18, v26, 6);
 	v34 = v27; v35 = v28; v36 = v32; v37 = v33; v38 = v41;
-L13:;
+L13:
 	sup(v1+24, v34);
 	su64(v1+32, v35);
 	sup(v1+40, v36);
@@ -9037,18 +8493,39 @@ L13:;
 	copy(v1+56, v38, 48);
 	return;
 }
+static APART RARE u8 std_alloc_vec_Vec_grow_amortized_9fda(ptr v1) {
+	t_64_64 v2;
+	u8 v3;
+	u64 v4 = ld64(v1+8);
+	if (v4 == ~0ull) { v3 = 0; goto L2; }
+	u64 v5 = ld64(v1+16), v6 = (v4 > 3 ? v4 : 3) + 1, v7 = v5 << 1, v8 = v6 > v7 ? v6 : v7;
+	u64 v9 = v5 < 0x4000000000000000ull ? v8 : v6;
+	if (v9 >= 0x1555555555555556ull) { v3 = 0; goto L2; }
+	if (v5) goto L0;
+	t_64_64 v10 = allocate(v8 * 6, 2);
+	if (v10.f0 & 1) { v2 = v10; goto L1; }
+	v3 = 0; goto L2;
+L0:;
+	t_64_64 v11 = reallocate(ldp(v1), v4 * 6, v9 * 6, 2);
+	if (!(v11.f0 & 1)) { v3 = 0; goto L2; }
+	v2 = v11;
+L1:
+	stp(v1, (ptr)v2.f1);
+	st64(v1+16, v9);
+	v3 = 1;
+L2:
+	return v3;
+}
 static void std_alloc_vec_Vec_push_9fda(ptr v1, ptr v2, ptr v3) {
 	u64 v4;
-	u16 v5 = ld8(v3);
-	u16 v6 = lu16(v3+2);
-	u8 v7 = ld8(v3+4);
-	u8 v8 = ld8(v3+5);
+	u16 v5 = ld8(v3), v6 = lu16(v3+2);
+	u8 v7 = ld8(v3+4), v8 = ld8(v3+5);
 	u64 v9 = ld64(v2+8);
 	if (ld64(v2+16) != v9) { v4 = v9; goto L1; }
 	u8 v10 = std_alloc_vec_Vec_grow_amortized_9fda(v2);
 	if (!v10) goto L0;
 	v4 = ld64(v2+8); goto L1;
-L0:;
+L0:
 	st8(v1, 1);
 	su16(v1+2, v5);
 	su16(v1+4, v6);
@@ -9064,33 +8541,25 @@ L1:;
 	st64(v2+8, v4 + 1);
 	st8(v1, 0);
 	clear(v1+2, 6);
-L2:;
+L2:
 	return;
 }
-static __attribute__((noinline, cold)) u8 std_alloc_vec_Vec_grow_amortized_9fda(ptr v1) {
-	t_64_64 v2;
+static u8 pcap_tolerant_blocks_list_note(ptr v1, ptr v2) {
 	u8 v3;
-	u64 v4 = ld64(v1+8);
-	if (v4 == ~0ull) { v3 = 0; goto L2; }
-	u64 v5 = ld64(v1+16);
-	u64 v6 = (v4 > 3 ? v4 : 3) + 1;
-	u64 v7 = v5 << 1;
-	u64 v8 = v6 > v7 ? v6 : v7;
-	u64 v9 = v5 < 0x4000000000000000ull ? v8 : v6;
-	if (v9 >= 0x1555555555555556ull) { v3 = 0; goto L2; }
-	if (v5 != 0) goto L0;
-	t_64_64 v10 = allocate(v8 * 6, 2);
-	if (v10.f0 & 1) { v2 = v10; goto L1; }
-	v3 = 0; goto L2;
-L0:;
-	t_64_64 v11 = reallocate(ldp(v1), v4 * 6, v9 * 6, 2);
-	if (!(v11.f0 & 1)) { v3 = 0; goto L2; }
-	v2 = v11;
-L1:;
-	stp(v1, (ptr)v2.f1);
-	st64(v1+16, v9);
-	v3 = 1;
-L2:;
+	_Alignas(2) u8 v8[6];
+	_Alignas(8) u8 v9[8];
+	u8 v4 = ld8(v2+2);
+	u16 v5 = lu16(v2+4);
+	u8 v6 = ld8(v2+6), v7 = ld8(v2+7), v10 = ld8(v2);
+	st64(v9, 0);
+	if (v10 != 1) { v3 = 0; goto L0; }
+	st16(v8, v4);
+	st16(v8+2, v5);
+	st8(v8+4, v6);
+	st8(v8+5, v7);
+	std_alloc_vec_Vec_push_9fda(v9, v1, v8);
+	v3 = ld8(v9) != 0;
+L0:
 	return v3;
 }
 static u8 pcap_tolerant_blocks_list_keep_289b(ptr v1, ptr v2, ptr v3) {
@@ -9098,18 +8567,12 @@ static u8 pcap_tolerant_blocks_list_keep_289b(ptr v1, ptr v2, ptr v3) {
 	u8 v6;
 	_Alignas(2) u8 v15[8];
 	u8 v7 = ld8(v3);
-	u16 v8 = lu16(v3+8);
-	u16 v9 = lu16(v3+10);
+	u16 v8 = lu16(v3+8), v9 = lu16(v3+10);
 	u32 v10 = lu32(v3+12);
-	u64 v11 = lu64(v3+16);
-	u64 v12 = lu64(v3+24);
-	u64 v13 = lu64(v3+32);
-	u64 v14 = lu64(v3+40);
-	u64 v16 = (u64)v7;
+	u64 v11 = lu64(v3+16), v12 = lu64(v3+24), v13 = lu64(v3+32), v14 = lu64(v3+40), v16 = (u64)v7;
 	u8 v17 = ld8(v3+50);
 	u16 v18 = lu16(v3+52);
-	u8 v19 = ld8(v3+54);
-	u8 v20 = ld8(v3+55);
+	u8 v19 = ld8(v3+54), v20 = ld8(v3+55);
 	st16(v15, ld8(v3+48));
 	st16(v15+2, v17);
 	st16(v15+4, v18);
@@ -9121,8 +8584,7 @@ static u8 pcap_tolerant_blocks_list_keep_289b(ptr v1, ptr v2, ptr v3) {
 	if (!v22) goto L0;
 	v5 = ld64(v1+8); goto L10;
 L0:;
-	u8 v23 = (u8)v8;
-	u8 v24 = (u8)v11;
+	u8 v23 = (u8)v8, v24 = (u8)v11;
 	switch (v7) {
 	case 0: goto L1;
 	case 1: goto L2;
@@ -9133,31 +8595,31 @@ L0:;
 	case 6: goto L7;
 	default: goto L9;
 	}
-L1:;
-	if ((v23 == 0) || (v13 == 0)) { v6 = 1; goto L11; }
+L1:
+	if (!v23 || !v13) { v6 = 1; goto L11; }
 	v4 = v11; goto L8;
-L2:;
-	if ((v23 == 0) || (v13 == 0)) { v6 = 1; goto L11; }
+L2:
+	if (!v23 || !v13) { v6 = 1; goto L11; }
 	v4 = v11; goto L8;
-L3:;
-	if ((v23 == 0) || (v13 == 0)) { v6 = 1; goto L11; }
+L3:
+	if (!v23 || !v13) { v6 = 1; goto L11; }
 	v4 = v11; goto L8;
-L4:;
-	if ((v23 == 0) || (v13 == 0)) { v6 = 1; goto L11; }
+L4:
+	if (!v23 || !v13) { v6 = 1; goto L11; }
 	v4 = v11; goto L8;
-L5:;
-	if ((v24 == 0) || (v14 == 0)) { v6 = 1; goto L11; }
+L5:
+	if (!v24 || !v14) { v6 = 1; goto L11; }
 	v4 = v12; goto L8;
-L6:;
-	if ((v24 == 0) || (v14 == 0)) { v6 = 1; goto L11; }
+L6:
+	if (!v24 || !v14) { v6 = 1; goto L11; }
 	v4 = v12; goto L8;
-L7:;
-	if ((v24 == 0) || (v14 == 0)) { v6 = 1; goto L11; }
+L7:
+	if (!v24 || !v14) { v6 = 1; goto L11; }
 	v4 = v12;
-L8:;
+L8:
 	deallocate((ptr)v4);
 	v6 = 1; goto L11;
-L9:;
+L9:
 	__builtin_trap();
 L10:;
 	ptr v25 = at(ldp(v1), v5 * 48);
@@ -9172,63 +8634,15 @@ L10:;
 	st64(v1+8, v5 + 1);
 	u8 v26 = pcap_tolerant_blocks_list_note(v2, v15);
 	v6 = v26;
-L11:;
+L11:
 	return v6;
-}
-static __attribute__((noinline, cold)) u8 std_alloc_vec_Vec_grow_amortized_05c7(ptr v1) {
-	t_64_64 v2;
-	u8 v3;
-	u64 v4 = ld64(v1+8);
-	if (v4 == ~0ull) { v3 = 0; goto L2; }
-	u64 v5 = ld64(v1+16);
-	u64 v6 = (v4 > 3 ? v4 : 3) + 1;
-	u64 v7 = v5 << 1;
-	u64 v8 = v6 > v7 ? v6 : v7;
-	u64 v9 = v5 < 0x4000000000000000ull ? v8 : v6;
-	if (v9 >= 0x2aaaaaaaaaaaaabull) { v3 = 0; goto L2; }
-	if (v5 != 0) goto L0;
-	t_64_64 v10 = allocate(v8 * 48, 8);
-	if (v10.f0 & 1) { v2 = v10; goto L1; }
-	v3 = 0; goto L2;
-L0:;
-	t_64_64 v11 = reallocate(ldp(v1), v4 * 48, v9 * 48, 8);
-	if (!(v11.f0 & 1)) { v3 = 0; goto L2; }
-	v2 = v11;
-L1:;
-	stp(v1, (ptr)v2.f1);
-	st64(v1+16, v9);
-	v3 = 1;
-L2:;
-	return v3;
-}
-static u8 pcap_tolerant_blocks_list_note(ptr v1, ptr v2) {
-	u8 v3;
-	_Alignas(2) u8 v8[6];
-	_Alignas(8) u8 v9[8];
-	u8 v4 = ld8(v2+2);
-	u16 v5 = lu16(v2+4);
-	u8 v6 = ld8(v2+6);
-	u8 v7 = ld8(v2+7);
-	u8 v10 = ld8(v2);
-	st64(v9, 0);
-	if (v10 != 1) { v3 = 0; goto L0; }
-	st16(v8, v4);
-	st16(v8+2, v5);
-	st8(v8+4, v6);
-	st8(v8+5, v7);
-	std_alloc_vec_Vec_push_9fda(v9, v1, v8);
-	v3 = ld8(v9) != 0;
-L0:;
-	return v3;
 }
 static void ptions_interface_option_InterfaceDescriptionOption_Destruct_drop_2(ptr v1) {
 	u64 v2;
 	u8 v3 = ld8(v1+8);
 	u64 v4 = lu64(v1+16);
 	u8 v5 = (u8)v4;
-	u64 v6 = lu64(v1+24);
-	u64 v7 = lu64(v1+32);
-	u64 v8 = lu64(v1+40);
+	u64 v6 = lu64(v1+24), v7 = lu64(v1+32), v8 = lu64(v1+40);
 	switch (ld8(v1)) {
 	case 0: goto L0;
 	case 1: goto L1;
@@ -9245,47 +8659,47 @@ static void ptions_interface_option_InterfaceDescriptionOption_Destruct_drop_2(p
 	case 17: goto L11;
 	default: goto L14;
 	}
-L0:;
-	if ((v3 == 0) || (v7 == 0)) goto L13;
+L0:
+	if (!v3 || !v7) goto L13;
 	v2 = v4; goto L12;
-L1:;
-	if ((v3 == 0) || (v7 == 0)) goto L13;
+L1:
+	if (!v3 || !v7) goto L13;
 	v2 = v4; goto L12;
-L2:;
-	if ((v3 == 0) || (v7 == 0)) goto L13;
+L2:
+	if (!v3 || !v7) goto L13;
 	v2 = v4; goto L12;
-L3:;
-	if ((v3 == 0) || (v7 == 0)) goto L13;
+L3:
+	if (!v3 || !v7) goto L13;
 	v2 = v4; goto L12;
-L4:;
-	if ((v3 == 0) || (v7 == 0)) goto L13;
+L4:
+	if (!v3 || !v7) goto L13;
 	v2 = v4; goto L12;
-L5:;
-	if ((v3 == 0) || (v7 == 0)) goto L13;
+L5:
+	if (!v3 || !v7) goto L13;
 	v2 = v4; goto L12;
-L6:;
-	if ((v3 == 0) || (v7 == 0)) goto L13;
+L6:
+	if (!v3 || !v7) goto L13;
 	v2 = v4; goto L12;
-L7:;
-	if ((v3 == 0) || (v7 == 0)) goto L13;
+L7:
+	if (!v3 || !v7) goto L13;
 	v2 = v4; goto L12;
-L8:;
-	if ((v3 == 0) || (v7 == 0)) goto L13;
+L8:
+	if (!v3 || !v7) goto L13;
 	v2 = v4; goto L12;
-L9:;
-	if ((v5 == 0) || (v8 == 0)) goto L13;
+L9:
+	if (!v5 || !v8) goto L13;
 	v2 = v6; goto L12;
-L10:;
-	if ((v5 == 0) || (v8 == 0)) goto L13;
+L10:
+	if (!v5 || !v8) goto L13;
 	v2 = v6; goto L12;
-L11:;
-	if ((v5 == 0) || (v8 == 0)) goto L13;
+L11:
+	if (!v5 || !v8) goto L13;
 	v2 = v6;
-L12:;
+L12:
 	deallocate((ptr)v2);
-L13:;
+L13:
 	return;
-L14:;
+L14:
 	__builtin_trap();
 }
 static u8 pcap_tolerant_blocks_list_keep_56d9(ptr v1, ptr v2, ptr v3) {
@@ -9294,16 +8708,11 @@ static u8 pcap_tolerant_blocks_list_keep_56d9(ptr v1, ptr v2, ptr v3) {
 	_Alignas(2) u8 v14[8];
 	u8 v7 = ld8(v3);
 	u32 v8 = lu32(v3+4);
-	u64 v9 = lu64(v3+8);
-	u64 v10 = lu64(v3+16);
-	u64 v11 = lu64(v3+24);
-	u64 v12 = lu64(v3+32);
-	u64 v13 = lu64(v3+40);
+	u64 v9 = lu64(v3+8), v10 = lu64(v3+16), v11 = lu64(v3+24), v12 = lu64(v3+32), v13 = lu64(v3+40);
 	u32 v15 = (u32)v7;
 	u8 v16 = ld8(v3+50);
 	u16 v17 = lu16(v3+52);
-	u8 v18 = ld8(v3+54);
-	u8 v19 = ld8(v3+55);
+	u8 v18 = ld8(v3+54), v19 = ld8(v3+55);
 	st16(v14, ld8(v3+48));
 	st16(v14+2, v16);
 	st16(v14+4, v17);
@@ -9315,8 +8724,7 @@ static u8 pcap_tolerant_blocks_list_keep_56d9(ptr v1, ptr v2, ptr v3) {
 	if (!v21) goto L0;
 	v5 = ld64(v1+8); goto L8;
 L0:;
-	u8 v22 = (u8)v9;
-	u8 v23 = (u8)v10;
+	u8 v22 = (u8)v9, v23 = (u8)v10;
 	switch (v7) {
 	case 0: goto L1;
 	case 1: case 3: v6 = 1; goto L9;
@@ -9326,25 +8734,25 @@ L0:;
 	case 6: goto L5;
 	default: goto L7;
 	}
-L1:;
-	if ((v22 == 0) || (v12 == 0)) { v6 = 1; goto L9; }
+L1:
+	if (!v22 || !v12) { v6 = 1; goto L9; }
 	v4 = v10; goto L6;
-L2:;
-	if ((v22 == 0) || (v12 == 0)) { v6 = 1; goto L9; }
+L2:
+	if (!v22 || !v12) { v6 = 1; goto L9; }
 	v4 = v10; goto L6;
-L3:;
-	if ((v23 == 0) || (v13 == 0)) { v6 = 1; goto L9; }
+L3:
+	if (!v23 || !v13) { v6 = 1; goto L9; }
 	v4 = v11; goto L6;
-L4:;
-	if ((v23 == 0) || (v13 == 0)) { v6 = 1; goto L9; }
+L4:
+	if (!v23 || !v13) { v6 = 1; goto L9; }
 	v4 = v11; goto L6;
-L5:;
-	if ((v23 == 0) || (v13 == 0)) { v6 = 1; goto L9; }
+L5:
+	if (!v23 || !v13) { v6 = 1; goto L9; }
 	v4 = v11;
-L6:;
+L6:
 	deallocate((ptr)v4);
 	v6 = 1; goto L9;
-L7:;
+L7:
 	__builtin_trap();
 L8:;
 	ptr v24 = at(ldp(v1), v5 * 48);
@@ -9358,17 +8766,16 @@ L8:;
 	st64(v1+8, v5 + 1);
 	u8 v25 = pcap_tolerant_blocks_list_note(v2, v14);
 	v6 = v25;
-L9:;
+L9:
 	return v6;
 }
-static __attribute__((noinline, cold)) t_8_32 pcapfile_c_push_packets_take_first(ptr v1, ptr v2, ptr v3) {
+static APART RARE t_8_32 pcapfile_c_push_packets_take_first(ptr v1, ptr v2, ptr v3) {
 	u32 v4;
-	_Alignas(8) u8 v5[96], v6[104];
+	_Alignas(8) u8 v5[96], v6[104] = {0};
 	st64(v5, 0);
-	clear(v6, 104);
 	pcapfile_values_blocks_PcapfileSection_next_block(v6, v1, lup(v2), lu64(v2+8));
 	u8 v7 = ld8(v6);
-	if (v7 != 0) goto L0;
+	if (v7) goto L0;
 	copy(v1, v6+48, 12);
 	copy(v2, v6+8, 16);
 	v4 = 0; goto L1;
@@ -9377,32 +8784,25 @@ L0:;
 	st8(v5, v8);
 	copy(v5+8, v6+16, 88);
 	u32 v9 = pcapfile_values_errors_tell(v5, v3);
-	if ((v8 != 4) || (ld64(v5+24) == 0)) { v4 = v9; goto L1; }
+	if (v8 != 4 || !ld64(v5+24)) { v4 = v9; goto L1; }
 	deallocate(ldp(v5+8));
 	v4 = v9;
-L1:;
+L1:
 	return (t_8_32){v7, v4};
 }
-static __attribute__((noinline, cold)) t_8_32 pcapfile_c_push_packets_take_section(ptr v1, ptr v2, ptr v3, u64 v4, ptr v5, u64 v6, ptr v7) {
+static APART RARE t_8_32 pcapfile_c_push_packets_take_section(ptr v1, ptr v2, ptr v3, u64 v4, ptr v5, u64 v6, ptr v7) {
 	u8 v8, v9, v11, v15;
 	u64 v10;
 	u16 v12, v13, v14;
 	u32 v16;
 	_Alignas(1) u8 v17[32], v22[32], v23[40];
-	_Alignas(8) u8 v18[40], v19[96], v20[24], v21[64], v24[32], v25[24], v26[96], v27[72];
-	clear(v26, 96);
-	clear(v27, 72);
-	clear(v21, 64);
+	_Alignas(8) u8 v18[40], v19[96], v20[24], v21[64] = {0}, v24[32], v25[24], v26[96] = {0}, v27[72] = {0};
 	pcap_blocks_section_header_SectionHeaderBlock_read(v21, v5, v6);
 	u8 v28 = ld8(v21+8);
 	u64 v29 = ld64(v21+16);
-	u8 v30 = ld8(v21+24);
-	u8 v31 = ld8(v21+25);
-	u8 v32 = ld8(v21) == 0;
+	u8 v30 = ld8(v21+24), v31 = ld8(v21+25), v32 = ld8(v21) == 0;
 	if (!v32) goto L0;
-	u16 v33 = ld16(v21+26);
-	u16 v34 = ld16(v21+28);
-	u16 v35 = ld16(v21+30);
+	u16 v33 = ld16(v21+26), v34 = ld16(v21+28), v35 = ld16(v21+30);
 	copy(v24, v21+32, 32);
 	clear(v18, 40);
 	v8 = v31; v9 = v30; v10 = v29; v11 = v28; v12 = v35; v13 = v34; v14 = v33; goto L1;
@@ -9418,15 +8818,12 @@ L0:;
 	pcap_options_refusal_PcapErrorFromRefusal_from(v19, v20);
 	u8 v37 = ld8(v19);
 	u64 v38 = ld64(v19+8);
-	u8 v39 = ld8(v19+16);
-	u8 v40 = ld8(v19+17);
-	u16 v41 = ld16(v19+18);
-	u16 v42 = ld16(v19+20);
-	u16 v43 = ld16(v19+22);
+	u8 v39 = ld8(v19+16), v40 = ld8(v19+17);
+	u16 v41 = ld16(v19+18), v42 = ld16(v19+20), v43 = ld16(v19+22);
 	copy(v24, v19+24, 32);
 	copy(v18, v19+56, 40);
 	v8 = v40; v9 = v39; v10 = v38; v11 = v37; v12 = v43; v13 = v42; v14 = v41;
-L1:;
+L1:
 	copy(v17, v24, 32);
 	u32 v44 = ((u32)v14 << 16) | ((u32)v8 << 8) | (u32)v9;
 	copy(v22, v17, 32);
@@ -9440,8 +8837,8 @@ L1:;
 	su32(v1+8, 0);
 	sup(v2, v3);
 	su64(v2+8, v4);
-	v15 = 0; v16 = 0; goto L3;
-L2:;
+	v15 = v16 = 0; goto L3;
+L2:
 	copy(v27, v22, 32);
 	copy(v27+32, v23, 40);
 	st8(v26, v11);
@@ -9451,51 +8848,49 @@ L2:;
 	st16(v26+22, v12);
 	copy(v26+24, v27, 72);
 	u32 v45 = pcapfile_values_errors_tell(v26, v7);
-	if ((v11 != 4) || (ld64(v26+24) == 0)) { v15 = 1; v16 = v45; goto L3; }
+	if (v11 != 4 || !ld64(v26+24)) { v16 = v45; v15 = 1; goto L3; }
 	deallocate((ptr)v10);
-	v15 = 1; v16 = v45;
-L3:;
+	v16 = v45; v15 = 1;
+L3:
 	return (t_8_32){v15, v16};
 }
-static __attribute__((noinline, cold)) t_8_32 pcapfile_c_push_packets_take_interface(u8 v1, ptr v2, ptr v3, ptr v4, u64 v5, ptr v6, u64 v7, ptr v8, u64 v9, ptr v10) {
+static APART RARE t_8_32 pcapfile_c_push_packets_take_interface(u8 v1, ptr v2, ptr v3, ptr v4, u64 v5, ptr v6, u64 v7, ptr v8, u64 v9, ptr v10) {
 	u32 v11;
 	u8 v12;
-	_Alignas(8) u8 v13[96], v14[104];
+	_Alignas(8) u8 v13[96], v14[104] = {0};
 	st64(v13, 0);
-	clear(v14, 104);
 	pcapfile_values_bodies_interface_of(v14, v1, 1, 0, v6, v7);
 	u8 v15 = ld8(v14+8);
-	if (ld8(v14) != 0) goto L1;
+	if (ld8(v14)) goto L1;
 	if (v15 != 1) goto L0;
 	u32 v16 = ld32(v2+8);
-	if (v16 == 4294967295u) { v11 = 11; v12 = 1; goto L2; }
+	if (v16 == 4294967295u) { M0: v11 = 11; v12 = 1; goto L2; }
 	u64 v17 = (u64)v16;
-	if (v9 <= v17) { v11 = 11; v12 = 1; goto L2; }
+	if (v9 <= v17) goto M0;
 	copy(at(v8, v17 * 24), v14+16, 24);
 	st32(v2+8, v16 + 1);
 	sup(v3, v4);
 	su64(v3+8, v5);
-	v11 = 0; v12 = 0; goto L2;
-L0:;
+	v11 = v12 = 0; goto L2;
+L0:
 	__builtin_trap();
 	__builtin_trap();
-L1:;
+L1:
 	st8(v13, v15);
 	copy(v13+8, v14+16, 88);
 	u32 v18 = pcapfile_values_errors_tell(v13, v10);
-	if ((v15 != 4) || (ld64(v13+24) == 0)) { v11 = v18; v12 = 1; goto L2; }
+	if (v15 != 4 || !ld64(v13+24)) { v11 = v18; v12 = 1; goto L2; }
 	deallocate(ldp(v13+8));
 	v11 = v18; v12 = 1;
-L2:;
+L2:
 	return (t_8_32){v12, v11};
 }
-static __attribute__((noinline, cold)) u32 pcapfile_c_pcap_take_slowly(u32 v1, ptr v2, ptr v3, ptr v4) {
+static APART RARE u32 pcapfile_c_pcap_take_slowly(u32 v1, ptr v2, ptr v3, ptr v4) {
 	u32 v5, v8, v15, v16, v19;
 	u64 v6, v9, v13, v14, v18;
 	ptr v7, v10, v12, v17;
 	u8 v11;
-	_Alignas(8) u8 v20[32], v21[96], v22[32];
-	clear(v21, 96);
+	_Alignas(8) u8 v20[32], v21[96] = {0}, v22[32];
 	switch (v1) {
 	case 1295823521: case 2712812621u: case 2712847316u: case 3569595041u: goto L0;
 	default: goto L16;
@@ -9508,40 +8903,35 @@ L0:;
 	case 2712847316u: case 2712812621u: goto L1;
 	default: goto L7;
 	}
-L1:;
+L1:
 	if (!v25) goto L2;
-	v11 = 0; v12 = (ptr)0; v13 = 16ull - v24; v14 = 0; v15 = 0; v16 = 0; v17 = (ptr)0; v18 = 0; goto L14;
+	M0: v12 = (ptr)0; v13 = 16ull - v24; v17 = (ptr)0; v11 = v14 = v15 = v16 = v18 = 0; goto L14;
 L2:;
-	u32 v26 = (u32)__builtin_bswap32(lu32(v23));
-	u32 v27 = (u32)__builtin_bswap32(lu32(v23+4));
-	u32 v28 = lu32(v23+8);
-	u32 v29 = (u32)__builtin_bswap32(v28);
+	u32 v26 = (u32)__builtin_bswap32(lu32(v23)), v27 = (u32)__builtin_bswap32(lu32(v23+4));
+	u32 v28 = lu32(v23+8), v29 = (u32)__builtin_bswap32(v28);
 	u64 v30 = v24 - 16;
-	u32 v31 = lu32(v23+12);
-	u32 v32 = (u32)__builtin_bswap32(v31);
+	u32 v31 = lu32(v23+12), v32 = (u32)__builtin_bswap32(v31);
 	if (v1 != 2712847316u) { v5 = v27; goto L3; }
-	if (v27 > 4294967) { v6 = 40; v7 = (ptr)static_1; goto L4; }
+	if (v27 > 4294967) { v7 = (ptr)static_1; v6 = 40; goto L4; }
 	v5 = v27 * 1000;
-L3:;
-	if (v29 > 262144) { v6 = 31; v7 = (ptr)static_2; goto L4; }
-	if (v32 > 262144) { v6 = 31; v7 = (ptr)static_3; goto L4; }
+L3:
+	if (v29 > 262144) { v7 = (ptr)static_2; v6 = 31; goto L4; }
+	if (v32 > 262144) { v7 = (ptr)static_3; v6 = 31; goto L4; }
 	if (v32 >= v29) goto L5;
-	v6 = 32; v7 = (ptr)static_4;
-L4:;
-	v11 = 0; v12 = (ptr)2ull; v13 = (u64)v7; v14 = v6; v15 = 0; v16 = 0; v17 = (ptr)0; v18 = 0; goto L14;
+	v7 = (ptr)static_4; v6 = 32;
+L4:
+	v12 = (ptr)2ull; v13 = (u64)v7; v14 = v6; v17 = (ptr)0; v11 = v15 = v16 = v18 = 0; goto L14;
 L5:;
-	u64 v33 = (u64)__builtin_bswap64(((u64)v28 << 32) | (u64)v31);
-	u64 v34 = v33 & 4294967295u;
+	u64 v33 = (u64)__builtin_bswap64(((u64)v28 << 32) | (u64)v31), v34 = v33 & 4294967295u;
 	if (v30 >= v34) goto L6;
-	v11 = 0; v12 = (ptr)0; v13 = v34 - v30; v14 = 0; v15 = 0; v16 = 0; v17 = (ptr)0; v18 = 0; goto L14;
-L6:;
-	v11 = 1; v12 = at(v23+16, v34); v13 = v30 - v34; v14 = ((u64)v5 << 32) | (u64)v26; v15 = (u32)v33; v16 = (u32)(v33 >> 32); v17 = v23+16; v18 = v34; goto L14;
-L7:;
+	v12 = (ptr)0; v13 = v34 - v30; v17 = (ptr)0; v11 = v14 = v15 = v16 = v18 = 0; goto L14;
+L6:
+	v12 = at(v23+16, v34); v13 = v30 - v34; v14 = ((u64)v5 << 32) | (u64)v26; v15 = (u32)v33; v16 = (u32)(v33 >> 32); v17 = v23+16; v18 = v34; v11 = 1; goto L14;
+L7:
 	if (!v25) goto L8;
-	v11 = 0; v12 = (ptr)0; v13 = 16ull - v24; v14 = 0; v15 = 0; v16 = 0; v17 = (ptr)0; v18 = 0; goto L14;
+	goto M0;
 L8:;
-	u32 v35 = lu32(v23);
-	u32 v36 = lu32(v23+4);
+	u32 v35 = lu32(v23), v36 = lu32(v23+4);
 	u64 v37 = lu64(v23+8);
 	u32 v38 = (u32)v37;
 	u64 v39 = v24 - 16;
@@ -9550,23 +8940,23 @@ L8:;
 	case 3569595041u: case 2712847316u: goto L9;
 	default: v8 = v36; goto L10;
 	}
-L9:;
-	if (v36 > 4294967) { v9 = 40; v10 = (ptr)static_1; goto L11; }
+L9:
+	if (v36 > 4294967) { v10 = (ptr)static_1; v9 = 40; goto L11; }
 	v8 = v36 * 1000;
-L10:;
-	if (v38 > 262144) { v9 = 31; v10 = (ptr)static_2; goto L11; }
-	if (v37 > 0x40000ffffffffull) { v9 = 31; v10 = (ptr)static_3; goto L11; }
+L10:
+	if (v38 > 262144) { v10 = (ptr)static_2; v9 = 31; goto L11; }
+	if (v37 > 0x40000ffffffffull) { v10 = (ptr)static_3; v9 = 31; goto L11; }
 	if (v40 >= v38) goto L12;
-	v9 = 32; v10 = (ptr)static_4;
-L11:;
-	v11 = 0; v12 = (ptr)2ull; v13 = (u64)v10; v14 = v9; v15 = 0; v16 = 0; v17 = (ptr)0; v18 = 0; goto L14;
+	v10 = (ptr)static_4; v9 = 32;
+L11:
+	v12 = (ptr)2ull; v13 = (u64)v10; v14 = v9; v17 = (ptr)0; v11 = v15 = v16 = v18 = 0; goto L14;
 L12:;
 	u64 v41 = v37 & 524287;
 	if (v39 >= v41) goto L13;
-	v11 = 0; v12 = (ptr)0; v13 = v41 - v39; v14 = 0; v15 = 0; v16 = 0; v17 = (ptr)0; v18 = 0; goto L14;
-L13:;
-	v11 = 1; v12 = at(v23+16, v41); v13 = v39 - v41; v14 = ((u64)v8 << 32) | (u64)v35; v15 = v38; v16 = v40; v17 = v23+16; v18 = v41;
-L14:;
+	v12 = (ptr)0; v13 = v41 - v39; v17 = (ptr)0; v11 = v14 = v15 = v16 = v18 = 0; goto L14;
+L13:
+	v12 = at(v23+16, v41); v13 = v39 - v41; v14 = ((u64)v8 << 32) | (u64)v35; v15 = v38; v16 = v40; v17 = v23+16; v18 = v41; v11 = 1;
+L14:
 	clear(v20, 32);
 	u64 v42 = (u64)v12;
 	copy(v22, v20, 32);
@@ -9593,24 +8983,24 @@ L15:;
 	st64(v21+56, 0);
 	copy(v21+64, v22, 32);
 	u32 v44 = pcapfile_values_errors_tell(v21, v4);
-	if ((v43 != 4) || (ld64(v21+24) == 0)) { v19 = v44; goto L17; }
+	if (v43 != 4 || !ld64(v21+24)) { v19 = v44; goto L17; }
 	deallocate((ptr)v13);
 	v19 = v44; goto L17;
-L16:;
+L16:
 	su32(v4, 1);
 	su32(v4+4, 0);
 	su64(v4+8, 0);
 	v19 = 3;
-L17:;
+L17:
 	return v19;
 }
-static __attribute__((noinline, cold)) u32 pcapfile_c_push_take_first(ptr v1, ptr v2, ptr v3, ptr v4) {
+static APART RARE u32 pcapfile_c_push_take_first(ptr v1, ptr v2, ptr v3, ptr v4) {
 	u32 v5;
 	u32 v6 = pcapfile_c_pcap_pcapfile_take_header(v2, v1, v4);
-	if (v6 != 0) { v5 = v6; goto L0; }
+	if (v6) { v5 = v6; goto L0; }
 	u32 v7 = pcapfile_c_pcap_take_slowly(ld32(v1), v2, v3, v4);
 	v5 = v7;
-L0:;
+L0:
 	return v5;
 }
 static u32 pcapfile_c_push_batches_fill_places(ptr v1, ptr v2, ptr v3, u64 v4, ptr v5, ptr v6) {
@@ -9624,44 +9014,40 @@ static u32 pcapfile_c_push_batches_fill_places(ptr v1, ptr v2, ptr v3, u64 v4, p
 	case 1295823521: case 2712812621u: case 2712847316u: case 3569595041u: goto L0;
 	default: goto L15;
 	}
-L0:;
-	if (v4 == 0) { v11 = 0; goto L14; }
+L0:
+	if (!v4) { v11 = 0; goto L14; }
 	switch (v14) {
 	case 2712847316u: case 2712812621u: goto L1;
 	default: v9 = 0; goto L8;
 	}
-L1:;
+L1:
 	v7 = 0;
 L2:;
 	u64 v15 = lu64(v2+8);
-	if (v15 == 0) { v11 = v7; goto L14; }
+	if (!v15) { v11 = v7; goto L14; }
 	ptr v16 = at(v3, v7 << 5);
 	if (v15 < 16) goto L5;
 	ptr v17 = lup(v2);
-	u32 v18 = (u32)__builtin_bswap32(lu32(v17));
-	u32 v19 = (u32)__builtin_bswap32(lu32(v17+4));
-	u32 v20 = lu32(v17+8);
-	u32 v21 = (u32)__builtin_bswap32(v20);
+	u32 v18 = (u32)__builtin_bswap32(lu32(v17)), v19 = (u32)__builtin_bswap32(lu32(v17+4));
+	u32 v20 = lu32(v17+8), v21 = (u32)__builtin_bswap32(v20);
 	u64 v22 = v15 - 16;
-	u32 v23 = lu32(v17+12);
-	u32 v24 = (u32)__builtin_bswap32(v23);
+	u32 v23 = lu32(v17+12), v24 = (u32)__builtin_bswap32(v23);
 	switch (v14) {
 	case 3569595041u: case 2712847316u: goto L3;
 	default: v8 = v19; goto L4;
 	}
-L3:;
+L3:
 	if (v19 > 4294967) goto L5;
 	v8 = v19 * 1000;
-L4:;
-	if (((v21 > 262144) | (v24 > 262144)) || (v24 < v21)) goto L5;
-	u64 v25 = (u64)__builtin_bswap64(((u64)v20 << 32) | (u64)v23);
-	u64 v26 = v25 & 4294967295u;
+L4:
+	if ((v21 > 262144) | (v24 > 262144) || v24 < v21) goto L5;
+	u64 v25 = (u64)__builtin_bswap64(((u64)v20 << 32) | (u64)v23), v26 = v25 & 4294967295u;
 	if (v22 >= v26) goto L6;
 L5:;
 	u32 v27 = pcapfile_c_pcap_take_slowly(ld32(v1), v2, v16, v6);
-	if (v27 == 0) goto L7;
+	if (!v27) goto L7;
 	v12 = v27; goto L16;
-L6:;
+L6:
 	su64(v16, ((u64)v8 << 32) | (u64)v18);
 	su32(v16+8, (u32)(v25 >> 32));
 	su32(v16+12, 0);
@@ -9676,33 +9062,31 @@ L7:;
 	v11 = v28; goto L14;
 L8:;
 	u64 v29 = lu64(v2+8);
-	if (v29 == 0) { v11 = v9; goto L14; }
+	if (!v29) { v11 = v9; goto L14; }
 	ptr v30 = at(v3, v9 << 5);
 	if (v29 < 16) goto L11;
 	ptr v31 = lup(v2);
-	u32 v32 = lu32(v31);
-	u32 v33 = lu32(v31+4);
+	u32 v32 = lu32(v31), v33 = lu32(v31+4);
 	u64 v34 = lu64(v31+8);
 	u32 v35 = (u32)v34;
-	u64 v36 = v29 - 16;
-	u64 v37 = v34 >> 32;
+	u64 v36 = v29 - 16, v37 = v34 >> 32;
 	u32 v38 = (u32)v37;
 	switch (v14) {
 	case 3569595041u: case 2712847316u: goto L9;
 	default: v10 = v33; goto L10;
 	}
-L9:;
+L9:
 	if (v33 > 4294967) goto L11;
 	v10 = v33 * 1000;
-L10:;
-	if (((v35 > 262144) | (v34 > 0x40000ffffffffull)) || (v38 < v35)) goto L11;
+L10:
+	if ((v35 > 262144) | (v34 > 0x40000ffffffffull) || v38 < v35) goto L11;
 	u64 v39 = v34 & 524287;
 	if (v36 >= v39) goto L12;
 L11:;
 	u32 v40 = pcapfile_c_pcap_take_slowly(ld32(v1), v2, v30, v6);
-	if (v40 == 0) goto L13;
+	if (!v40) goto L13;
 	v12 = v40; goto L16;
-L12:;
+L12:
 	su64(v30, ((u64)v10 << 32) | (u64)v32);
 	su32(v30+8, (u32)v37);
 	su32(v30+12, 0);
@@ -9715,77 +9099,75 @@ L13:;
 	st64(v5, v41);
 	if (v41 < v4) { v9 = v41; goto L8; }
 	v11 = v41;
-L14:;
+L14:
 	if (v11 >= v4) { v12 = 0; goto L16; }
 	st8(v13, 0);
 	st64(v13+8, 16);
 	clear(v13+16, 80);
 	u32 v42 = pcapfile_values_errors_tell(v13, v6);
 	v12 = v42; goto L16;
-L15:;
+L15:
 	su32(v6, 1);
 	su32(v6+4, 0);
 	su64(v6+8, 0);
 	v12 = 3;
-L16:;
+L16:
 	return v12;
 }
-static __attribute__((noinline, cold)) u32 pcapfile_c_push_batches_take_first_packets(ptr v1, ptr v2, ptr v3, u64 v4, ptr v5, ptr v6) {
+static APART RARE u32 pcapfile_c_push_batches_take_first_packets(ptr v1, ptr v2, ptr v3, u64 v4, ptr v5, ptr v6) {
 	u32 v7;
 	u32 v8 = pcapfile_c_pcap_pcapfile_take_header(v2, v1, v6);
-	if (v8 != 0) { v7 = v8; goto L0; }
+	if (v8) { v7 = v8; goto L0; }
 	u32 v9 = pcapfile_c_push_batches_fill_places(v1, v2, v3, v4, v5, v6);
 	v7 = v9;
-L0:;
+L0:
 	return v7;
 }
 int32_t pcapfile_cut_blocks(ptr v1, ptr v2, u64 v3, ptr v4, ptr v5, u64 v6, ptr v7, ptr v8) {
 	u32 v9;
 	st64(v4, 0);
 	st64(v7, 0);
-	if (v3 == 0) { v9 = 11; goto L0; }
-	u32 v10 = pcapfile_c_block_cuts_fill_cuts(lup(v1), lu64(v1+8), 0, v3, at(v2, v2 == (ptr)0 ? 4096ull : 0ull), v4, at(v5, v5 == (ptr)0 ? 4096ull : 0ull), v6, v7, v8);
+	if (!v3) { v9 = 11; goto L0; }
+	u32 v10 = pcapfile_c_block_cuts_fill_cuts(lup(v1), lu64(v1+8), 0, v3, at(v2, !v2 ? 4096ull : 0ull), v4, at(v5, !v5 ? 4096ull : 0ull), v6, v7, v8);
 	v9 = v10;
-L0:;
+L0:
 	return (int32_t)(v9);
 }
 int32_t pcapfile_cut_blocks_at_least(ptr v1, u64 v2, ptr v3, u64 v4, ptr v5, ptr v6, u64 v7, ptr v8, ptr v9) {
 	u32 v10;
 	st64(v5, 0);
 	st64(v8, 0);
-	u64 v11 = v2 > 1 ? v2 : 1;
-	u64 v12;
+	u64 v11 = v2 > 1 ? v2 : 1, v12;
 	u8 v13 = __builtin_mul_overflow(v11, v4, &v12);
 	u64 v14 = ld64(v1+8);
 	if ((v13 ? ~0ull : v4 * v11) <= v14) { v10 = 11; goto L0; }
-	u32 v15 = pcapfile_c_block_cuts_fill_cuts(lup(v1), v14, 1, v11, at(v3, v3 == (ptr)0 ? 4096ull : 0ull), v5, at(v6, v6 == (ptr)0 ? 4096ull : 0ull), v7, v8, v9);
+	u32 v15 = pcapfile_c_block_cuts_fill_cuts(lup(v1), v14, 1, v11, at(v3, !v3 ? 4096ull : 0ull), v5, at(v6, !v6 ? 4096ull : 0ull), v7, v8, v9);
 	v10 = v15;
-L0:;
+L0:
 	return (int32_t)(v10);
 }
 int32_t pcapfile_cut_packets(ptr v1, ptr v2, u64 v3, ptr v4, ptr v5) {
 	u32 v6;
 	st64(v4, 0);
-	if (v3 == 0) { v6 = 11; goto L0; }
-	u32 v7 = pcapfile_c_cuts_fill_cuts(v1, 0, v3, at(v2, v2 == (ptr)0 ? 4096ull : 0ull), v4, v5);
+	if (!v3) { v6 = 11; goto L0; }
+	u32 v7 = pcapfile_c_cuts_fill_cuts(v1, 0, v3, at(v2, !v2 ? 4096ull : 0ull), v4, v5);
 	v6 = v7;
-L0:;
+L0:
 	return (int32_t)(v6);
 }
 int32_t pcapfile_cut_packets_at_least(ptr v1, u64 v2, ptr v3, u64 v4, ptr v5, ptr v6) {
 	u32 v7;
 	st64(v5, 0);
-	u64 v8 = v2 > 1 ? v2 : 1;
-	u64 v9;
+	u64 v8 = v2 > 1 ? v2 : 1, v9;
 	u8 v10 = __builtin_mul_overflow(v8, v4, &v9);
 	if ((v10 ? ~0ull : v4 * v8) <= ld64(v1+8)) { v7 = 11; goto L0; }
-	u32 v11 = pcapfile_c_cuts_fill_cuts(v1, 1, v8, at(v3, v3 == (ptr)0 ? 4096ull : 0ull), v5, v6);
+	u32 v11 = pcapfile_c_cuts_fill_cuts(v1, 1, v8, at(v3, !v3 ? 4096ull : 0ull), v5, v6);
 	v7 = v11;
-L0:;
+L0:
 	return (int32_t)(v7);
 }
 int32_t pcapfile_fcs_len(u32 v1) {
-	return (int32_t)((v1 & 67108864) == 0 ? 4294967295u : (v1 >> 27) & 30);
+	return (int32_t)(!(v1 & 67108864) ? 4294967295u : (v1 >> 27) & 30);
 }
 int32_t pcapfile_link_type(u32 v1) {
 	t_8_32 v2 = pcap_core_link_DataLinkFromU32_from(v1 & 65535);
@@ -9794,25 +9176,24 @@ int32_t pcapfile_link_type(u32 v1) {
 int32_t pcapfile_push_put(ptr v1, ptr v2, u64 v3, u64 v4) {
 	u32 v5;
 	u64 v6 = ld64(v1+32);
-	if ((ld64(v1+24) > v6) | (v6 > v3) | ((v3 - v6) < v4)) { v5 = 10; goto L0; }
+	if ((ld64(v1+24) > v6) | (v6 > v3) | (v3 - v6 < v4)) { v5 = 10; goto L0; }
 	st64(v1+32, v6 + v4);
 	v5 = 0;
-L0:;
+L0:
 	return (int32_t)(v5);
 }
 int32_t pcapfile_push_space(ptr v1, ptr v2, u64 v3, u64 v4, ptr v5) {
 	u64 v6, v7, v8;
 	u32 v9;
-	ptr v10 = at(v2, v2 == (ptr)0 ? 4096ull : 0ull);
-	u64 v11 = ld64(v1+24);
-	u64 v12 = ld64(v1+32);
+	ptr v10 = at(v2, !v2 ? 4096ull : 0ull);
+	u64 v11 = ld64(v1+24), v12 = ld64(v1+32);
 	if (!((v11 <= v12) & (v12 <= v3))) { v9 = 10; goto L2; }
-	if (v4 <= (v3 - v12)) { v9 = 0; goto L2; }
+	if (v4 <= v3 - v12) { v9 = 0; goto L2; }
 	u64 v13 = v12 - v11;
 	if (v12 == v11) { v7 = v11; v8 = v11; goto L1; }
 	ptr v14 = at(v10, v11);
 	v6 = 0;
-L0:;
+L0:
 	st8(at(v10, v6), ld8(at(v14, v6)));
 	u64 v15 = v6 + 1;
 	if (v15 != v13) { v6 = v15; goto L0; }
@@ -9827,7 +9208,7 @@ L1:;
 	su32(v5+4, 0);
 	su64(v5+8, v4 - v17);
 	v9 = 9;
-L2:;
+L2:
 	return (int32_t)(v9);
 }
 int32_t pcapfile_put_interface(ptr v1, ptr v2, ptr v3, u64 v4, ptr v5, ptr v6) {
@@ -9835,15 +9216,15 @@ int32_t pcapfile_put_interface(ptr v1, ptr v2, ptr v3, u64 v4, ptr v5, ptr v6) {
 	u64 v8, v14;
 	u16 v9, v10, v12, v13;
 	u32 v11, v15, v16;
-	ptr v17 = at(v3, v3 == (ptr)0 ? 4096ull : 0ull);
+	ptr v17 = at(v3, !v3 ? 4096ull : 0ull);
 	switch (ld32(v1)) {
 	case 439041101: v7 = 0; goto L1;
 	case 1295788826: goto L0;
 	default: goto L9;
 	}
-L0:;
+L0:
 	v7 = 1;
-L1:;
+L1:
 	if (ld32(v1+8) != 4294967295u) goto L2;
 	su32(v6, 2003);
 	su32(v6+4, 0);
@@ -9856,7 +9237,7 @@ L2:;
 	su32(v6+4, 0);
 	su64(v6+8, 0);
 	v16 = 3; goto L10;
-L3:;
+L3:
 	if ((s8)ld8(v2+9) >= 0) goto L4;
 	su32(v6, 1906);
 	su32(v6+4, 0);
@@ -9887,8 +9268,8 @@ L5:;
 	su16(v17+16, 9);
 	su16(v17+18, 1);
 	su32(v17+20, (u32)v27);
-	if (v26 == 0) { v12 = 0; v13 = 0; v14 = 28; v15 = v24; goto L8; }
-	v8 = v26; v9 = 14; v10 = 8; v11 = v24; goto L7;
+	if (!v26) { v15 = v24; v12 = v13 = 0; v14 = 28; goto L8; }
+	v8 = v26; v11 = v24; v9 = 14; v10 = 8; goto L7;
 L6:;
 	u32 v28 = v19 ? 536870912u : 738197504u;
 	su32(v17, 16777216);
@@ -9902,41 +9283,41 @@ L6:;
 	su16(v17+16, 2304);
 	su16(v17+18, 256);
 	su32(v17+20, (u32)v31);
-	if (v30 == 0) { v12 = 0; v13 = 0; v14 = 28; v15 = v28; goto L8; }
+	if (!v30) { v15 = v28; v12 = v13 = 0; v14 = 28; goto L8; }
 	v8 = (u64)__builtin_bswap64(v30); v9 = 3584; v10 = 2048; v11 = v28;
-L7:;
+L7:
 	su64(v17+28, v8);
 	su16(v17+36, 0);
 	su16(v17+38, 0);
-	v12 = v9; v13 = v10; v14 = 40; v15 = v11;
-L8:;
+	v12 = v9; v13 = v10; v15 = v11; v14 = 40;
+L8:
 	su16(v17+24, v12);
 	su16(v17+26, v13);
 	su32(at(v17, v14), v15);
 	st32(v1+8, ld32(v1+8) + 1);
 	st64(v5, v20);
 	v16 = 0; goto L10;
-L9:;
+L9:
 	su32(v6, 6);
 	su32(v6+4, 0);
 	su64(v6+8, 0);
 	v16 = 3;
-L10:;
+L10:
 	return (int32_t)(v16);
 }
 int32_t pcapfile_put_ng_packet(ptr v1, ptr v2, ptr v3, u64 v4, ptr v5, ptr v6) {
 	u8 v7;
 	u64 v8, v9, v10;
 	u32 v11, v12;
-	ptr v13 = at(v3, v3 == (ptr)0 ? 4096ull : 0ull);
+	ptr v13 = at(v3, !v3 ? 4096ull : 0ull);
 	switch (ld32(v1)) {
 	case 439041101: v7 = 0; goto L1;
 	case 1295788826: goto L0;
 	default: goto L11;
 	}
-L0:;
+L0:
 	v7 = 1;
-L1:;
+L1:
 	if (ld32(v1+8) <= ld32(v2+4)) goto L10;
 	u64 v14 = ld64(v2+32);
 	if (v14 <= 4294967260u) goto L2;
@@ -9964,17 +9345,17 @@ L3:;
 	su32(v13+24, ld32(v2+8));
 	ptr v18 = ldp(v2+24);
 	u64 v19 = ld64(v2+32);
-	if (((u64)(v13+28) - (u64)v18) >= v19) goto L5;
+	if ((u64)(v13+28) - (u64)v18 >= v19) goto L5;
 	v8 = 0;
-L4:;
+L4:
 	st8(at(v13+28, v8), ld8(at(v18, v8)));
 	u64 v20 = v8 + 1;
-	if (v20 == v19) { v10 = v19; v11 = v17; goto L9; }
+	if (v20 == v19) { M0: v10 = v19; v11 = v17; goto L9; }
 	v8 = v20; goto L4;
-L5:;
+L5:
 	move(v13+28, v18, v19);
-	v10 = v19; v11 = v17; goto L9;
-L6:;
+	goto M0;
+L6:
 	su32(v13, 100663296);
 	u32 v21 = (u32)__builtin_bswap32(v17);
 	su32(v13+4, v21);
@@ -9985,14 +9366,14 @@ L6:;
 	su32(v13+24, (u32)__builtin_bswap32(ld32(v2+8)));
 	ptr v22 = ldp(v2+24);
 	u64 v23 = ld64(v2+32);
-	if (((u64)(v13+28) - (u64)v22) >= v23) goto L8;
+	if ((u64)(v13+28) - (u64)v22 >= v23) goto L8;
 	v9 = 0;
-L7:;
+L7:
 	st8(at(v13+28, v9), ld8(at(v22, v9)));
 	u64 v24 = v9 + 1;
 	if (v24 == v23) { v10 = v23; v11 = v21; goto L9; }
 	v9 = v24; goto L7;
-L8:;
+L8:
 	move(v13+28, v22, v23);
 	v10 = v23; v11 = v21;
 L9:;
@@ -10001,37 +9382,36 @@ L9:;
 	su32(at(at(v13, v16), v25), v11);
 	st64(v5, v15);
 	v12 = 0; goto L12;
-L10:;
+L10:
 	su32(v6, 2002);
 	su32(v6+4, 0);
 	su64(v6+8, 0);
 	v12 = 3; goto L12;
-L11:;
+L11:
 	su32(v6, 6);
 	su32(v6+4, 0);
 	su64(v6+8, 0);
 	v12 = 3;
-L12:;
+L12:
 	return (int32_t)(v12);
 }
 int32_t pcapfile_read_interface(ptr v1, ptr v2, ptr v3, ptr v4) {
 	u8 v5, v6;
 	u32 v7, v8;
-	_Alignas(8) u8 v9[96], v10[104];
+	_Alignas(8) u8 v9[96], v10[104] = {0};
 	u32 v11 = ld32(v1);
 	st64(v9, 0);
-	clear(v10, 104);
 	switch (v11) {
 	case 439041101: v5 = 0; goto L1;
 	case 1295788826: goto L0;
 	default: goto L12;
 	}
-L0:;
+L0:
 	v5 = 1;
 L1:;
 	u32 v12 = ld32(v2);
 	switch (v12) {
-	case 168627466: v6 = 0; v7 = 0; goto L10;
+	case 168627466: v6 = v7 = 0; goto L10;
 	case 1: goto L2;
 	case 2: goto L3;
 	case 3: goto L4;
@@ -10041,64 +9421,63 @@ L1:;
 	case 9: goto L8;
 	default: goto L9;
 	}
-L2:;
+L2:
 	v6 = 1; v7 = 0; goto L10;
-L3:;
+L3:
 	v6 = 2; v7 = 0; goto L10;
-L4:;
+L4:
 	v6 = 3; v7 = 0; goto L10;
-L5:;
+L5:
 	v6 = 4; v7 = 0; goto L10;
-L6:;
+L6:
 	v6 = 5; v7 = 0; goto L10;
-L7:;
+L7:
 	v6 = 6; v7 = 0; goto L10;
-L8:;
+L8:
 	v6 = 7; v7 = 0; goto L10;
-L9:;
-	v6 = 8; v7 = v12;
-L10:;
+L9:
+	v7 = v12; v6 = 8;
+L10:
 	pcapfile_values_bodies_interface_of(v10, v5, v6, v7, lup(v2+8), lu64(v2+16));
 	u8 v13 = ld8(v10+8);
-	if (ld8(v10) != 0) goto L11;
+	if (ld8(v10)) goto L11;
 	if (v13 != 1) { v8 = 8; goto L13; }
 	copy(v3, v10+16, 24);
 	v8 = 0; goto L13;
-L11:;
+L11:
 	st8(v9, v13);
 	copy(v9+8, v10+16, 88);
 	u32 v14 = pcapfile_values_errors_tell(v9, v4);
-	if ((v13 != 4) || (ld64(v9+24) == 0)) { v8 = v14; goto L13; }
+	if (v13 != 4 || !ld64(v9+24)) { v8 = v14; goto L13; }
 	deallocate(ldp(v9+8));
 	v8 = v14; goto L13;
-L12:;
+L12:
 	su32(v4, 6);
 	su32(v4+4, 0);
 	su64(v4+8, 0);
 	v8 = 3;
-L13:;
+L13:
 	return (int32_t)(v8);
 }
 int32_t pcapfile_read_packet(ptr v1, ptr v2, ptr v3, ptr v4) {
 	u8 v5, v6, v7, v8, v9, v10, v11, v12, v15;
 	u32 v13, v16;
 	ptr v14;
-	_Alignas(1) u8 v17[95], v22[95], v24[95], v26[95];
+	_Alignas(1) u8 v17[95], v22[95], v24[95], v26[95] = {0};
 	_Alignas(8) u8 v18[24], v19[104], v20[24], v21[104], v23[104], v25[96];
 	u32 v27 = ld32(v1);
 	st64(v25, 0);
-	clear(v26, 95);
 	switch (v27) {
 	case 439041101: v5 = 0; goto L1;
 	case 1295788826: goto L0;
 	default: goto L24;
 	}
-L0:;
+L0:
 	v5 = 1;
 L1:;
 	u32 v28 = ld32(v2);
 	switch (v28) {
-	case 168627466: v12 = 0; v13 = 0; goto L21;
+	case 168627466: v12 = v13 = 0; goto L21;
 	case 1: goto L2;
 	case 2: goto L3;
 	case 3: goto L4;
@@ -10108,15 +9487,15 @@ L1:;
 	case 9: goto L19;
 	default: goto L20;
 	}
-L2:;
+L2:
 	v12 = 1; v13 = 0; goto L21;
-L3:;
+L3:
 	v12 = 2; v13 = 0; goto L21;
-L4:;
+L4:
 	v12 = 3; v13 = 0; goto L21;
-L5:;
+L5:
 	v12 = 4; v13 = 0; goto L21;
-L6:;
+L6:
 	v12 = 5; v13 = 0; goto L21;
 L7:;
 	ptr v29 = lup(v2+8);
@@ -10129,17 +9508,16 @@ L7:;
 	u32 v32 = lu32(v29);
 	u64 v33 = v30 - 20;
 	u32 v34 = lu32(v29+16);
-	u64 v35 = (u64)lu32(v29+12);
-	u64 v36 = ((0ull - v35) & 3) + v35;
+	u64 v35 = (u64)lu32(v29+12), v36 = ((0ull - v35) & 3) + v35;
 	if (v33 < v36) goto L10;
 	u64 v37 = ((u64)lu32(v29+4) << 32) | (u64)lu32(v29+8);
 	clear(v18, 24);
 	if (v33 != v36) goto L8;
 	goto L9;
-L8:;
+L8:
 	pcapfile_values_enhanced_options_behind_some_7f02(v18, at(v29+20, v36), v33 - v36);
 	if (ld8(v18) != 1) goto L10;
-L9:;
+L9:
 	st32(v19+8, 6);
 	st32(v19+12, v32);
 	st32(v19+16, v34);
@@ -10148,29 +9526,28 @@ L9:;
 	stp(v19+32, v29+20);
 	st64(v19+40, v35);
 	v6 = 6; v7 = 0; goto L11;
-L10:;
+L10:
 	pcapfile_values_bodies_read_enhanced_7f02(v19, v29, v30);
 	v6 = ld8(v19+8); v7 = ld8(v19);
-L11:;
+L11:
 	copy(v22, v19+9, 95);
 	v10 = v6; v11 = v7; goto L17;
-L12:;
+L12:
 	clear(v21, 104);
 	if (v31) goto L15;
 	u32 v38 = (u32)__builtin_bswap32(lu32(v29));
 	u64 v39 = v30 - 20;
 	u32 v40 = (u32)__builtin_bswap32(lu32(v29+16));
-	u64 v41 = (u64)(u32)__builtin_bswap32(lu32(v29+12));
-	u64 v42 = ((0ull - v41) & 3) + v41;
+	u64 v41 = (u64)(u32)__builtin_bswap32(lu32(v29+12)), v42 = ((0ull - v41) & 3) + v41;
 	if (v39 < v42) goto L15;
 	u64 v43 = (u64)__builtin_bswap64(lu64(v29+4));
 	clear(v20, 24);
 	if (v39 != v42) goto L13;
 	goto L14;
-L13:;
+L13:
 	pcapfile_values_enhanced_options_behind_some_4da0(v20, at(v29+20, v42), v39 - v42);
 	if (ld8(v20) != 1) goto L15;
-L14:;
+L14:
 	st32(v21+8, 6);
 	st32(v21+12, v38);
 	st32(v21+16, v40);
@@ -10179,57 +9556,56 @@ L14:;
 	stp(v21+32, v29+20);
 	st64(v21+40, v41);
 	v8 = 6; v9 = 0; goto L16;
-L15:;
+L15:
 	pcapfile_values_bodies_read_enhanced_4da0(v21, v29, v30);
 	v8 = ld8(v21+8); v9 = ld8(v21);
-L16:;
+L16:
 	copy(v22, v21+9, 95);
 	v10 = v8; v11 = v9;
-L17:;
+L17:
 	clear(v17, 95);
-	if (v11 != 0) goto L18;
+	if (v11) goto L18;
 	copy(v17, v22, 39);
 	copy(v24, v17, 95);
 	st8(v23+16, v10);
 	copy(v23+17, v24, 39);
 	copy(v26+7, v23+16, 88);
 	v14 = v26+7; goto L22;
-L18:;
+L18:
 	copy(v17+7, v22+7, 88);
 	copy(v24, v17, 95);
 	copy(v26+7, v24+7, 88);
 	v15 = v10; goto L23;
-L19:;
+L19:
 	v12 = 7; v13 = 0; goto L21;
-L20:;
-	v12 = 8; v13 = v28;
+L20:
+	v13 = v28; v12 = 8;
 L21:;
 	ptr v44 = lup(v2+8);
 	u64 v45 = lu64(v2+16);
 	clear(v23, 104);
 	pcapfile_values_bodies_seldom_packet(v23, v5, v12, v13, v44, v45);
-	u8 v46 = ld8(v23+8);
-	u8 v47 = ld8(v23) == 0;
+	u8 v46 = ld8(v23+8), v47 = ld8(v23) == 0;
 	copy(v26+7, v23+16, 88);
 	if (!v47) { v15 = v46; goto L23; }
 	if (v46 != 1) { v16 = 8; goto L25; }
 	v14 = v26+7;
-L22:;
+L22:
 	copy(v3, v14, 40);
 	v16 = 0; goto L25;
-L23:;
+L23:
 	st8(v25, v15);
 	copy(v25+8, v26+7, 88);
 	u32 v48 = pcapfile_values_errors_tell(v25, v4);
-	if ((v15 != 4) || (ld64(v25+24) == 0)) { v16 = v48; goto L25; }
+	if (v15 != 4 || !ld64(v25+24)) { v16 = v48; goto L25; }
 	deallocate(ldp(v25+8));
 	v16 = v48; goto L25;
-L24:;
+L24:
 	su32(v4, 6);
 	su32(v4+4, 0);
 	su64(v4+8, 0);
 	v16 = 3;
-L25:;
+L25:
 	return (int32_t)(v16);
 }
 int32_t pcapfile_resync(ptr v1, ptr v2, u64 v3, ptr v4, ptr v5) {
@@ -10244,23 +9620,22 @@ int32_t pcapfile_resync(ptr v1, ptr v2, u64 v3, ptr v4, ptr v5) {
 L0:;
 	ptr v25 = lup(v2);
 	u64 v26 = lu64(v2+8);
-	if (v26 == 0) { v23 = 8; goto L17; }
-	if (v3 == 0) { v22 = 0; goto L14; }
+	if (!v26) { v23 = 8; goto L17; }
+	if (!v3) { v22 = 0; goto L14; }
 	switch (v24) {
 	case 2712847316u: v6 = 0; goto L1;
 	case 2712812621u: v10 = 0; goto L5;
 	case 3569595041u: v14 = 0; goto L9;
 	default: v18 = 0; goto L12;
 	}
-L1:;
+L1:
 	v7 = v3; v8 = v26 - v6; v9 = at(v25, v6);
-L2:;
+L2:
 	if (v8 < 16) goto L3;
-	u32 v27 = lu32(v9+8);
-	u32 v28 = (u32)__builtin_bswap32(v27);
+	u32 v27 = lu32(v9+8), v28 = (u32)__builtin_bswap32(v27);
 	u64 v29 = v8 - 16;
 	u32 v30 = (u32)__builtin_bswap32(lu32(v9+12));
-	u8 v31 = ((v30 > 262144) | ((v28 > 262144) | ((u32)__builtin_bswap32(lu32(v9+4)) > 4294967))) || (v30 < v28);
+	u8 v31 = (v30 > 262144) | ((v28 > 262144) | ((u32)__builtin_bswap32(lu32(v9+4)) > 4294967)) || v30 < v28;
 	if (v31) goto L3;
 	u64 v32 = (u64)v28;
 	if (!((v27 == 0) | (v29 < v32))) goto L4;
@@ -10269,19 +9644,17 @@ L3:;
 	if (v33 == v26) { v23 = 8; goto L17; }
 	v6 = v33; goto L1;
 L4:;
-	u64 v34 = v29 - v32;
-	u64 v35 = v7 - 1;
-	if ((v34 == 0) || (v35 == 0)) { v22 = v6; goto L14; }
+	u64 v34 = v29 - v32, v35 = v7 - 1;
+	if (!v34 || !v35) { v22 = v6; goto L14; }
 	v7 = v35; v8 = v34; v9 = at(v9+16, v32); goto L2;
-L5:;
+L5:
 	v11 = v3; v12 = v26 - v10; v13 = at(v25, v10);
-L6:;
+L6:
 	if (v12 < 16) goto L7;
-	u32 v36 = lu32(v13+8);
-	u32 v37 = (u32)__builtin_bswap32(v36);
+	u32 v36 = lu32(v13+8), v37 = (u32)__builtin_bswap32(v36);
 	u64 v38 = v12 - 16;
 	u32 v39 = (u32)__builtin_bswap32(lu32(v13+12));
-	if (((v37 > 262144) | (v39 > 262144)) || (v39 < v37)) goto L7;
+	if ((v37 > 262144) | (v39 > 262144) || v39 < v37) goto L7;
 	u64 v40 = (u64)v37;
 	if (!((v36 == 0) | (v38 < v40))) goto L8;
 L7:;
@@ -10289,56 +9662,53 @@ L7:;
 	if (v41 == v26) { v23 = 8; goto L17; }
 	v10 = v41; goto L5;
 L8:;
-	u64 v42 = v38 - v40;
-	u64 v43 = v11 - 1;
-	if ((v42 == 0) || (v43 == 0)) { v22 = v10; goto L14; }
+	u64 v42 = v38 - v40, v43 = v11 - 1;
+	if (!v42 || !v43) { v22 = v10; goto L14; }
 	v11 = v43; v12 = v42; v13 = at(v13+16, v40); goto L6;
-L9:;
+L9:
 	v15 = v3; v16 = v26 - v14; v17 = at(v25, v14);
-L10:;
+L10:
 	if (v16 < 16) goto L11;
 	u64 v44 = lu64(v17+8);
 	u32 v45 = (u32)v44;
 	u64 v46 = v16 - 16;
-	u8 v47 = ((lu32(v17+4) > 4294967) || ((v44 > 0x40000ffffffffull) | (v45 > 262144))) || ((u32)(v44 >> 32) < v45);
+	u8 v47 = lu32(v17+4) > 4294967 || (v44 > 0x40000ffffffffull) | (v45 > 262144) || (u32)(v44 >> 32) < v45;
 	if (v47) goto L11;
 	u64 v48 = v44 & 524287;
-	if ((v48 - 1) >= v46) goto L11;
-	u64 v49 = v46 - v48;
-	u64 v50 = v15 - 1;
-	if ((v49 == 0) || (v50 == 0)) { v22 = v14; goto L14; }
+	if (v48 - 1 >= v46) goto L11;
+	u64 v49 = v46 - v48, v50 = v15 - 1;
+	if (!v49 || !v50) { v22 = v14; goto L14; }
 	v15 = v50; v16 = v49; v17 = at(v17+16, v48); goto L10;
 L11:;
 	u64 v51 = v14 + 1;
 	if (v51 == v26) { v23 = 8; goto L17; }
 	v14 = v51; goto L9;
-L12:;
+L12:
 	v19 = v3; v20 = v26 - v18; v21 = at(v25, v18);
-L13:;
+L13:
 	if (v20 < 16) goto L15;
 	u64 v52 = lu64(v21+8);
 	u32 v53 = (u32)v52;
 	u64 v54 = v20 - 16;
-	if (((v52 > 0x40000ffffffffull) | (v53 > 262144)) || ((u32)(v52 >> 32) < v53)) goto L15;
+	if ((v52 > 0x40000ffffffffull) | (v53 > 262144) || (u32)(v52 >> 32) < v53) goto L15;
 	u64 v55 = v52 & 524287;
-	if ((v55 - 1) >= v54) goto L15;
-	u64 v56 = v54 - v55;
-	u64 v57 = v19 - 1;
-	if (!((v56 == 0) || (v57 == 0))) { v19 = v57; v20 = v56; v21 = at(v21+16, v55); goto L13; }
+	if (v55 - 1 >= v54) goto L15;
+	u64 v56 = v54 - v55, v57 = v19 - 1;
+	if (!(!v56 || !v57)) { v19 = v57; v20 = v56; v21 = at(v21+16, v55); goto L13; }
 	v22 = v18;
-L14:;
+L14:
 	st64(v4, v22);
 	v23 = 0; goto L17;
 L15:;
 	u64 v58 = v18 + 1;
 	if (v58 == v26) { v23 = 8; goto L17; }
 	v18 = v58; goto L12;
-L16:;
+L16:
 	su32(v5, 1);
 	su32(v5+4, 0);
 	su64(v5+8, 0);
 	v23 = 3;
-L17:;
+L17:
 	return (int32_t)(v23);
 }
 void pcapfile_rule_name(u32 v1, ptr v2) {
@@ -10358,15 +9728,15 @@ void pcapfile_rule_name(u32 v1, ptr v2) {
 L0:;
 	u8 v6 = ld8(v5+2);
 	v3 = ldp(at((ptr)&switch_table_pcapfile_rule_name, (u64)v6 * 8)); v4 = ld64(at((ptr)switch_table_pcapfile_rule_name_271, (u64)v6 * 8)); goto L5;
-L1:;
+L1:
 	v3 = (ptr)static_43; v4 = 16; goto L5;
-L2:;
+L2:
 	v3 = (ptr)static_44; v4 = 14; goto L5;
-L3:;
+L3:
 	v3 = (ptr)static_45; v4 = 12; goto L5;
-L4:;
+L4:
 	__builtin_trap();
-L5:;
+L5:
 	sup(v2, v3);
 	su64(v2+8, v4);
 	return;
@@ -10391,28 +9761,27 @@ L0:;
 	ptr v8 = ldp(at((ptr)&switch_table_pcapfile_rule_text_272, (u64)v7 * 8));
 	u64 v9 = ld64(at((ptr)switch_table_pcapfile_rule_text, (u64)v7 * 8));
 	v3 = (t_p_64){v8, v9}; goto L4;
-L1:;
+L1:
 	v3 = (t_p_64){(ptr)static_101, 36}; goto L4;
-L2:;
+L2:
 	v3 = (t_p_64){(ptr)static_102, 34}; goto L4;
-L3:;
+L3:
 	v3 = (t_p_64){(ptr)static_100, 26};
-L4:;
+L4:
 	v4 = v3.f0; v5 = v3.f1; goto L6;
-L5:;
+L5:
 	__builtin_trap();
-L6:;
+L6:
 	sup(v2, v4);
 	su64(v2+8, v5);
 	return;
 }
 int32_t pcapfile_take_block(ptr v1, ptr v2, ptr v3, ptr v4) {
 	u32 v5;
-	_Alignas(8) u8 v6[96], v7[104];
+	_Alignas(8) u8 v6[96], v7[104] = {0};
 	st64(v6, 0);
-	clear(v7, 104);
 	pcapfile_values_blocks_PcapfileSection_next_block(v7, v1, lup(v2), lu64(v2+8));
-	if (ld8(v7) != 0) goto L0;
+	if (ld8(v7)) goto L0;
 	copy(v3, v7+24, 24);
 	copy(v1, v7+48, 12);
 	copy(v2, v7+8, 16);
@@ -10422,24 +9791,22 @@ L0:;
 	st8(v6, v8);
 	copy(v6+8, v7+16, 88);
 	u32 v9 = pcapfile_values_errors_tell(v6, v4);
-	if ((v8 != 4) || (ld64(v6+24) == 0)) { v5 = v9; goto L1; }
+	if (v8 != 4 || !ld64(v6+24)) { v5 = v9; goto L1; }
 	deallocate(ldp(v6+8));
 	v5 = v9;
-L1:;
+L1:
 	return (int32_t)(v5);
 }
 int32_t pcapfile_push_block(ptr v1, ptr v2, ptr v3, u64 v4, ptr v5, ptr v6) {
 	u64 v7;
 	u32 v8, v9;
 	_Alignas(8) u8 v10[96], v11[104];
-	u64 v12 = ld64(v1+24);
-	u64 v13 = ld64(v1+32);
-	u64 v14 = v13 - v12;
+	u64 v12 = ld64(v1+24), v13 = ld64(v1+32), v14 = v13 - v12;
 	if (!((v13 >= v12) & (v4 >= v13))) { v9 = 10; goto L2; }
 	st64(v10, 0);
 	clear(v11, 104);
-	pcapfile_values_blocks_PcapfileSection_next_block(v11, v2, at(at(v3, v3 == (ptr)0 ? 4096ull : 0ull), v12), v14);
-	if (ld8(v11) != 0) goto L0;
+	pcapfile_values_blocks_PcapfileSection_next_block(v11, v2, at(at(v3, !v3 ? 4096ull : 0ull), v12), v14);
+	if (ld8(v11)) goto L0;
 	copy(v5, v11+24, 24);
 	copy(v2, v11+48, 12);
 	v7 = ld64(v11+16); v8 = 0; goto L1;
@@ -10448,13 +9815,13 @@ L0:;
 	st8(v10, v15);
 	copy(v10+8, v11+16, 88);
 	u32 v16 = pcapfile_values_errors_tell(v10, v6);
-	if ((v15 != 4) || (ld64(v10+24) == 0)) { v7 = v14; v8 = v16; goto L1; }
+	if (v15 != 4 || !ld64(v10+24)) { v7 = v14; v8 = v16; goto L1; }
 	deallocate(ldp(v10+8));
 	v7 = v14; v8 = v16;
-L1:;
+L1:
 	st64(v1+24, ld64(v1+32) - v7);
 	v9 = v8;
-L2:;
+L2:
 	return (int32_t)(v9);
 }
 int32_t pcapfile_take_header(ptr v1, ptr v2, ptr v3) {
@@ -10462,13 +9829,12 @@ int32_t pcapfile_take_header(ptr v1, ptr v2, ptr v3) {
 }
 int32_t pcapfile_take_name(ptr v1, ptr v2, ptr v3) {
 	u32 v4;
-	_Alignas(8) u8 v5[96], v6[104];
+	_Alignas(8) u8 v5[96], v6[104] = {0};
 	st64(v5, 0);
-	clear(v6, 104);
 	u64 v7 = lu64(v1+8);
-	if (v7 == 0) { v4 = 8; goto L1; }
+	if (!v7) { v4 = 8; goto L1; }
 	pcap_options_names_str_from_u8_null_terminated(v6, lup(v1), v7);
-	if (ld8(v6) != 0) goto L0;
+	if (ld8(v6)) goto L0;
 	u64 v8 = ld64(v6+32);
 	sup(v2, ldp(v6+24));
 	su64(v2+8, v8);
@@ -10479,10 +9845,10 @@ L0:;
 	st8(v5, v9);
 	copy(v5+8, v6+16, 88);
 	u32 v10 = pcapfile_values_errors_tell(v5, v3);
-	if ((v9 != 4) || (ld64(v5+24) == 0)) { v4 = v10; goto L1; }
+	if (v9 != 4 || !ld64(v5+24)) { v4 = v10; goto L1; }
 	deallocate(ldp(v5+8));
 	v4 = v10;
-L1:;
+L1:
 	return (int32_t)(v4);
 }
 int32_t pcapfile_take_option(ptr v1, ptr v2, ptr v3, ptr v4) {
@@ -10502,29 +9868,26 @@ int32_t pcapfile_take_option(ptr v1, ptr v2, ptr v3, ptr v4) {
 L0:;
 	ptr v17 = lup(v2);
 	u64 v18 = lu64(v2+8);
-	if (v18 == 0) { v5 = v2+8; v6 = 1; v7 = 0; v8 = 0; v9 = (ptr)0; v10 = 0; v11 = 0; v12 = (ptr)0; v13 = 0; goto L2; }
-	if (v18 < 4) { v5 = v2+8; v6 = 0; v7 = 0; v8 = 2; v9 = (ptr)static_16; v10 = 23; v11 = 0; v12 = (ptr)0; v13 = 0; goto L2; }
-	u16 v19 = lu16(v17);
-	u16 v20 = (u16)__builtin_bswap16(v19);
+	if (!v18) { M0: v5 = v2+8; v9 = (ptr)0; v12 = (ptr)0; v6 = 1; v7 = v8 = v10 = v11 = v13 = 0; goto L2; }
+	if (v18 < 4) { M1: v5 = v2+8; v9 = (ptr)static_16; v12 = (ptr)0; v6 = v7 = v11 = v13 = 0; v8 = 2; v10 = 23; goto L2; }
+	u16 v19 = lu16(v17), v20 = (u16)__builtin_bswap16(v19);
 	u64 v21 = v18 - 4;
-	if (v19 == 0) { v5 = v2+8; v6 = 1; v7 = 0; v8 = 0; v9 = (ptr)0; v10 = 0; v11 = 0; v12 = (ptr)0; v13 = 0; goto L2; }
-	u64 v22 = (u64)(u16)__builtin_bswap16(lu16(v17+2));
-	u64 v23 = ((0ull - v22) & 3) + v22;
-	if (v21 < v23) { v5 = v2+8; v6 = 0; v7 = 0; v8 = 2; v9 = (ptr)static_17; v10 = 40; v11 = 0; v12 = (ptr)0; v13 = 0; goto L2; }
-	v5 = v2+8; v6 = 1; v7 = 1; v8 = 1; v9 = at(v17+4, v23); v10 = v21 - v23; v11 = v20; v12 = v17+4; v13 = v22; goto L2;
+	if (!v19) goto M0;
+	u64 v22 = (u64)(u16)__builtin_bswap16(lu16(v17+2)), v23 = ((0ull - v22) & 3) + v22;
+	if (v21 < v23) { M2: v5 = v2+8; v9 = (ptr)static_17; v12 = (ptr)0; v6 = v7 = v11 = v13 = 0; v8 = 2; v10 = 40; goto L2; }
+	v5 = v2+8; v9 = at(v17+4, v23); v10 = v21 - v23; v11 = v20; v12 = v17+4; v13 = v22; v6 = v7 = v8 = 1; goto L2;
 L1:;
 	ptr v24 = lup(v2);
 	u64 v25 = lu64(v2+8);
-	if (v25 == 0) { v5 = v2+8; v6 = 1; v7 = 0; v8 = 0; v9 = (ptr)0; v10 = 0; v11 = 0; v12 = (ptr)0; v13 = 0; goto L2; }
-	if (v25 < 4) { v5 = v2+8; v6 = 0; v7 = 0; v8 = 2; v9 = (ptr)static_16; v10 = 23; v11 = 0; v12 = (ptr)0; v13 = 0; goto L2; }
+	if (!v25) goto M0;
+	if (v25 < 4) goto M1;
 	u16 v26 = lu16(v24);
 	u64 v27 = v25 - 4;
-	if (v26 == 0) { v5 = v2+8; v6 = 1; v7 = 0; v8 = 0; v9 = (ptr)0; v10 = 0; v11 = 0; v12 = (ptr)0; v13 = 0; goto L2; }
-	u64 v28 = (u64)lu16(v24+2);
-	u64 v29 = ((0ull - v28) & 3) + v28;
-	if (v27 < v29) { v5 = v2+8; v6 = 0; v7 = 0; v8 = 2; v9 = (ptr)static_17; v10 = 40; v11 = 0; v12 = (ptr)0; v13 = 0; goto L2; }
-	v5 = v2+8; v6 = 1; v7 = 1; v8 = 1; v9 = at(v24+4, v29); v10 = v27 - v29; v11 = v26; v12 = v24+4; v13 = v28;
-L2:;
+	if (!v26) goto M0;
+	u64 v28 = (u64)lu16(v24+2), v29 = ((0ull - v28) & 3) + v28;
+	if (v27 < v29) goto M2;
+	v5 = v2+8; v9 = at(v24+4, v29); v10 = v27 - v29; v11 = v26; v12 = v24+4; v13 = v28; v6 = v7 = v8 = 1;
+L2:
 	if (!v6) goto L3;
 	if (!v7) { v14 = 8; goto L5; }
 	su16(v3, v11);
@@ -10534,7 +9897,7 @@ L2:;
 	sup(v2, v9);
 	su64(v5, v10);
 	v14 = 0; goto L5;
-L3:;
+L3:
 	st8(v15, v8);
 	stp(v15+8, v9);
 	st64(v15+16, v10);
@@ -10545,12 +9908,12 @@ L3:;
 	clear(v15+48, 48);
 	u32 v30 = pcapfile_values_errors_tell(v15, v4);
 	v14 = v30; goto L5;
-L4:;
+L4:
 	su32(v4, 6);
 	su32(v4+4, 0);
 	su64(v4+8, 0);
 	v14 = 3;
-L5:;
+L5:
 	return (int32_t)(v14);
 }
 int32_t pcapfile_take_packet_as_is(ptr v1, ptr v2, u32 v3, ptr v4, ptr v5) {
@@ -10568,55 +9931,47 @@ int32_t pcapfile_take_packet_as_is(ptr v1, ptr v2, u32 v3, ptr v4, ptr v5) {
 L0:;
 	ptr v25 = lup(v2);
 	u64 v26 = lu64(v2+8);
-	u8 v27 = (v24 == 2712847316u) | (v24 == 3569595041u);
-	u8 v28 = v26 < 16;
+	u8 v27 = (v24 == 2712847316u) | (v24 == 3569595041u), v28 = v26 < 16;
 	switch (v24) {
 	case 2712847316u: case 2712812621u: goto L1;
 	default: goto L5;
 	}
-L1:;
+L1:
 	if (!v28) goto L2;
-	v8 = 0; v9 = (ptr)0; v10 = 16ull - v26; v11 = 0; v12 = 0; v13 = 0; v14 = 0; v15 = 0; v16 = (ptr)0; v17 = 0; goto L9;
+	M0: v9 = (ptr)0; v10 = 16ull - v26; v16 = (ptr)0; v8 = v11 = v12 = v13 = v14 = v15 = v17 = 0; goto L9;
 L2:;
-	u32 v29 = (u32)__builtin_bswap32(lu32(v25));
-	u32 v30 = (u32)__builtin_bswap32(lu32(v25+4));
+	u32 v29 = (u32)__builtin_bswap32(lu32(v25)), v30 = (u32)__builtin_bswap32(lu32(v25+4));
 	u32 v31 = (u32)__builtin_bswap32(lu32(v25+8));
 	u64 v32 = v26 - 16;
 	u32 v33 = (u32)__builtin_bswap32(lu32(v25+12));
-	u8 v34 = v27 & (v30 > 4294967);
-	u8 v35 = v33 > 262144;
-	u8 v36 = v31 > v33;
+	u8 v34 = v27 & (v30 > 4294967), v35 = v33 > 262144, v36 = v31 > v33;
 	if (!(v36 | (v34 | v35))) { v6 = 0; goto L3; }
-	if ((v3 > 262144 ? v3 : 262144) < v31) { v8 = 0; v9 = (ptr)2ull; v10 = (u64)(ptr)static_2; v11 = 31; v12 = 0; v13 = 0; v14 = 0; v15 = 0; v16 = (ptr)0; v17 = 0; goto L9; }
+	if ((v3 > 262144 ? v3 : 262144) < v31) { M1: v9 = (ptr)2ull; v10 = (u64)(ptr)static_2; v16 = (ptr)0; v8 = v12 = v13 = v14 = v15 = v17 = 0; v11 = 31; goto L9; }
 	v6 = (v31 > 262144 ? 256u : 0u) | (u32)v34 | (v35 ? 65536u : 0u) | (v36 ? 16777216u : 0u);
 L3:;
 	u64 v37 = (u64)v31;
 	if (v32 >= v37) goto L4;
-	v8 = 0; v9 = (ptr)0; v10 = v37 - v32; v11 = 0; v12 = 0; v13 = 0; v14 = 0; v15 = 0; v16 = (ptr)0; v17 = 0; goto L9;
-L4:;
-	v8 = 1; v9 = at(v25+16, v37); v10 = v32 - v37; v11 = v29; v12 = v30; v13 = v31; v14 = v33; v15 = v6; v16 = v25+16; v17 = v37; goto L9;
-L5:;
+	v9 = (ptr)0; v10 = v37 - v32; v16 = (ptr)0; v8 = v11 = v12 = v13 = v14 = v15 = v17 = 0; goto L9;
+L4:
+	v9 = at(v25+16, v37); v10 = v32 - v37; v11 = v29; v12 = v30; v13 = v31; v14 = v33; v15 = v6; v16 = v25+16; v17 = v37; v8 = 1; goto L9;
+L5:
 	if (!v28) goto L6;
-	v8 = 0; v9 = (ptr)0; v10 = 16ull - v26; v11 = 0; v12 = 0; v13 = 0; v14 = 0; v15 = 0; v16 = (ptr)0; v17 = 0; goto L9;
+	goto M0;
 L6:;
-	u32 v38 = lu32(v25);
-	u32 v39 = lu32(v25+4);
-	u32 v40 = lu32(v25+8);
+	u32 v38 = lu32(v25), v39 = lu32(v25+4), v40 = lu32(v25+8);
 	u64 v41 = v26 - 16;
 	u32 v42 = lu32(v25+12);
-	u8 v43 = v27 && (v39 > 4294967);
-	u8 v44 = v42 > 262144;
-	u8 v45 = v40 > v42;
+	u8 v43 = v27 && v39 > 4294967, v44 = v42 > 262144, v45 = v40 > v42;
 	if (!(v45 | (v43 | v44))) { v7 = 0; goto L7; }
-	if ((v3 > 262144 ? v3 : 262144) < v40) { v8 = 0; v9 = (ptr)2ull; v10 = (u64)(ptr)static_2; v11 = 31; v12 = 0; v13 = 0; v14 = 0; v15 = 0; v16 = (ptr)0; v17 = 0; goto L9; }
+	if ((v3 > 262144 ? v3 : 262144) < v40) goto M1;
 	v7 = (v40 > 262144 ? 256u : 0u) | (u32)v43 | (v44 ? 65536u : 0u) | (v45 ? 16777216u : 0u);
 L7:;
 	u64 v46 = (u64)v40;
 	if (v41 >= v46) goto L8;
-	v8 = 0; v9 = (ptr)0; v10 = v46 - v41; v11 = 0; v12 = 0; v13 = 0; v14 = 0; v15 = 0; v16 = (ptr)0; v17 = 0; goto L9;
-L8:;
-	v8 = 1; v9 = at(v25+16, v46); v10 = v41 - v46; v11 = v38; v12 = v39; v13 = v40; v14 = v42; v15 = v7; v16 = v25+16; v17 = v46;
-L9:;
+	v9 = (ptr)0; v10 = v46 - v41; v16 = (ptr)0; v8 = v11 = v12 = v13 = v14 = v15 = v17 = 0; goto L9;
+L8:
+	v9 = at(v25+16, v46); v10 = v41 - v46; v11 = v38; v12 = v39; v13 = v40; v14 = v42; v15 = v7; v16 = v25+16; v17 = v46; v8 = 1;
+L9:
 	clear(v22, 40);
 	u64 v47 = (u64)v9;
 	if (!v8) goto L14;
@@ -10624,16 +9979,16 @@ L9:;
 	case 3569595041u: case 2712847316u: goto L10;
 	default: goto L11;
 	}
-L10:;
+L10:
 	v18 = v12 / 1000000; v19 = (v12 % 1000000) * 1000; goto L12;
-L11:;
+L11:
 	v18 = v12 / 1000000000; v19 = v12 % 1000000000;
-L12:;
+L12:
 	if (v15 & 1) { v20 = 2; goto L13; }
-	if ((v15 & 256) != 0) { v20 = 3; goto L13; }
-	if ((v15 & 65536) != 0) { v20 = 4; goto L13; }
+	if (v15 & 256) { v20 = 3; goto L13; }
+	if (v15 & 65536) { v20 = 4; goto L13; }
 	v20 = v15 > 16777215 ? 5u : 0u;
-L13:;
+L13:
 	su32(v4, v11);
 	su32(v4+4, v12);
 	su32(v4+8, v14);
@@ -10662,15 +10017,15 @@ L14:;
 	st64(v23+48, v17);
 	copy(v23+56, v22, 40);
 	u32 v49 = pcapfile_values_errors_tell(v23, v5);
-	if ((v48 != 4) || (ld64(v23+24) == 0)) { v21 = v49; goto L16; }
+	if (v48 != 4 || !ld64(v23+24)) { v21 = v49; goto L16; }
 	deallocate((ptr)v10);
 	v21 = v49; goto L16;
-L15:;
+L15:
 	su32(v5, 1);
 	su32(v5+4, 0);
 	su64(v5+8, 0);
 	v21 = 3;
-L16:;
+L16:
 	return (int32_t)(v21);
 }
 int32_t pcapfile_time_of(ptr v1, u64 v2, ptr v3) {
@@ -10681,27 +10036,27 @@ int32_t pcapfile_time_of(ptr v1, u64 v2, ptr v3) {
 	u64 v14 = ld64(v1+16);
 	if (ld8(v1+8) != 2) goto L1;
 	u32 v15 = (u32)v13;
-	if (v13 == 0) { v8 = 1; goto L6; }
+	if (!v13) { v8 = 1; goto L6; }
 	v4 = 0; v5 = 1;
-L0:;
+L0:
 	if ((s128)v5 <= (s128)((u128)0xffffffffffffffffull << 64 | 0xffffffffffffffffull)) { v9 = 0; goto L7; }
 	u128 v16 = v5 << 1;
 	u32 v17 = v4 + 1;
 	if (v17 == v15) { v8 = v16; goto L6; }
 	v4 = v17; v5 = v16; goto L0;
-L1:;
+L1:
 	switch (v13) {
 	case 6: goto L2;
 	case 9: goto L3;
 	default: goto L4;
 	}
-L2:;
+L2:
 	v10 = (u32)(v2 % 1000000) * 1000; v11 = v2 / 1000000; goto L8;
-L3:;
+L3:
 	v10 = (u32)(v2 % 1000000000); v11 = v2 / 1000000000; goto L8;
 L4:;
 	u32 v18 = (u32)v13;
-	if (v13 == 0) { v8 = 1; goto L6; }
+	if (!v13) { v8 = 1; goto L6; }
 	if (v13 > 38) { v9 = 0; goto L7; }
 	v6 = 0; v7 = 1;
 L5:;
@@ -10710,10 +10065,10 @@ L5:;
 	u128 v21 = v20 | (v19 & 0xfffffffffffffffeull);
 	u32 v22 = v6 + 1;
 	if (v22 != v18) { v6 = v22; v7 = v21; goto L5; }
-	if (v21 != 0) { v8 = v21; goto L6; }
+	if (v21) { v8 = v21; goto L6; }
 	__builtin_trap();
 	__builtin_trap();
-L6:;
+L6:
 	v9 = ((u128)v2 * 1000000000) / v8;
 L7:;
 	u128 v23 = v9 / 1000000000;
@@ -10725,7 +10080,7 @@ L8:;
 	su32(v3+8, v10);
 	su32(v3+12, 0);
 	v12 = 0;
-L9:;
+L9:
 	return (int32_t)(v12);
 }
 void pcapfile_version(ptr v1) {
@@ -10738,10 +10093,9 @@ int32_t pcapfile_take_ng_packets(ptr v1, ptr v2, ptr v3, u64 v4, ptr v5, ptr v6)
 	u64 v8, v9, v11, v13, v16, v19;
 	ptr v10, v12;
 	u32 v14, v15, v20;
-	_Alignas(8) u8 v21[24], v22[24], v23[104], v24[96], v25[96], v28[32];
+	_Alignas(8) u8 v21[24], v22[24], v23[104], v24[96] = {0}, v25[96], v28[32];
 	_Alignas(1) u8 v26[7], v27[47];
-	ptr v29 = at(v3, v3 == (ptr)0 ? 4096ull : 0ull);
-	clear(v24, 96);
+	ptr v29 = at(v3, !v3 ? 4096ull : 0ull);
 	st64(v25, 2);
 	st64(v5, 0);
 	switch (ld32(v1)) {
@@ -10749,14 +10103,14 @@ int32_t pcapfile_take_ng_packets(ptr v1, ptr v2, ptr v3, u64 v4, ptr v5, ptr v6)
 	case 1295788826: goto L0;
 	default: goto L12;
 	}
-L0:;
+L0:
 	v7 = 1;
-L1:;
-	if (v4 == 0) { v20 = 0; goto L13; }
+L1:
+	if (!v4) { v20 = 0; goto L13; }
 	u8 v30 = v7 & 1;
 	v8 = lu64(v2+8);
-L2:;
-	if (v8 == 0) { v20 = 0; goto L13; }
+L2:
+	if (!v8) { v20 = 0; goto L13; }
 	ptr v31 = lup(v2);
 	clear(v23, 104);
 	u8 v32 = v8 < 12;
@@ -10771,21 +10125,19 @@ L2:;
 	u32 v36 = lu32(v31+8);
 	u64 v37 = v34 - 32;
 	u32 v38 = lu32(v31+24);
-	u64 v39 = (u64)lu32(v31+20);
-	u64 v40 = ((0ull - v39) & 3) + v39;
+	u64 v39 = (u64)lu32(v31+20), v40 = ((0ull - v39) & 3) + v39;
 	if (v37 < v40) goto L7;
 	u64 v41 = ((u64)lu32(v31+12) << 32) | (u64)lu32(v31+16);
 	clear(v21, 24);
 	if (v37 != v40) goto L3;
-	v9 = v34; v10 = v35-8; v11 = v39; v12 = v31+28; v13 = v41; v14 = v38; v15 = v36; goto L6;
-L3:;
+	M0: v9 = v34; v10 = v35-8; v11 = v39; v12 = v31+28; v13 = v41; v14 = v38; v15 = v36; goto L6;
+L3:
 	pcapfile_values_enhanced_options_behind_some_7f02(v21, at(v31+28, v40), v37 - v40);
-	if (ld8(v21) == 1) { v9 = v34; v10 = v35-8; v11 = v39; v12 = v31+28; v13 = v41; v14 = v38; v15 = v36; goto L6; }
+	if (ld8(v21) == 1) goto M0;
 	goto L7;
-L4:;
+L4:
 	if (v32) goto L7;
-	u32 v42 = lu32(v31+4);
-	u32 v43 = (u32)__builtin_bswap32(v42);
+	u32 v42 = lu32(v31+4), v43 = (u32)__builtin_bswap32(v42);
 	if (!((lu32(v31) == 100663296) & ((v43 & 3) == 0))) goto L7;
 	u64 v44 = (u64)v43;
 	if ((v43 < 12) | (v8 < v44)) goto L7;
@@ -10794,14 +10146,13 @@ L4:;
 	u32 v46 = (u32)__builtin_bswap32(lu32(v31+8));
 	u64 v47 = v44 - 32;
 	u32 v48 = (u32)__builtin_bswap32(lu32(v31+24));
-	u64 v49 = (u64)(u32)__builtin_bswap32(lu32(v31+20));
-	u64 v50 = ((0ull - v49) & 3) + v49;
+	u64 v49 = (u64)(u32)__builtin_bswap32(lu32(v31+20)), v50 = ((0ull - v49) & 3) + v49;
 	if (v47 < v50) goto L7;
 	u64 v51 = (u64)__builtin_bswap64(lu64(v31+12));
 	clear(v22, 24);
 	if (v47 != v50) goto L5;
 	v9 = v44; v10 = v45-8; v11 = v49; v12 = v31+28; v13 = v51; v14 = v48; v15 = v46; goto L6;
-L5:;
+L5:
 	pcapfile_values_enhanced_options_behind_some_4da0(v22, at(v31+28, v50), v47 - v50);
 	if (ld8(v22) != 1) goto L7;
 	v9 = v44; v10 = v45-8; v11 = v49; v12 = v31+28; v13 = v51; v14 = v48; v15 = v46;
@@ -10822,12 +10173,11 @@ L6:;
 	copy(v27, v23+25, 47);
 	clear(v28, 32);
 	v16 = v52; v17 = (u8)(u64)v10; goto L8;
-L7:;
+L7:
 	pcapfile_c_batches_any_front(v23, v7, v31, v8);
 	u8 v53 = ld8(v23+8);
 	u64 v54 = ld64(v23+16);
-	u8 v55 = ld8(v23+24);
-	u8 v56 = ld8(v23) == 0;
+	u8 v55 = ld8(v23+24), v56 = ld8(v23) == 0;
 	copy(v26, v23+9, 7);
 	copy(v27, v23+25, 47);
 	copy(v28, v23+72, 32);
@@ -10838,47 +10188,44 @@ L7:;
 	case 2: case 3: v20 = 8; goto L13;
 	default: goto L10;
 	}
-L8:;
+L8:
 	copy(at(v29, ld64(v5) * 40), v27+7, 40);
 	st64(v5, ld64(v5) + 1);
 	v18 = v17; v19 = v16;
-L9:;
+L9:
 	st8(v2, v18);
 	copy(v2+1, v26, 7);
 	su64(v2+8, v19);
 	if (ld64(v5) < v4) { v8 = v19; goto L2; }
 	v20 = 0; goto L13;
-L10:;
+L10:
 	__builtin_trap();
-L11:;
+L11:
 	st8(v24, v53);
 	st64(v24+8, v54);
 	st8(v24+16, v55);
 	copy(v24+17, v27, 47);
 	copy(v24+64, v28, 32);
 	u32 v57 = pcapfile_values_errors_tell(v24, v6);
-	if ((v53 != 4) || (ld64(v24+24) == 0)) { v20 = v57; goto L13; }
+	if (v53 != 4 || !ld64(v24+24)) { v20 = v57; goto L13; }
 	deallocate((ptr)v54);
 	v20 = v57; goto L13;
-L12:;
+L12:
 	stp(v25+8, (ptr)static_5);
 	st64(v25+16, 40);
 	clear(v25+24, 72);
 	u32 v58 = pcapfile_values_errors_tell(v25, v6);
 	v20 = v58;
-L13:;
+L13:
 	return (int32_t)(v20);
 }
 int32_t pcapfile_write_header(ptr v1, ptr v2, u64 v3, ptr v4, ptr v5) {
 	u32 v6, v9, v10, v11, v12, v13;
 	u16 v7, v8;
-	ptr v14 = at(v2, v2 == (ptr)0 ? 4096ull : 0ull);
+	ptr v14 = at(v2, !v2 ? 4096ull : 0ull);
 	u32 v15 = ld32(v1);
-	u16 v16 = ld16(v1+4);
-	u16 v17 = ld16(v1+6);
-	u32 v18 = ld32(v1+8);
-	u32 v19 = ld32(v1+12);
-	u32 v20 = ld32(v1+16);
+	u16 v16 = ld16(v1+4), v17 = ld16(v1+6);
+	u32 v18 = ld32(v1+8), v19 = ld32(v1+12), v20 = ld32(v1+16);
 	t_8_32 v21 = pcap_core_link_DataLinkFromU32_from(ld32(v1+20));
 	switch (v15) {
 	case 2712847316u: case 2712812621u: goto L0;
@@ -10891,13 +10238,13 @@ L0:;
 L1:;
 	u32 v23 = pcap_core_link_U32FromDataLink_from(v21.f0, v21.f1);
 	v6 = (u32)__builtin_bswap32(v15); v7 = v16; v8 = v17; v9 = v18; v10 = v19; v11 = v20; v12 = v23;
-L2:;
+L2:
 	if (v3 >= 24) goto L3;
 	su32(v5, 0);
 	su32(v5+4, 0);
 	su64(v5+8, 24ull - v3);
 	v13 = 1; goto L5;
-L3:;
+L3:
 	su32(v14, v6);
 	su16(v14+4, v7);
 	su16(v14+6, v8);
@@ -10907,18 +10254,18 @@ L3:;
 	su32(v14+20, v12);
 	st64(v4, 24);
 	v13 = 0; goto L5;
-L4:;
+L4:
 	su32(v5, 1);
 	su32(v5+4, 0);
 	su64(v5+8, 0);
 	v13 = 3;
-L5:;
+L5:
 	return (int32_t)(v13);
 }
 int32_t pcapfile_write_packet(ptr v1, ptr v2, ptr v3, u64 v4, ptr v5, ptr v6) {
 	u32 v7, v8, v9, v10, v12;
 	u64 v11;
-	ptr v13 = at(v3, v3 == (ptr)0 ? 4096ull : 0ull);
+	ptr v13 = at(v3, !v3 ? 4096ull : 0ull);
 	u32 v14 = ld32(v1);
 	switch (v14) {
 	case 1295823521: case 2712812621u: case 2712847316u: case 3569595041u: goto L0;
@@ -10928,17 +10275,15 @@ L0:;
 	u64 v15 = ld64(v2+24);
 	u32 v16 = (u32)(v15 < 0x100000000ull ? v15 : 0x100000000ull);
 	if (v15 >= 0x100000000ull) goto L8;
-	u32 v17 = ld32(v2);
-	u32 v18 = ld32(v2+4);
-	u32 v19 = ld32(v2+8);
+	u32 v17 = ld32(v2), v18 = ld32(v2+4), v19 = ld32(v2+8);
 	u8 v20 = v14 != 3569595041u;
 	switch (v14) {
 	case 2712847316u: case 2712812621u: goto L1;
 	default: goto L2;
 	}
-L1:;
+L1:
 	v7 = (u32)__builtin_bswap32(v17); v8 = (u32)__builtin_bswap32(((v14 != 2712847316u) & v20) ? v18 : v18 / 1000); v9 = (u32)__builtin_bswap32(v16); v10 = (u32)__builtin_bswap32(v19); goto L3;
-L2:;
+L2:
 	v7 = v17; v8 = v20 ? v18 : v18 / 1000; v9 = v16; v10 = v19;
 L3:;
 	ptr v21 = lup(v2+16);
@@ -10948,34 +10293,34 @@ L3:;
 	su32(v6+4, 0);
 	su64(v6+8, v22 - v4);
 	v12 = 1; goto L10;
-L4:;
+L4:
 	su32(v13, v7);
 	su32(v13+4, v8);
 	su32(v13+8, v9);
 	su32(v13+12, v10);
-	if (((u64)(v13+16) - (u64)v21) >= v15) goto L6;
+	if ((u64)(v13+16) - (u64)v21 >= v15) goto L6;
 	v11 = 0;
-L5:;
+L5:
 	st8(at(v13+16, v11), ld8(at(v21, v11)));
 	u64 v23 = v11 + 1;
 	if (v23 == v15) goto L7;
 	v11 = v23; goto L5;
-L6:;
+L6:
 	move(v13+16, v21, v15);
-L7:;
+L7:
 	st64(v5, v22);
 	v12 = 0; goto L10;
-L8:;
+L8:
 	su32(v6, 3);
 	su32(v6+4, 0);
 	su64(v6+8, 0);
 	v12 = 3; goto L10;
-L9:;
+L9:
 	su32(v6, 1);
 	su32(v6+4, 0);
 	su64(v6+8, 0);
 	v12 = 3;
-L10:;
+L10:
 	return (int32_t)(v12);
 }
 int32_t pcapfile_options(ptr v1, ptr v2, ptr v3, ptr v4) {
@@ -10983,18 +10328,16 @@ int32_t pcapfile_options(ptr v1, ptr v2, ptr v3, ptr v4) {
 	u64 v7, v10, v11, v12, v13, v14, v15, v16, v17, v19, v20, v26, v27, v28, v29, v30, v31, v32, v33, v36, v37, v38, v39, v40, v41, v42, v43, v45, v46, v52, v53, v54, v55, v56, v57, v58, v62, v63, v64, v65, v66, v67, v68;
 	ptr v8, v9, v34, v35;
 	u32 v69;
-	_Alignas(8) u8 v70[104], v71[32], v72[32], v73[32], v74[32], v75[104], v76[32], v77[32], v78[32], v79[32], v80[32], v81[96], v82[32];
+	_Alignas(8) u8 v70[104], v71[32], v72[32], v73[32], v74[32], v75[104], v76[32], v77[32], v78[32], v79[32], v80[32], v81[96] = {0}, v82[32] = {0};
 	u32 v83 = ld32(v1);
-	clear(v81, 96);
-	clear(v82, 32);
 	switch (v83) {
 	case 439041101: v5 = 0; goto L1;
 	case 1295788826: goto L0;
 	default: goto L51;
 	}
-L0:;
+L0:
 	v5 = 1;
-L1:;
+L1:
 	switch (ld32(v2)) {
 	case 168627466: v6 = 0; goto L10;
 	case 1: goto L2;
@@ -11006,21 +10349,21 @@ L1:;
 	case 9: goto L8;
 	default: goto L9;
 	}
-L2:;
+L2:
 	v6 = 1; goto L10;
-L3:;
+L3:
 	v6 = 2; goto L10;
-L4:;
+L4:
 	v6 = 3; goto L10;
-L5:;
+L5:
 	v6 = 4; goto L10;
-L6:;
+L6:
 	v6 = 5; goto L10;
-L7:;
+L7:
 	v6 = 6; goto L10;
-L8:;
+L8:
 	v6 = 7; goto L10;
-L9:;
+L9:
 	v6 = 8;
 L10:;
 	ptr v84 = lup(v2+8);
@@ -11035,67 +10378,64 @@ L10:;
 	case 5: goto L15;
 	case 6: case 2: goto L17;
 	case 4: goto L20;
-	case 3: case 7: case 8: v19 = 0; v20 = 0; v21 = 0; v22 = 0; goto L27;
+	case 3: case 7: case 8: v19 = v20 = v21 = v22 = 0; goto L27;
 	default: goto L50;
 	}
-L11:;
+L11:
 	if (v85 >= 16) goto L12;
 	clear(v80, 32);
-	v23 = 1; v24 = 2; v25 = (u64)(ptr)static_10; v26 = (u64)(ptr)static_10; v27 = 37; v28 = 0; v29 = 0; v30 = 0; v31 = 0; v32 = 0; goto L28;
+	v25 = (u64)(ptr)static_10; v26 = (u64)(ptr)static_10; v23 = 1; v24 = 2; v27 = 37; v28 = v29 = v30 = v31 = v32 = 0; goto L28;
 L12:;
 	u64 v86 = (u64)(v84+16);
 	v19 = v86; v20 = v85 - 16; v21 = (u8)v86; v22 = 1; goto L27;
-L13:;
+L13:
 	if (v85 >= 8) goto L14;
 	clear(v80, 32);
-	v23 = 1; v24 = 2; v25 = (u64)(ptr)static_11; v26 = (u64)(ptr)static_11; v27 = 43; v28 = 0; v29 = 0; v30 = 0; v31 = 0; v32 = 0; goto L28;
+	v25 = (u64)(ptr)static_11; v26 = (u64)(ptr)static_11; v23 = 1; v24 = 2; v27 = 43; v28 = v29 = v30 = v31 = v32 = 0; goto L28;
 L14:;
 	u64 v87 = (u64)(v84+8);
 	v19 = v87; v20 = v85 - 8; v21 = (u8)v87; v22 = 1; goto L27;
-L15:;
+L15:
 	if (v85 >= 12) goto L16;
 	clear(v80, 32);
-	v23 = 1; v24 = 2; v25 = (u64)(ptr)static_15; v26 = (u64)(ptr)static_15; v27 = 43; v28 = 0; v29 = 0; v30 = 0; v31 = 0; v32 = 0; goto L28;
+	v25 = (u64)(ptr)static_15; v26 = (u64)(ptr)static_15; v23 = 1; v24 = 2; v27 = 43; v28 = v29 = v30 = v31 = v32 = 0; goto L28;
 L16:;
 	u64 v88 = (u64)(v84+12);
 	v19 = v88; v20 = v85 - 12; v21 = (u8)v88; v22 = 1; goto L27;
-L17:;
-	if (v85 < 20) { v7 = 45; v8 = (ptr)static_12; goto L18; }
-	u64 v89 = v85 - 20;
-	u64 v90 = (u64)lu32(v84+12);
-	u64 v91 = ((0ull - v90) & 3) + v90;
+L17:
+	if (v85 < 20) { v8 = (ptr)static_12; v7 = 45; goto L18; }
+	u64 v89 = v85 - 20, v90 = (u64)lu32(v84+12), v91 = ((0ull - v90) & 3) + v90;
 	if (v89 >= v91) goto L19;
-	v7 = 58; v8 = (ptr)static_13;
+	v8 = (ptr)static_13; v7 = 58;
 L18:;
 	u64 v92 = (u64)v8;
 	clear(v80, 32);
-	v23 = 1; v24 = 2; v25 = (u8)v92; v26 = v92; v27 = v7; v28 = 0; v29 = 0; v30 = 0; v31 = 0; v32 = 0; goto L28;
+	v25 = (u8)v92; v26 = v92; v27 = v7; v23 = 1; v24 = 2; v28 = v29 = v30 = v31 = v32 = 0; goto L28;
 L19:;
 	u64 v93 = (u64)at(v84+20, v91);
 	v19 = v93; v20 = v89 - v91; v21 = (u8)v93; v22 = 1; goto L27;
-L20:;
+L20:
 	clear(v72, 32);
 	v9 = v84; v10 = v85;
-L21:;
+L21:
 	clear(v70, 104);
 	clear(v71, 32);
 	if (v10 >= 4) goto L22;
 	clear(v72, 32);
-	v11 = 0; v12 = 0; v13 = 0; v14 = 0; v15 = 0; v16 = 0; v17 = 9473; v18 = 1; goto L26;
+	v17 = 9473; v11 = v12 = v13 = v14 = v15 = v16 = 0; v18 = 1; goto L26;
 L22:;
-	u64 v94 = v10 - 4;
-	u64 v95 = (u64)lu16(v9+2);
+	u64 v94 = v10 - 4, v95 = (u64)lu16(v9+2);
 	if (v94 >= v95) goto L23;
 	clear(v72, 32);
-	v11 = 0; v12 = 0; v13 = 0; v14 = 0; v15 = 0; v16 = 48; v17 = (u64)(ptr)static_33; v18 = 2; goto L26;
-L23:;
+	v17 = (u64)(ptr)static_33; v11 = v12 = v13 = v14 = v15 = 0; v16 = 48; v18 = 2; goto L26;
+L23:
 	pcapfile_c_records_record_of(v70, lu16(v9), v9+4, v95);
 	u8 v96 = ld8(v70+8);
-	if (ld8(v70) != 0) goto L25;
+	if (ld8(v70)) goto L25;
 	u64 v97 = ((0ull - v95) & 3) + v95;
 	if (v94 >= v97) goto L24;
 	clear(v72, 32);
-	v11 = 0; v12 = 0; v13 = 0; v14 = 0; v15 = 0; v16 = 49; v17 = (u64)(ptr)static_38; v18 = 2; goto L26;
+	v17 = (u64)(ptr)static_38; v11 = v12 = v13 = v14 = v15 = 0; v16 = 49; v18 = 2; goto L26;
 L24:;
 	ptr v98 = at(v9+4, v97);
 	u64 v99 = v94 - v97;
@@ -11104,25 +10444,20 @@ L24:;
 	u64 v100 = (u64)v98;
 	v19 = v100; v20 = v99; v21 = (u8)v100; v22 = 1; goto L27;
 L25:;
-	u64 v101 = ld64(v70+48);
-	u64 v102 = ld64(v70+40);
-	u64 v103 = ld64(v70+32);
-	u64 v104 = ld64(v70+24);
-	u64 v105 = ld64(v70+16);
-	u64 v106 = ld64(v70+56);
-	u64 v107 = ld64(v70+64);
+	u64 v101 = ld64(v70+48), v102 = ld64(v70+40), v103 = ld64(v70+32), v104 = ld64(v70+24);
+	u64 v105 = ld64(v70+16), v106 = ld64(v70+56), v107 = ld64(v70+64);
 	copy(v72, v70+72, 32);
 	v11 = v107; v12 = v106; v13 = v101; v14 = v102; v15 = v103; v16 = v104; v17 = v105; v18 = v96;
-L26:;
+L26:
 	copy(v74, v72, 32);
 	copy(v80, v74, 32);
-	v23 = 1; v24 = v18; v25 = (u8)v17; v26 = v17; v27 = v16; v28 = v15; v29 = v14; v30 = v13; v31 = v12; v32 = v11; goto L28;
-L27:;
+	v24 = v18; v25 = (u8)v17; v26 = v17; v27 = v16; v28 = v15; v29 = v14; v30 = v13; v31 = v12; v32 = v11; v23 = 1; goto L28;
+L27:
 	copy(v80, v73, 32);
-	v23 = 0; v24 = v22; v25 = v21; v26 = v19; v27 = v20; v28 = 0; v29 = 0; v30 = 0; v31 = 0; v32 = 0;
-L28:;
+	v24 = v22; v25 = v21; v26 = v19; v27 = v20; v23 = v28 = v29 = v30 = v31 = v32 = 0;
+L28:
 	v59 = v23; v60 = v24; v61 = v25; v62 = v26; v63 = v27; v64 = v28; v65 = v29; v66 = v30; v67 = v31; v68 = v32; goto L48;
-L29:;
+L29:
 	clear(v78, 32);
 	clear(v79, 32);
 	switch (v6) {
@@ -11131,67 +10466,65 @@ L29:;
 	case 5: goto L34;
 	case 6: case 2: goto L36;
 	case 4: goto L39;
-	case 3: case 7: case 8: v45 = 0; v46 = 0; v47 = 0; v48 = 0; goto L46;
+	case 3: case 7: case 8: v45 = v46 = v47 = v48 = 0; goto L46;
 	default: goto L50;
 	}
-L30:;
+L30:
 	if (v85 >= 16) goto L31;
 	clear(v80, 32);
-	v49 = 1; v50 = 2; v51 = (u64)(ptr)static_10; v52 = (u64)(ptr)static_10; v53 = 37; v54 = 0; v55 = 0; v56 = 0; v57 = 0; v58 = 0; goto L47;
+	v51 = (u64)(ptr)static_10; v52 = (u64)(ptr)static_10; v49 = 1; v50 = 2; v53 = 37; v54 = v55 = v56 = v57 = v58 = 0; goto L47;
 L31:;
 	u64 v108 = (u64)(v84+16);
 	v45 = v108; v46 = v85 - 16; v47 = (u8)v108; v48 = 1; goto L46;
-L32:;
+L32:
 	if (v85 >= 8) goto L33;
 	clear(v80, 32);
-	v49 = 1; v50 = 2; v51 = (u64)(ptr)static_11; v52 = (u64)(ptr)static_11; v53 = 43; v54 = 0; v55 = 0; v56 = 0; v57 = 0; v58 = 0; goto L47;
+	v51 = (u64)(ptr)static_11; v52 = (u64)(ptr)static_11; v49 = 1; v50 = 2; v53 = 43; v54 = v55 = v56 = v57 = v58 = 0; goto L47;
 L33:;
 	u64 v109 = (u64)(v84+8);
 	v45 = v109; v46 = v85 - 8; v47 = (u8)v109; v48 = 1; goto L46;
-L34:;
+L34:
 	if (v85 >= 12) goto L35;
 	clear(v80, 32);
-	v49 = 1; v50 = 2; v51 = (u64)(ptr)static_15; v52 = (u64)(ptr)static_15; v53 = 43; v54 = 0; v55 = 0; v56 = 0; v57 = 0; v58 = 0; goto L47;
+	v51 = (u64)(ptr)static_15; v52 = (u64)(ptr)static_15; v49 = 1; v50 = 2; v53 = 43; v54 = v55 = v56 = v57 = v58 = 0; goto L47;
 L35:;
 	u64 v110 = (u64)(v84+12);
 	v45 = v110; v46 = v85 - 12; v47 = (u8)v110; v48 = 1; goto L46;
-L36:;
-	if (v85 < 20) { v33 = 45; v34 = (ptr)static_12; goto L37; }
-	u64 v111 = v85 - 20;
-	u64 v112 = (u64)(u32)__builtin_bswap32(lu32(v84+12));
+L36:
+	if (v85 < 20) { v34 = (ptr)static_12; v33 = 45; goto L37; }
+	u64 v111 = v85 - 20, v112 = (u64)(u32)__builtin_bswap32(lu32(v84+12));
 	u64 v113 = ((0ull - v112) & 3) + v112;
 	if (v111 >= v113) goto L38;
-	v33 = 58; v34 = (ptr)static_13;
+	v34 = (ptr)static_13; v33 = 58;
 L37:;
 	u64 v114 = (u64)v34;
 	clear(v80, 32);
-	v49 = 1; v50 = 2; v51 = (u8)v114; v52 = v114; v53 = v33; v54 = 0; v55 = 0; v56 = 0; v57 = 0; v58 = 0; goto L47;
+	v51 = (u8)v114; v52 = v114; v53 = v33; v49 = 1; v50 = 2; v54 = v55 = v56 = v57 = v58 = 0; goto L47;
 L38:;
 	u64 v115 = (u64)at(v84+20, v113);
 	v45 = v115; v46 = v111 - v113; v47 = (u8)v115; v48 = 1; goto L46;
-L39:;
+L39:
 	clear(v77, 32);
 	v35 = v84; v36 = v85;
-L40:;
+L40:
 	clear(v75, 104);
 	clear(v76, 32);
 	if (v36 >= 4) goto L41;
 	clear(v77, 32);
-	v37 = 0; v38 = 0; v39 = 0; v40 = 0; v41 = 0; v42 = 0; v43 = 9473; v44 = 1; goto L45;
+	v43 = 9473; v37 = v38 = v39 = v40 = v41 = v42 = 0; v44 = 1; goto L45;
 L41:;
-	u64 v116 = v36 - 4;
-	u64 v117 = (u64)(u16)__builtin_bswap16(lu16(v35+2));
+	u64 v116 = v36 - 4, v117 = (u64)(u16)__builtin_bswap16(lu16(v35+2));
 	if (v116 >= v117) goto L42;
 	clear(v77, 32);
-	v37 = 0; v38 = 0; v39 = 0; v40 = 0; v41 = 0; v42 = 48; v43 = (u64)(ptr)static_33; v44 = 2; goto L45;
-L42:;
+	v43 = (u64)(ptr)static_33; v37 = v38 = v39 = v40 = v41 = 0; v42 = 48; v44 = 2; goto L45;
+L42:
 	pcapfile_c_records_record_of(v75, (u16)__builtin_bswap16(lu16(v35)), v35+4, v117);
 	u8 v118 = ld8(v75+8);
-	if (ld8(v75) != 0) goto L44;
+	if (ld8(v75)) goto L44;
 	u64 v119 = ((0ull - v117) & 3) + v117;
 	if (v116 >= v119) goto L43;
 	clear(v77, 32);
-	v37 = 0; v38 = 0; v39 = 0; v40 = 0; v41 = 0; v42 = 49; v43 = (u64)(ptr)static_38; v44 = 2; goto L45;
+	v43 = (u64)(ptr)static_38; v37 = v38 = v39 = v40 = v41 = 0; v42 = 49; v44 = 2; goto L45;
 L43:;
 	ptr v120 = at(v35+4, v119);
 	u64 v121 = v116 - v119;
@@ -11200,33 +10533,28 @@ L43:;
 	u64 v122 = (u64)v120;
 	v45 = v122; v46 = v121; v47 = (u8)v122; v48 = 1; goto L46;
 L44:;
-	u64 v123 = ld64(v75+48);
-	u64 v124 = ld64(v75+40);
-	u64 v125 = ld64(v75+32);
-	u64 v126 = ld64(v75+24);
-	u64 v127 = ld64(v75+16);
-	u64 v128 = ld64(v75+56);
-	u64 v129 = ld64(v75+64);
+	u64 v123 = ld64(v75+48), v124 = ld64(v75+40), v125 = ld64(v75+32), v126 = ld64(v75+24);
+	u64 v127 = ld64(v75+16), v128 = ld64(v75+56), v129 = ld64(v75+64);
 	copy(v77, v75+72, 32);
 	v37 = v129; v38 = v128; v39 = v123; v40 = v124; v41 = v125; v42 = v126; v43 = v127; v44 = v118;
-L45:;
+L45:
 	copy(v79, v77, 32);
 	copy(v80, v79, 32);
-	v49 = 1; v50 = v44; v51 = (u8)v43; v52 = v43; v53 = v42; v54 = v41; v55 = v40; v56 = v39; v57 = v38; v58 = v37; goto L47;
-L46:;
+	v50 = v44; v51 = (u8)v43; v52 = v43; v53 = v42; v54 = v41; v55 = v40; v56 = v39; v57 = v38; v58 = v37; v49 = 1; goto L47;
+L46:
 	copy(v80, v78, 32);
-	v49 = 0; v50 = v48; v51 = v47; v52 = v45; v53 = v46; v54 = 0; v55 = 0; v56 = 0; v57 = 0; v58 = 0;
-L47:;
+	v50 = v48; v51 = v47; v52 = v45; v53 = v46; v49 = v54 = v55 = v56 = v57 = v58 = 0;
+L47:
 	v59 = v49; v60 = v50; v61 = v51; v62 = v52; v63 = v53; v64 = v54; v65 = v55; v66 = v56; v67 = v57; v68 = v58;
 L48:;
 	u64 v130 = (v62 & 0xffffffffffffff00ull) | (u64)v61;
 	copy(v82, v80, 32);
-	if (v59 != 0) goto L49;
+	if (v59) goto L49;
 	if (v60 != 1) { v69 = 8; goto L52; }
 	su64(v3, v130);
 	su64(v3+8, v63);
 	v69 = 0; goto L52;
-L49:;
+L49:
 	st8(v81, v60);
 	st64(v81+8, v130);
 	st64(v81+16, v63);
@@ -11237,17 +10565,17 @@ L49:;
 	st64(v81+56, v68);
 	copy(v81+64, v82, 32);
 	u32 v131 = pcapfile_values_errors_tell(v81, v4);
-	if ((v60 != 4) || (v64 == 0)) { v69 = v131; goto L52; }
+	if (v60 != 4 || !v64) { v69 = v131; goto L52; }
 	deallocate((ptr)v130);
 	v69 = v131; goto L52;
-L50:;
+L50:
 	__builtin_trap();
-L51:;
+L51:
 	su32(v4, 6);
 	su32(v4+4, 0);
 	su64(v4+8, 0);
 	v69 = 3;
-L52:;
+L52:
 	return (int32_t)(v69);
 }
 int32_t pcapfile_take_record(ptr v1, ptr v2, ptr v3, ptr v4) {
@@ -11270,38 +10598,33 @@ L0:;
 	clear(v60, 32);
 	if (v65 >= 4) goto L1;
 	clear(v61, 32);
-	v15 = 1; v16 = 1; v17 = 0; v18 = 9473; v19 = 0; v20 = 0; v21 = 0; v22 = 0; v23 = 0; v24 = 0; goto L6;
+	v18 = 9473; v15 = v16 = 1; v17 = v19 = v20 = v21 = v22 = v23 = v24 = 0; goto L6;
 L1:;
-	u64 v66 = v65 - 4;
-	u64 v67 = (u64)(u16)__builtin_bswap16(lu16(v64+2));
+	u64 v66 = v65 - 4, v67 = (u64)(u16)__builtin_bswap16(lu16(v64+2));
 	if (v66 >= v67) goto L2;
 	clear(v61, 32);
-	v15 = 1; v16 = 2; v17 = 0; v18 = (u64)(ptr)static_33; v19 = 48; v20 = 0; v21 = 0; v22 = 0; v23 = 0; v24 = 0; goto L6;
-L2:;
+	v18 = (u64)(ptr)static_33; v15 = 1; v16 = 2; v17 = v20 = v21 = v22 = v23 = v24 = 0; v19 = 48; goto L6;
+L2:
 	pcapfile_c_records_record_of(v59, (u16)__builtin_bswap16(lu16(v64)), v64+4, v67);
 	u8 v68 = ld8(v59+8);
-	u64 v69 = ld64(v59+16);
-	u64 v70 = ld64(v59+24);
-	u64 v71 = ld64(v59+32);
-	u64 v72 = ld64(v59+40);
+	u64 v69 = ld64(v59+16), v70 = ld64(v59+24), v71 = ld64(v59+32), v72 = ld64(v59+40);
 	u64 v73 = ld64(v59+48);
-	if (ld8(v59) != 0) goto L5;
+	if (ld8(v59)) goto L5;
 	u64 v74 = ((0ull - v67) & 3) + v67;
 	if (v66 >= v74) goto L3;
 	clear(v60, 32);
-	v5 = 0; v6 = 0; v7 = 0; v8 = 0; v9 = 0; v10 = 0; v11 = 2; v12 = (u64)(ptr)static_38; v13 = 1; v14 = 49; goto L4;
+	v12 = (u64)(ptr)static_38; v5 = v6 = v7 = v8 = v9 = v10 = 0; v11 = 2; v13 = 1; v14 = 49; goto L4;
 L3:;
 	u64 v75 = (u64)at(v64+4, v74);
-	v5 = v72; v6 = v73; v7 = v71; v8 = v69; v9 = v70; v10 = (v75 >> 8) & 0xffffffffffffffull; v11 = (u8)v75; v12 = v66 - v74; v13 = 0; v14 = (u64)v68;
-L4:;
+	v5 = v72; v6 = v73; v7 = v71; v8 = v69; v9 = v70; v10 = (v75 >> 8) & 0xffffffffffffffull; v11 = (u8)v75; v12 = v66 - v74; v14 = (u64)v68; v13 = 0;
+L4:
 	copy(v61, v60, 32);
 	v15 = v13; v16 = v11; v17 = v10; v18 = v12; v19 = v14; v20 = v8; v21 = v9; v22 = v7; v23 = v5; v24 = v6; goto L6;
 L5:;
-	u64 v76 = ld64(v59+56);
-	u64 v77 = ld64(v59+64);
+	u64 v76 = ld64(v59+56), v77 = ld64(v59+64);
 	copy(v61, v59+72, 32);
-	v15 = 1; v16 = v68; v17 = 0; v18 = v69; v19 = v70; v20 = v71; v21 = v72; v22 = v73; v23 = v76; v24 = v77;
-L6:;
+	v16 = v68; v18 = v69; v19 = v70; v20 = v71; v21 = v72; v22 = v73; v23 = v76; v24 = v77; v15 = 1; v17 = 0;
+L6:
 	v45 = v2+8; v46 = v15; v47 = v16; v48 = v17; v49 = v18; v50 = v19; v51 = v20; v52 = v21; v53 = v22; v54 = v23; v55 = v24; goto L14;
 L7:;
 	ptr v78 = lup(v2);
@@ -11310,41 +10633,36 @@ L7:;
 	clear(v58, 32);
 	if (v79 >= 4) goto L8;
 	clear(v61, 32);
-	v35 = 1; v36 = 1; v37 = 0; v38 = 9473; v39 = 0; v40 = 0; v41 = 0; v42 = 0; v43 = 0; v44 = 0; goto L13;
+	v38 = 9473; v35 = v36 = 1; v37 = v39 = v40 = v41 = v42 = v43 = v44 = 0; goto L13;
 L8:;
-	u64 v80 = v79 - 4;
-	u64 v81 = (u64)lu16(v78+2);
+	u64 v80 = v79 - 4, v81 = (u64)lu16(v78+2);
 	if (v80 >= v81) goto L9;
 	clear(v61, 32);
-	v35 = 1; v36 = 2; v37 = 0; v38 = (u64)(ptr)static_33; v39 = 48; v40 = 0; v41 = 0; v42 = 0; v43 = 0; v44 = 0; goto L13;
-L9:;
+	v38 = (u64)(ptr)static_33; v35 = 1; v36 = 2; v37 = v40 = v41 = v42 = v43 = v44 = 0; v39 = 48; goto L13;
+L9:
 	pcapfile_c_records_record_of(v57, lu16(v78), v78+4, v81);
 	u8 v82 = ld8(v57+8);
-	u64 v83 = ld64(v57+16);
-	u64 v84 = ld64(v57+24);
-	u64 v85 = ld64(v57+32);
-	u64 v86 = ld64(v57+40);
+	u64 v83 = ld64(v57+16), v84 = ld64(v57+24), v85 = ld64(v57+32), v86 = ld64(v57+40);
 	u64 v87 = ld64(v57+48);
-	if (ld8(v57) != 0) goto L12;
+	if (ld8(v57)) goto L12;
 	u64 v88 = ((0ull - v81) & 3) + v81;
 	if (v80 >= v88) goto L10;
 	clear(v58, 32);
-	v25 = 0; v26 = 0; v27 = 0; v28 = 0; v29 = 0; v30 = 0; v31 = 2; v32 = (u64)(ptr)static_38; v33 = 1; v34 = 49; goto L11;
+	v32 = (u64)(ptr)static_38; v25 = v26 = v27 = v28 = v29 = v30 = 0; v31 = 2; v33 = 1; v34 = 49; goto L11;
 L10:;
 	u64 v89 = (u64)at(v78+4, v88);
-	v25 = v86; v26 = v87; v27 = v85; v28 = v83; v29 = v84; v30 = (v89 >> 8) & 0xffffffffffffffull; v31 = (u8)v89; v32 = v80 - v88; v33 = 0; v34 = (u64)v82;
-L11:;
+	v25 = v86; v26 = v87; v27 = v85; v28 = v83; v29 = v84; v30 = (v89 >> 8) & 0xffffffffffffffull; v31 = (u8)v89; v32 = v80 - v88; v34 = (u64)v82; v33 = 0;
+L11:
 	copy(v61, v58, 32);
 	v35 = v33; v36 = v31; v37 = v30; v38 = v32; v39 = v34; v40 = v28; v41 = v29; v42 = v27; v43 = v25; v44 = v26; goto L13;
 L12:;
-	u64 v90 = ld64(v57+56);
-	u64 v91 = ld64(v57+64);
+	u64 v90 = ld64(v57+56), v91 = ld64(v57+64);
 	copy(v61, v57+72, 32);
-	v35 = 1; v36 = v82; v37 = 0; v38 = v83; v39 = v84; v40 = v85; v41 = v86; v42 = v87; v43 = v90; v44 = v91;
-L13:;
+	v36 = v82; v38 = v83; v39 = v84; v40 = v85; v41 = v86; v42 = v87; v43 = v90; v44 = v91; v35 = 1; v37 = 0;
+L13:
 	v45 = v2+8; v46 = v35; v47 = v36; v48 = v37; v49 = v38; v50 = v39; v51 = v40; v52 = v41; v53 = v42; v54 = v43; v55 = v44;
-L14:;
-	if (v46 != 0) goto L15;
+L14:
+	if (v46) goto L15;
 	if ((v50 & 255) != 1) { v56 = 8; goto L17; }
 	su64(v3, v51);
 	su64(v3+8, v52);
@@ -11355,7 +10673,7 @@ L14:;
 	st_bytes(v2+1, v48, 7);
 	su64(v45, v49);
 	v56 = 0; goto L17;
-L15:;
+L15:
 	st8(v62, v47);
 	st64(v62+8, v49);
 	st64(v62+16, v50);
@@ -11366,15 +10684,15 @@ L15:;
 	st64(v62+56, v55);
 	copy(v62+64, v61, 32);
 	u32 v92 = pcapfile_values_errors_tell(v62, v4);
-	if ((v47 != 4) || (v51 == 0)) { v56 = v92; goto L17; }
+	if (v47 != 4 || !v51) { v56 = v92; goto L17; }
 	deallocate((ptr)v49);
 	v56 = v92; goto L17;
-L16:;
+L16:
 	su32(v4, 6);
 	su32(v4+4, 0);
 	su64(v4+8, 0);
 	v56 = 3;
-L17:;
+L17:
 	return (int32_t)(v56);
 }
 int32_t pcapfile_take_block_as_is(ptr v1, ptr v2, ptr v3, ptr v4, u64 v5, ptr v6) {
@@ -11383,44 +10701,39 @@ int32_t pcapfile_take_block_as_is(ptr v1, ptr v2, ptr v3, ptr v4, u64 v5, ptr v6
 	u64 v9, v11, v20, v24, v26, v31, v33, v45, v48, v49, v50, v51, v52, v53, v57, v59, v63, v64, v65, v68, v72, v79, v81, v85, v87, v93, v94, v95, v96, v100, v101, v107, v108, v109, v112, v116, v123, v125, v129, v131, v137, v138, v139, v140, v144, v145, v151, v152, v154, v155, v156, v161, v163, v164, v165, v166, v169, v171, v176, v178, v179, v181, v183, v195, v196, v197, v199, v202, v203, v204, v210, v211, v212, v213, v216, v218, v223, v224, v225, v228, v231, v232, v233, v234, v235, v239, v241, v249, v250, v251, v253, v256, v257, v258, v263, v270, v271, v272, v273, v275, v276, v278, v279, v280, v284, v285, v286, v290, v292, v293, v294, v299, v300, v301, v306, v307, v308, v309, v310, v311, v312, v313, v314, v319;
 	u16 v21, v22, v27, v28, v43, v44, v54, v55, v60, v61, v76, v77, v80, v89, v90, v120, v121, v124, v133, v134, v192, v193, v198, v205, v206, v246, v247, v252, v259, v260, v296, v297;
 	u32 v23, v42, v56, v75, v78, v84, v105, v106, v119, v122, v128, v149, v150, v158, v159, v167, v174, v175, v190, v191, v194, v200, v201, v227, v229, v236, v237, v238, v244, v245, v248, v254, v255, v266, v267, v268, v269, v274, v281, v282, v283, v287, v288, v289, v295, v298, v302, v303, v315, v316, v317, v318, v321, v322;
-	_Alignas(8) u8 v323[1], v324[8], v325[24], v326[24], v327[24], v328[24], v329[24], v330[24], v331[24], v332[24], v333[24], v334[48], v335[56], v336[48], v337[48], v339[24], v340[24], v341[24], v342[48], v343[56], v344[48], v345[48], v347[24], v348[24], v349[24], v350[24], v351[24], v352[24], v353[24], v354[24], v355[24], v356[24], v357[48], v358[48], v359[24], v360[24], v361[24], v362[24], v363[24], v364[24], v365[24], v366[48], v367[48], v368[24], v369[24], v370[48], v371[48], v372[48], v375[24], v376[24], v377[48], v378[48], v379[48], v382[24], v383[24], v384[24], v385[24], v386[24], v387[24], v388[24], v389[24], v390[24], v391[24], v392[24], v393[24], v394[48], v395[56], v396[48], v397[48], v398[24], v399[24], v400[48], v401[56], v402[48], v403[48], v405[104], v406[96];
-	_Alignas(1) u8 v338[31], v346[31], v373[31], v374[55], v380[31], v381[55], v404[7], v407[7];
-	ptr v408 = at(v4, v4 == (ptr)0 ? 4096ull : 0ull);
-	clear(v406, 96);
-	clear(v407, 7);
-	ptr v409 = lup(v2);
+	_Alignas(8) u8 v323[1], v324[8], v325[24], v326[24], v327[24], v328[24], v329[24], v330[24], v331[24], v332[24], v333[24], v334[48], v335[56], v336[48], v337[48], v339[24], v340[24], v341[24], v342[48], v343[56], v344[48], v345[48], v347[24], v348[24], v349[24], v350[24], v351[24], v352[24], v353[24], v354[24], v355[24], v356[24], v357[48], v358[48], v359[24], v360[24], v361[24], v362[24], v363[24], v364[24], v365[24], v366[48], v367[48], v368[24], v369[24], v370[48], v371[48], v372[48], v375[24], v376[24], v377[48], v378[48], v379[48], v382[24], v383[24], v384[24], v385[24], v386[24], v387[24], v388[24], v389[24], v390[24], v391[24], v392[24], v393[24], v394[48], v395[56], v396[48], v397[48], v398[24], v399[24], v400[48], v401[56], v402[48], v403[48], v405[104], v406[96] = {0};
+	_Alignas(1) u8 v338[31], v346[31], v373[31], v374[55], v380[31], v381[55], v404[7], v407[7] = {0};
+	ptr v408 = at(v4, !v4 ? 4096ull : 0ull), v409 = lup(v2);
 	u64 v410 = lu64(v2+8);
 	switch (ld32(v1)) {
 	case 0: case 439041101: v7 = 0; goto L1;
 	case 1295788826: goto L0;
 	default: goto L266;
 	}
-L0:;
+L0:
 	v7 = 1;
-L1:;
+L1:
 	pcap_ng_pcapng_block_Block_from_slice(v405, v7, v409, v410);
 	u8 v411 = ld8(v405+8);
-	if (ld8(v405) != 0) goto L265;
+	if (ld8(v405)) goto L265;
 	ptr v412 = ldp(v405+16);
 	u8 v413 = ld8(v405+24);
 	u32 v414 = ld32(v405+28);
 	u8 v415 = ld8(v405+40);
 	ptr v416 = ldp(v405+48);
-	u64 v417 = ld64(v405+56);
-	u64 v418 = ld64(v405+64);
+	u64 v417 = ld64(v405+56), v418 = ld64(v405+64);
 	u8 v419 = ld8(v405+76);
 	copy(v404, v405+9, 7);
-	if (v413 != 0) goto L59;
-	if (v415 != 0) goto L58;
-	if (v417 < 16) { v263 = 37; v264 = (ptr)static_10; v265 = 2; goto L252; }
+	if (v413) goto L59;
+	if (v415) goto L58;
+	if (v417 < 16) { v264 = (ptr)static_10; v263 = 37; v265 = 2; goto L252; }
 	switch ((u32)__builtin_bswap32(lu32(v416))) {
 	case 439041101: goto L2;
 	case 1295788826: goto L23;
-	default: v263 = 40; v264 = (ptr)static_5; v265 = 2; goto L252;
+	default: v264 = (ptr)static_5; v263 = 40; v265 = 2; goto L252;
 	}
 L2:;
-	u16 v420 = (u16)__builtin_bswap16(lu16(v416+4));
-	u16 v421 = (u16)__builtin_bswap16(lu16(v416+6));
+	u16 v420 = (u16)__builtin_bswap16(lu16(v416+4)), v421 = (u16)__builtin_bswap16(lu16(v416+6));
 	clear(v400, 48);
 	clear(v401, 56);
 	clear(v402, 48);
@@ -11430,16 +10743,14 @@ L2:;
 	stp(v399, v323);
 	clear(v399+8, 16);
 	v8 = v416+16; v9 = v417 - 16;
-L3:;
-	if (v9 == 0) { v12 = v403+24; v13 = v403+8; v14 = v403+16; v15 = v403+28; v16 = v403+30; v17 = v403+32; v18 = v403+40; v19 = v403; goto L7; }
+L3:
+	if (!v9) { v12 = v403+24; v13 = v403+8; v14 = v403+16; v15 = v403+28; v16 = v403+30; v17 = v403+32; v18 = v403+40; v19 = v403; goto L7; }
 	if (v9 < 4) { v10 = 16; goto L4; }
-	u16 v422 = lu16(v8);
-	u16 v423 = (u16)__builtin_bswap16(v422);
+	u16 v422 = lu16(v8), v423 = (u16)__builtin_bswap16(v422);
 	u64 v424 = v9 - 4;
 	u16 v425 = (u16)__builtin_bswap16(lu16(v8+2));
-	if (v422 == 0) { v12 = v402+24; v13 = v402+8; v14 = v402+16; v15 = v402+28; v16 = v402+30; v17 = v402+32; v18 = v402+40; v19 = v402; goto L7; }
-	u64 v426 = (u64)v425;
-	u64 v427 = ((0ull - v426) & 3) + v426;
+	if (!v422) { v12 = v402+24; v13 = v402+8; v14 = v402+16; v15 = v402+28; v16 = v402+30; v17 = v402+32; v18 = v402+40; v19 = v402; goto L7; }
+	u64 v426 = (u64)v425, v427 = ((0ull - v426) & 3) + v426;
 	if (v424 >= v427) goto L8;
 	v10 = 17;
 L4:;
@@ -11448,8 +10759,8 @@ L4:;
 	u8 v429 = std_alloc_vec_Vec_grow_amortized_9fda(v399);
 	if (!v429) goto L5;
 	v11 = ld64(v399+8); goto L6;
-L5:;
-	if (ld64(v399+16) == 0) goto L22;
+L5:
+	if (!ld64(v399+16)) goto L22;
 	goto L21;
 L6:;
 	ptr v430 = at(ldp(v399), v11 * 6);
@@ -11459,7 +10770,7 @@ L6:;
 	st8(v430+5, v10);
 	st64(v399+8, v11 + 1);
 	v12 = v400+24; v13 = v400+8; v14 = v400+16; v15 = v400+28; v16 = v400+30; v17 = v400+32; v18 = v400+40; v19 = v400;
-L7:;
+L7:
 	copy(v19, v398, 24);
 	copy(v12, v399, 24);
 	v42 = ld32(v12); v43 = ld16(v15); v44 = ld16(v16); v45 = ld64(v17); v46 = ldp(v18); v47 = ldp(v19); v48 = ld64(v13); v49 = ld64(v14); v50 = ((u64)v421 << 48) | ((u64)v420 << 32) | 439041101; goto L29;
@@ -11473,49 +10784,49 @@ L8:;
 	case 4: goto L15;
 	case 2988: case 19372: goto L17;
 	case 2989: case 19373: goto L19;
-	default: v20 = 6; v21 = v423; v22 = v425; v23 = 0; v24 = 0; v25 = v8+4; v26 = v426; v27 = 0; v28 = 0; v29 = 0; goto L20;
+	default: v21 = v423; v22 = v425; v25 = v8+4; v26 = v426; v20 = 6; v23 = v24 = v27 = v28 = v29 = 0; goto L20;
 	}
-L9:;
+L9:
 	clear(v382, 24);
 	core_str_utf8_from_utf8(v382, v8+4, v426);
-	if (ld8(v382) != 0) goto L10;
-	v20 = 0; v21 = 0; v22 = 0; v23 = 0; v24 = ld64(v382+8); v25 = (ptr)ld64(v382+16); v26 = 0; v27 = 0; v28 = 0; v29 = 0; goto L20;
-L10:;
-	v20 = 6; v21 = 1; v22 = v425; v23 = 0; v24 = 0; v25 = v8+4; v26 = v426; v27 = 1; v28 = 1; v29 = 2; goto L20;
-L11:;
+	if (ld8(v382)) goto L10;
+	v24 = ld64(v382+8); v25 = (ptr)ld64(v382+16); v20 = v21 = v22 = v23 = v26 = v27 = v28 = v29 = 0; goto L20;
+L10:
+	v22 = v425; v25 = v8+4; v26 = v426; v20 = 6; v21 = v27 = v28 = 1; v23 = v24 = 0; v29 = 2; goto L20;
+L11:
 	clear(v383, 24);
 	core_str_utf8_from_utf8(v383, v8+4, v426);
-	if (ld8(v383) != 0) goto L12;
-	v20 = 1; v21 = 0; v22 = 0; v23 = 0; v24 = ld64(v383+8); v25 = (ptr)ld64(v383+16); v26 = 0; v27 = 0; v28 = 0; v29 = 0; goto L20;
-L12:;
-	v20 = 6; v21 = 2; v22 = v425; v23 = 0; v24 = 0; v25 = v8+4; v26 = v426; v27 = 1; v28 = 2; v29 = 2; goto L20;
-L13:;
+	if (ld8(v383)) goto L12;
+	v24 = ld64(v383+8); v25 = (ptr)ld64(v383+16); v20 = 1; v21 = v22 = v23 = v26 = v27 = v28 = v29 = 0; goto L20;
+L12:
+	v22 = v425; v25 = v8+4; v26 = v426; v20 = 6; v21 = v28 = v29 = 2; v23 = v24 = 0; v27 = 1; goto L20;
+L13:
 	clear(v384, 24);
 	core_str_utf8_from_utf8(v384, v8+4, v426);
-	if (ld8(v384) != 0) goto L14;
-	v20 = 2; v21 = 0; v22 = 0; v23 = 0; v24 = ld64(v384+8); v25 = (ptr)ld64(v384+16); v26 = 0; v27 = 0; v28 = 0; v29 = 0; goto L20;
-L14:;
-	v20 = 6; v21 = 3; v22 = v425; v23 = 0; v24 = 0; v25 = v8+4; v26 = v426; v27 = 1; v28 = 3; v29 = 2; goto L20;
-L15:;
+	if (ld8(v384)) goto L14;
+	v24 = ld64(v384+8); v25 = (ptr)ld64(v384+16); v20 = 2; v21 = v22 = v23 = v26 = v27 = v28 = v29 = 0; goto L20;
+L14:
+	v22 = v425; v25 = v8+4; v26 = v426; v20 = 6; v21 = v28 = 3; v23 = v24 = 0; v27 = 1; v29 = 2; goto L20;
+L15:
 	clear(v385, 24);
 	core_str_utf8_from_utf8(v385, v8+4, v426);
-	if (ld8(v385) != 0) goto L16;
-	v20 = 3; v21 = 0; v22 = 0; v23 = 0; v24 = ld64(v385+8); v25 = (ptr)ld64(v385+16); v26 = 0; v27 = 0; v28 = 0; v29 = 0; goto L20;
-L16:;
-	v20 = 6; v21 = 4; v22 = v425; v23 = 0; v24 = 0; v25 = v8+4; v26 = v426; v27 = 1; v28 = 4; v29 = 2; goto L20;
-L17:;
-	if (v425 < 4) { v20 = 6; v21 = v423; v22 = v425; v23 = 0; v24 = 0; v25 = v8+4; v26 = v426; v27 = 1; v28 = v423; v29 = 1; goto L20; }
+	if (ld8(v385)) goto L16;
+	v24 = ld64(v385+8); v25 = (ptr)ld64(v385+16); v20 = 3; v21 = v22 = v23 = v26 = v27 = v28 = v29 = 0; goto L20;
+L16:
+	v22 = v425; v25 = v8+4; v26 = v426; v20 = 6; v21 = v28 = 4; v23 = v24 = 0; v27 = 1; v29 = 2; goto L20;
+L17:
+	if (v425 < 4) { M14: v21 = v423; v22 = v425; v25 = v8+4; v26 = v426; v28 = v423; v20 = 6; v23 = v24 = 0; v27 = v29 = 1; goto L20; }
 	u32 v433 = lu32(v8+4);
 	clear(v386, 24);
 	core_str_utf8_from_utf8(v386, v8+8, v426 - 4);
-	if (ld8(v386) != 0) goto L18;
-	v20 = 5; v21 = v423; v22 = 0; v23 = (u32)__builtin_bswap32(v433); v24 = 0; v25 = (ptr)ld64(v386+8); v26 = ld64(v386+16); v27 = 0; v28 = 0; v29 = 0; goto L20;
-L18:;
-	v20 = 6; v21 = v423; v22 = v425; v23 = 0; v24 = 0; v25 = v8+4; v26 = v426; v27 = 1; v28 = v423; v29 = 2; goto L20;
-L19:;
-	if (v425 < 4) { v20 = 6; v21 = v423; v22 = v425; v23 = 0; v24 = 0; v25 = v8+4; v26 = v426; v27 = 1; v28 = v423; v29 = 1; goto L20; }
-	v20 = 4; v21 = v423; v22 = 0; v23 = (u32)__builtin_bswap32(lu32(v8+4)); v24 = 0; v25 = v8+8; v26 = v426 - 4; v27 = 0; v28 = 0; v29 = 0;
-L20:;
+	if (ld8(v386)) goto L18;
+	v21 = v423; v23 = (u32)__builtin_bswap32(v433); v25 = (ptr)ld64(v386+8); v26 = ld64(v386+16); v20 = 5; v22 = v24 = v27 = v28 = v29 = 0; goto L20;
+L18:
+	v21 = v423; v22 = v425; v25 = v8+4; v26 = v426; v28 = v423; v20 = 6; v23 = v24 = 0; v27 = 1; v29 = 2; goto L20;
+L19:
+	if (v425 < 4) goto M14;
+	v21 = v423; v23 = (u32)__builtin_bswap32(lu32(v8+4)); v25 = v8+8; v26 = v426 - 4; v20 = 4; v22 = v24 = v27 = v28 = v29 = 0;
+L20:
 	st64(v401, v20);
 	st16(v401+8, v21);
 	st16(v401+10, v22);
@@ -11531,12 +10842,12 @@ L20:;
 	st8(v401+55, 0);
 	u8 v434 = pcap_tolerant_blocks_list_keep_289b(v398, v399, v401);
 	if (!(v434 & 1)) { v8 = v431; v9 = v432; goto L3; }
-	if (ld64(v399+16) == 0) goto L22;
-L21:;
+	if (!ld64(v399+16)) goto L22;
+L21:
 	deallocate(ldp(v399));
-L22:;
+L22:
 	std_alloc_vec_Vec_drop_050b(v398);
-	v263 = 0; v264 = (ptr)0; v265 = 5; goto L252;
+	M18: v264 = (ptr)0; v263 = 0; v265 = 5; goto L252;
 L23:;
 	u64 v435 = (u64)lu32(v416+4) << 32;
 	clear(v394, 48);
@@ -11548,15 +10859,14 @@ L23:;
 	stp(v393, v323);
 	clear(v393+8, 16);
 	v30 = v416+16; v31 = v417 - 16;
-L24:;
-	if (v31 == 0) { v34 = v397+24; v35 = v397+8; v36 = v397+16; v37 = v397+28; v38 = v397+30; v39 = v397+32; v40 = v397+40; v41 = v397; goto L28; }
+L24:
+	if (!v31) { v34 = v397+24; v35 = v397+8; v36 = v397+16; v37 = v397+28; v38 = v397+30; v39 = v397+32; v40 = v397+40; v41 = v397; goto L28; }
 	if (v31 < 4) { v32 = 16; goto L25; }
 	u16 v436 = lu16(v30);
 	u64 v437 = v31 - 4;
 	u16 v438 = lu16(v30+2);
-	if (v436 == 0) { v34 = v396+24; v35 = v396+8; v36 = v396+16; v37 = v396+28; v38 = v396+30; v39 = v396+32; v40 = v396+40; v41 = v396; goto L28; }
-	u64 v439 = (u64)v438;
-	u64 v440 = ((0ull - v439) & 3) + v439;
+	if (!v436) { v34 = v396+24; v35 = v396+8; v36 = v396+16; v37 = v396+28; v38 = v396+30; v39 = v396+32; v40 = v396+40; v41 = v396; goto L28; }
+	u64 v439 = (u64)v438, v440 = ((0ull - v439) & 3) + v439;
 	if (v437 >= v440) goto L43;
 	v32 = 17;
 L25:;
@@ -11565,8 +10875,8 @@ L25:;
 	u8 v442 = std_alloc_vec_Vec_grow_amortized_9fda(v393);
 	if (!v442) goto L26;
 	v33 = ld64(v393+8); goto L27;
-L26:;
-	if (ld64(v393+16) == 0) goto L57;
+L26:
+	if (!ld64(v393+16)) goto L57;
 	goto L56;
 L27:;
 	ptr v443 = at(ldp(v393), v33 * 6);
@@ -11576,22 +10886,18 @@ L27:;
 	st8(v443+5, v32);
 	st64(v393+8, v33 + 1);
 	v34 = v394+24; v35 = v394+8; v36 = v394+16; v37 = v394+28; v38 = v394+30; v39 = v394+32; v40 = v394+40; v41 = v394;
-L28:;
+L28:
 	copy(v41, v392, 24);
 	copy(v34, v393, 24);
 	v42 = ld32(v34); v43 = ld16(v37); v44 = ld16(v38); v45 = ld64(v39); v46 = ldp(v40); v47 = ldp(v41); v48 = ld64(v35); v49 = ld64(v36); v50 = v435 | 1295788826;
 L29:;
 	u32 v444 = (u32)v50;
-	if (v48 == 0) goto L40;
+	if (!v48) goto L40;
 	v51 = 0;
 L30:;
 	ptr v445 = at(v47, v51 * 48);
-	u64 v446 = lu64(v445+16);
-	u64 v447 = lu64(v445+24);
-	u64 v448 = lu64(v445+32);
-	u64 v449 = lu64(v445+40);
-	u8 v450 = (u8)lu16(v445+8);
-	u8 v451 = (u8)v446;
+	u64 v446 = lu64(v445+16), v447 = lu64(v445+24), v448 = lu64(v445+32), v449 = lu64(v445+40);
+	u8 v450 = (u8)lu16(v445+8), v451 = (u8)v446;
 	switch (ld8(v445)) {
 	case 0: goto L31;
 	case 1: goto L32;
@@ -11602,38 +10908,38 @@ L30:;
 	case 6: goto L37;
 	default: goto L42;
 	}
-L31:;
-	if ((v450 == 0) || (v448 == 0)) goto L39;
+L31:
+	if (!v450 || !v448) goto L39;
 	v52 = v446; goto L38;
-L32:;
-	if ((v450 == 0) || (v448 == 0)) goto L39;
+L32:
+	if (!v450 || !v448) goto L39;
 	v52 = v446; goto L38;
-L33:;
-	if ((v450 == 0) || (v448 == 0)) goto L39;
+L33:
+	if (!v450 || !v448) goto L39;
 	v52 = v446; goto L38;
-L34:;
-	if ((v450 == 0) || (v448 == 0)) goto L39;
+L34:
+	if (!v450 || !v448) goto L39;
 	v52 = v446; goto L38;
-L35:;
-	if ((v451 == 0) || (v449 == 0)) goto L39;
+L35:
+	if (!v451 || !v449) goto L39;
 	v52 = v447; goto L38;
-L36:;
-	if ((v451 == 0) || (v449 == 0)) goto L39;
+L36:
+	if (!v451 || !v449) goto L39;
 	v52 = v447; goto L38;
-L37:;
-	if ((v451 == 0) || (v449 == 0)) goto L39;
+L37:
+	if (!v451 || !v449) goto L39;
 	v52 = v447;
-L38:;
+L38:
 	deallocate((ptr)v52);
 L39:;
 	u64 v452 = v51 + 1;
 	if (v452 != v48) { v51 = v452; goto L30; }
-L40:;
-	if (v49 == 0) goto L41;
+L40:
+	if (!v49) goto L41;
 	deallocate(v47);
-L41:;
-	v283 = 168627466; v284 = 0; v285 = v45; v286 = 0; v287 = 0; v288 = 0; v289 = 0; v290 = 0; v291 = (ptr)static_41; v292 = 0; v293 = ((u64)v44 << 48) | ((u64)v43 << 32) | (u64)v42; v294 = (u64)v46; v295 = v444; v296 = (u16)(v50 >> 32); v297 = (u16)(v50 >> 48); v298 = 0; v299 = 0; v300 = 0; goto L256;
-L42:;
+L41:
+	v283 = 168627466; v285 = v45; v291 = (ptr)static_41; v293 = ((u64)v44 << 48) | ((u64)v43 << 32) | (u64)v42; v294 = (u64)v46; v295 = v444; v296 = (u16)(v50 >> 32); v297 = (u16)(v50 >> 48); v284 = v286 = v287 = v288 = v289 = v290 = v292 = v298 = v299 = v300 = 0; goto L256;
+L42:
 	__builtin_trap();
 L43:;
 	ptr v453 = at(v30+4, v440);
@@ -11645,49 +10951,49 @@ L43:;
 	case 4: goto L50;
 	case 2988: case 19372: goto L52;
 	case 2989: case 19373: goto L54;
-	default: v53 = 6; v54 = v436; v55 = v438; v56 = 0; v57 = 0; v58 = v30+4; v59 = v439; v60 = 0; v61 = 0; v62 = 0; goto L55;
+	default: v54 = v436; v55 = v438; v58 = v30+4; v59 = v439; v53 = 6; v56 = v57 = v60 = v61 = v62 = 0; goto L55;
 	}
-L44:;
+L44:
 	clear(v387, 24);
 	core_str_utf8_from_utf8(v387, v30+4, v439);
-	if (ld8(v387) != 0) goto L45;
-	v53 = 0; v54 = 0; v55 = 0; v56 = 0; v57 = ld64(v387+8); v58 = (ptr)ld64(v387+16); v59 = 0; v60 = 0; v61 = 0; v62 = 0; goto L55;
-L45:;
-	v53 = 6; v54 = 1; v55 = v438; v56 = 0; v57 = 0; v58 = v30+4; v59 = v439; v60 = 1; v61 = 1; v62 = 2; goto L55;
-L46:;
+	if (ld8(v387)) goto L45;
+	v57 = ld64(v387+8); v58 = (ptr)ld64(v387+16); v53 = v54 = v55 = v56 = v59 = v60 = v61 = v62 = 0; goto L55;
+L45:
+	v55 = v438; v58 = v30+4; v59 = v439; v53 = 6; v54 = v60 = v61 = 1; v56 = v57 = 0; v62 = 2; goto L55;
+L46:
 	clear(v388, 24);
 	core_str_utf8_from_utf8(v388, v30+4, v439);
-	if (ld8(v388) != 0) goto L47;
-	v53 = 1; v54 = 0; v55 = 0; v56 = 0; v57 = ld64(v388+8); v58 = (ptr)ld64(v388+16); v59 = 0; v60 = 0; v61 = 0; v62 = 0; goto L55;
-L47:;
-	v53 = 6; v54 = 2; v55 = v438; v56 = 0; v57 = 0; v58 = v30+4; v59 = v439; v60 = 1; v61 = 2; v62 = 2; goto L55;
-L48:;
+	if (ld8(v388)) goto L47;
+	v57 = ld64(v388+8); v58 = (ptr)ld64(v388+16); v53 = 1; v54 = v55 = v56 = v59 = v60 = v61 = v62 = 0; goto L55;
+L47:
+	v55 = v438; v58 = v30+4; v59 = v439; v53 = 6; v54 = v61 = v62 = 2; v56 = v57 = 0; v60 = 1; goto L55;
+L48:
 	clear(v389, 24);
 	core_str_utf8_from_utf8(v389, v30+4, v439);
-	if (ld8(v389) != 0) goto L49;
-	v53 = 2; v54 = 0; v55 = 0; v56 = 0; v57 = ld64(v389+8); v58 = (ptr)ld64(v389+16); v59 = 0; v60 = 0; v61 = 0; v62 = 0; goto L55;
-L49:;
-	v53 = 6; v54 = 3; v55 = v438; v56 = 0; v57 = 0; v58 = v30+4; v59 = v439; v60 = 1; v61 = 3; v62 = 2; goto L55;
-L50:;
+	if (ld8(v389)) goto L49;
+	v57 = ld64(v389+8); v58 = (ptr)ld64(v389+16); v53 = 2; v54 = v55 = v56 = v59 = v60 = v61 = v62 = 0; goto L55;
+L49:
+	v55 = v438; v58 = v30+4; v59 = v439; v53 = 6; v54 = v61 = 3; v56 = v57 = 0; v60 = 1; v62 = 2; goto L55;
+L50:
 	clear(v390, 24);
 	core_str_utf8_from_utf8(v390, v30+4, v439);
-	if (ld8(v390) != 0) goto L51;
-	v53 = 3; v54 = 0; v55 = 0; v56 = 0; v57 = ld64(v390+8); v58 = (ptr)ld64(v390+16); v59 = 0; v60 = 0; v61 = 0; v62 = 0; goto L55;
-L51:;
-	v53 = 6; v54 = 4; v55 = v438; v56 = 0; v57 = 0; v58 = v30+4; v59 = v439; v60 = 1; v61 = 4; v62 = 2; goto L55;
-L52:;
-	if (v438 < 4) { v53 = 6; v54 = v436; v55 = v438; v56 = 0; v57 = 0; v58 = v30+4; v59 = v439; v60 = 1; v61 = v436; v62 = 1; goto L55; }
+	if (ld8(v390)) goto L51;
+	v57 = ld64(v390+8); v58 = (ptr)ld64(v390+16); v53 = 3; v54 = v55 = v56 = v59 = v60 = v61 = v62 = 0; goto L55;
+L51:
+	v55 = v438; v58 = v30+4; v59 = v439; v53 = 6; v54 = v61 = 4; v56 = v57 = 0; v60 = 1; v62 = 2; goto L55;
+L52:
+	if (v438 < 4) { M31: v54 = v436; v55 = v438; v58 = v30+4; v59 = v439; v61 = v436; v53 = 6; v56 = v57 = 0; v60 = v62 = 1; goto L55; }
 	u32 v455 = lu32(v30+4);
 	clear(v391, 24);
 	core_str_utf8_from_utf8(v391, v30+8, v439 - 4);
-	if (ld8(v391) != 0) goto L53;
-	v53 = 5; v54 = v436; v55 = 0; v56 = v455; v57 = 0; v58 = (ptr)ld64(v391+8); v59 = ld64(v391+16); v60 = 0; v61 = 0; v62 = 0; goto L55;
-L53:;
-	v53 = 6; v54 = v436; v55 = v438; v56 = 0; v57 = 0; v58 = v30+4; v59 = v439; v60 = 1; v61 = v436; v62 = 2; goto L55;
-L54:;
-	if (v438 < 4) { v53 = 6; v54 = v436; v55 = v438; v56 = 0; v57 = 0; v58 = v30+4; v59 = v439; v60 = 1; v61 = v436; v62 = 1; goto L55; }
-	v53 = 4; v54 = v436; v55 = 0; v56 = lu32(v30+4); v57 = 0; v58 = v30+8; v59 = v439 - 4; v60 = 0; v61 = 0; v62 = 0;
-L55:;
+	if (ld8(v391)) goto L53;
+	v54 = v436; v56 = v455; v58 = (ptr)ld64(v391+8); v59 = ld64(v391+16); v53 = 5; v55 = v57 = v60 = v61 = v62 = 0; goto L55;
+L53:
+	v54 = v436; v55 = v438; v58 = v30+4; v59 = v439; v61 = v436; v53 = 6; v56 = v57 = 0; v60 = 1; v62 = 2; goto L55;
+L54:
+	if (v438 < 4) goto M31;
+	v54 = v436; v56 = lu32(v30+4); v58 = v30+8; v59 = v439 - 4; v53 = 4; v55 = v57 = v60 = v61 = v62 = 0;
+L55:
 	st64(v395, v53);
 	st16(v395+8, v54);
 	st16(v395+10, v55);
@@ -11703,23 +11009,23 @@ L55:;
 	st8(v395+55, 0);
 	u8 v456 = pcap_tolerant_blocks_list_keep_289b(v392, v393, v395);
 	if (!(v456 & 1)) { v30 = v453; v31 = v454; goto L24; }
-	if (ld64(v393+16) == 0) goto L57;
-L56:;
+	if (!ld64(v393+16)) goto L57;
+L56:
 	deallocate(ldp(v393));
-L57:;
+L57:
 	std_alloc_vec_Vec_drop_050b(v392);
-	v263 = 0; v264 = (ptr)0; v265 = 5; goto L252;
-L58:;
+	goto M18;
+L58:
 	__builtin_trap();
 	__builtin_trap();
 L59:;
 	u32 v457 = ld32(v1);
-	if (v457 != 0) goto L60;
-	if ((v415 != 1) || (v418 == 0)) { v263 = 21; v264 = (ptr)static_9; v265 = 2; goto L252; }
+	if (v457) goto L60;
+	if (v415 != 1 || !v418) { M35: v264 = (ptr)static_9; v263 = 21; v265 = 2; goto L252; }
 	deallocate(v416);
-	v263 = 21; v264 = (ptr)static_9; v265 = 2; goto L252;
-L60:;
-	if (v415 != 0) goto L264;
+	goto M35;
+L60:
+	if (v415) goto L264;
 	switch (v413) {
 	case 8: goto L61;
 	case 1: goto L62;
@@ -11731,11 +11037,11 @@ L60:;
 	case 7: goto L253;
 	default: goto L263;
 	}
-L61:;
+L61:
 	v266 = v414; goto L254;
 L62:;
 	u8 v458 = v417 < 8;
-	if (v419 != 0) goto L111;
+	if (v419) goto L111;
 	clear(v380, 31);
 	clear(v381, 55);
 	if (!v458) goto L65;
@@ -11751,11 +11057,11 @@ L62:;
 	st8(v461+5, 11);
 	st64(v359+8, v460 + 1);
 	copy(v380+7, v359, 24);
-	v99 = (ptr)0; v100 = 0; v101 = 0; v102 = v380+7; v103 = 0; v104 = 0; v105 = 0; v106 = 0; goto L110;
-L63:;
-	if (ld64(v359+16) == 0) goto L64;
+	v99 = (ptr)0; v102 = v380+7; v100 = v101 = v103 = v104 = v105 = v106 = 0; goto L110;
+L63:
+	if (!ld64(v359+16)) goto L64;
 	deallocate(ldp(v359));
-L64:;
+L64:
 	goto L106;
 L65:;
 	u16 v462 = (u16)__builtin_bswap16(lu16(v416));
@@ -11768,27 +11074,24 @@ L65:;
 	clear(v375+8, 16);
 	stp(v376, v323);
 	clear(v376+8, 16);
-	if (v463 == 0) { v97 = v379+24; v98 = v379; goto L109; }
-	v63 = 0; v64 = 0; v65 = v463; v66 = v416+8;
-L66:;
+	if (!v463) { v97 = v379+24; v98 = v379; goto L109; }
+	v65 = v463; v66 = v416+8; v63 = v64 = 0;
+L66:
 	if (v65 < 4) { v67 = 16; goto L67; }
-	u16 v465 = lu16(v66);
-	u16 v466 = (u16)__builtin_bswap16(v465);
+	u16 v465 = lu16(v66), v466 = (u16)__builtin_bswap16(v465);
 	u64 v467 = v65 - 4;
-	u16 v468 = lu16(v66+2);
-	u16 v469 = (u16)__builtin_bswap16(v468);
-	if (v465 == 0) { v97 = v378+24; v98 = v378; goto L109; }
-	u64 v470 = (u64)v469;
-	u64 v471 = ((0ull - v470) & 3) + v470;
+	u16 v468 = lu16(v66+2), v469 = (u16)__builtin_bswap16(v468);
+	if (!v465) { v97 = v378+24; v98 = v378; goto L109; }
+	u64 v470 = (u64)v469, v471 = ((0ull - v470) & 3) + v470;
 	if (v467 >= v471) goto L70;
 	v67 = 17;
-L67:;
+L67:
 	if (ld64(v376+16) != v63) { v68 = v63; goto L69; }
 	u8 v472 = std_alloc_vec_Vec_grow_amortized_9fda(v376);
 	if (!v472) goto L68;
 	v68 = ld64(v376+8); goto L69;
-L68:;
-	if (ld64(v376+16) == 0) goto L102;
+L68:
+	if (!ld64(v376+16)) goto L102;
 	goto L101;
 L69:;
 	ptr v473 = at(ldp(v376), v68 * 6);
@@ -11819,101 +11122,101 @@ L70:;
 	case 15: goto L89;
 	case 2988: case 19372: goto L91;
 	case 2989: case 19373: goto L93;
-	default: v71 = v66+4; v72 = v470; v73 = 17; v74 = 0; v75 = 0; v76 = v466; v77 = v469; v78 = 0; v79 = 0; goto L96;
+	default: v71 = v66+4; v72 = v470; v76 = v466; v77 = v469; v73 = 17; v74 = v75 = v78 = v79 = 0; goto L96;
 	}
-L71:;
+L71:
 	clear(v360, 24);
 	core_str_utf8_from_utf8(v360, v66+4, v470);
-	if (ld8(v360) != 0) goto L72;
-	v71 = (ptr)ld64(v360+16); v72 = 0; v73 = 0; v74 = 0; v75 = 0; v76 = 0; v77 = 0; v78 = 0; v79 = ld64(v360+8); goto L96;
-L72:;
-	v69 = 2; v70 = 0; goto L94;
-L73:;
+	if (ld8(v360)) goto L72;
+	v71 = (ptr)ld64(v360+16); v79 = ld64(v360+8); v72 = v73 = v74 = v75 = v76 = v77 = v78 = 0; goto L96;
+L72:
+	M42: v69 = 2; v70 = 0; goto L94;
+L73:
 	clear(v361, 24);
 	core_str_utf8_from_utf8(v361, v66+4, v470);
-	if (ld8(v361) != 0) goto L74;
-	v71 = (ptr)ld64(v361+16); v72 = 0; v73 = 1; v74 = 0; v75 = 0; v76 = 0; v77 = 0; v78 = 0; v79 = ld64(v361+8); goto L96;
-L74:;
-	v69 = 2; v70 = 0; goto L94;
-L75:;
+	if (ld8(v361)) goto L74;
+	v71 = (ptr)ld64(v361+16); v79 = ld64(v361+8); v72 = v74 = v75 = v76 = v77 = v78 = 0; v73 = 1; goto L96;
+L74:
+	goto M42;
+L75:
 	clear(v362, 24);
 	core_str_utf8_from_utf8(v362, v66+4, v470);
-	if (ld8(v362) != 0) goto L76;
-	v71 = (ptr)ld64(v362+16); v72 = 0; v73 = 2; v74 = 0; v75 = 0; v76 = 0; v77 = 0; v78 = 0; v79 = ld64(v362+8); goto L96;
-L76:;
-	v69 = 2; v70 = 0; goto L94;
-L77:;
+	if (ld8(v362)) goto L76;
+	v71 = (ptr)ld64(v362+16); v79 = ld64(v362+8); v72 = v74 = v75 = v76 = v77 = v78 = 0; v73 = 2; goto L96;
+L76:
+	goto M42;
+L77:
 	if (v468 != 2048) { v69 = 0; v70 = 18; goto L94; }
-	v71 = (ptr)8ull; v72 = 0; v73 = 3; v74 = 0; v75 = 0; v76 = 0; v77 = 0; v78 = 0; v79 = (u64)(v66+4); goto L96;
-L78:;
+	v71 = (ptr)8ull; v79 = (u64)(v66+4); v72 = v74 = v75 = v76 = v77 = v78 = 0; v73 = 3; goto L96;
+L78:
 	if (v468 != 4352) { v69 = 0; v70 = 19; goto L94; }
-	v71 = (ptr)17ull; v72 = 0; v73 = 4; v74 = 0; v75 = 0; v76 = 0; v77 = 0; v78 = 0; v79 = (u64)(v66+4); goto L96;
-L79:;
+	v71 = (ptr)17ull; v79 = (u64)(v66+4); v72 = v74 = v75 = v76 = v77 = v78 = 0; v73 = 4; goto L96;
+L79:
 	if (v468 != 1536) { v69 = 0; v70 = 20; goto L94; }
-	v71 = (ptr)6ull; v72 = 0; v73 = 5; v74 = 0; v75 = 0; v76 = 0; v77 = 0; v78 = 0; v79 = (u64)(v66+4); goto L96;
-L80:;
+	v71 = (ptr)6ull; v79 = (u64)(v66+4); v72 = v74 = v75 = v76 = v77 = v78 = 0; v73 = 5; goto L96;
+L80:
 	if (v468 != 2048) { v69 = 0; v70 = 21; goto L94; }
 	u64 v476 = (u64)__builtin_bswap64(lu64(v66+4));
-	v71 = (ptr)0; v72 = 0; v73 = 6; v74 = 0; v75 = 0; v76 = (u16)v476; v77 = (u16)(v476 >> 16); v78 = (u32)(v476 >> 32); v79 = 0; goto L96;
-L81:;
+	v71 = (ptr)0; v76 = (u16)v476; v77 = (u16)(v476 >> 16); v78 = (u32)(v476 >> 32); v72 = v74 = v75 = v79 = 0; v73 = 6; goto L96;
+L81:
 	if (v468 != 2048) { v69 = 0; v70 = 22; goto L94; }
 	u64 v477 = (u64)__builtin_bswap64(lu64(v66+4));
-	v71 = (ptr)0; v72 = 0; v73 = 7; v74 = 0; v75 = 0; v76 = (u16)v477; v77 = (u16)(v477 >> 16); v78 = (u32)(v477 >> 32); v79 = 0; goto L96;
-L82:;
+	v71 = (ptr)0; v76 = (u16)v477; v77 = (u16)(v477 >> 16); v78 = (u32)(v477 >> 32); v72 = v74 = v75 = v79 = 0; v73 = 7; goto L96;
+L82:
 	if (v468 != 256) { v69 = 0; v70 = 23; goto L94; }
-	v71 = (ptr)0; v72 = 0; v73 = 8; v74 = ld8(v66+4); v75 = 0; v76 = 0; v77 = 0; v78 = 0; v79 = 0; goto L96;
-L83:;
+	v71 = (ptr)0; v74 = ld8(v66+4); v72 = v75 = v76 = v77 = v78 = v79 = 0; v73 = 8; goto L96;
+L83:
 	if (v468 != 1024) { v69 = 0; v70 = 24; goto L94; }
-	v71 = (ptr)0; v72 = 0; v73 = 9; v74 = 0; v75 = (u32)__builtin_bswap32(lu32(v66+4)); v76 = 0; v77 = 0; v78 = 0; v79 = 0; goto L96;
-L84:;
-	if (v468 == 0) { v69 = 0; v70 = 25; goto L94; }
-	v71 = (ptr)v470; v72 = 0; v73 = 10; v74 = 0; v75 = 0; v76 = 0; v77 = 0; v78 = 0; v79 = (u64)(v66+4); goto L96;
-L85:;
+	v71 = (ptr)0; v75 = (u32)__builtin_bswap32(lu32(v66+4)); v72 = v74 = v76 = v77 = v78 = v79 = 0; v73 = 9; goto L96;
+L84:
+	if (!v468) { v69 = 0; v70 = 25; goto L94; }
+	v71 = (ptr)v470; v79 = (u64)(v66+4); v72 = v74 = v75 = v76 = v77 = v78 = 0; v73 = 10; goto L96;
+L85:
 	clear(v363, 24);
 	core_str_utf8_from_utf8(v363, v66+4, v470);
-	if (ld8(v363) != 0) goto L86;
-	v71 = (ptr)ld64(v363+16); v72 = 0; v73 = 11; v74 = 0; v75 = 0; v76 = 0; v77 = 0; v78 = 0; v79 = ld64(v363+8); goto L96;
-L86:;
-	v69 = 2; v70 = 0; goto L94;
-L87:;
+	if (ld8(v363)) goto L86;
+	v71 = (ptr)ld64(v363+16); v79 = ld64(v363+8); v72 = v74 = v75 = v76 = v77 = v78 = 0; v73 = 11; goto L96;
+L86:
+	goto M42;
+L87:
 	if (v468 != 256) { v69 = 0; v70 = 26; goto L94; }
-	v71 = (ptr)0; v72 = 0; v73 = 12; v74 = ld8(v66+4); v75 = 0; v76 = 0; v77 = 0; v78 = 0; v79 = 0; goto L96;
-L88:;
+	v71 = (ptr)0; v74 = ld8(v66+4); v72 = v75 = v76 = v77 = v78 = v79 = 0; v73 = 12; goto L96;
+L88:
 	if (v468 != 2048) { v69 = 0; v70 = 27; goto L94; }
 	u64 v478 = (u64)__builtin_bswap64(lu64(v66+4));
-	v71 = (ptr)0; v72 = 0; v73 = 13; v74 = 0; v75 = 0; v76 = (u16)v478; v77 = (u16)(v478 >> 16); v78 = (u32)(v478 >> 32); v79 = 0; goto L96;
-L89:;
+	v71 = (ptr)0; v76 = (u16)v478; v77 = (u16)(v478 >> 16); v78 = (u32)(v478 >> 32); v72 = v74 = v75 = v79 = 0; v73 = 13; goto L96;
+L89:
 	clear(v364, 24);
 	core_str_utf8_from_utf8(v364, v66+4, v470);
-	if (ld8(v364) != 0) goto L90;
-	v71 = (ptr)ld64(v364+16); v72 = 0; v73 = 14; v74 = 0; v75 = 0; v76 = 0; v77 = 0; v78 = 0; v79 = ld64(v364+8); goto L96;
-L90:;
-	v69 = 2; v70 = 0; goto L94;
-L91:;
+	if (ld8(v364)) goto L90;
+	v71 = (ptr)ld64(v364+16); v79 = ld64(v364+8); v72 = v74 = v75 = v76 = v77 = v78 = 0; v73 = 14; goto L96;
+L90:
+	goto M42;
+L91:
 	if (v469 < 4) { v69 = 1; v70 = 0; goto L94; }
 	u32 v479 = lu32(v66+4);
 	clear(v365, 24);
 	core_str_utf8_from_utf8(v365, v66+8, v470 - 4);
-	if (ld8(v365) != 0) goto L92;
-	v71 = (ptr)ld64(v365+8); v72 = ld64(v365+16); v73 = 16; v74 = 0; v75 = 0; v76 = v466; v77 = 0; v78 = (u32)__builtin_bswap32(v479); v79 = 0; goto L96;
-L92:;
-	v69 = 2; v70 = 0; goto L94;
-L93:;
+	if (ld8(v365)) goto L92;
+	v71 = (ptr)ld64(v365+8); v72 = ld64(v365+16); v76 = v466; v78 = (u32)__builtin_bswap32(v479); v73 = 16; v74 = v75 = v77 = v79 = 0; goto L96;
+L92:
+	goto M42;
+L93:
 	if (v469 >= 4) goto L95;
 	v69 = 1; v70 = 0;
-L94:;
-	v80 = v466; v81 = v470 << 16; v82 = 17; v83 = 0; v84 = 0; v85 = 0; v86 = v66+4; v87 = v470; v88 = 1; v89 = 1; v90 = v466; v91 = v69; v92 = v70; goto L97;
-L95:;
-	v71 = v66+8; v72 = v470 - 4; v73 = 15; v74 = 0; v75 = 0; v76 = v466; v77 = 0; v78 = (u32)__builtin_bswap32(lu32(v66+4)); v79 = 0;
-L96:;
-	v80 = v76; v81 = ((u64)v78 << 32) | ((u64)v77 << 16); v82 = v73; v83 = v74; v84 = v75; v85 = v79; v86 = v71; v87 = v72; v88 = 0; v89 = 0; v90 = 0; v91 = 0; v92 = 0;
+L94:
+	v80 = v466; v81 = v470 << 16; v86 = v66+4; v87 = v470; v90 = v466; v91 = v69; v92 = v70; v82 = 17; v83 = v84 = v85 = 0; v88 = v89 = 1; goto L97;
+L95:
+	v71 = v66+8; v72 = v470 - 4; v76 = v466; v78 = (u32)__builtin_bswap32(lu32(v66+4)); v73 = 15; v74 = v75 = v77 = v79 = 0;
+L96:
+	v80 = v76; v81 = ((u64)v78 << 32) | ((u64)v77 << 16); v82 = v73; v83 = v74; v84 = v75; v85 = v79; v86 = v71; v87 = v72; v88 = v89 = v90 = v91 = v92 = 0;
 L97:;
 	u64 v480 = v81 | (u64)v80;
 	if (ld64(v375+16) != v64) { v93 = v64; goto L99; }
 	u8 v481 = std_alloc_vec_Vec_grow_amortized_05c7(v375);
 	if (!v481) goto L98;
 	v93 = ld64(v375+8); goto L99;
-L98:;
+L98:
 	st64(v366+16, v85);
 	stp(v366+24, v86);
 	st64(v366+32, v87);
@@ -11942,20 +11245,18 @@ L99:;
 	u8 v484 = std_alloc_vec_Vec_grow_amortized_9fda(v376);
 	if (!v484) goto L100;
 	v95 = ld64(v376+8); goto L107;
-L100:;
-	if (ld64(v376+16) == 0) goto L102;
-L101:;
+L100:
+	if (!ld64(v376+16)) goto L102;
+L101:
 	deallocate(ldp(v376));
 L102:;
 	ptr v485 = ldp(v375);
-	u64 v486 = ld64(v375+8);
-	u64 v487 = ld64(v375+16);
-	if (v486 == 0) goto L104;
+	u64 v486 = ld64(v375+8), v487 = ld64(v375+16);
+	if (!v486) goto L104;
 	v94 = 0;
 L103:;
 	ptr v488 = at(v485, v94 * 48);
-	u8 v489 = ld8(v488);
-	u8 v490 = ld8(v488+1);
+	u8 v489 = ld8(v488), v490 = ld8(v488+1);
 	u32 v491 = lu32(v488+4);
 	u64 v492 = lu64(v488+8);
 	st64(v367, 0);
@@ -11967,12 +11268,12 @@ L103:;
 	ptions_interface_option_InterfaceDescriptionOption_Destruct_drop_2(v367);
 	u64 v493 = v94 + 1;
 	if (v493 != v486) { v94 = v493; goto L103; }
-L104:;
-	if (v487 == 0) goto L105;
+L104:
+	if (!v487) goto L105;
 	deallocate(v485);
-L105:;
-L106:;
-	v263 = 0; v264 = (ptr)0; v265 = 5; goto L252;
+L105:
+L106:
+	goto M18;
 L107:;
 	ptr v494 = at(ldp(v376), v95 * 6);
 	su16(v494, v89);
@@ -11982,18 +11283,18 @@ L107:;
 	u64 v495 = v95 + 1;
 	st64(v376+8, v495);
 	v96 = v495;
-L108:;
-	if (v475 != 0) { v63 = v96; v64 = v483; v65 = v475; v66 = v474; goto L66; }
+L108:
+	if (v475) { v63 = v96; v64 = v483; v65 = v475; v66 = v474; goto L66; }
 	v97 = v379+24; v98 = v379;
-L109:;
+L109:
 	copy(v98, v375, 24);
 	copy(v97, v376, 24);
 	copy(v381+7, v98, 48);
 	t_8_32 v496 = pcap_core_link_DataLinkFromU32_from((u32)v462);
-	v99 = lup(v381+7); v100 = lu64(v381+15); v101 = lu64(v381+23); v102 = v381+31; v103 = 1; v104 = v496.f0; v105 = v496.f1; v106 = v464;
-L110:;
+	v99 = lup(v381+7); v100 = lu64(v381+15); v101 = lu64(v381+23); v102 = v381+31; v104 = v496.f0; v105 = v496.f1; v106 = v464; v103 = 1;
+L110:
 	v151 = v100; v152 = v101; v153 = v99; v154 = lu64(v102+8); v155 = lu64(v102+16); v156 = lu64(v102); v157 = v104; v158 = v105; v159 = v106; v160 = v103; goto L160;
-L111:;
+L111:
 	clear(v373, 31);
 	clear(v374, 55);
 	if (!v458) goto L114;
@@ -12009,11 +11310,11 @@ L111:;
 	st8(v499+5, 11);
 	st64(v350+8, v498 + 1);
 	copy(v373+7, v350, 24);
-	v143 = (ptr)0; v144 = 0; v145 = 0; v146 = v373+7; v147 = 0; v148 = 0; v149 = 0; v150 = 0; goto L159;
-L112:;
-	if (ld64(v350+16) == 0) goto L113;
+	v143 = (ptr)0; v146 = v373+7; v144 = v145 = v147 = v148 = v149 = v150 = 0; goto L159;
+L112:
+	if (!ld64(v350+16)) goto L113;
 	deallocate(ldp(v350));
-L113:;
+L113:
 	goto L155;
 L114:;
 	u16 v500 = lu16(v416);
@@ -12026,25 +11327,24 @@ L114:;
 	clear(v368+8, 16);
 	stp(v369, v323);
 	clear(v369+8, 16);
-	if (v501 == 0) { v141 = v372+24; v142 = v372; goto L158; }
-	v107 = 0; v108 = 0; v109 = v501; v110 = v416+8;
-L115:;
+	if (!v501) { v141 = v372+24; v142 = v372; goto L158; }
+	v109 = v501; v110 = v416+8; v107 = v108 = 0;
+L115:
 	if (v109 < 4) { v111 = 16; goto L116; }
 	u16 v503 = lu16(v110);
 	u64 v504 = v109 - 4;
 	u16 v505 = lu16(v110+2);
-	if (v503 == 0) { v141 = v371+24; v142 = v371; goto L158; }
-	u64 v506 = (u64)v505;
-	u64 v507 = ((0ull - v506) & 3) + v506;
+	if (!v503) { v141 = v371+24; v142 = v371; goto L158; }
+	u64 v506 = (u64)v505, v507 = ((0ull - v506) & 3) + v506;
 	if (v504 >= v507) goto L119;
 	v111 = 17;
-L116:;
+L116:
 	if (ld64(v369+16) != v107) { v112 = v107; goto L118; }
 	u8 v508 = std_alloc_vec_Vec_grow_amortized_9fda(v369);
 	if (!v508) goto L117;
 	v112 = ld64(v369+8); goto L118;
-L117:;
-	if (ld64(v369+16) == 0) goto L151;
+L117:
+	if (!ld64(v369+16)) goto L151;
 	goto L150;
 L118:;
 	ptr v509 = at(ldp(v369), v112 * 6);
@@ -12075,101 +11375,101 @@ L119:;
 	case 15: goto L138;
 	case 2988: case 19372: goto L140;
 	case 2989: case 19373: goto L142;
-	default: v115 = v110+4; v116 = v506; v117 = 17; v118 = 0; v119 = 0; v120 = v503; v121 = v505; v122 = 0; v123 = 0; goto L145;
+	default: v115 = v110+4; v116 = v506; v120 = v503; v121 = v505; v117 = 17; v118 = v119 = v122 = v123 = 0; goto L145;
 	}
-L120:;
+L120:
 	clear(v351, 24);
 	core_str_utf8_from_utf8(v351, v110+4, v506);
-	if (ld8(v351) != 0) goto L121;
-	v115 = (ptr)ld64(v351+16); v116 = 0; v117 = 0; v118 = 0; v119 = 0; v120 = 0; v121 = 0; v122 = 0; v123 = ld64(v351+8); goto L145;
-L121:;
-	v113 = 2; v114 = 0; goto L143;
-L122:;
+	if (ld8(v351)) goto L121;
+	v115 = (ptr)ld64(v351+16); v123 = ld64(v351+8); v116 = v117 = v118 = v119 = v120 = v121 = v122 = 0; goto L145;
+L121:
+	M78: v113 = 2; v114 = 0; goto L143;
+L122:
 	clear(v352, 24);
 	core_str_utf8_from_utf8(v352, v110+4, v506);
-	if (ld8(v352) != 0) goto L123;
-	v115 = (ptr)ld64(v352+16); v116 = 0; v117 = 1; v118 = 0; v119 = 0; v120 = 0; v121 = 0; v122 = 0; v123 = ld64(v352+8); goto L145;
-L123:;
-	v113 = 2; v114 = 0; goto L143;
-L124:;
+	if (ld8(v352)) goto L123;
+	v115 = (ptr)ld64(v352+16); v123 = ld64(v352+8); v116 = v118 = v119 = v120 = v121 = v122 = 0; v117 = 1; goto L145;
+L123:
+	goto M78;
+L124:
 	clear(v353, 24);
 	core_str_utf8_from_utf8(v353, v110+4, v506);
-	if (ld8(v353) != 0) goto L125;
-	v115 = (ptr)ld64(v353+16); v116 = 0; v117 = 2; v118 = 0; v119 = 0; v120 = 0; v121 = 0; v122 = 0; v123 = ld64(v353+8); goto L145;
-L125:;
-	v113 = 2; v114 = 0; goto L143;
-L126:;
+	if (ld8(v353)) goto L125;
+	v115 = (ptr)ld64(v353+16); v123 = ld64(v353+8); v116 = v118 = v119 = v120 = v121 = v122 = 0; v117 = 2; goto L145;
+L125:
+	goto M78;
+L126:
 	if (v505 != 8) { v113 = 0; v114 = 18; goto L143; }
-	v115 = (ptr)8ull; v116 = 0; v117 = 3; v118 = 0; v119 = 0; v120 = 0; v121 = 0; v122 = 0; v123 = (u64)(v110+4); goto L145;
-L127:;
+	v115 = (ptr)8ull; v123 = (u64)(v110+4); v116 = v118 = v119 = v120 = v121 = v122 = 0; v117 = 3; goto L145;
+L127:
 	if (v505 != 17) { v113 = 0; v114 = 19; goto L143; }
-	v115 = (ptr)17ull; v116 = 0; v117 = 4; v118 = 0; v119 = 0; v120 = 0; v121 = 0; v122 = 0; v123 = (u64)(v110+4); goto L145;
-L128:;
+	v115 = (ptr)17ull; v123 = (u64)(v110+4); v116 = v118 = v119 = v120 = v121 = v122 = 0; v117 = 4; goto L145;
+L128:
 	if (v505 != 6) { v113 = 0; v114 = 20; goto L143; }
-	v115 = (ptr)6ull; v116 = 0; v117 = 5; v118 = 0; v119 = 0; v120 = 0; v121 = 0; v122 = 0; v123 = (u64)(v110+4); goto L145;
-L129:;
+	v115 = (ptr)6ull; v123 = (u64)(v110+4); v116 = v118 = v119 = v120 = v121 = v122 = 0; v117 = 5; goto L145;
+L129:
 	if (v505 != 8) { v113 = 0; v114 = 21; goto L143; }
 	u64 v512 = lu64(v110+4);
-	v115 = (ptr)0; v116 = 0; v117 = 6; v118 = 0; v119 = 0; v120 = (u16)v512; v121 = (u16)(v512 >> 16); v122 = (u32)(v512 >> 32); v123 = 0; goto L145;
-L130:;
+	v115 = (ptr)0; v120 = (u16)v512; v121 = (u16)(v512 >> 16); v122 = (u32)(v512 >> 32); v116 = v118 = v119 = v123 = 0; v117 = 6; goto L145;
+L130:
 	if (v505 != 8) { v113 = 0; v114 = 22; goto L143; }
 	u64 v513 = lu64(v110+4);
-	v115 = (ptr)0; v116 = 0; v117 = 7; v118 = 0; v119 = 0; v120 = (u16)v513; v121 = (u16)(v513 >> 16); v122 = (u32)(v513 >> 32); v123 = 0; goto L145;
-L131:;
+	v115 = (ptr)0; v120 = (u16)v513; v121 = (u16)(v513 >> 16); v122 = (u32)(v513 >> 32); v116 = v118 = v119 = v123 = 0; v117 = 7; goto L145;
+L131:
 	if (v505 != 1) { v113 = 0; v114 = 23; goto L143; }
-	v115 = (ptr)0; v116 = 0; v117 = 8; v118 = ld8(v110+4); v119 = 0; v120 = 0; v121 = 0; v122 = 0; v123 = 0; goto L145;
-L132:;
+	v115 = (ptr)0; v118 = ld8(v110+4); v116 = v119 = v120 = v121 = v122 = v123 = 0; v117 = 8; goto L145;
+L132:
 	if (v505 != 4) { v113 = 0; v114 = 24; goto L143; }
-	v115 = (ptr)0; v116 = 0; v117 = 9; v118 = 0; v119 = lu32(v110+4); v120 = 0; v121 = 0; v122 = 0; v123 = 0; goto L145;
-L133:;
-	if (v505 == 0) { v113 = 0; v114 = 25; goto L143; }
-	v115 = (ptr)v506; v116 = 0; v117 = 10; v118 = 0; v119 = 0; v120 = 0; v121 = 0; v122 = 0; v123 = (u64)(v110+4); goto L145;
-L134:;
+	v115 = (ptr)0; v119 = lu32(v110+4); v116 = v118 = v120 = v121 = v122 = v123 = 0; v117 = 9; goto L145;
+L133:
+	if (!v505) { v113 = 0; v114 = 25; goto L143; }
+	v115 = (ptr)v506; v123 = (u64)(v110+4); v116 = v118 = v119 = v120 = v121 = v122 = 0; v117 = 10; goto L145;
+L134:
 	clear(v354, 24);
 	core_str_utf8_from_utf8(v354, v110+4, v506);
-	if (ld8(v354) != 0) goto L135;
-	v115 = (ptr)ld64(v354+16); v116 = 0; v117 = 11; v118 = 0; v119 = 0; v120 = 0; v121 = 0; v122 = 0; v123 = ld64(v354+8); goto L145;
-L135:;
-	v113 = 2; v114 = 0; goto L143;
-L136:;
+	if (ld8(v354)) goto L135;
+	v115 = (ptr)ld64(v354+16); v123 = ld64(v354+8); v116 = v118 = v119 = v120 = v121 = v122 = 0; v117 = 11; goto L145;
+L135:
+	goto M78;
+L136:
 	if (v505 != 1) { v113 = 0; v114 = 26; goto L143; }
-	v115 = (ptr)0; v116 = 0; v117 = 12; v118 = ld8(v110+4); v119 = 0; v120 = 0; v121 = 0; v122 = 0; v123 = 0; goto L145;
-L137:;
+	v115 = (ptr)0; v118 = ld8(v110+4); v116 = v119 = v120 = v121 = v122 = v123 = 0; v117 = 12; goto L145;
+L137:
 	if (v505 != 8) { v113 = 0; v114 = 27; goto L143; }
 	u64 v514 = lu64(v110+4);
-	v115 = (ptr)0; v116 = 0; v117 = 13; v118 = 0; v119 = 0; v120 = (u16)v514; v121 = (u16)(v514 >> 16); v122 = (u32)(v514 >> 32); v123 = 0; goto L145;
-L138:;
+	v115 = (ptr)0; v120 = (u16)v514; v121 = (u16)(v514 >> 16); v122 = (u32)(v514 >> 32); v116 = v118 = v119 = v123 = 0; v117 = 13; goto L145;
+L138:
 	clear(v355, 24);
 	core_str_utf8_from_utf8(v355, v110+4, v506);
-	if (ld8(v355) != 0) goto L139;
-	v115 = (ptr)ld64(v355+16); v116 = 0; v117 = 14; v118 = 0; v119 = 0; v120 = 0; v121 = 0; v122 = 0; v123 = ld64(v355+8); goto L145;
-L139:;
-	v113 = 2; v114 = 0; goto L143;
-L140:;
+	if (ld8(v355)) goto L139;
+	v115 = (ptr)ld64(v355+16); v123 = ld64(v355+8); v116 = v118 = v119 = v120 = v121 = v122 = 0; v117 = 14; goto L145;
+L139:
+	goto M78;
+L140:
 	if (v505 < 4) { v113 = 1; v114 = 0; goto L143; }
 	u32 v515 = lu32(v110+4);
 	clear(v356, 24);
 	core_str_utf8_from_utf8(v356, v110+8, v506 - 4);
-	if (ld8(v356) != 0) goto L141;
-	v115 = (ptr)ld64(v356+8); v116 = ld64(v356+16); v117 = 16; v118 = 0; v119 = 0; v120 = v503; v121 = 0; v122 = v515; v123 = 0; goto L145;
-L141:;
-	v113 = 2; v114 = 0; goto L143;
-L142:;
+	if (ld8(v356)) goto L141;
+	v115 = (ptr)ld64(v356+8); v116 = ld64(v356+16); v120 = v503; v122 = v515; v117 = 16; v118 = v119 = v121 = v123 = 0; goto L145;
+L141:
+	goto M78;
+L142:
 	if (v505 >= 4) goto L144;
 	v113 = 1; v114 = 0;
-L143:;
-	v124 = v503; v125 = v506 << 16; v126 = 17; v127 = 0; v128 = 0; v129 = 0; v130 = v110+4; v131 = v506; v132 = 1; v133 = 1; v134 = v503; v135 = v113; v136 = v114; goto L146;
-L144:;
-	v115 = v110+8; v116 = v506 - 4; v117 = 15; v118 = 0; v119 = 0; v120 = v503; v121 = 0; v122 = lu32(v110+4); v123 = 0;
-L145:;
-	v124 = v120; v125 = ((u64)v122 << 32) | ((u64)v121 << 16); v126 = v117; v127 = v118; v128 = v119; v129 = v123; v130 = v115; v131 = v116; v132 = 0; v133 = 0; v134 = 0; v135 = 0; v136 = 0;
+L143:
+	v124 = v503; v125 = v506 << 16; v130 = v110+4; v131 = v506; v134 = v503; v135 = v113; v136 = v114; v126 = 17; v127 = v128 = v129 = 0; v132 = v133 = 1; goto L146;
+L144:
+	v115 = v110+8; v116 = v506 - 4; v120 = v503; v122 = lu32(v110+4); v117 = 15; v118 = v119 = v121 = v123 = 0;
+L145:
+	v124 = v120; v125 = ((u64)v122 << 32) | ((u64)v121 << 16); v126 = v117; v127 = v118; v128 = v119; v129 = v123; v130 = v115; v131 = v116; v132 = v133 = v134 = v135 = v136 = 0;
 L146:;
 	u64 v516 = v125 | (u64)v124;
 	if (ld64(v368+16) != v108) { v137 = v108; goto L148; }
 	u8 v517 = std_alloc_vec_Vec_grow_amortized_05c7(v368);
 	if (!v517) goto L147;
 	v137 = ld64(v368+8); goto L148;
-L147:;
+L147:
 	st64(v357+16, v129);
 	stp(v357+24, v130);
 	st64(v357+32, v131);
@@ -12198,20 +11498,18 @@ L148:;
 	u8 v520 = std_alloc_vec_Vec_grow_amortized_9fda(v369);
 	if (!v520) goto L149;
 	v139 = ld64(v369+8); goto L156;
-L149:;
-	if (ld64(v369+16) == 0) goto L151;
-L150:;
+L149:
+	if (!ld64(v369+16)) goto L151;
+L150:
 	deallocate(ldp(v369));
 L151:;
 	ptr v521 = ldp(v368);
-	u64 v522 = ld64(v368+8);
-	u64 v523 = ld64(v368+16);
-	if (v522 == 0) goto L153;
+	u64 v522 = ld64(v368+8), v523 = ld64(v368+16);
+	if (!v522) goto L153;
 	v138 = 0;
 L152:;
 	ptr v524 = at(v521, v138 * 48);
-	u8 v525 = ld8(v524);
-	u8 v526 = ld8(v524+1);
+	u8 v525 = ld8(v524), v526 = ld8(v524+1);
 	u32 v527 = lu32(v524+4);
 	u64 v528 = lu64(v524+8);
 	st64(v358, 0);
@@ -12223,12 +11521,12 @@ L152:;
 	ptions_interface_option_InterfaceDescriptionOption_Destruct_drop_2(v358);
 	u64 v529 = v138 + 1;
 	if (v529 != v522) { v138 = v529; goto L152; }
-L153:;
-	if (v523 == 0) goto L154;
+L153:
+	if (!v523) goto L154;
 	deallocate(v521);
-L154:;
-L155:;
-	v263 = 0; v264 = (ptr)0; v265 = 5; goto L252;
+L154:
+L155:
+	goto M18;
 L156:;
 	ptr v530 = at(ldp(v369), v139 * 6);
 	su16(v530, v133);
@@ -12238,20 +11536,20 @@ L156:;
 	u64 v531 = v139 + 1;
 	st64(v369+8, v531);
 	v140 = v531;
-L157:;
-	if (v511 != 0) { v107 = v140; v108 = v519; v109 = v511; v110 = v510; goto L115; }
+L157:
+	if (v511) { v107 = v140; v108 = v519; v109 = v511; v110 = v510; goto L115; }
 	v141 = v372+24; v142 = v372;
-L158:;
+L158:
 	copy(v142, v368, 24);
 	copy(v141, v369, 24);
 	copy(v374+7, v142, 48);
 	t_8_32 v532 = pcap_core_link_DataLinkFromU32_from((u32)v500);
-	v143 = (ptr)lu64(v374+7); v144 = lu64(v374+15); v145 = lu64(v374+23); v146 = v374+31; v147 = 1; v148 = v532.f0; v149 = v532.f1; v150 = v502;
-L159:;
+	v143 = (ptr)lu64(v374+7); v144 = lu64(v374+15); v145 = lu64(v374+23); v146 = v374+31; v148 = v532.f0; v149 = v532.f1; v150 = v502; v147 = 1;
+L159:
 	v151 = v144; v152 = v145; v153 = v143; v154 = lu64(v146+8); v155 = lu64(v146+16); v156 = lu64(v146); v157 = v148; v158 = v149; v159 = v150; v160 = v147;
-L160:;
-	if (v160 != 1) { v171 = 0; v172 = 0; v173 = 0; v174 = 0; v175 = 0; v176 = 0; goto L184; }
-	if (v151 != 0) { v161 = 0; goto L161; }
+L160:
+	if (v160 != 1) { v171 = v172 = v173 = v174 = v175 = v176 = 0; goto L184; }
+	if (v151) { v161 = 0; goto L161; }
 	u32 v533 = pcap_core_link_U32FromDataLink_from(v157, v158);
 	v167 = v533; v168 = 10; v169 = 0; v170 = 6; goto L182;
 L161:;
@@ -12262,7 +11560,7 @@ L162:;
 	u64 v535 = v161 + 1;
 	if (v535 != v151) { v161 = v535; goto L161; }
 	v162 = 6;
-L163:;
+L163:
 	v163 = 0;
 L164:;
 	u64 v536 = v163 * 48;
@@ -12273,18 +11571,13 @@ L165:;
 	if (v537 != v151) { v163 = v537; goto L164; }
 	v164 = 0;
 L166:;
-	u8 v538 = v162 & 127;
-	u8 v539 = (s8)v162 > -1 ? 10u : 2u;
+	u8 v538 = v162 & 127, v539 = (s8)v162 > -1 ? 10u : 2u;
 	u32 v540 = pcap_core_link_U32FromDataLink_from(v157, v158);
 	v165 = 0;
 L167:;
 	ptr v541 = at(v153, v165 * 48);
-	u64 v542 = lu64(v541+16);
-	u64 v543 = lu64(v541+24);
-	u64 v544 = lu64(v541+32);
-	u64 v545 = lu64(v541+40);
-	u8 v546 = (u8)lu64(v541+8);
-	u8 v547 = (u8)v542;
+	u64 v542 = lu64(v541+16), v543 = lu64(v541+24), v544 = lu64(v541+32), v545 = lu64(v541+40);
+	u8 v546 = (u8)lu64(v541+8), v547 = (u8)v542;
 	switch (ld8(v541)) {
 	case 0: goto L168;
 	case 1: goto L169;
@@ -12301,69 +11594,69 @@ L167:;
 	case 17: goto L179;
 	default: goto L183;
 	}
-L168:;
-	if ((v546 == 0) || (v544 == 0)) goto L181;
+L168:
+	if (!v546 || !v544) goto L181;
 	v166 = v542; goto L180;
-L169:;
-	if ((v546 == 0) || (v544 == 0)) goto L181;
+L169:
+	if (!v546 || !v544) goto L181;
 	v166 = v542; goto L180;
-L170:;
-	if ((v546 == 0) || (v544 == 0)) goto L181;
+L170:
+	if (!v546 || !v544) goto L181;
 	v166 = v542; goto L180;
-L171:;
-	if ((v546 == 0) || (v544 == 0)) goto L181;
+L171:
+	if (!v546 || !v544) goto L181;
 	v166 = v542; goto L180;
-L172:;
-	if ((v546 == 0) || (v544 == 0)) goto L181;
+L172:
+	if (!v546 || !v544) goto L181;
 	v166 = v542; goto L180;
-L173:;
-	if ((v546 == 0) || (v544 == 0)) goto L181;
+L173:
+	if (!v546 || !v544) goto L181;
 	v166 = v542; goto L180;
-L174:;
-	if ((v546 == 0) || (v544 == 0)) goto L181;
+L174:
+	if (!v546 || !v544) goto L181;
 	v166 = v542; goto L180;
-L175:;
-	if ((v546 == 0) || (v544 == 0)) goto L181;
+L175:
+	if (!v546 || !v544) goto L181;
 	v166 = v542; goto L180;
-L176:;
-	if ((v546 == 0) || (v544 == 0)) goto L181;
+L176:
+	if (!v546 || !v544) goto L181;
 	v166 = v542; goto L180;
-L177:;
-	if ((v547 == 0) || (v545 == 0)) goto L181;
+L177:
+	if (!v547 || !v545) goto L181;
 	v166 = v543; goto L180;
-L178:;
-	if ((v547 == 0) || (v545 == 0)) goto L181;
+L178:
+	if (!v547 || !v545) goto L181;
 	v166 = v543; goto L180;
-L179:;
-	if ((v547 == 0) || (v545 == 0)) goto L181;
+L179:
+	if (!v547 || !v545) goto L181;
 	v166 = v543;
-L180:;
+L180:
 	deallocate((ptr)v166);
 L181:;
 	u64 v548 = v165 + 1;
 	if (v548 != v151) { v165 = v548; goto L167; }
 	v167 = v540; v168 = v539; v169 = v164; v170 = v538;
-L182:;
-	if (v152 == 0) { v171 = v169; v172 = v170; v173 = v168; v174 = v159; v175 = v167; v176 = 16777216; goto L184; }
+L182:
+	if (!v152) { M108: v171 = v169; v172 = v170; v173 = v168; v174 = v159; v175 = v167; v176 = 16777216; goto L184; }
 	deallocate(v153);
-	v171 = v169; v172 = v170; v173 = v168; v174 = v159; v175 = v167; v176 = 16777216; goto L184;
-L183:;
+	goto M108;
+L183:
 	__builtin_trap();
 L184:;
 	u32 v549 = ld32(v1+8);
-	v267 = 0; v268 = 0; v269 = 0; v270 = 0; v271 = ((u64)v174 << 32) | (u64)v175; v272 = ((u64)v172 << 8) | (u64)v173; v273 = v171; v274 = 1; v275 = v176; v276 = v154; v277 = (ptr)static_41; v278 = 0; v279 = v156; v280 = v155; v281 = ld32(v1); v282 = (v549 + 1) < v549 ? 4294967295u : v549 + 1; goto L255;
-L185:;
+	v271 = ((u64)v174 << 32) | (u64)v175; v272 = ((u64)v172 << 8) | (u64)v173; v273 = v171; v275 = v176; v276 = v154; v277 = (ptr)static_41; v279 = v156; v280 = v155; v281 = ld32(v1); v282 = v549 + 1 < v549 ? 4294967295u : v549 + 1; v267 = v268 = v269 = v270 = v278 = 0; v274 = 1; goto L255;
+L185:
 	v266 = 3; goto L254;
-L186:;
+L186:
 	v266 = 4; goto L254;
-L187:;
+L187:
 	v266 = 5; goto L254;
-L188:;
+L188:
 	clear(v349, 24);
 	clear(v347, 24);
 	clear(v348, 24);
 	u8 v550 = v417 < 20;
-	if (v419 != 0) goto L218;
+	if (v419) goto L218;
 	clear(v346, 31);
 	if (!v550) goto L191;
 	stp(v328, v323);
@@ -12371,46 +11664,42 @@ L188:;
 	u8 v551 = std_alloc_vec_Vec_grow_amortized_9fda(v328);
 	if (!v551) goto L189;
 	u64 v552 = ld64(v328+8);
-	ptr v553 = ldp(v328);
-	ptr v554 = at(v553, v552 * 6);
+	ptr v553 = ldp(v328), v554 = at(v553, v552 * 6);
 	su16(v554, 0);
 	su16(v554+2, 0);
 	st8(v554+4, 0);
 	st8(v554+5, 12);
 	v177 = v553; v178 = v552; v179 = ld64(v328+16); goto L192;
-L189:;
-	if (ld64(v328+16) == 0) goto L190;
+L189:
+	if (!ld64(v328+16)) goto L190;
 	deallocate(ldp(v328));
-L190:;
+L190:
 	goto L217;
 L191:;
 	u32 v555 = (u32)__builtin_bswap32(lu32(v416));
-	u64 v556 = (u64)__builtin_bswap64(lu64(v416+4));
-	u64 v557 = v417 - 20;
+	u64 v556 = (u64)__builtin_bswap64(lu64(v416+4)), v557 = v417 - 20;
 	u32 v558 = (u32)__builtin_bswap32(lu32(v416+16));
-	u64 v559 = (u64)(u32)__builtin_bswap32(lu32(v416+12));
-	u64 v560 = ((0ull - v559) & 3) + v559;
+	u64 v559 = (u64)(u32)__builtin_bswap32(lu32(v416+12)), v560 = ((0ull - v559) & 3) + v559;
 	if (v557 >= v560) goto L195;
 	stp(v330, v323);
 	clear(v330+8, 16);
 	u8 v561 = std_alloc_vec_Vec_grow_amortized_9fda(v330);
 	if (!v561) goto L193;
 	u64 v562 = ld64(v330+8);
-	ptr v563 = ldp(v330);
-	ptr v564 = at(v563, v562 * 6);
+	ptr v563 = ldp(v330), v564 = at(v563, v562 * 6);
 	su16(v564, 0);
 	su16(v564+2, 0);
 	st8(v564+4, 0);
 	st8(v564+5, 13);
 	v177 = v563; v178 = v562; v179 = ld64(v330+16);
-L192:;
+L192:
 	v212 = v179; v213 = v178; v214 = v177; goto L223;
-L193:;
-	if (ld64(v330+16) == 0) goto L194;
+L193:
+	if (!ld64(v330+16)) goto L194;
 	deallocate(ldp(v330));
-L194:;
+L194:
 	goto L217;
-L195:;
+L195:
 	clear(v342, 48);
 	clear(v343, 56);
 	clear(v344, 48);
@@ -12420,17 +11709,14 @@ L195:;
 	stp(v341, v323);
 	clear(v341+8, 16);
 	v180 = at(v416+20, v560); v181 = v557 - v560;
-L196:;
-	if (v181 == 0) { v184 = v345+24; v185 = v345+32; v186 = v345+40; v187 = v345; goto L200; }
+L196:
+	if (!v181) { v184 = v345+24; v185 = v345+32; v186 = v345+40; v187 = v345; goto L200; }
 	if (v181 < 4) { v182 = 16; goto L197; }
-	u16 v565 = lu16(v180);
-	u16 v566 = (u16)__builtin_bswap16(v565);
+	u16 v565 = lu16(v180), v566 = (u16)__builtin_bswap16(v565);
 	u64 v567 = v181 - 4;
-	u16 v568 = lu16(v180+2);
-	u16 v569 = (u16)__builtin_bswap16(v568);
-	if (v565 == 0) { v184 = v344+24; v185 = v344+32; v186 = v344+40; v187 = v344; goto L200; }
-	u64 v570 = (u64)v569;
-	u64 v571 = ((0ull - v570) & 3) + v570;
+	u16 v568 = lu16(v180+2), v569 = (u16)__builtin_bswap16(v568);
+	if (!v565) { v184 = v344+24; v185 = v344+32; v186 = v344+40; v187 = v344; goto L200; }
+	u64 v570 = (u64)v569, v571 = ((0ull - v570) & 3) + v570;
 	if (v567 >= v571) goto L201;
 	v182 = 17;
 L197:;
@@ -12439,8 +11725,8 @@ L197:;
 	u8 v573 = std_alloc_vec_Vec_grow_amortized_9fda(v341);
 	if (!v573) goto L198;
 	v183 = ld64(v341+8); goto L199;
-L198:;
-	if (ld64(v341+16) == 0) goto L216;
+L198:
+	if (!ld64(v341+16)) goto L216;
 	goto L215;
 L199:;
 	ptr v574 = at(ldp(v341), v183 * 6);
@@ -12450,13 +11736,11 @@ L199:;
 	st8(v574+5, v182);
 	st64(v341+8, v183 + 1);
 	v184 = v342+24; v185 = v342+32; v186 = v342+40; v187 = v342;
-L200:;
+L200:
 	copy(v187, v340, 24);
 	copy(v184, v341, 24);
 	copy(v346+7, v340, 24);
-	u64 v575 = ld64(v184);
-	u64 v576 = ld64(v185);
-	u64 v577 = ld64(v186);
+	u64 v575 = ld64(v184), v576 = ld64(v185), v577 = ld64(v186);
 	copy(v347, v346+7, 24);
 	v223 = v577; v224 = v576; v225 = v575; v226 = v347; v227 = v555; v228 = v556; v229 = v558; v230 = v416+20; v231 = v559; goto L232;
 L201:;
@@ -12471,43 +11755,43 @@ L201:;
 	case 2989: case 19373: goto L209;
 	default: goto L212;
 	}
-L202:;
+L202:
 	clear(v329, 24);
 	core_str_utf8_from_utf8(v329, v180+4, v570);
-	if (ld8(v329) != 0) goto L203;
-	v190 = 0; v191 = 0; v192 = 0; v193 = 0; v194 = 0; v195 = ld64(v329+16); v196 = 0; v197 = ld64(v329+8); goto L213;
-L203:;
-	v188 = 2; v189 = 0; goto L210;
-L204:;
+	if (ld8(v329)) goto L203;
+	v195 = ld64(v329+16); v197 = ld64(v329+8); v190 = v191 = v192 = v193 = v194 = v196 = 0; goto L213;
+L203:
+	M116: v188 = 2; v189 = 0; goto L210;
+L204:
 	if (v568 != 1024) { v188 = 0; v189 = 28; goto L210; }
-	v190 = 1; v191 = (u32)__builtin_bswap32(lu32(v180+4)); v192 = 0; v193 = 0; v194 = 0; v195 = 0; v196 = 0; v197 = 0; goto L213;
-L205:;
-	v190 = 2; v191 = 0; v192 = 0; v193 = 0; v194 = 0; v195 = v570; v196 = 0; v197 = (u64)(v180+4); goto L213;
-L206:;
+	v191 = (u32)__builtin_bswap32(lu32(v180+4)); v190 = 1; v192 = v193 = v194 = v195 = v196 = v197 = 0; goto L213;
+L205:
+	v195 = v570; v197 = (u64)(v180+4); v190 = 2; v191 = v192 = v193 = v194 = v196 = 0; goto L213;
+L206:
 	if (v568 != 2048) { v188 = 0; v189 = 29; goto L210; }
 	u64 v580 = (u64)__builtin_bswap64(lu64(v180+4));
-	v190 = 3; v191 = 0; v192 = (u16)v580; v193 = (u16)(v580 >> 16); v194 = (u32)(v580 >> 32); v195 = 0; v196 = 0; v197 = 0; goto L213;
-L207:;
+	v192 = (u16)v580; v193 = (u16)(v580 >> 16); v194 = (u32)(v580 >> 32); v190 = 3; v191 = v195 = v196 = v197 = 0; goto L213;
+L207:
 	if (v569 < 4) { v188 = 1; v189 = 0; goto L210; }
 	u32 v581 = lu32(v180+4);
 	clear(v339, 24);
 	core_str_utf8_from_utf8(v339, v180+8, v570 - 4);
-	if (ld8(v339) != 0) goto L208;
-	v190 = 5; v191 = 0; v192 = v566; v193 = 0; v194 = (u32)__builtin_bswap32(v581); v195 = ld64(v339+8); v196 = ld64(v339+16); v197 = 0; goto L213;
-L208:;
-	v188 = 2; v189 = 0; goto L210;
-L209:;
+	if (ld8(v339)) goto L208;
+	v192 = v566; v194 = (u32)__builtin_bswap32(v581); v195 = ld64(v339+8); v196 = ld64(v339+16); v190 = 5; v191 = v193 = v197 = 0; goto L213;
+L208:
+	goto M116;
+L209:
 	if (v569 >= 4) goto L211;
 	v188 = 1; v189 = 0;
-L210:;
-	v198 = v566; v199 = v570 << 16; v200 = 6; v201 = 0; v202 = 0; v203 = (u64)(v180+4); v204 = v570; v205 = 1; v206 = v566; v207 = v188; v208 = v189; goto L214;
-L211:;
-	v190 = 4; v191 = 0; v192 = v566; v193 = 0; v194 = (u32)__builtin_bswap32(lu32(v180+4)); v195 = (u64)(v180+8); v196 = v570 - 4; v197 = 0; goto L213;
-L212:;
-	v190 = 6; v191 = 0; v192 = v566; v193 = v569; v194 = 0; v195 = (u64)(v180+4); v196 = v570; v197 = 0;
-L213:;
-	v198 = v192; v199 = ((u64)v194 << 32) | ((u64)v193 << 16); v200 = v190; v201 = v191; v202 = v197; v203 = v195; v204 = v196; v205 = 0; v206 = 0; v207 = 0; v208 = 0;
-L214:;
+L210:
+	v198 = v566; v199 = v570 << 16; v203 = (u64)(v180+4); v204 = v570; v206 = v566; v207 = v188; v208 = v189; v200 = 6; v201 = v202 = 0; v205 = 1; goto L214;
+L211:
+	v192 = v566; v194 = (u32)__builtin_bswap32(lu32(v180+4)); v195 = (u64)(v180+8); v196 = v570 - 4; v190 = 4; v191 = v193 = v197 = 0; goto L213;
+L212:
+	v192 = v566; v193 = v569; v195 = (u64)(v180+4); v196 = v570; v190 = 6; v191 = v194 = v197 = 0;
+L213:
+	v198 = v192; v199 = ((u64)v194 << 32) | ((u64)v193 << 16); v200 = v190; v201 = v191; v202 = v197; v203 = v195; v204 = v196; v205 = v206 = v207 = v208 = 0;
+L214:
 	st32(v343, v200);
 	st32(v343+4, v201);
 	st64(v343+8, v199 | (u64)v198);
@@ -12522,14 +11806,14 @@ L214:;
 	st8(v343+55, v208);
 	u8 v582 = pcap_tolerant_blocks_list_keep_56d9(v340, v341, v343);
 	if (!(v582 & 1)) { v180 = v578; v181 = v579; goto L196; }
-	if (ld64(v341+16) == 0) goto L216;
-L215:;
+	if (!ld64(v341+16)) goto L216;
+L215:
 	deallocate(ldp(v341));
-L216:;
+L216:
 	std_alloc_vec_Vec_drop_015c(v340);
-L217:;
+L217:
 	goto L251;
-L218:;
+L218:
 	clear(v338, 31);
 	if (!v550) goto L221;
 	stp(v325, v323);
@@ -12537,48 +11821,44 @@ L218:;
 	u8 v583 = std_alloc_vec_Vec_grow_amortized_9fda(v325);
 	if (!v583) goto L219;
 	u64 v584 = ld64(v325+8);
-	ptr v585 = ldp(v325);
-	ptr v586 = at(v585, v584 * 6);
+	ptr v585 = ldp(v325), v586 = at(v585, v584 * 6);
 	su16(v586, 0);
 	su16(v586+2, 0);
 	st8(v586+4, 0);
 	st8(v586+5, 12);
 	v209 = v585; v210 = v584; v211 = ld64(v325+16); goto L222;
-L219:;
-	if (ld64(v325+16) == 0) goto L220;
+L219:
+	if (!ld64(v325+16)) goto L220;
 	deallocate(ldp(v325));
-L220:;
+L220:
 	goto L250;
 L221:;
 	u32 v587 = lu32(v416);
-	u64 v588 = ((u64)lu32(v416+4) << 32) | (u64)lu32(v416+8);
-	u64 v589 = v417 - 20;
+	u64 v588 = ((u64)lu32(v416+4) << 32) | (u64)lu32(v416+8), v589 = v417 - 20;
 	u32 v590 = lu32(v416+16);
-	u64 v591 = (u64)lu32(v416+12);
-	u64 v592 = ((0ull - v591) & 3) + v591;
+	u64 v591 = (u64)lu32(v416+12), v592 = ((0ull - v591) & 3) + v591;
 	if (v589 >= v592) goto L226;
 	stp(v327, v323);
 	clear(v327+8, 16);
 	u8 v593 = std_alloc_vec_Vec_grow_amortized_9fda(v327);
 	if (!v593) goto L224;
 	u64 v594 = ld64(v327+8);
-	ptr v595 = ldp(v327);
-	ptr v596 = at(v595, v594 * 6);
+	ptr v595 = ldp(v327), v596 = at(v595, v594 * 6);
 	su16(v596, 0);
 	su16(v596+2, 0);
 	st8(v596+4, 0);
 	st8(v596+5, 13);
 	v209 = v595; v210 = v594; v211 = ld64(v327+16);
-L222:;
+L222:
 	v212 = v211; v213 = v210; v214 = v209;
-L223:;
-	v232 = (u64)v214; v233 = v213 + 1; v234 = v212; v235 = 0; v236 = 0; v237 = 0; v238 = 0; v239 = 0; v240 = (ptr)static_41; v241 = 0; goto L233;
-L224:;
-	if (ld64(v327+16) == 0) goto L225;
+L223:
+	v232 = (u64)v214; v233 = v213 + 1; v234 = v212; v240 = (ptr)static_41; v235 = v236 = v237 = v238 = v239 = v241 = 0; goto L233;
+L224:
+	if (!ld64(v327+16)) goto L225;
 	deallocate(ldp(v327));
-L225:;
+L225:
 	goto L250;
-L226:;
+L226:
 	clear(v334, 48);
 	clear(v335, 56);
 	clear(v336, 48);
@@ -12588,15 +11868,14 @@ L226:;
 	stp(v333, v323);
 	clear(v333+8, 16);
 	v215 = at(v416+20, v592); v216 = v589 - v592;
-L227:;
-	if (v216 == 0) { v219 = v337+24; v220 = v337+32; v221 = v337+40; v222 = v337; goto L231; }
+L227:
+	if (!v216) { v219 = v337+24; v220 = v337+32; v221 = v337+40; v222 = v337; goto L231; }
 	if (v216 < 4) { v217 = 16; goto L228; }
 	u16 v597 = lu16(v215);
 	u64 v598 = v216 - 4;
 	u16 v599 = lu16(v215+2);
-	if (v597 == 0) { v219 = v336+24; v220 = v336+32; v221 = v336+40; v222 = v336; goto L231; }
-	u64 v600 = (u64)v599;
-	u64 v601 = ((0ull - v600) & 3) + v600;
+	if (!v597) { v219 = v336+24; v220 = v336+32; v221 = v336+40; v222 = v336; goto L231; }
+	u64 v600 = (u64)v599, v601 = ((0ull - v600) & 3) + v600;
 	if (v598 >= v601) goto L234;
 	v217 = 17;
 L228:;
@@ -12605,8 +11884,8 @@ L228:;
 	u8 v603 = std_alloc_vec_Vec_grow_amortized_9fda(v333);
 	if (!v603) goto L229;
 	v218 = ld64(v333+8); goto L230;
-L229:;
-	if (ld64(v333+16) == 0) goto L249;
+L229:
+	if (!ld64(v333+16)) goto L249;
 	goto L248;
 L230:;
 	ptr v604 = at(ldp(v333), v218 * 6);
@@ -12616,21 +11895,19 @@ L230:;
 	st8(v604+5, v217);
 	st64(v333+8, v218 + 1);
 	v219 = v334+24; v220 = v334+32; v221 = v334+40; v222 = v334;
-L231:;
+L231:
 	copy(v222, v332, 24);
 	copy(v219, v333, 24);
 	copy(v338+7, v332, 24);
-	u64 v605 = ld64(v219);
-	u64 v606 = ld64(v220);
-	u64 v607 = ld64(v221);
+	u64 v605 = ld64(v219), v606 = ld64(v220), v607 = ld64(v221);
 	copy(v348, v338+7, 24);
 	v223 = v607; v224 = v606; v225 = v605; v226 = v348; v227 = v587; v228 = v588; v229 = v590; v230 = v416+20; v231 = v591;
-L232:;
+L232:
 	copy(v349, v226, 24);
 	std_alloc_vec_Vec_drop_015c(v349);
-	v232 = v225; v233 = v224; v234 = v223; v235 = 0x100000000ull; v236 = 6; v237 = v227; v238 = v229; v239 = v228; v240 = v230; v241 = v231;
-L233:;
-	v267 = v236; v268 = v237; v269 = v238; v270 = v239; v271 = 0; v272 = 0; v273 = 0; v274 = 6; v275 = v235; v276 = v233; v277 = v240; v278 = v241; v279 = v232; v280 = v234; v281 = lu32(v1); v282 = lu32(v1+8); goto L255;
+	v232 = v225; v233 = v224; v234 = v223; v235 = 0x100000000ull; v237 = v227; v238 = v229; v239 = v228; v240 = v230; v241 = v231; v236 = 6;
+L233:
+	v267 = v236; v268 = v237; v269 = v238; v270 = v239; v275 = v235; v276 = v233; v277 = v240; v278 = v241; v279 = v232; v280 = v234; v281 = lu32(v1); v282 = lu32(v1+8); v271 = v272 = v273 = 0; v274 = 6; goto L255;
 L234:;
 	ptr v608 = at(v215+4, v601);
 	u64 v609 = v598 - v601;
@@ -12643,43 +11920,43 @@ L234:;
 	case 2989: case 19373: goto L242;
 	default: goto L245;
 	}
-L235:;
+L235:
 	clear(v326, 24);
 	core_str_utf8_from_utf8(v326, v215+4, v600);
-	if (ld8(v326) != 0) goto L236;
-	v244 = 0; v245 = 0; v246 = 0; v247 = 0; v248 = 0; v249 = ld64(v326+16); v250 = 0; v251 = ld64(v326+8); goto L246;
-L236:;
-	v242 = 2; v243 = 0; goto L243;
-L237:;
+	if (ld8(v326)) goto L236;
+	v249 = ld64(v326+16); v251 = ld64(v326+8); v244 = v245 = v246 = v247 = v248 = v250 = 0; goto L246;
+L236:
+	M133: v242 = 2; v243 = 0; goto L243;
+L237:
 	if (v599 != 4) { v242 = 0; v243 = 28; goto L243; }
-	v244 = 1; v245 = lu32(v215+4); v246 = 0; v247 = 0; v248 = 0; v249 = 0; v250 = 0; v251 = 0; goto L246;
-L238:;
-	v244 = 2; v245 = 0; v246 = 0; v247 = 0; v248 = 0; v249 = v600; v250 = 0; v251 = (u64)(v215+4); goto L246;
-L239:;
+	v245 = lu32(v215+4); v244 = 1; v246 = v247 = v248 = v249 = v250 = v251 = 0; goto L246;
+L238:
+	v249 = v600; v251 = (u64)(v215+4); v244 = 2; v245 = v246 = v247 = v248 = v250 = 0; goto L246;
+L239:
 	if (v599 != 8) { v242 = 0; v243 = 29; goto L243; }
 	u64 v610 = lu64(v215+4);
-	v244 = 3; v245 = 0; v246 = (u16)v610; v247 = (u16)(v610 >> 16); v248 = (u32)(v610 >> 32); v249 = 0; v250 = 0; v251 = 0; goto L246;
-L240:;
+	v246 = (u16)v610; v247 = (u16)(v610 >> 16); v248 = (u32)(v610 >> 32); v244 = 3; v245 = v249 = v250 = v251 = 0; goto L246;
+L240:
 	if (v599 < 4) { v242 = 1; v243 = 0; goto L243; }
 	u32 v611 = lu32(v215+4);
 	clear(v331, 24);
 	core_str_utf8_from_utf8(v331, v215+8, v600 - 4);
-	if (ld8(v331) != 0) goto L241;
-	v244 = 5; v245 = 0; v246 = v597; v247 = 0; v248 = v611; v249 = ld64(v331+8); v250 = ld64(v331+16); v251 = 0; goto L246;
-L241:;
-	v242 = 2; v243 = 0; goto L243;
-L242:;
+	if (ld8(v331)) goto L241;
+	v246 = v597; v248 = v611; v249 = ld64(v331+8); v250 = ld64(v331+16); v244 = 5; v245 = v247 = v251 = 0; goto L246;
+L241:
+	goto M133;
+L242:
 	if (v599 >= 4) goto L244;
 	v242 = 1; v243 = 0;
-L243:;
-	v252 = v597; v253 = v600 << 16; v254 = 6; v255 = 0; v256 = 0; v257 = (u64)(v215+4); v258 = v600; v259 = 1; v260 = v597; v261 = v242; v262 = v243; goto L247;
-L244:;
-	v244 = 4; v245 = 0; v246 = v597; v247 = 0; v248 = lu32(v215+4); v249 = (u64)(v215+8); v250 = v600 - 4; v251 = 0; goto L246;
-L245:;
-	v244 = 6; v245 = 0; v246 = v597; v247 = v599; v248 = 0; v249 = (u64)(v215+4); v250 = v600; v251 = 0;
-L246:;
-	v252 = v246; v253 = ((u64)v248 << 32) | ((u64)v247 << 16); v254 = v244; v255 = v245; v256 = v251; v257 = v249; v258 = v250; v259 = 0; v260 = 0; v261 = 0; v262 = 0;
-L247:;
+L243:
+	v252 = v597; v253 = v600 << 16; v257 = (u64)(v215+4); v258 = v600; v260 = v597; v261 = v242; v262 = v243; v254 = 6; v255 = v256 = 0; v259 = 1; goto L247;
+L244:
+	v246 = v597; v248 = lu32(v215+4); v249 = (u64)(v215+8); v250 = v600 - 4; v244 = 4; v245 = v247 = v251 = 0; goto L246;
+L245:
+	v246 = v597; v247 = v599; v249 = (u64)(v215+4); v250 = v600; v244 = 6; v245 = v248 = v251 = 0;
+L246:
+	v252 = v246; v253 = ((u64)v248 << 32) | ((u64)v247 << 16); v254 = v244; v255 = v245; v256 = v251; v257 = v249; v258 = v250; v259 = v260 = v261 = v262 = 0;
+L247:
 	st32(v335, v254);
 	st32(v335+4, v255);
 	st64(v335+8, v253 | (u64)v252);
@@ -12694,32 +11971,31 @@ L247:;
 	st8(v335+55, v262);
 	u8 v612 = pcap_tolerant_blocks_list_keep_56d9(v332, v333, v335);
 	if (!(v612 & 1)) { v215 = v608; v216 = v609; goto L227; }
-	if (ld64(v333+16) == 0) goto L249;
-L248:;
+	if (!ld64(v333+16)) goto L249;
+L248:
 	deallocate(ldp(v333));
-L249:;
+L249:
 	std_alloc_vec_Vec_drop_015c(v332);
-L250:;
-L251:;
-	v263 = 0; v264 = (ptr)0; v265 = 5;
-L252:;
+L250:
+L251:
+	v264 = (ptr)0; v263 = 0; v265 = 5;
+L252:
 	st32(v324, 0);
 	st32(v324+4, 0);
 	u64 v613 = (u64)ld_bytes(v324+2, 6) & 0xffffffffffffull;
 	clear(v407, 7);
-	v304 = v265; v305 = v264; v306 = v263; v307 = 0; v308 = 0; v309 = 0; v310 = 0; v311 = 0; v312 = 0; v313 = v613; v314 = 0; v315 = 0; v316 = 0; v317 = 0; v318 = 0; v319 = 0; goto L267;
-L253:;
+	v304 = v265; v305 = v264; v306 = v263; v313 = v613; v307 = v308 = v309 = v310 = v311 = v312 = v314 = v315 = v316 = v317 = v318 = v319 = 0; goto L267;
+L253:
 	v266 = 9;
-L254:;
-	v267 = 0; v268 = 0; v269 = 0; v270 = 0; v271 = 0; v272 = 0; v273 = 0; v274 = v266; v275 = 0; v276 = 0; v277 = (ptr)static_41; v278 = 0; v279 = (u64)v323; v280 = 0; v281 = v457; v282 = lu32(v1+8);
-L255:;
+L254:
+	v274 = v266; v277 = (ptr)static_41; v279 = (u64)v323; v281 = v457; v282 = lu32(v1+8); v267 = v268 = v269 = v270 = v271 = v272 = v273 = v275 = v276 = v278 = v280 = 0;
+L255:
 	v283 = v274; v284 = v275 & 0xffffffff000000ull; v285 = v276; v286 = v273; v287 = v267; v288 = v268; v289 = v269; v290 = v270; v291 = v277; v292 = v278; v293 = v279; v294 = v280; v295 = v281; v296 = lu16(v1+4); v297 = lu16(v1+6); v298 = v282; v299 = v271; v300 = v272;
 L256:;
 	u64 v614 = (u64)v416;
 	copy(v407, v404, 7);
-	u64 v615 = ((v284 | (u64)(v283 >> 8)) << 8) | (u64)(v283 & 255);
-	u64 v616 = v5 < v285 ? v5 : v285;
-	if (v616 == 0) goto L261;
+	u64 v615 = ((v284 | (u64)(v283 >> 8)) << 8) | (u64)(v283 & 255), v616 = v5 < v285 ? v5 : v285;
+	if (!v616) goto L261;
 	v301 = 0;
 L257:;
 	ptr v617 = at((ptr)v293, v301 * 6);
@@ -12731,9 +12007,9 @@ L257:;
 	case 2: goto L259;
 	default: goto L262;
 	}
-L258:;
-	v302 = 3; v303 = ld32(at((ptr)switch_table_pcapfile_take_block_as_is, (u64)ld8(v617+5) * 4)); goto L260;
-L259:;
+L258:
+	v303 = ld32(at((ptr)switch_table_pcapfile_take_block_as_is, (u64)ld8(v617+5) * 4)); v302 = 3; goto L260;
+L259:
 	v302 = 4; v303 = 0;
 L260:;
 	ptr v620 = at(v408, v301 * 12);
@@ -12742,7 +12018,7 @@ L260:;
 	su32(v620+8, v618 == 1 ? (u32)v619 : 0);
 	u64 v621 = v301 + 1;
 	if (v621 != v616) { v301 = v621; goto L257; }
-L261:;
+L261:
 	su64(v3, v615);
 	su64(v3+8, v285);
 	su64(v3+16, v614);
@@ -12764,35 +12040,28 @@ L261:;
 	st8(v2, v411);
 	copy(v2+1, v407, 7);
 	sup(v2+8, v412);
-	if (v294 == 0) { v322 = 0; goto L269; }
+	if (!v294) { v322 = 0; goto L269; }
 	v320 = (ptr)v293; v321 = 0; goto L268;
-L262:;
+L262:
 	__builtin_trap();
-L263:;
+L263:
 	__builtin_trap();
-L264:;
+L264:
 	__builtin_trap();
 	__builtin_trap();
 L265:;
 	u64 v622 = ld64(v405+64);
 	ptr v623 = ldp(v405+16);
-	u64 v624 = ld64(v405+24);
-	u64 v625 = ld64(v405+32);
-	u64 v626 = ld64(v405+40);
-	u64 v627 = ld64(v405+56);
+	u64 v624 = ld64(v405+24), v625 = ld64(v405+32), v626 = ld64(v405+40), v627 = ld64(v405+56);
 	u64 v628 = ld64(v405+72);
-	u32 v629 = ld32(v405+80);
-	u32 v630 = ld32(v405+84);
-	u32 v631 = ld32(v405+88);
-	u32 v632 = ld32(v405+92);
-	u64 v633 = ld64(v405+96);
-	u64 v634 = (u64)ldp(v405+48);
+	u32 v629 = ld32(v405+80), v630 = ld32(v405+84), v631 = ld32(v405+88), v632 = ld32(v405+92);
+	u64 v633 = ld64(v405+96), v634 = (u64)ldp(v405+48);
 	clear(v407, 7);
 	v304 = v411; v305 = v623; v306 = v624; v307 = v625; v308 = v626; v309 = v634; v310 = v627; v311 = v622 & 255; v312 = v622 & 65280; v313 = (v622 >> 16) & 0xffffffffffffull; v314 = v628; v315 = v629; v316 = v630; v317 = v631; v318 = v632; v319 = v633; goto L267;
-L266:;
+L266:
 	clear(v407, 7);
-	v304 = 2; v305 = (ptr)static_5; v306 = 40; v307 = 0; v308 = 0; v309 = 0; v310 = 0; v311 = 0; v312 = 0; v313 = 0; v314 = 0; v315 = 0; v316 = 0; v317 = 0; v318 = 0; v319 = 0;
-L267:;
+	v305 = (ptr)static_5; v304 = 2; v306 = 40; v307 = v308 = v309 = v310 = v311 = v312 = v313 = v314 = v315 = v316 = v317 = v318 = v319 = 0;
+L267:
 	st8(v406, v304);
 	stp(v406+8, v305);
 	st64(v406+16, v306);
@@ -12808,12 +12077,12 @@ L267:;
 	st32(v406+84, v318);
 	st64(v406+88, v319);
 	u32 v635 = pcapfile_values_errors_tell(v406, v6);
-	if ((v304 != 4) || (v307 == 0)) { v322 = v635; goto L269; }
+	if (v304 != 4 || !v307) { v322 = v635; goto L269; }
 	v320 = v305; v321 = v635;
-L268:;
+L268:
 	deallocate(v320);
 	v322 = v321;
-L269:;
+L269:
 	return (int32_t)(v322);
 }
 int32_t pcapfile_take_ng_rows(ptr v1, ptr v2, ptr v3, u64 v4, ptr v5, ptr v6) {
@@ -12821,26 +12090,25 @@ int32_t pcapfile_take_ng_rows(ptr v1, ptr v2, ptr v3, u64 v4, ptr v5, ptr v6) {
 	u32 v8, v10, v11, v14;
 	u64 v9, v12;
 	ptr v13;
-	_Alignas(8) u8 v15[24], v16[24], v17[96], v18[96], v19[104];
-	ptr v20 = at(v3, v3 == (ptr)0 ? 4096ull : 0ull);
+	_Alignas(8) u8 v15[24], v16[24], v17[96], v18[96], v19[104] = {0};
+	ptr v20 = at(v3, !v3 ? 4096ull : 0ull);
 	st64(v17, 0);
 	st64(v18, 2);
-	clear(v19, 104);
 	st64(v5, 0);
 	switch (ld32(v1)) {
 	case 439041101: v7 = 0; goto L1;
 	case 1295788826: goto L0;
 	default: goto L13;
 	}
-L0:;
+L0:
 	v7 = 1;
 L1:;
 	u64 v21 = ld64(v2+8);
-	if (v4 == 0) { v14 = 0; goto L14; }
+	if (!v4) { v14 = 0; goto L14; }
 	u8 v22 = v7 & 1;
 L2:;
 	u64 v23 = lu64(v2+8);
-	if (v23 == 0) { v14 = 0; goto L14; }
+	if (!v23) { v14 = 0; goto L14; }
 	u64 v24 = v21 - v23;
 	ptr v25 = lup(v2);
 	u8 v26 = v23 < 12;
@@ -12852,42 +12120,37 @@ L2:;
 	if ((v27 < 12) | (v23 < v28)) goto L7;
 	ptr v29 = at(v25+8, v28);
 	if ((v27 < 32) | (lu32(v29-12) != v27)) goto L7;
-	u32 v30 = lu32(v25+8);
-	u32 v31 = lu32(v25+20);
+	u32 v30 = lu32(v25+8), v31 = lu32(v25+20);
 	u64 v32 = v28 - 32;
 	u32 v33 = lu32(v25+24);
-	u64 v34 = (u64)v31;
-	u64 v35 = ((0ull - v34) & 3) + v34;
+	u64 v34 = (u64)v31, v35 = ((0ull - v34) & 3) + v34;
 	if (v32 < v35) goto L7;
 	u64 v36 = ((u64)lu32(v25+12) << 32) | (u64)lu32(v25+16);
 	clear(v15, 24);
 	if (v32 != v35) goto L3;
-	v8 = v31; v9 = v36; v10 = v33; v11 = v30; v12 = v28; v13 = v29-8; goto L6;
-L3:;
+	M0: v8 = v31; v9 = v36; v10 = v33; v11 = v30; v12 = v28; v13 = v29-8; goto L6;
+L3:
 	pcapfile_values_enhanced_options_behind_some_7f02(v15, at(v25+28, v35), v32 - v35);
-	if (ld8(v15) == 1) { v8 = v31; v9 = v36; v10 = v33; v11 = v30; v12 = v28; v13 = v29-8; goto L6; }
+	if (ld8(v15) == 1) goto M0;
 	goto L7;
-L4:;
+L4:
 	if (v26) goto L7;
-	u32 v37 = lu32(v25+4);
-	u32 v38 = (u32)__builtin_bswap32(v37);
+	u32 v37 = lu32(v25+4), v38 = (u32)__builtin_bswap32(v37);
 	if (!((lu32(v25) == 100663296) & ((v38 & 3) == 0))) goto L7;
 	u64 v39 = (u64)v38;
 	if ((v38 < 12) | (v23 < v39)) goto L7;
 	ptr v40 = at(v25+8, v39);
 	if ((v38 < 32) | (lu32(v40-12) != v37)) goto L7;
-	u32 v41 = (u32)__builtin_bswap32(lu32(v25+8));
-	u32 v42 = (u32)__builtin_bswap32(lu32(v25+20));
+	u32 v41 = (u32)__builtin_bswap32(lu32(v25+8)), v42 = (u32)__builtin_bswap32(lu32(v25+20));
 	u64 v43 = v39 - 32;
 	u32 v44 = (u32)__builtin_bswap32(lu32(v25+24));
-	u64 v45 = (u64)v42;
-	u64 v46 = ((0ull - v45) & 3) + v45;
+	u64 v45 = (u64)v42, v46 = ((0ull - v45) & 3) + v45;
 	if (v43 < v46) goto L7;
 	u64 v47 = (u64)__builtin_bswap64(lu64(v25+12));
 	clear(v16, 24);
 	if (v43 != v46) goto L5;
 	v8 = v42; v9 = v47; v10 = v44; v11 = v41; v12 = v39; v13 = v40-8; goto L6;
-L5:;
+L5:
 	pcapfile_values_enhanced_options_behind_some_4da0(v16, at(v25+28, v46), v43 - v46);
 	if (ld8(v16) != 1) goto L7;
 	v8 = v42; v9 = v47; v10 = v44; v11 = v41; v12 = v39; v13 = v40-8;
@@ -12903,9 +12166,9 @@ L6:;
 	sup(v2, v13);
 	su64(v2+8, v23 - v12);
 	goto L10;
-L7:;
+L7:
 	pcapfile_c_batches_any_front(v19, v7, lup(v2), lu64(v2+8));
-	if (ld8(v19) != 0) goto L12;
+	if (ld8(v19)) goto L12;
 	switch (ld8(v19+24)) {
 	case 0: goto L8;
 	case 1: goto L9;
@@ -12916,8 +12179,7 @@ L8:;
 	u32 v49 = ld32(v19+32);
 	u64 v50 = ld64(v19+64);
 	ptr v51 = at(v20, ld64(v5) << 5);
-	u32 v52 = ld32(v19+36);
-	u32 v53 = ld32(v19+40);
+	u32 v52 = ld32(v19+36), v53 = ld32(v19+40);
 	su64(v51, ld64(v19+48));
 	su32(v51+8, (u32)(v50 < 4294967295u ? v50 : 4294967295u));
 	su32(v51+12, v53);
@@ -12927,28 +12189,28 @@ L8:;
 	st64(v5, ld64(v5) + 1);
 	copy(v2, v19+8, 16);
 	goto L10;
-L9:;
+L9:
 	copy(v2, v19+8, 16);
-L10:;
+L10:
 	if (ld64(v5) < v4) goto L2;
 	v14 = 0; goto L14;
-L11:;
+L11:
 	__builtin_trap();
 L12:;
 	u8 v54 = ld8(v19+8);
 	st8(v17, v54);
 	copy(v17+8, v19+16, 88);
 	u32 v55 = pcapfile_values_errors_tell(v17, v6);
-	if ((v54 != 4) || (ld64(v17+24) == 0)) { v14 = v55; goto L14; }
+	if (v54 != 4 || !ld64(v17+24)) { v14 = v55; goto L14; }
 	deallocate(ldp(v17+8));
 	v14 = v55; goto L14;
-L13:;
+L13:
 	stp(v18+8, (ptr)static_5);
 	st64(v18+16, 40);
 	clear(v18+24, 72);
 	u32 v56 = pcapfile_values_errors_tell(v18, v6);
 	v14 = v56;
-L14:;
+L14:
 	return (int32_t)(v14);
 }
 int32_t pcapfile_push_ng_next(ptr v1, ptr v2, ptr v3, u64 v4, ptr v5, u64 v6, ptr v7, ptr v8) {
@@ -12960,10 +12222,9 @@ int32_t pcapfile_push_ng_next(ptr v1, ptr v2, ptr v3, u64 v4, ptr v5, u64 v6, pt
 	t_8_32 v42;
 	_Alignas(8) u8 v44[24], v45[24], v46[104], v47[96], v49[32], v50[16];
 	_Alignas(1) u8 v48[7];
-	ptr v51 = at(v5, v5 == (ptr)0 ? 4096ull : 0ull);
-	u64 v52 = ld64(v1+24);
-	u64 v53 = ld64(v1+32);
-	ptr v54 = at(at(v3, v3 == (ptr)0 ? 4096ull : 0ull), v52);
+	ptr v51 = at(v5, !v5 ? 4096ull : 0ull);
+	u64 v52 = ld64(v1+24), v53 = ld64(v1+32);
+	ptr v54 = at(at(v3, !v3 ? 4096ull : 0ull), v52);
 	u64 v55 = v53 - v52;
 	if (!((v53 >= v52) & (v4 >= v53))) { v43 = 10; goto L30; }
 	if (v6 < (u64)ld32(v2+8)) { v43 = 10; goto L30; }
@@ -12971,10 +12232,10 @@ int32_t pcapfile_push_ng_next(ptr v1, ptr v2, ptr v3, u64 v4, ptr v5, u64 v6, pt
 	case 0: case 439041101: case 1295788826: goto L0;
 	default: goto L29;
 	}
-L0:;
+L0:
 	stp(v50, v54);
 	st64(v50+8, v55);
-L1:;
+L1:
 	st64(v47, 0);
 	switch (ld32(v2)) {
 	case 439041101: goto L2;
@@ -12985,56 +12246,53 @@ L2:;
 	ptr v56 = ldp(v50);
 	u64 v57 = ld64(v50+8);
 	clear(v46, 104);
-	if (v57 < 12) { v16 = v57; v17 = v56; v18 = 0; goto L7; }
-	u32 v58 = lu32(v56+4);
-	u32 v59 = (u32)__builtin_bswap32(v58);
-	if (!((lu32(v56) == 100663296) & ((v59 & 3) == 0))) { v16 = v57; v17 = v56; v18 = 0; goto L7; }
+	if (v57 < 12) { M0: v16 = v57; v17 = v56; v18 = 0; goto L7; }
+	u32 v58 = lu32(v56+4), v59 = (u32)__builtin_bswap32(v58);
+	if (!((lu32(v56) == 100663296) & ((v59 & 3) == 0))) goto M0;
 	u64 v60 = (u64)v59;
-	if ((v59 < 12) | (v57 < v60)) { v16 = v57; v17 = v56; v18 = 0; goto L7; }
+	if ((v59 < 12) | (v57 < v60)) goto M0;
 	ptr v61 = at(v56+8, v60);
 	u64 v62 = v57 - v60;
-	if ((v59 < 32) | (lu32(v61-12) != v58)) { v16 = v57; v17 = v56; v18 = 0; goto L7; }
+	if ((v59 < 32) | (lu32(v61-12) != v58)) goto M0;
 	u32 v63 = (u32)__builtin_bswap32(lu32(v56+8));
 	u64 v64 = v60 - 32;
 	u32 v65 = (u32)__builtin_bswap32(lu32(v56+24));
-	u64 v66 = (u64)(u32)__builtin_bswap32(lu32(v56+20));
-	u64 v67 = ((0ull - v66) & 3) + v66;
-	if (v64 < v67) { v16 = v57; v17 = v56; v18 = 0; goto L7; }
+	u64 v66 = (u64)(u32)__builtin_bswap32(lu32(v56+20)), v67 = ((0ull - v66) & 3) + v66;
+	if (v64 < v67) goto M0;
 	u64 v68 = (u64)__builtin_bswap64(lu64(v56+12));
 	clear(v45, 24);
 	if (v64 != v67) goto L3;
-	v9 = v62; v10 = v61-8; v11 = v66; v12 = v56+28; v13 = v68; v14 = v65; v15 = v63; goto L6;
-L3:;
+	M1: v9 = v62; v10 = v61-8; v11 = v66; v12 = v56+28; v13 = v68; v14 = v65; v15 = v63; goto L6;
+L3:
 	pcapfile_values_enhanced_options_behind_some_4da0(v45, at(v56+28, v67), v64 - v67);
-	if (ld8(v45) == 1) { v9 = v62; v10 = v61-8; v11 = v66; v12 = v56+28; v13 = v68; v14 = v65; v15 = v63; goto L6; }
-	v16 = v57; v17 = v56; v18 = 0; goto L7;
+	if (ld8(v45) == 1) goto M1;
+	goto M0;
 L4:;
 	ptr v69 = ldp(v50);
 	u64 v70 = ld64(v50+8);
 	clear(v46, 104);
-	if (v70 < 12) { v16 = v70; v17 = v69; v18 = 1; goto L7; }
+	if (v70 < 12) { M2: v16 = v70; v17 = v69; v18 = 1; goto L7; }
 	u32 v71 = lu32(v69+4);
-	if (!((lu32(v69) == 6) & ((v71 & 3) == 0))) { v16 = v70; v17 = v69; v18 = 1; goto L7; }
+	if (!((lu32(v69) == 6) & ((v71 & 3) == 0))) goto M2;
 	u64 v72 = (u64)v71;
-	if ((v71 < 12) | (v70 < v72)) { v16 = v70; v17 = v69; v18 = 1; goto L7; }
+	if ((v71 < 12) | (v70 < v72)) goto M2;
 	ptr v73 = at(v69+8, v72);
 	u64 v74 = v70 - v72;
-	if ((v71 < 32) | (lu32(v73-12) != v71)) { v16 = v70; v17 = v69; v18 = 1; goto L7; }
+	if ((v71 < 32) | (lu32(v73-12) != v71)) goto M2;
 	u32 v75 = lu32(v69+8);
 	u64 v76 = v72 - 32;
 	u32 v77 = lu32(v69+24);
-	u64 v78 = (u64)lu32(v69+20);
-	u64 v79 = ((0ull - v78) & 3) + v78;
-	if (v76 < v79) { v16 = v70; v17 = v69; v18 = 1; goto L7; }
+	u64 v78 = (u64)lu32(v69+20), v79 = ((0ull - v78) & 3) + v78;
+	if (v76 < v79) goto M2;
 	u64 v80 = ((u64)lu32(v69+12) << 32) | (u64)lu32(v69+16);
 	clear(v44, 24);
 	if (v76 != v79) goto L5;
 	v9 = v74; v10 = v73-8; v11 = v78; v12 = v69+28; v13 = v80; v14 = v77; v15 = v75; goto L6;
-L5:;
+L5:
 	pcapfile_values_enhanced_options_behind_some_7f02(v44, at(v69+28, v79), v76 - v79);
-	if (ld8(v44) != 1) { v16 = v70; v17 = v69; v18 = 1; goto L7; }
+	if (ld8(v44) != 1) goto M2;
 	v9 = v74; v10 = v73-8; v11 = v78; v12 = v69+28; v13 = v80; v14 = v77; v15 = v75;
-L6:;
+L6:
 	st64(v46, 0);
 	stp(v46+8, v10);
 	st64(v46+16, v9);
@@ -13051,7 +12309,7 @@ L6:;
 	copy(v48, v46+25, 7);
 	copy(v49, v46+72, 32);
 	v19 = v11; v20 = v12; v21 = v13; v22 = v9; v23 = v10; v24 = v81; v25 = v82; goto L8;
-L7:;
+L7:
 	pcapfile_c_batches_any_front(v46, v18, v17, v16);
 	ptr v83 = ldp(v46+8);
 	u64 v84 = ld64(v46+16);
@@ -13076,8 +12334,7 @@ L8:;
 	u64 v92 = (u64)v24;
 	u32 v93 = (u32)v92;
 	u64 v94 = v92 >> 32;
-	u32 v95 = (u32)v94;
-	u32 v96 = (u32)v25;
+	u32 v95 = (u32)v94, v96 = (u32)v25;
 	if (!((v94 < v6) & (ld32(v2+8) > v95))) goto L19;
 	ptr v97 = at(v51, v94 * 24);
 	u32 v98 = lu32(v97);
@@ -13085,32 +12342,32 @@ L8:;
 	u64 v100 = lu64(v97+16);
 	if (v93 != 3) goto L9;
 	u32 v101 = lu32(v97+4);
-	u64 v102 = (u64)(v101 == 0 ? v96 : (v101 < v96 ? v101 : v96));
-	v34 = 0; v35 = 0; v36 = v98; v37 = 1; v38 = 0; v39 = v102 < v19 ? v102 : v19; goto L20;
-L9:;
+	u64 v102 = (u64)(!v101 ? v96 : (v101 < v96 ? v101 : v96));
+	v36 = v98; v39 = v102 < v19 ? v102 : v19; v34 = v35 = v38 = 0; v37 = 1; goto L20;
+L9:
 	if (ld8(v97+8) != 2) goto L11;
 	u32 v103 = (u32)v99;
-	if (v99 == 0) { v30 = 1; goto L16; }
+	if (!v99) { v30 = 1; goto L16; }
 	v26 = 0; v27 = 1;
-L10:;
+L10:
 	if ((s128)v27 <= (s128)((u128)0xffffffffffffffffull << 64 | 0xffffffffffffffffull)) { v31 = 0; goto L17; }
 	u128 v104 = v27 << 1;
 	u32 v105 = v26 + 1;
 	if (v105 == v103) { v30 = v104; goto L16; }
 	v26 = v105; v27 = v104; goto L10;
-L11:;
+L11:
 	switch (v99) {
 	case 6: goto L12;
 	case 9: goto L13;
 	default: goto L14;
 	}
-L12:;
+L12:
 	v32 = (u32)(v21 % 1000000) * 1000; v33 = v21 / 1000000; goto L18;
-L13:;
+L13:
 	v32 = (u32)(v21 % 1000000000); v33 = v21 / 1000000000; goto L18;
 L14:;
 	u32 v106 = (u32)v99;
-	if (v99 == 0) { v30 = 1; goto L16; }
+	if (!v99) { v30 = 1; goto L16; }
 	if (v99 > 38) { v31 = 0; goto L17; }
 	v28 = 0; v29 = 1;
 L15:;
@@ -13119,10 +12376,10 @@ L15:;
 	u128 v109 = v108 | (v107 & 0xfffffffffffffffeull);
 	u32 v110 = v28 + 1;
 	if (v110 != v106) { v28 = v110; v29 = v109; goto L15; }
-	if (v109 != 0) { v30 = v109; goto L16; }
+	if (v109) { v30 = v109; goto L16; }
 	__builtin_trap();
 	__builtin_trap();
-L16:;
+L16:
 	v31 = ((u128)v21 * 1000000000) / v30;
 L17:;
 	u128 v111 = v31 / 1000000000;
@@ -13130,11 +12387,11 @@ L17:;
 L18:;
 	u128 v112 = (u128)v33 + (u128)(s64)v100;
 	u8 v113 = (s128)v112 < (s128)((u128)0x8000000000000000ull);
-	v34 = v113 ? (u64)v112 : 0; v35 = v113 ? v32 : 0; v36 = v98; v37 = 1; v38 = v113; v39 = v19; goto L20;
+	v34 = v113 ? (u64)v112 : 0; v35 = v113 ? v32 : 0; v36 = v98; v38 = v113; v39 = v19; v37 = 1; goto L20;
 L19:;
 	u64 v114 = v25 & 4294967295u;
-	v34 = 0; v35 = 0; v36 = 0; v37 = 0; v38 = 0; v39 = v93 == 3 ? (v114 < v19 ? v114 : v19) : v19;
-L20:;
+	v39 = v93 == 3 ? (v114 < v19 ? v114 : v19) : v19; v34 = v35 = v36 = v37 = v38 = 0;
+L20:
 	su32(v7, v36);
 	su32(v7+4, v95);
 	st8(v7+8, v37);
@@ -13149,17 +12406,17 @@ L20:;
 	stp(v50, v23);
 	st64(v50+8, v22);
 	v40 = 1; v41 = 0; goto L26;
-L21:;
+L21:
 	stp(v50, v83);
 	st64(v50+8, v84);
-	v40 = 0; v41 = 0; goto L26;
+	v40 = v41 = 0; goto L26;
 L22:;
 	t_8_32 v115 = pcapfile_c_push_packets_take_section(v2, v50, v83, v84, v89, v90, v8);
 	v40 = v115.f0; v41 = v115.f1; goto L26;
 L23:;
 	t_8_32 v116 = pcapfile_c_push_packets_take_interface(v18, v2, v50, v83, v84, v89, v90, v51, v6, v8);
 	v40 = v116.f0; v41 = v116.f1; goto L26;
-L24:;
+L24:
 	__builtin_trap();
 L25:;
 	u8 v117 = (u8)(u64)v83;
@@ -13174,24 +12431,24 @@ L25:;
 	st64(v47+56, v88);
 	copy(v47+64, v49, 32);
 	u32 v118 = pcapfile_values_errors_tell(v47, v8);
-	if ((v117 != 4) || (v89 == (ptr)0)) { v40 = 1; v41 = v118; goto L26; }
+	if (v117 != 4 || !v89) { v41 = v118; v40 = 1; goto L26; }
 	deallocate((ptr)v84);
-	v40 = 1; v41 = v118;
-L26:;
+	v41 = v118; v40 = 1;
+L26:
 	v42 = (t_8_32){v40, v41}; goto L28;
 L27:;
 	t_8_32 v119 = pcapfile_c_push_packets_take_first(v2, v50, v8);
 	v42 = v119;
-L28:;
+L28:
 	if (v42.f0 != 1) goto L1;
 	st64(v1+24, ld64(v1+32) - ld64(v50+8));
 	v43 = v42.f1; goto L30;
-L29:;
+L29:
 	su32(v8, 6);
 	su32(v8+4, 0);
 	su64(v8+8, 0);
 	v43 = 3;
-L30:;
+L30:
 	return (int32_t)(v43);
 }
 int32_t pcapfile_push_ng_packets(ptr v1, ptr v2, ptr v3, u64 v4, ptr v5, u64 v6, ptr v7, u64 v8, ptr v9, ptr v10) {
@@ -13203,12 +12460,10 @@ int32_t pcapfile_push_ng_packets(ptr v1, ptr v2, ptr v3, u64 v4, ptr v5, u64 v6,
 	t_8_32 v45;
 	_Alignas(8) u8 v50[24], v51[24], v52[104], v53[96], v55[32], v56[16];
 	_Alignas(1) u8 v54[7];
-	ptr v57 = at(v5, v5 == (ptr)0 ? 4096ull : 0ull);
-	ptr v58 = at(v7, v7 == (ptr)0 ? 4096ull : 0ull);
+	ptr v57 = at(v5, !v5 ? 4096ull : 0ull), v58 = at(v7, !v7 ? 4096ull : 0ull);
 	st64(v9, 0);
-	u64 v59 = ld64(v1+24);
-	u64 v60 = ld64(v1+32);
-	ptr v61 = at(at(v3, v3 == (ptr)0 ? 4096ull : 0ull), v59);
+	u64 v59 = ld64(v1+24), v60 = ld64(v1+32);
+	ptr v61 = at(at(v3, !v3 ? 4096ull : 0ull), v59);
 	u64 v62 = v60 - v59;
 	if (!((v60 >= v59) & (v4 >= v60))) { v49 = 10; goto L33; }
 	if (v6 < (u64)ld32(v2+8)) { v49 = 10; goto L33; }
@@ -13216,14 +12471,14 @@ int32_t pcapfile_push_ng_packets(ptr v1, ptr v2, ptr v3, u64 v4, ptr v5, u64 v6,
 	case 0: case 439041101: case 1295788826: goto L0;
 	default: goto L32;
 	}
-L0:;
+L0:
 	stp(v56, v61);
 	st64(v56+8, v62);
-	if (v8 == 0) { v46 = v62; v47 = v60; v48 = 0; goto L31; }
+	if (!v8) { v46 = v62; v47 = v60; v48 = 0; goto L31; }
 	v11 = 0;
 L1:;
 	ptr v63 = at(v58, v11 * 48);
-L2:;
+L2:
 	st64(v53, 0);
 	switch (ld32(v2)) {
 	case 439041101: goto L3;
@@ -13234,56 +12489,53 @@ L3:;
 	ptr v64 = ldp(v56);
 	u64 v65 = ld64(v56+8);
 	clear(v52, 104);
-	if (v65 < 12) { v19 = v65; v20 = v64; v21 = 0; goto L8; }
-	u32 v66 = lu32(v64+4);
-	u32 v67 = (u32)__builtin_bswap32(v66);
-	if (!((lu32(v64) == 100663296) & ((v67 & 3) == 0))) { v19 = v65; v20 = v64; v21 = 0; goto L8; }
+	if (v65 < 12) { M1: v19 = v65; v20 = v64; v21 = 0; goto L8; }
+	u32 v66 = lu32(v64+4), v67 = (u32)__builtin_bswap32(v66);
+	if (!((lu32(v64) == 100663296) & ((v67 & 3) == 0))) goto M1;
 	u64 v68 = (u64)v67;
-	if ((v67 < 12) | (v65 < v68)) { v19 = v65; v20 = v64; v21 = 0; goto L8; }
+	if ((v67 < 12) | (v65 < v68)) goto M1;
 	ptr v69 = at(v64+8, v68);
 	u64 v70 = v65 - v68;
-	if ((v67 < 32) | (lu32(v69-12) != v66)) { v19 = v65; v20 = v64; v21 = 0; goto L8; }
+	if ((v67 < 32) | (lu32(v69-12) != v66)) goto M1;
 	u32 v71 = (u32)__builtin_bswap32(lu32(v64+8));
 	u64 v72 = v68 - 32;
 	u32 v73 = (u32)__builtin_bswap32(lu32(v64+24));
-	u64 v74 = (u64)(u32)__builtin_bswap32(lu32(v64+20));
-	u64 v75 = ((0ull - v74) & 3) + v74;
-	if (v72 < v75) { v19 = v65; v20 = v64; v21 = 0; goto L8; }
+	u64 v74 = (u64)(u32)__builtin_bswap32(lu32(v64+20)), v75 = ((0ull - v74) & 3) + v74;
+	if (v72 < v75) goto M1;
 	u64 v76 = (u64)__builtin_bswap64(lu64(v64+12));
 	clear(v51, 24);
 	if (v72 != v75) goto L4;
-	v12 = v70; v13 = v69-8; v14 = v74; v15 = v64+28; v16 = v76; v17 = v73; v18 = v71; goto L7;
-L4:;
+	M2: v12 = v70; v13 = v69-8; v14 = v74; v15 = v64+28; v16 = v76; v17 = v73; v18 = v71; goto L7;
+L4:
 	pcapfile_values_enhanced_options_behind_some_4da0(v51, at(v64+28, v75), v72 - v75);
-	if (ld8(v51) == 1) { v12 = v70; v13 = v69-8; v14 = v74; v15 = v64+28; v16 = v76; v17 = v73; v18 = v71; goto L7; }
-	v19 = v65; v20 = v64; v21 = 0; goto L8;
+	if (ld8(v51) == 1) goto M2;
+	goto M1;
 L5:;
 	ptr v77 = ldp(v56);
 	u64 v78 = ld64(v56+8);
 	clear(v52, 104);
-	if (v78 < 12) { v19 = v78; v20 = v77; v21 = 1; goto L8; }
+	if (v78 < 12) { M3: v19 = v78; v20 = v77; v21 = 1; goto L8; }
 	u32 v79 = lu32(v77+4);
-	if (!((lu32(v77) == 6) & ((v79 & 3) == 0))) { v19 = v78; v20 = v77; v21 = 1; goto L8; }
+	if (!((lu32(v77) == 6) & ((v79 & 3) == 0))) goto M3;
 	u64 v80 = (u64)v79;
-	if ((v79 < 12) | (v78 < v80)) { v19 = v78; v20 = v77; v21 = 1; goto L8; }
+	if ((v79 < 12) | (v78 < v80)) goto M3;
 	ptr v81 = at(v77+8, v80);
 	u64 v82 = v78 - v80;
-	if ((v79 < 32) | (lu32(v81-12) != v79)) { v19 = v78; v20 = v77; v21 = 1; goto L8; }
+	if ((v79 < 32) | (lu32(v81-12) != v79)) goto M3;
 	u32 v83 = lu32(v77+8);
 	u64 v84 = v80 - 32;
 	u32 v85 = lu32(v77+24);
-	u64 v86 = (u64)lu32(v77+20);
-	u64 v87 = ((0ull - v86) & 3) + v86;
-	if (v84 < v87) { v19 = v78; v20 = v77; v21 = 1; goto L8; }
+	u64 v86 = (u64)lu32(v77+20), v87 = ((0ull - v86) & 3) + v86;
+	if (v84 < v87) goto M3;
 	u64 v88 = ((u64)lu32(v77+12) << 32) | (u64)lu32(v77+16);
 	clear(v50, 24);
 	if (v84 != v87) goto L6;
 	v12 = v82; v13 = v81-8; v14 = v86; v15 = v77+28; v16 = v88; v17 = v85; v18 = v83; goto L7;
-L6:;
+L6:
 	pcapfile_values_enhanced_options_behind_some_7f02(v50, at(v77+28, v87), v84 - v87);
-	if (ld8(v50) != 1) { v19 = v78; v20 = v77; v21 = 1; goto L8; }
+	if (ld8(v50) != 1) goto M3;
 	v12 = v82; v13 = v81-8; v14 = v86; v15 = v77+28; v16 = v88; v17 = v85; v18 = v83;
-L7:;
+L7:
 	st64(v52, 0);
 	stp(v52+8, v13);
 	st64(v52+16, v12);
@@ -13300,7 +12552,7 @@ L7:;
 	copy(v54, v52+25, 7);
 	copy(v55, v52+72, 32);
 	v22 = v14; v23 = v15; v24 = v16; v25 = v12; v26 = v13; v27 = v89; v28 = v90; goto L9;
-L8:;
+L8:
 	pcapfile_c_batches_any_front(v52, v21, v20, v19);
 	ptr v91 = ldp(v52+8);
 	u64 v92 = ld64(v52+16);
@@ -13325,8 +12577,7 @@ L9:;
 	u64 v100 = (u64)v27;
 	u32 v101 = (u32)v100;
 	u64 v102 = v100 >> 32;
-	u32 v103 = (u32)v102;
-	u32 v104 = (u32)v28;
+	u32 v103 = (u32)v102, v104 = (u32)v28;
 	if (!((v102 < v6) & (ld32(v2+8) > v103))) goto L20;
 	ptr v105 = at(v57, v102 * 24);
 	u32 v106 = lu32(v105);
@@ -13334,32 +12585,32 @@ L9:;
 	u64 v108 = lu64(v105+16);
 	if (v101 != 3) goto L10;
 	u32 v109 = lu32(v105+4);
-	u64 v110 = (u64)(v109 == 0 ? v104 : (v109 < v104 ? v109 : v104));
-	v37 = 0; v38 = 0; v39 = v106; v40 = 1; v41 = 0; v42 = v110 < v22 ? v110 : v22; goto L21;
-L10:;
+	u64 v110 = (u64)(!v109 ? v104 : (v109 < v104 ? v109 : v104));
+	v39 = v106; v42 = v110 < v22 ? v110 : v22; v37 = v38 = v41 = 0; v40 = 1; goto L21;
+L10:
 	if (ld8(v105+8) != 2) goto L12;
 	u32 v111 = (u32)v107;
-	if (v107 == 0) { v33 = 1; goto L17; }
+	if (!v107) { v33 = 1; goto L17; }
 	v29 = 0; v30 = 1;
-L11:;
+L11:
 	if ((s128)v30 <= (s128)((u128)0xffffffffffffffffull << 64 | 0xffffffffffffffffull)) { v34 = 0; goto L18; }
 	u128 v112 = v30 << 1;
 	u32 v113 = v29 + 1;
 	if (v113 == v111) { v33 = v112; goto L17; }
 	v29 = v113; v30 = v112; goto L11;
-L12:;
+L12:
 	switch (v107) {
 	case 6: goto L13;
 	case 9: goto L14;
 	default: goto L15;
 	}
-L13:;
+L13:
 	v35 = (u32)(v24 % 1000000) * 1000; v36 = v24 / 1000000; goto L19;
-L14:;
+L14:
 	v35 = (u32)(v24 % 1000000000); v36 = v24 / 1000000000; goto L19;
 L15:;
 	u32 v114 = (u32)v107;
-	if (v107 == 0) { v33 = 1; goto L17; }
+	if (!v107) { v33 = 1; goto L17; }
 	if (v107 > 38) { v34 = 0; goto L18; }
 	v31 = 0; v32 = 1;
 L16:;
@@ -13368,10 +12619,10 @@ L16:;
 	u128 v117 = v116 | (v115 & 0xfffffffffffffffeull);
 	u32 v118 = v31 + 1;
 	if (v118 != v114) { v31 = v118; v32 = v117; goto L16; }
-	if (v117 != 0) { v33 = v117; goto L17; }
+	if (v117) { v33 = v117; goto L17; }
 	__builtin_trap();
 	__builtin_trap();
-L17:;
+L17:
 	v34 = ((u128)v24 * 1000000000) / v33;
 L18:;
 	u128 v119 = v34 / 1000000000;
@@ -13379,11 +12630,11 @@ L18:;
 L19:;
 	u128 v120 = (u128)v36 + (u128)(s64)v108;
 	u8 v121 = (s128)v120 < (s128)((u128)0x8000000000000000ull);
-	v37 = v121 ? (u64)v120 : 0; v38 = v121 ? v35 : 0; v39 = v106; v40 = 1; v41 = v121; v42 = v22; goto L21;
+	v37 = v121 ? (u64)v120 : 0; v38 = v121 ? v35 : 0; v39 = v106; v41 = v121; v42 = v22; v40 = 1; goto L21;
 L20:;
 	u64 v122 = v28 & 4294967295u;
-	v37 = 0; v38 = 0; v39 = 0; v40 = 0; v41 = 0; v42 = v101 == 3 ? (v122 < v22 ? v122 : v22) : v22;
-L21:;
+	v42 = v101 == 3 ? (v122 < v22 ? v122 : v22) : v22; v37 = v38 = v39 = v40 = v41 = 0;
+L21:
 	su32(v63, v39);
 	su32(v63+4, v103);
 	st8(v63+8, v40);
@@ -13398,17 +12649,17 @@ L21:;
 	stp(v56, v26);
 	st64(v56+8, v25);
 	v43 = 1; v44 = 0; goto L27;
-L22:;
+L22:
 	stp(v56, v91);
 	st64(v56+8, v92);
-	v43 = 0; v44 = 0; goto L27;
+	v43 = v44 = 0; goto L27;
 L23:;
 	t_8_32 v123 = pcapfile_c_push_packets_take_section(v2, v56, v91, v92, v97, v98, v10);
 	v43 = v123.f0; v44 = v123.f1; goto L27;
 L24:;
 	t_8_32 v124 = pcapfile_c_push_packets_take_interface(v21, v2, v56, v91, v92, v97, v98, v57, v6, v10);
 	v43 = v124.f0; v44 = v124.f1; goto L27;
-L25:;
+L25:
 	__builtin_trap();
 L26:;
 	u8 v125 = (u8)(u64)v91;
@@ -13423,31 +12674,31 @@ L26:;
 	st64(v53+56, v96);
 	copy(v53+64, v55, 32);
 	u32 v126 = pcapfile_values_errors_tell(v53, v10);
-	if ((v125 != 4) || (v97 == (ptr)0)) { v43 = 1; v44 = v126; goto L27; }
+	if (v125 != 4 || !v97) { v44 = v126; v43 = 1; goto L27; }
 	deallocate((ptr)v92);
-	v43 = 1; v44 = v126;
-L27:;
+	v44 = v126; v43 = 1;
+L27:
 	v45 = (t_8_32){v43, v44}; goto L29;
 L28:;
 	t_8_32 v127 = pcapfile_c_push_packets_take_first(v2, v56, v10);
 	v45 = v127;
-L29:;
+L29:
 	if (v45.f0 != 1) goto L2;
-	if (v45.f1 != 0) goto L30;
+	if (v45.f1) goto L30;
 	u64 v128 = ld64(v9) + 1;
 	st64(v9, v128);
 	if (v128 < v8) { v11 = v128; goto L1; }
-L30:;
+L30:
 	v46 = ld64(v56+8); v47 = ld64(v1+32); v48 = v45.f1;
-L31:;
+L31:
 	st64(v1+24, v47 - v46);
 	v49 = v48; goto L33;
-L32:;
+L32:
 	su32(v10, 6);
 	su32(v10+4, 0);
 	su64(v10+8, 0);
 	v49 = 3;
-L33:;
+L33:
 	return (int32_t)(v49);
 }
 int32_t pcapfile_take_packet(ptr v1, ptr v2, ptr v3, ptr v4) {
@@ -13467,28 +12718,23 @@ L0:;
 	case 2712847316u: case 2712812621u: goto L1;
 	default: goto L3;
 	}
-L1:;
+L1:
 	if (v17) goto L6;
-	u32 v18 = (u32)__builtin_bswap32(lu32(v15));
-	u32 v19 = (u32)__builtin_bswap32(lu32(v15+4));
-	u32 v20 = lu32(v15+8);
-	u32 v21 = (u32)__builtin_bswap32(v20);
+	u32 v18 = (u32)__builtin_bswap32(lu32(v15)), v19 = (u32)__builtin_bswap32(lu32(v15+4));
+	u32 v20 = lu32(v15+8), v21 = (u32)__builtin_bswap32(v20);
 	u64 v22 = v16 - 16;
-	u32 v23 = lu32(v15+12);
-	u32 v24 = (u32)__builtin_bswap32(v23);
+	u32 v23 = lu32(v15+12), v24 = (u32)__builtin_bswap32(v23);
 	if (v14 != 2712847316u) { v5 = v19; goto L2; }
 	if (v19 > 4294967) goto L6;
 	v5 = v19 * 1000;
-L2:;
-	if (((v21 > 262144) | (v24 > 262144)) || (v24 < v21)) goto L6;
-	u64 v25 = (u64)__builtin_bswap64(((u64)v20 << 32) | (u64)v23);
-	u64 v26 = v25 & 4294967295u;
+L2:
+	if ((v21 > 262144) | (v24 > 262144) || v24 < v21) goto L6;
+	u64 v25 = (u64)__builtin_bswap64(((u64)v20 << 32) | (u64)v23), v26 = v25 & 4294967295u;
 	if (v22 < v26) goto L6;
 	v7 = (u32)(v25 >> 32); v8 = at(v15+16, v26); v9 = v22 - v26; v10 = ((u64)v5 << 32) | (u64)v18; v11 = v15+16; v12 = v26; goto L8;
-L3:;
+L3:
 	if (v17) goto L6;
-	u32 v27 = lu32(v15);
-	u32 v28 = lu32(v15+4);
+	u32 v27 = lu32(v15), v28 = lu32(v15+4);
 	u64 v29 = lu64(v15+8);
 	u32 v30 = (u32)v29;
 	u64 v31 = v16 - 16;
@@ -13497,19 +12743,19 @@ L3:;
 	case 3569595041u: case 2712847316u: goto L4;
 	default: v6 = v28; goto L5;
 	}
-L4:;
+L4:
 	if (v28 > 4294967) goto L6;
 	v6 = v28 * 1000;
-L5:;
-	if (((v29 > 0x40000ffffffffull) | (v30 > 262144)) || (v32 < v30)) goto L6;
+L5:
+	if ((v29 > 0x40000ffffffffull) | (v30 > 262144) || v32 < v30) goto L6;
 	u64 v33 = v29 & 524287;
 	if (v31 >= v33) goto L7;
 L6:;
 	u32 v34 = pcapfile_c_pcap_take_slowly(v14, v2, v3, v4);
 	v13 = v34; goto L10;
-L7:;
+L7:
 	v7 = v32; v8 = at(v15+16, v33); v9 = v31 - v33; v10 = ((u64)v6 << 32) | (u64)v27; v11 = v15+16; v12 = v33;
-L8:;
+L8:
 	su64(v3, v10);
 	su32(v3+8, v7);
 	su32(v3+12, 0);
@@ -13521,14 +12767,14 @@ L8:;
 L9:;
 	u32 v35 = pcapfile_c_pcap_take_slowly(v14, v2, v3, v4);
 	v13 = v35;
-L10:;
+L10:
 	return (int32_t)(v13);
 }
 int32_t pcapfile_take_rows(ptr v1, ptr v2, ptr v3, u64 v4, ptr v5, ptr v6) {
 	u32 v7, v10, v12, v15, v17;
 	u64 v8, v9, v11, v13, v14, v16;
 	_Alignas(8) u8 v18[32], v19[96];
-	ptr v20 = at(v3, v3 == (ptr)0 ? 4096ull : 0ull);
+	ptr v20 = at(v3, !v3 ? 4096ull : 0ull);
 	clear(v18+8, 16);
 	st64(v19, 2);
 	st64(v5, 0);
@@ -13542,42 +12788,37 @@ L0:;
 	st32(v18, 0);
 	st32(v18+4, 0);
 	st64(v18+24, v22);
-	if (v4 == 0) { v17 = 0; goto L14; }
+	if (!v4) { v17 = 0; goto L14; }
 	u64 v23 = v22 + 16;
 	u8 v24 = v21 == 2712847316u;
 	switch (v21) {
 	case 2712847316u: case 2712812621u: goto L1;
 	default: goto L7;
 	}
-L1:;
+L1:
 L2:;
 	u64 v25 = lu64(v2+8);
-	if (v25 == 0) { v17 = 0; goto L14; }
+	if (!v25) { v17 = 0; goto L14; }
 	if (v25 < 16) goto L4;
 	ptr v26 = lup(v2);
-	u32 v27 = (u32)__builtin_bswap32(lu32(v26));
-	u32 v28 = (u32)__builtin_bswap32(lu32(v26+4));
-	u32 v29 = lu32(v26+8);
-	u32 v30 = (u32)__builtin_bswap32(v29);
+	u32 v27 = (u32)__builtin_bswap32(lu32(v26)), v28 = (u32)__builtin_bswap32(lu32(v26+4));
+	u32 v29 = lu32(v26+8), v30 = (u32)__builtin_bswap32(v29);
 	u64 v31 = v25 - 16;
-	u32 v32 = lu32(v26+12);
-	u32 v33 = (u32)__builtin_bswap32(v32);
+	u32 v32 = lu32(v26+12), v33 = (u32)__builtin_bswap32(v32);
 	if (!v24) { v7 = v28; goto L3; }
 	if (v28 > 4294967) goto L4;
 	v7 = v28 * 1000;
-L3:;
-	if (((v30 > 262144) | (v33 > 262144)) || (v33 < v30)) goto L4;
-	u64 v34 = (u64)__builtin_bswap64(((u64)v29 << 32) | (u64)v32);
-	u64 v35 = v34 & 4294967295u;
+L3:
+	if ((v30 > 262144) | (v33 > 262144) || v33 < v30) goto L4;
+	u64 v34 = (u64)__builtin_bswap64(((u64)v29 << 32) | (u64)v32), v35 = v34 & 4294967295u;
 	if (v31 >= v35) goto L5;
 L4:;
 	u32 v36 = pcapfile_c_pcap_take_slowly(ld32(v1), v2, v18, v6);
-	if (v36 != 0) { v17 = v36; goto L14; }
+	if (v36) { v17 = v36; goto L14; }
 	u64 v37 = ld64(v18+24);
 	v8 = (u64)ld32(v18+4); v9 = (u64)ld32(v18); v10 = ld32(v18+8); v11 = v37 < 4294967295u ? v37 : 4294967295u; goto L6;
 L5:;
-	u64 v38 = (u64)v7;
-	u64 v39 = (u64)v27;
+	u64 v38 = (u64)v7, v39 = (u64)v27;
 	u32 v40 = (u32)(v34 >> 32);
 	st64(v18, (v38 << 32) | v39);
 	st32(v18+8, v40);
@@ -13600,11 +12841,10 @@ L6:;
 	v17 = 0; goto L14;
 L7:;
 	u64 v44 = lu64(v2+8);
-	if (v44 == 0) { v17 = 0; goto L14; }
+	if (!v44) { v17 = 0; goto L14; }
 	if (v44 < 16) goto L10;
 	ptr v45 = lup(v2);
-	u32 v46 = lu32(v45);
-	u32 v47 = lu32(v45+4);
+	u32 v46 = lu32(v45), v47 = lu32(v45+4);
 	u64 v48 = lu64(v45+8);
 	u32 v49 = (u32)v48;
 	u64 v50 = v44 - 16;
@@ -13613,21 +12853,20 @@ L7:;
 	case 3569595041u: case 2712847316u: goto L8;
 	default: v12 = v47; goto L9;
 	}
-L8:;
+L8:
 	if (v47 > 4294967) goto L10;
 	v12 = v47 * 1000;
-L9:;
-	if (((v48 > 0x40000ffffffffull) | (v49 > 262144)) || (v51 < v49)) goto L10;
+L9:
+	if ((v48 > 0x40000ffffffffull) | (v49 > 262144) || v51 < v49) goto L10;
 	u64 v52 = v48 & 524287;
 	if (v50 >= v52) goto L11;
 L10:;
 	u32 v53 = pcapfile_c_pcap_take_slowly(ld32(v1), v2, v18, v6);
-	if (v53 != 0) { v17 = v53; goto L14; }
+	if (v53) { v17 = v53; goto L14; }
 	u64 v54 = ld64(v18+24);
 	v13 = (u64)ld32(v18+4); v14 = (u64)ld32(v18); v15 = ld32(v18+8); v16 = v54 < 4294967295u ? v54 : 4294967295u; goto L12;
 L11:;
-	u64 v55 = (u64)v12;
-	u64 v56 = (u64)v46;
+	u64 v55 = (u64)v12, v56 = (u64)v46;
 	st64(v18, (v55 << 32) | v56);
 	st32(v18+8, v51);
 	st64(v18+24, v52);
@@ -13647,64 +12886,60 @@ L12:;
 	st64(v5, v59);
 	if (v59 < v4) goto L7;
 	v17 = 0; goto L14;
-L13:;
+L13:
 	stp(v19+8, (ptr)static_0);
 	st64(v19+16, 29);
 	clear(v19+24, 72);
 	u32 v60 = pcapfile_values_errors_tell(v19, v6);
 	v17 = v60;
-L14:;
+L14:
 	return (int32_t)(v17);
 }
 int32_t pcapfile_take_packets(ptr v1, ptr v2, ptr v3, u64 v4, ptr v5, ptr v6) {
 	u64 v7, v9, v10;
 	u32 v8, v11;
-	ptr v12 = at(v3, v3 == (ptr)0 ? 4096ull : 0ull);
+	ptr v12 = at(v3, !v3 ? 4096ull : 0ull);
 	st64(v5, 0);
 	u32 v13 = ld32(v1);
 	switch (v13) {
 	case 1295823521: case 2712812621u: case 2712847316u: case 3569595041u: goto L0;
 	default: goto L16;
 	}
-L0:;
-	if (v4 == 0) { v11 = 0; goto L17; }
+L0:
+	if (!v4) { v11 = 0; goto L17; }
 	switch (v13) {
 	case 2712847316u: case 2712812621u: goto L1;
 	case 3569595041u: v9 = 0; goto L8;
 	default: v10 = 0; goto L12;
 	}
-L1:;
+L1:
 	v7 = 0;
 L2:;
 	u64 v14 = lu64(v2+8);
-	if (v14 == 0) { v11 = 0; goto L17; }
+	if (!v14) { v11 = 0; goto L17; }
 	ptr v15 = at(v12, v7 << 5);
 	if (v14 < 16) goto L5;
 	ptr v16 = lup(v2);
-	u32 v17 = (u32)__builtin_bswap32(lu32(v16));
-	u32 v18 = (u32)__builtin_bswap32(lu32(v16+4));
-	u32 v19 = lu32(v16+8);
-	u32 v20 = (u32)__builtin_bswap32(v19);
+	u32 v17 = (u32)__builtin_bswap32(lu32(v16)), v18 = (u32)__builtin_bswap32(lu32(v16+4));
+	u32 v19 = lu32(v16+8), v20 = (u32)__builtin_bswap32(v19);
 	u64 v21 = v14 - 16;
-	u32 v22 = lu32(v16+12);
-	u32 v23 = (u32)__builtin_bswap32(v22);
+	u32 v22 = lu32(v16+12), v23 = (u32)__builtin_bswap32(v22);
 	switch (v13) {
 	case 3569595041u: case 2712847316u: goto L3;
 	default: v8 = v18; goto L4;
 	}
-L3:;
+L3:
 	if (v18 > 4294967) goto L5;
 	v8 = v18 * 1000;
-L4:;
-	if (((v20 > 262144) | (v23 > 262144)) || (v23 < v20)) goto L5;
-	u64 v24 = (u64)__builtin_bswap64(((u64)v19 << 32) | (u64)v22);
-	u64 v25 = v24 & 4294967295u;
+L4:
+	if ((v20 > 262144) | (v23 > 262144) || v23 < v20) goto L5;
+	u64 v24 = (u64)__builtin_bswap64(((u64)v19 << 32) | (u64)v22), v25 = v24 & 4294967295u;
 	if (v21 >= v25) goto L6;
 L5:;
 	u32 v26 = pcapfile_c_pcap_take_slowly(ld32(v1), v2, v15, v6);
-	if (v26 == 0) goto L7;
+	if (!v26) goto L7;
 	v11 = v26; goto L17;
-L6:;
+L6:
 	su64(v15, ((u64)v8 << 32) | (u64)v17);
 	su32(v15+8, (u32)(v24 >> 32));
 	su32(v15+12, 0);
@@ -13719,26 +12954,23 @@ L7:;
 	v11 = 0; goto L17;
 L8:;
 	u64 v28 = lu64(v2+8);
-	if (v28 == 0) { v11 = 0; goto L17; }
+	if (!v28) { v11 = 0; goto L17; }
 	ptr v29 = at(v12, v9 << 5);
 	if (v28 < 16) goto L9;
 	ptr v30 = lup(v2);
-	u32 v31 = lu32(v30);
-	u32 v32 = lu32(v30+4);
-	u64 v33 = lu64(v30+8);
-	u64 v34 = v28 - 16;
+	u32 v31 = lu32(v30), v32 = lu32(v30+4);
+	u64 v33 = lu64(v30+8), v34 = v28 - 16;
 	u32 v35 = (u32)(v33 >> 32);
 	if (v32 > 4294967) goto L9;
-	u32 v36 = (u32)v33;
-	u32 v37 = v32 * 1000;
-	if (((v33 > 0x40000ffffffffull) | (v36 > 262144)) || (v35 < v36)) goto L9;
+	u32 v36 = (u32)v33, v37 = v32 * 1000;
+	if ((v33 > 0x40000ffffffffull) | (v36 > 262144) || v35 < v36) goto L9;
 	u64 v38 = v33 & 524287;
 	if (v34 >= v38) goto L10;
 L9:;
 	u32 v39 = pcapfile_c_pcap_take_slowly(ld32(v1), v2, v29, v6);
-	if (v39 == 0) goto L11;
+	if (!v39) goto L11;
 	v11 = v39; goto L17;
-L10:;
+L10:
 	su64(v29, ((u64)v37 << 32) | (u64)v31);
 	su32(v29+8, v35);
 	su32(v29+12, 0);
@@ -13753,24 +12985,23 @@ L11:;
 	v11 = 0; goto L17;
 L12:;
 	u64 v41 = lu64(v2+8);
-	if (v41 == 0) { v11 = 0; goto L17; }
+	if (!v41) { v11 = 0; goto L17; }
 	ptr v42 = at(v12, v10 << 5);
 	if (v41 < 16) goto L13;
 	ptr v43 = lup(v2);
-	u32 v44 = lu32(v43);
-	u32 v45 = lu32(v43+4);
+	u32 v44 = lu32(v43), v45 = lu32(v43+4);
 	u64 v46 = lu64(v43+8);
 	u32 v47 = (u32)v46;
 	u64 v48 = v41 - 16;
 	u32 v49 = (u32)(v46 >> 32);
-	if (((v46 > 0x40000ffffffffull) | (v47 > 262144)) || (v49 < v47)) goto L13;
+	if ((v46 > 0x40000ffffffffull) | (v47 > 262144) || v49 < v47) goto L13;
 	u64 v50 = v46 & 524287;
 	if (v48 >= v50) goto L14;
 L13:;
 	u32 v51 = pcapfile_c_pcap_take_slowly(ld32(v1), v2, v42, v6);
-	if (v51 == 0) goto L15;
+	if (!v51) goto L15;
 	v11 = v51; goto L17;
-L14:;
+L14:
 	su64(v42, ((u64)v45 << 32) | (u64)v44);
 	su32(v42+8, v49);
 	su32(v42+12, 0);
@@ -13783,21 +13014,20 @@ L15:;
 	st64(v5, v52);
 	if (v52 < v4) { v10 = v52; goto L12; }
 	v11 = 0; goto L17;
-L16:;
+L16:
 	su32(v6, 1);
 	su32(v6+4, 0);
 	su64(v6+8, 0);
 	v11 = 3;
-L17:;
+L17:
 	return (int32_t)(v11);
 }
 int32_t pcapfile_push_next(ptr v1, ptr v2, u64 v3, ptr v4, ptr v5) {
 	u32 v6, v7, v8, v12, v13;
 	u64 v9, v10, v11;
 	_Alignas(8) u8 v14[16];
-	u64 v15 = ld64(v1+24);
-	u64 v16 = ld64(v1+32);
-	ptr v17 = at(at(v2, v2 == (ptr)0 ? 4096ull : 0ull), v15);
+	u64 v15 = ld64(v1+24), v16 = ld64(v1+32);
+	ptr v17 = at(at(v2, !v2 ? 4096ull : 0ull), v15);
 	u64 v18 = v16 - v15;
 	if (!((v16 >= v15) & (v3 >= v16))) { v13 = 10; goto L9; }
 	stp(v14, v17);
@@ -13808,28 +13038,23 @@ int32_t pcapfile_push_next(ptr v1, ptr v2, u64 v3, ptr v4, ptr v5) {
 	case 1295823521: case 3569595041u: goto L2;
 	default: goto L7;
 	}
-L0:;
+L0:
 	if (v18 < 16) goto L4;
-	u32 v20 = (u32)__builtin_bswap32(lu32(v17));
-	u32 v21 = (u32)__builtin_bswap32(lu32(v17+4));
-	u32 v22 = lu32(v17+8);
-	u32 v23 = (u32)__builtin_bswap32(v22);
+	u32 v20 = (u32)__builtin_bswap32(lu32(v17)), v21 = (u32)__builtin_bswap32(lu32(v17+4));
+	u32 v22 = lu32(v17+8), v23 = (u32)__builtin_bswap32(v22);
 	u64 v24 = v18 - 16;
-	u32 v25 = lu32(v17+12);
-	u32 v26 = (u32)__builtin_bswap32(v25);
+	u32 v25 = lu32(v17+12), v26 = (u32)__builtin_bswap32(v25);
 	if (v19 != 2712847316u) { v6 = v21; goto L1; }
 	if (v21 > 4294967) goto L4;
 	v6 = v21 * 1000;
-L1:;
-	if (((v23 > 262144) | (v26 > 262144)) || (v26 < v23)) goto L4;
-	u64 v27 = (u64)__builtin_bswap64(((u64)v22 << 32) | (u64)v25);
-	u64 v28 = v27 & 4294967295u;
+L1:
+	if ((v23 > 262144) | (v26 > 262144) || v26 < v23) goto L4;
+	u64 v27 = (u64)__builtin_bswap64(((u64)v22 << 32) | (u64)v25), v28 = v27 & 4294967295u;
 	if (v24 < v28) goto L4;
 	v8 = (u32)(v27 >> 32); v9 = v24 - v28; v10 = ((u64)v6 << 32) | (u64)v20; v11 = v28; goto L6;
-L2:;
+L2:
 	if (v18 < 16) goto L4;
-	u32 v29 = lu32(v17);
-	u32 v30 = lu32(v17+4);
+	u32 v29 = lu32(v17), v30 = lu32(v17+4);
 	u64 v31 = lu64(v17+8);
 	u32 v32 = (u32)v31;
 	u64 v33 = v18 - 16;
@@ -13837,16 +13062,16 @@ L2:;
 	if (v19 != 3569595041u) { v7 = v30; goto L3; }
 	if (v30 > 4294967) goto L4;
 	v7 = v30 * 1000;
-L3:;
-	if (((v31 > 0x40000ffffffffull) | (v32 > 262144)) || (v34 < v32)) goto L4;
+L3:
+	if ((v31 > 0x40000ffffffffull) | (v32 > 262144) || v34 < v32) goto L4;
 	u64 v35 = v31 & 524287;
 	if (v33 >= v35) goto L5;
 L4:;
 	u32 v36 = pcapfile_c_pcap_take_slowly(v19, v14, v4, v5);
 	v12 = v36; goto L8;
-L5:;
+L5:
 	v8 = v34; v9 = v33 - v35; v10 = ((u64)v7 << 32) | (u64)v29; v11 = v35;
-L6:;
+L6:
 	su64(v4, v10);
 	su32(v4+8, v8);
 	su32(v4+12, 0);
@@ -13857,10 +13082,10 @@ L6:;
 L7:;
 	u32 v37 = pcapfile_c_push_take_first(v1, v14, v4, v5);
 	v12 = v37;
-L8:;
+L8:
 	st64(v1+24, ld64(v1+32) - ld64(v14+8));
 	v13 = v12;
-L9:;
+L9:
 	return (int32_t)(v13);
 }
 int32_t pcapfile_take_any(ptr v1, ptr v2, ptr v3, u64 v4, ptr v5, ptr v6) {
@@ -13872,31 +13097,31 @@ int32_t pcapfile_take_any(ptr v1, ptr v2, ptr v3, u64 v4, ptr v5, ptr v6) {
 	t_8_32 v57;
 	_Alignas(8) u8 v60[32], v61[24], v62[24], v63[104], v64[96], v66[32], v67[16];
 	_Alignas(1) u8 v65[7];
-	ptr v68 = at(v3, v3 == (ptr)0 ? 4096ull : 0ull);
+	ptr v68 = at(v3, !v3 ? 4096ull : 0ull);
 	copy(v67, v6, 16);
 	ptr v69 = lup(v2);
 	u64 v70 = lu64(v2+8);
 	u32 v71 = ld32(v1+24);
-	if (v71 != 0) goto L17;
+	if (v71) goto L17;
 	u32 v72 = ld32(v1);
 	switch (v72) {
 	case 1295823521: case 2712812621u: case 2712847316u: case 3569595041u: goto L3;
 	default: goto L0;
 	}
-L0:;
+L0:
 	if (v70 < 4) goto L3;
-	v7 = 0; v8 = 0;
+	v7 = v8 = 0;
 L1:;
 	u8 v73 = v7 | (ld8(at((ptr)static_105, v8)) != ld8(at(v69, v8)));
 	u64 v74 = v8 + 1;
 	if (v74 != 4) { v7 = v73; v8 = v74; goto L1; }
-	v9 = 0; v10 = 0;
+	v9 = v10 = 0;
 L2:;
 	u8 v75 = v9 | (ld8(at((ptr)static_105, v10)) != ld8(at(v69, v10)));
 	u64 v76 = v10 + 1;
 	if (v76 != 4) { v9 = v75; v10 = v76; goto L2; }
 	if (!(v73 | v75)) goto L17;
-L3:;
+L3:
 	clear(v60, 16);
 	stp(v60+16, (ptr)static_41);
 	st64(v60+24, 0);
@@ -13910,28 +13135,23 @@ L4:;
 	case 2712847316u: case 2712812621u: goto L5;
 	default: goto L7;
 	}
-L5:;
+L5:
 	if (v77) goto L10;
-	u32 v78 = (u32)__builtin_bswap32(lu32(v69));
-	u32 v79 = (u32)__builtin_bswap32(lu32(v69+4));
-	u32 v80 = lu32(v69+8);
-	u32 v81 = (u32)__builtin_bswap32(v80);
+	u32 v78 = (u32)__builtin_bswap32(lu32(v69)), v79 = (u32)__builtin_bswap32(lu32(v69+4));
+	u32 v80 = lu32(v69+8), v81 = (u32)__builtin_bswap32(v80);
 	u64 v82 = v70 - 16;
-	u32 v83 = lu32(v69+12);
-	u32 v84 = (u32)__builtin_bswap32(v83);
+	u32 v83 = lu32(v69+12), v84 = (u32)__builtin_bswap32(v83);
 	if (v72 != 2712847316u) { v11 = v79; goto L6; }
 	if (v79 > 4294967) goto L10;
 	v11 = v79 * 1000;
-L6:;
-	if (((v81 > 262144) | (v84 > 262144)) || (v84 < v81)) goto L10;
-	u64 v85 = (u64)__builtin_bswap64(((u64)v80 << 32) | (u64)v83);
-	u64 v86 = v85 & 4294967295u;
+L6:
+	if ((v81 > 262144) | (v84 > 262144) || v84 < v81) goto L10;
+	u64 v85 = (u64)__builtin_bswap64(((u64)v80 << 32) | (u64)v83), v86 = v85 & 4294967295u;
 	if (v82 < v86) goto L10;
 	v13 = (u32)(v85 >> 32); v14 = at(v69+16, v86); v15 = v82 - v86; v16 = ((u64)v11 << 32) | (u64)v78; v17 = v69+16; v18 = v86; goto L12;
-L7:;
+L7:
 	if (v77) goto L10;
-	u32 v87 = lu32(v69);
-	u32 v88 = lu32(v69+4);
+	u32 v87 = lu32(v69), v88 = lu32(v69+4);
 	u64 v89 = lu64(v69+8);
 	u32 v90 = (u32)v89;
 	u64 v91 = v70 - 16;
@@ -13940,19 +13160,19 @@ L7:;
 	case 3569595041u: case 2712847316u: goto L8;
 	default: v12 = v88; goto L9;
 	}
-L8:;
+L8:
 	if (v88 > 4294967) goto L10;
 	v12 = v88 * 1000;
-L9:;
-	if (((v89 > 0x40000ffffffffull) | (v90 > 262144)) || (v92 < v90)) goto L10;
+L9:
+	if ((v89 > 0x40000ffffffffull) | (v90 > 262144) || v92 < v90) goto L10;
 	u64 v93 = v89 & 524287;
 	if (v91 >= v93) goto L11;
 L10:;
 	u32 v94 = pcapfile_c_pcap_take_slowly(v72, v2, v60, v6);
 	v19 = v94; goto L14;
-L11:;
+L11:
 	v13 = v92; v14 = at(v69+16, v93); v15 = v91 - v93; v16 = ((u64)v12 << 32) | (u64)v87; v17 = v69+16; v18 = v93;
-L12:;
+L12:
 	st64(v60+16, (u64)v17);
 	st64(v60+24, v18);
 	su64(v2, (u64)v14);
@@ -13961,10 +13181,10 @@ L12:;
 L13:;
 	u32 v95 = pcapfile_c_push_take_first(v1, v2, v60, v6);
 	v19 = v95;
-L14:;
-	if (v19 != 0) { v23 = v19; goto L16; }
+L14:
+	if (v19) { v23 = v19; goto L16; }
 	v20 = ld32(v60+4); v21 = ld32(v60); v22 = ld32(v60+8);
-L15:;
+L15:
 	su32(v5, ld32(v1+20));
 	su32(v5+4, 0);
 	st8(v5+8, 1);
@@ -13976,16 +13196,16 @@ L15:;
 	su32(v5+28, 0);
 	copy(v5+32, v60+16, 16);
 	v23 = 0;
-L16:;
+L16:
 	v58 = v23; goto L47;
-L17:;
+L17:
 	if (v4 < (u64)ld32(v1+32)) { v59 = 10; goto L50; }
 	switch (v71) {
 	case 0: case 439041101: case 1295788826: goto L18;
 	default: goto L49;
 	}
-L18:;
-L19:;
+L18:
+L19:
 	st64(v64, 0);
 	switch (ld32(v1+24)) {
 	case 439041101: goto L20;
@@ -13996,56 +13216,53 @@ L20:;
 	ptr v96 = lup(v2);
 	u64 v97 = lu64(v2+8);
 	clear(v63, 104);
-	if (v97 < 12) { v31 = v97; v32 = v96; v33 = 0; goto L25; }
-	u32 v98 = lu32(v96+4);
-	u32 v99 = (u32)__builtin_bswap32(v98);
-	if (!((lu32(v96) == 100663296) & ((v99 & 3) == 0))) { v31 = v97; v32 = v96; v33 = 0; goto L25; }
+	if (v97 < 12) { M4: v31 = v97; v32 = v96; v33 = 0; goto L25; }
+	u32 v98 = lu32(v96+4), v99 = (u32)__builtin_bswap32(v98);
+	if (!((lu32(v96) == 100663296) & ((v99 & 3) == 0))) goto M4;
 	u64 v100 = (u64)v99;
-	if ((v99 < 12) | (v97 < v100)) { v31 = v97; v32 = v96; v33 = 0; goto L25; }
+	if ((v99 < 12) | (v97 < v100)) goto M4;
 	ptr v101 = at(v96+8, v100);
 	u64 v102 = v97 - v100;
-	if ((v99 < 32) | (lu32(v101-12) != v98)) { v31 = v97; v32 = v96; v33 = 0; goto L25; }
+	if ((v99 < 32) | (lu32(v101-12) != v98)) goto M4;
 	u32 v103 = (u32)__builtin_bswap32(lu32(v96+8));
 	u64 v104 = v100 - 32;
 	u32 v105 = (u32)__builtin_bswap32(lu32(v96+24));
-	u64 v106 = (u64)(u32)__builtin_bswap32(lu32(v96+20));
-	u64 v107 = ((0ull - v106) & 3) + v106;
-	if (v104 < v107) { v31 = v97; v32 = v96; v33 = 0; goto L25; }
+	u64 v106 = (u64)(u32)__builtin_bswap32(lu32(v96+20)), v107 = ((0ull - v106) & 3) + v106;
+	if (v104 < v107) goto M4;
 	u64 v108 = (u64)__builtin_bswap64(lu64(v96+12));
 	clear(v62, 24);
 	if (v104 != v107) goto L21;
-	v24 = v102; v25 = v101-8; v26 = v106; v27 = v96+28; v28 = v108; v29 = v105; v30 = v103; goto L24;
-L21:;
+	M5: v24 = v102; v25 = v101-8; v26 = v106; v27 = v96+28; v28 = v108; v29 = v105; v30 = v103; goto L24;
+L21:
 	pcapfile_values_enhanced_options_behind_some_4da0(v62, at(v96+28, v107), v104 - v107);
-	if (ld8(v62) == 1) { v24 = v102; v25 = v101-8; v26 = v106; v27 = v96+28; v28 = v108; v29 = v105; v30 = v103; goto L24; }
-	v31 = v97; v32 = v96; v33 = 0; goto L25;
+	if (ld8(v62) == 1) goto M5;
+	goto M4;
 L22:;
 	ptr v109 = lup(v2);
 	u64 v110 = lu64(v2+8);
 	clear(v63, 104);
-	if (v110 < 12) { v31 = v110; v32 = v109; v33 = 1; goto L25; }
+	if (v110 < 12) { M6: v31 = v110; v32 = v109; v33 = 1; goto L25; }
 	u32 v111 = lu32(v109+4);
-	if (!((lu32(v109) == 6) & ((v111 & 3) == 0))) { v31 = v110; v32 = v109; v33 = 1; goto L25; }
+	if (!((lu32(v109) == 6) & ((v111 & 3) == 0))) goto M6;
 	u64 v112 = (u64)v111;
-	if ((v111 < 12) | (v110 < v112)) { v31 = v110; v32 = v109; v33 = 1; goto L25; }
+	if ((v111 < 12) | (v110 < v112)) goto M6;
 	ptr v113 = at(v109+8, v112);
 	u64 v114 = v110 - v112;
-	if ((v111 < 32) | (lu32(v113-12) != v111)) { v31 = v110; v32 = v109; v33 = 1; goto L25; }
+	if ((v111 < 32) | (lu32(v113-12) != v111)) goto M6;
 	u32 v115 = lu32(v109+8);
 	u64 v116 = v112 - 32;
 	u32 v117 = lu32(v109+24);
-	u64 v118 = (u64)lu32(v109+20);
-	u64 v119 = ((0ull - v118) & 3) + v118;
-	if (v116 < v119) { v31 = v110; v32 = v109; v33 = 1; goto L25; }
+	u64 v118 = (u64)lu32(v109+20), v119 = ((0ull - v118) & 3) + v118;
+	if (v116 < v119) goto M6;
 	u64 v120 = ((u64)lu32(v109+12) << 32) | (u64)lu32(v109+16);
 	clear(v61, 24);
 	if (v116 != v119) goto L23;
 	v24 = v114; v25 = v113-8; v26 = v118; v27 = v109+28; v28 = v120; v29 = v117; v30 = v115; goto L24;
-L23:;
+L23:
 	pcapfile_values_enhanced_options_behind_some_7f02(v61, at(v109+28, v119), v116 - v119);
-	if (ld8(v61) != 1) { v31 = v110; v32 = v109; v33 = 1; goto L25; }
+	if (ld8(v61) != 1) goto M6;
 	v24 = v114; v25 = v113-8; v26 = v118; v27 = v109+28; v28 = v120; v29 = v117; v30 = v115;
-L24:;
+L24:
 	st64(v63, 0);
 	stp(v63+8, v25);
 	st64(v63+16, v24);
@@ -14062,7 +13279,7 @@ L24:;
 	copy(v65, v63+25, 7);
 	copy(v66, v63+72, 32);
 	v34 = v26; v35 = v27; v36 = v28; v37 = v24; v38 = v25; v39 = v121; v40 = v122; goto L26;
-L25:;
+L25:
 	pcapfile_c_batches_any_front(v63, v33, v32, v31);
 	ptr v123 = ldp(v63+8);
 	u64 v124 = ld64(v63+16);
@@ -14087,8 +13304,7 @@ L26:;
 	u64 v132 = (u64)v39;
 	u32 v133 = (u32)v132;
 	u64 v134 = v132 >> 32;
-	u32 v135 = (u32)v134;
-	u32 v136 = (u32)v40;
+	u32 v135 = (u32)v134, v136 = (u32)v40;
 	if (!((v134 < v4) & (ld32(v1+32) > v135))) goto L37;
 	ptr v137 = at(v68, v134 * 24);
 	u32 v138 = lu32(v137);
@@ -14096,32 +13312,32 @@ L26:;
 	u64 v140 = lu64(v137+16);
 	if (v133 != 3) goto L27;
 	u32 v141 = lu32(v137+4);
-	u64 v142 = (u64)(v141 == 0 ? v136 : (v141 < v136 ? v141 : v136));
-	v49 = 0; v50 = 0; v51 = v138; v52 = 1; v53 = 0; v54 = v142 < v34 ? v142 : v34; goto L38;
-L27:;
+	u64 v142 = (u64)(!v141 ? v136 : (v141 < v136 ? v141 : v136));
+	v51 = v138; v54 = v142 < v34 ? v142 : v34; v49 = v50 = v53 = 0; v52 = 1; goto L38;
+L27:
 	if (ld8(v137+8) != 2) goto L29;
 	u32 v143 = (u32)v139;
-	if (v139 == 0) { v45 = 1; goto L34; }
+	if (!v139) { v45 = 1; goto L34; }
 	v41 = 0; v42 = 1;
-L28:;
+L28:
 	if ((s128)v42 <= (s128)((u128)0xffffffffffffffffull << 64 | 0xffffffffffffffffull)) { v46 = 0; goto L35; }
 	u128 v144 = v42 << 1;
 	u32 v145 = v41 + 1;
 	if (v145 == v143) { v45 = v144; goto L34; }
 	v41 = v145; v42 = v144; goto L28;
-L29:;
+L29:
 	switch (v139) {
 	case 6: goto L30;
 	case 9: goto L31;
 	default: goto L32;
 	}
-L30:;
+L30:
 	v47 = (u32)(v36 % 1000000) * 1000; v48 = v36 / 1000000; goto L36;
-L31:;
+L31:
 	v47 = (u32)(v36 % 1000000000); v48 = v36 / 1000000000; goto L36;
 L32:;
 	u32 v146 = (u32)v139;
-	if (v139 == 0) { v45 = 1; goto L34; }
+	if (!v139) { v45 = 1; goto L34; }
 	if (v139 > 38) { v46 = 0; goto L35; }
 	v43 = 0; v44 = 1;
 L33:;
@@ -14130,10 +13346,10 @@ L33:;
 	u128 v149 = v148 | (v147 & 0xfffffffffffffffeull);
 	u32 v150 = v43 + 1;
 	if (v150 != v146) { v43 = v150; v44 = v149; goto L33; }
-	if (v149 != 0) { v45 = v149; goto L34; }
+	if (v149) { v45 = v149; goto L34; }
 	__builtin_trap();
 	__builtin_trap();
-L34:;
+L34:
 	v46 = ((u128)v36 * 1000000000) / v45;
 L35:;
 	u128 v151 = v46 / 1000000000;
@@ -14141,11 +13357,11 @@ L35:;
 L36:;
 	u128 v152 = (u128)v48 + (u128)(s64)v140;
 	u8 v153 = (s128)v152 < (s128)((u128)0x8000000000000000ull);
-	v49 = v153 ? (u64)v152 : 0; v50 = v153 ? v47 : 0; v51 = v138; v52 = 1; v53 = v153; v54 = v34; goto L38;
+	v49 = v153 ? (u64)v152 : 0; v50 = v153 ? v47 : 0; v51 = v138; v53 = v153; v54 = v34; v52 = 1; goto L38;
 L37:;
 	u64 v154 = v40 & 4294967295u;
-	v49 = 0; v50 = 0; v51 = 0; v52 = 0; v53 = 0; v54 = v133 == 3 ? (v154 < v34 ? v154 : v34) : v34;
-L38:;
+	v54 = v133 == 3 ? (v154 < v34 ? v154 : v34) : v34; v49 = v50 = v51 = v52 = v53 = 0;
+L38:
 	su32(v5, v51);
 	su32(v5+4, v135);
 	st8(v5+8, v52);
@@ -14160,17 +13376,17 @@ L38:;
 	sup(v2, v38);
 	su64(v2+8, v37);
 	v55 = 1; v56 = 0; goto L44;
-L39:;
+L39:
 	sup(v2, v123);
 	su64(v2+8, v124);
-	v55 = 0; v56 = 0; goto L44;
+	v55 = v56 = 0; goto L44;
 L40:;
 	t_8_32 v155 = pcapfile_c_push_packets_take_section(v1+24, v2, v123, v124, v129, v130, v6);
 	v55 = v155.f0; v56 = v155.f1; goto L44;
 L41:;
 	t_8_32 v156 = pcapfile_c_push_packets_take_interface(v33, v1+24, v2, v123, v124, v129, v130, v68, v4, v6);
 	v55 = v156.f0; v56 = v156.f1; goto L44;
-L42:;
+L42:
 	__builtin_trap();
 L43:;
 	u8 v157 = (u8)(u64)v123;
@@ -14185,44 +13401,43 @@ L43:;
 	st64(v64+56, v128);
 	copy(v64+64, v66, 32);
 	u32 v158 = pcapfile_values_errors_tell(v64, v6);
-	if ((v157 != 4) || (v129 == (ptr)0)) { v55 = 1; v56 = v158; goto L44; }
+	if (v157 != 4 || !v129) { v56 = v158; v55 = 1; goto L44; }
 	deallocate((ptr)v124);
-	v55 = 1; v56 = v158;
-L44:;
+	v56 = v158; v55 = 1;
+L44:
 	v57 = (t_8_32){v55, v56}; goto L46;
 L45:;
 	t_8_32 v159 = pcapfile_c_push_packets_take_first(v1+24, v2, v6);
 	v57 = v159;
-L46:;
+L46:
 	if (v57.f0 != 1) goto L19;
 	v58 = v57.f1;
-L47:;
+L47:
 	if (!((v58 == 1) & (lu64(v2+8) == 0))) { v59 = v58; goto L50; }
-	if (ld32(v1+24) != 0) goto L48;
+	if (ld32(v1+24)) goto L48;
 	switch (ld32(v1)) {
 	case 1295823521: case 2712812621u: case 2712847316u: case 3569595041u: goto L48;
 	default: v59 = 1; goto L50;
 	}
-L48:;
+L48:
 	copy(v6, v67, 16);
 	v59 = 8; goto L50;
-L49:;
+L49:
 	su32(v6, 6);
 	su32(v6+4, 0);
 	su64(v6+8, 0);
 	v59 = 3;
-L50:;
+L50:
 	return (int32_t)(v59);
 }
 int32_t pcapfile_push_packets(ptr v1, ptr v2, u64 v3, ptr v4, u64 v5, ptr v6, ptr v7) {
 	u32 v8, v9;
 	_Alignas(8) u8 v10[16];
-	ptr v11 = at(v4, v4 == (ptr)0 ? 4096ull : 0ull);
+	ptr v11 = at(v4, !v4 ? 4096ull : 0ull);
 	st64(v6, 0);
-	u64 v12 = ld64(v1+24);
-	u64 v13 = ld64(v1+32);
+	u64 v12 = ld64(v1+24), v13 = ld64(v1+32);
 	if (!((v13 >= v12) & (v3 >= v13))) { v9 = 10; goto L3; }
-	stp(v10, at(at(v2, v2 == (ptr)0 ? 4096ull : 0ull), v12));
+	stp(v10, at(at(v2, !v2 ? 4096ull : 0ull), v12));
 	st64(v10+8, v13 - v12);
 	switch (ld32(v1)) {
 	case 1295823521: case 2712812621u: case 2712847316u: case 3569595041u: goto L0;
@@ -14234,39 +13449,38 @@ L0:;
 L1:;
 	u32 v15 = pcapfile_c_push_batches_take_first_packets(v1, v10, v11, v5, v6, v7);
 	v8 = v15;
-L2:;
+L2:
 	st64(v1+24, ld64(v1+32) - ld64(v10+8));
 	v9 = v8;
-L3:;
+L3:
 	return (int32_t)(v9);
 }
 int32_t pcapfile_put_section(ptr v1, ptr v2, u64 v3, ptr v4, ptr v5) {
 	u32 v6, v7, v10;
 	u16 v8, v9;
-	ptr v11 = at(v2, v2 == (ptr)0 ? 4096ull : 0ull);
+	ptr v11 = at(v2, !v2 ? 4096ull : 0ull);
 	u32 v12 = ld32(v1);
-	u16 v13 = ld16(v1+4);
-	u16 v14 = ld16(v1+6);
+	u16 v13 = ld16(v1+4), v14 = ld16(v1+6);
 	switch (v12) {
 	case 439041101: goto L0;
 	case 1295788826: goto L1;
 	default: goto L5;
 	}
-L0:;
+L0:
 	if (v3 < 28) goto L2;
 	su32(v11, 168627466);
 	v6 = 469762048; v7 = 1295788826; v8 = (u16)__builtin_bswap16(v13); v9 = (u16)__builtin_bswap16(v14); goto L4;
-L1:;
+L1:
 	if (v3 >= 28) goto L3;
-L2:;
+L2:
 	su32(v5, 0);
 	su32(v5+4, 0);
 	su64(v5+8, 28ull - v3);
 	v10 = 9; goto L6;
-L3:;
+L3:
 	su32(v11, 168627466);
-	v6 = 28; v7 = 439041101; v8 = v13; v9 = v14;
-L4:;
+	v7 = 439041101; v8 = v13; v9 = v14; v6 = 28;
+L4:
 	su32(v11+4, v6);
 	su32(v11+8, v7);
 	su16(v11+12, v8);
@@ -14279,12 +13493,12 @@ L4:;
 	su32(v1+8, 0);
 	st64(v4, 28);
 	v10 = 0; goto L6;
-L5:;
+L5:
 	su32(v5, 6);
 	su32(v5+4, 0);
 	su64(v5+8, 0);
 	v10 = 3;
-L6:;
+L6:
 	return (int32_t)(v10);
 }
 #endif

@@ -20,15 +20,16 @@ SUM = "Sources: sha256 "
 
 
 def parts_of(text):
-    """Returns the parts of the toolchain that have code in a module and a licence of their own, each with its kind."""
+    """Returns the parts of the toolchain that have code in a module: each with the kind of its licence, or None without one."""
     found = {}
     for name in sorted(set(re.findall(r'^define [^@]*@"(\w+)::', text, re.M))):
-        for file in ("LICENSE-MIT", "LICENSE"):
-            path = f"{kit()}/rattle/{name}/{file}"
-            if os.path.isfile(path):
-                with open(path, encoding="utf-8") as it:
-                    found[name] = "MIT" if "Permission is hereby granted" in it.read() else "Apache 2.0"
-                break
+        folder = f"{kit()}/rattle/{name}"
+        files = [f"{folder}/{file}" for file in ("LICENSE-MIT", "LICENSE") if os.path.isfile(f"{folder}/{file}")]
+        if files:
+            with open(files[0], encoding="utf-8") as it:
+                found[name] = "MIT" if "Permission is hereby granted" in it.read() else "Apache 2.0"
+        elif os.path.isdir(folder):
+            found[name] = None
     return found
 
 
@@ -44,10 +45,13 @@ def sum_in(text):
 
 def head(name, verdict, text):
     """Returns the comment that names the sources and licences of a file. The text is that of the module as it was recorded."""
-    parts = ", ".join(f"{part} ({kind})" for part, kind in parts_of(text).items())
+    parts = parts_of(text)
+    licensed = ", ".join(f"{part} ({kind})" for part, kind in parts.items() if kind)
+    others = ", ".join(part for part, kind in parts.items() if not kind)
     told = [TITLES[name], "", DESCRIBED, "", f"Toolchain: {kit_line()}", f"Proof of the crate {name}: {verdict}", sum_line(name)]
     told += [f"(of src and specs of {', '.join(crates.below(name))})", ""]
     told += ["MIT licence: see LICENSE and NOTICE."]
-    told += [f"It holds parts of {parts}: see LICENSE.NAME of each, and NOTICE."] if parts else []
+    told += [f"It holds parts of {licensed}: see LICENSE.NAME of each, and NOTICE."] if licensed else []
+    told += [f"It holds parts of the toolchain's {others}, which have no licence file: see NOTICE."] if others else []
     lines = [line for paragraph in told for line in textwrap.wrap(paragraph, 116, break_on_hyphens=False, break_long_words=False) or [""]]
     return "\n".join(f" * {line}".rstrip() for line in lines).replace(" *", "/*", 1) + "\n */\n"

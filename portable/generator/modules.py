@@ -17,10 +17,12 @@ DEFINITION = re.compile(r'^(define [^\n]*@"?([\w:]+)[^"\n]*"?\([^\n]*\)) ((?:loc
 # The functions that handle each packet in pcapfile must be fast.
 FAST = r"pcap_(classic|ng|blocks|core|items|times|file)|pcapfile_(lines|info|shown|run)|pcapfile_words_check::list"
 FAST += r"|capcopy_run|jiff\w*|itoa|core(?!::fmt\b)|std_alloc"
+# The functions that run once for a command line or a file: what reads the command line, and the texts of `check` and `info`.
+RARE = r"(clap|strsim|std_io)\b.*|pcapfile::words::.*|pcapfile_shown::(report|told)::.*|pcapfile_run::checked::.*Display.*"
 # Which functions must be small, and which as small as possible.
 SMALL = {
     "pcapfile_c": (r"(pcap_tolerant\w*|pcap_raw_options|pcapfile_take_block_as_is)\b.*", ""),
-    "pcapfile": (rf"(?!({FAST})\b).*", r"(clap|strsim|std_io)\b.*"),
+    "pcapfile": (rf"(?!({FAST})\b).*", RARE),
 }
 
 

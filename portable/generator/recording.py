@@ -110,8 +110,8 @@ def words_of(name):
 
 
 def kept_work(folder):
-    """Returns where a check keeps what it checked: what `rt` left, or what the trials of wrong bodies did."""
-    places = [f"{folder}/out/{it}" for it in ("incremental", "refusals")]
+    """Returns where a check keeps what it checked: what `rt` left, or what `.ci/library` did."""
+    places = [f"{folder}/out/{it}" for it in ("incremental", "library")]
     return next((it for it in places if os.path.isdir(it)), places[0])
 
 

@@ -70,6 +70,82 @@ def branches():
     yield Case("loops_nested", body, SMALL, wanted)
 
 
+def swaps_from_two():
+    """Yields a case in which two blocks that each lead to one place alone swap what it takes."""
+    body = number(0, 64, "a") + "  br label %round\nround:\n  %x = phi i64 [ 1, %0 ], [ %y, %odd ], [ %y, %even ]\n  %y = phi i64 [ 2, %0 ], [ %x, %odd ], [ %x, %even ]\n"
+    body += "  %i = phi i64 [ 0, %0 ], [ %n, %odd ], [ %m, %even ]\n  %more = icmp ult i64 %i, %a\n  br i1 %more, label %turn, label %end\nturn:\n"
+    body += "  %low = and i64 %i, 1\n  %c = icmp eq i64 %low, 0\n  br i1 %c, label %even, label %odd\nodd:\n  %n = add i64 %i, 1\n  br label %round\n"
+    body += "even:\n  %m = add i64 %i, 1\n  br label %round\nend:\n"
+    yield Case("phi_swap_from_two", body + give(64, "x") + give(64, "y", 1), SMALL, lambda a: [1 + a % 2, 2 - a % 2], 2)
+
+
+def moves_alike():
+    """Yields cases in which several blocks lead to one with the same values, of several types, by branches and by a switch."""
+    phis = "  %x = phi i64 [ 7, {0} ], [ 7, {1} ], [ %a, {2} ]\n  %y = phi i8 [ 0, {0} ], [ 0, {1} ], [ 5, {2} ]\n"
+    phis += "  %z = phi i32 [ 0, {0} ], [ 0, {1} ], [ 0, {2} ]\n  %t = phi i64 [ %b, {0} ], [ %b, {1} ], [ 7, {2} ]\n"
+    tests = number(0, 64, "a") + "  %b = mul i64 %a, 9\n  %c = icmp eq i64 %a, 1\n  br i1 %c, label %end, label %second\nsecond:\n  %d = icmp eq i64 %a, 4\n"
+    tests += "  br i1 %d, label %end, label %third\nthird:\n  br label %end\nend:\n" + phis.format("%0", "%second", "%third")
+    chosen = number(0, 64, "a") + "  %b = mul i64 %a, 9\n  switch i64 %a, label %third [\n    i64 1, label %first\n    i64 4, label %second\n  ]\n"
+    chosen += "first:\n  br label %end\nsecond:\n  br label %end\nthird:\n  br label %end\nend:\n" + phis.format("%first", "%second", "%third")
+    given = give(64, "x") + give(8, "y", 1) + give(32, "z", 2) + give(64, "t", 3)
+    for name, body in (("branches", tests), ("switch", chosen)):
+        yield Case(f"moves_alike_{name}", body + given, SMALL, lambda a: [7, 0, 0, 9 * a] if a in (1, 4) else [a, 5, 0, 7], 4)
+    body = loop([("x", "1", "%y"), ("y", "2", "%x"), ("z", "%i.first", "0"), ("w", "3", "0")], "  %s = add i64 %z, %w\n  %u = add i64 %s, %x\n", "%u")
+    body = body.replace("  %some", "  %i.first = add i64 %a, 1\n  %some", 1)
+    yield Case("moves_swap_and_number", body, SMALL, lambda a: [99 if a == 0 else (1 + 4 + a if a == 1 else 2 - a % 2)])
+
+
+def conditions():
+    """Yields cases of conditions that a branch, a choice or another condition asks for."""
+    both = [(a, b) for a in (0, 1, 4, 5, 8, 2**31, 2**63, 2**64 - 1) for b in (0, 1, 5, 2**64 - 1)]
+    low = lambda it: it % 2**32
+    rows = {
+        "none": ("  %c = icmp eq i64 %a, 0\n", lambda a, b: a == 0),
+        "some": ("  %c = icmp ne i64 %a, 0\n", lambda a, b: a != 0),
+        "bits": ("  %m = and i64 %a, 5\n  %c = icmp eq i64 %m, 0\n", lambda a, b: a & 5 == 0),
+        "bits_beside": ("  %m = and i64 %a, %b\n  %o = or i64 %a, 1\n  %c = icmp ult i64 %m, %o\n", lambda a, b: a & b < (a | 1)),
+        "product": ("  %p = mul i32 %s, 8\n  %c = icmp eq i32 %p, 0\n", lambda a, b: low(8 * a) == 0),
+        "moved": ("  %p = shl i32 %s, 3\n  %c = icmp ne i32 %p, 0\n", lambda a, b: low(8 * a) != 0),
+        "moved_byte": ("  %t = trunc i64 %a to i8\n  %p = shl i8 %t, 6\n  %c = icmp eq i8 %p, 0\n", lambda a, b: a % 4 == 0),
+        "widened": ("  %p = mul i32 %s, 8\n  %w = zext i32 %p to i64\n  %c = icmp ne i64 %w, 0\n", lambda a, b: low(8 * a) != 0),
+        "difference": ("  %d = sub i64 %a, %b\n  %c = icmp ult i64 %d, 5\n", lambda a, b: (a - b) % 2**64 < 5),
+        "sum_or_moved": ("  %d = add i64 %a, %b\n  %e = lshr i64 %a, 1\n  %c = icmp ult i64 %d, %e\n", lambda a, b: (a + b) % 2**64 < a >> 1),
+        "one_of_two": ("  %x = icmp eq i64 %a, 0\n  %y = icmp ugt i64 %b, 4\n  %c = select i1 %x, i1 true, i1 %y\n", lambda a, b: a == 0 or b > 4),
+        "both": ("  %x = icmp ne i64 %a, 0\n  %y = icmp eq i64 %b, 5\n  %c = select i1 %x, i1 %y, i1 false\n", lambda a, b: a != 0 and b == 5),
+        "three": (
+            "  %x = icmp ne i64 %a, 0\n  %y = icmp eq i64 %b, 0\n  %z = icmp eq i64 %a, 5\n  %v = select i1 %x, i1 %y, i1 false\n  %c = select i1 %v, i1 true, i1 %z\n",
+            lambda a, b: a != 0 and b == 0 or a == 5,
+        ),
+        "chain": (
+            "  %x = icmp ne i64 %a, 0\n  %y = icmp ne i64 %b, 0\n  %z = icmp ne i64 %a, %b\n  %v = select i1 %x, i1 %y, i1 false\n  %c = select i1 %v, i1 %z, i1 false\n",
+            lambda a, b: a != 0 and b != 0 and a != b,
+        ),
+        "alike": ("  %x = icmp ult i64 %a, 5\n  %y = icmp eq i64 %b, 0\n  %c = icmp eq i1 %x, %y\n", lambda a, b: (a < 5) == (b == 0)),
+        "negated": ("  %x = icmp eq i64 %a, 0\n  %n = xor i1 %x, true\n  %y = icmp eq i64 %b, 0\n  %c = and i1 %n, %y\n", lambda a, b: a != 0 and b == 0),
+        "nowhere": ("  %p = inttoptr i64 %a to ptr\n  %c = icmp eq ptr %p, null\n", lambda a, b: a == 0),
+        "somewhere": ("  %p = inttoptr i64 %a to ptr\n  %c = icmp ne ptr %p, null\n", lambda a, b: a != 0),
+    }
+    for name, (text, rule) in rows.items():
+        body = number(0, 64, "a") + number(1, 64, "b") + "  %s = trunc i64 %a to i32\n" + text
+        body += "  %chosen = select i1 %c, i64 %a, i64 %b\n  br i1 %c, label %yes, label %no\nyes:\n  br label %end\nno:\n  br label %end\nend:\n"
+        body += "  %r = phi i64 [ 7, %yes ], [ 8, %no ]\n" + give(64, "r") + give(64, "chosen", 1) + give(1, "c", 2)
+        yield Case(f"condition_{name}", body, both, lambda a, b, rule=rule: [7 if rule(a, b) else 8, a if rule(a, b) else b, int(rule(a, b))], 3)
+
+
+def declarations():
+    """Yields a case in which variables of several types begin behind a label, and one more in each way to another label."""
+    body = number(0, 64, "a") + "  %c = icmp ult i64 %a, 5\n  br i1 %c, label %few, label %many\nfew:\n  %t = trunc i64 %a to i8\n"
+    body += "  %x = mul i64 %a, 3\n  %y = add i64 %x, 1\n  %u = mul i8 %t, 5\n  %z = xor i64 %x, %y\n  br label %end\nmany:\n  %v = mul i64 %a, 7\n"
+    body += "  %w = xor i64 %v, 1\n  %s = add i64 %v, %w\n  br label %end\nend:\n  %r = phi i64 [ %z, %few ], [ %s, %many ]\n  %q = phi i8 [ %u, %few ], [ 1, %many ]\n"
+    body += "  %d = mul i64 %r, %r\n  %e = add i64 %d, %r\n  %f = sub i64 %e, %d\n" + give(64, "f") + give(8, "q", 1)
+
+    def wanted(a):
+        made = 3 * a ^ 3 * a + 1 if a < 5 else 7 * a + (7 * a ^ 1)
+        return [made % 2**64, 5 * a % 256 if a < 5 else 1]
+
+    yield Case("declarations", body, SMALL, wanted, 2)
+
+
 def switches():
     for bits, values in ((8, [0, 1, 127, 128, 255]), (13, [0, 1, 4095, 4096, 8191]), (32, [0, 2**31, 2**32 - 1]), (64, [0, 5, 2**63, 2**64 - 1])):
         arms = "".join(f"    i{bits} {value}, label %arm{at}\n" for at, value in enumerate(values))
@@ -101,6 +177,15 @@ def calls():
     rules = (lambda a: 2 * a, lambda a: a * a, lambda a: a * (a + 1) // 2)
     inputs = [(a, n) for a in (0, 1, 5, 1000) for n in range(3)]
     yield Case("calls", body + give(64, "r") + give(64, "s", 1), inputs, lambda a, n: [rules[n](a), 5], 2, more)
+    mutual = [
+        f"define internal i64 @{name}(i64 %a) noinline {{\n  %c = icmp eq i64 %a, 0\n  br i1 %c, label %end, label %on\non:\n  %b = sub i64 %a, 1\n"
+        f"  %d = call i64 @{other}(i64 %b)\n  ret i64 %d\nend:\n  ret i64 {last}\n}}"
+        for name, other, last in (("evenly", "oddly", 1), ("oddly", "evenly", 0))
+    ]
+    mutual.append("define internal i64 @first(i64 %a) noinline {\n  %b = call i64 @second(i64 %a)\n  %r = add i64 %b, 1\n  ret i64 %r\n}")
+    mutual.append("define internal i64 @second(i64 %a) noinline {\n  %r = mul i64 %a, 3\n  ret i64 %r\n}")
+    body = number(0, 64, "a") + "  %r = call i64 @evenly(i64 %a)\n  %s = call i64 @first(i64 %a)\n" + give(64, "r") + give(64, "s", 1)
+    yield Case("calls_in_a_circle", body, SMALL, lambda a: [1 - a % 2, 3 * a + 1], 2, mutual)
     names = [
         'define internal i8 @"a::b::<#0123456789abcdef>"(i8 %x) noinline {\n  %r = add i8 %x, 1\n  ret i8 %r\n}',
         'define internal i8 @"a::b::<#0123ffff89abcdef>"(i8 %x) noinline {\n  %r = add i8 %x, 2\n  ret i8 %r\n}',
@@ -117,7 +202,7 @@ def silent():
 
 
 def cases():
-    for made in (phis, branches, switches, calls, silent):
+    for made in (phis, swaps_from_two, moves_alike, conditions, declarations, branches, switches, calls, silent):
         yield from made()
 
 

@@ -46,6 +46,7 @@ OF_TWO = {
     "smax": lambda a, b, n: max(a, b, key=lambda it: signed(it, n)),
     "uadd.sat": lambda a, b, n: min(a + b, (1 << n) - 1),
     "usub.sat": lambda a, b, n: max(a - b, 0),
+    "sadd.sat": lambda a, b, n: max(-(1 << n - 1), min(signed(a, n) + signed(b, n), (1 << n - 1) - 1)) % (1 << n),
 }
 OVERFLOWING = {
     "uadd": lambda a, b, n: a + b,

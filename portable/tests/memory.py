@@ -40,6 +40,28 @@ def order():
     yield Case("read_before_select", room + chosen, NUMBERS, lambda a: [a if a > 5 else 5])
 
 
+def cleared():
+    """Yields cases in which a room is set to zeros: all of it or a part, before another use or after it, once or in each round."""
+    more = ["declare void @llvm.memset.p0.i64(ptr, i8, i64, i1)"]
+    room = number(0, 64, "a") + "  %p = alloca [16 x i8], align 8\n  %q = getelementptr inbounds i8, ptr %p, i64 8\n"
+    fill = "  call void @llvm.memset.p0.i64(ptr %{}, i8 {}, i64 {}, i1 false)\n".format
+    both = "  %r = load i64, ptr %p, align 8\n  %s = load i64, ptr %q, align 8\n" + give(64, "r") + give(64, "s", 1)
+    store = "  store i64 %a, ptr %{}, align 8\n".format
+    yield Case("cleared_first", room + fill("p", 0, 16) + store("q") + both, NUMBERS, lambda a: [0, a], 2, more)
+    yield Case("cleared_after_store", room + store("p") + store("q") + fill("p", 0, 16) + both, NUMBERS, lambda a: [0, 0], 2, more)
+    yield Case("cleared_half", room + store("p") + fill("q", 0, 8) + both, NUMBERS, lambda a: [a, 0], 2, more)
+    yield Case("cleared_begin", room + store("q") + fill("p", 0, 8) + both, NUMBERS, lambda a: [0, a], 2, more)
+    yield Case("cleared_twice", room + fill("p", 0, 16) + store("p") + fill("p", 0, 16) + store("q") + both, NUMBERS, lambda a: [0, a], 2, more)
+    through = room + "  %t = alloca ptr, align 8\n  store ptr %p, ptr %t, align 8\n  %u = load ptr, ptr %t, align 8\n" + store("u")
+    yield Case("cleared_after_address", through + store("q") + fill("p", 0, 16) + both, NUMBERS, lambda a: [0, 0], 2, more)
+    read = room + fill("p", 1, 16) + "  %v = load i64, ptr %p, align 8\n" + fill("p", 0, 16) + "  %w = add i64 %v, %a\n  store i64 %w, ptr %q, align 8\n" + both
+    yield Case("cleared_after_read", read, NUMBERS, lambda a: [0, (a + 0x0101010101010101) % (1 << 64)], 2, more)
+    rounds = room + "  br label %round\nround:\n  %i = phi i64 [ 0, %0 ], [ %n, %round ]\n  %x = phi i64 [ 0, %0 ], [ %y, %round ]\n" + fill("p", 0, 16)
+    rounds += "  %v = load i64, ptr %p, align 8\n  %y = add i64 %x, %v\n  store i64 5, ptr %p, align 8\n  store i64 6, ptr %q, align 8\n  %n = add i64 %i, 1\n"
+    rounds += "  %c = icmp ult i64 %n, 4\n  br i1 %c, label %round, label %end\nend:\n" + both + give(64, "y", 2)
+    yield Case("cleared_each_round", rounds, NUMBERS, lambda a: [5, 6, 0], 3, more)
+
+
 def addresses():
     base = number(0, 64, "a") + "  %room = alloca [64 x i8], align 8\n  call void @llvm.memset.p0.i64(ptr %room, i8 0, i64 64, i1 false)\n"
     more = ["declare void @llvm.memset.p0.i64(ptr, i8, i64, i1)"]
@@ -167,5 +189,5 @@ def parts():
 
 
 def cases():
-    for made in (widths, order, addresses, copies, data, parts):
+    for made in (widths, order, cleared, addresses, copies, data, parts):
         yield from made()

@@ -1,10 +1,15 @@
 """The order of blocks, and how control goes from one to the next."""
 import re
 
-from .expression import negated
+from .expression import negated, tested
 from .failure import Unknown
 
 VARIABLE = re.compile(r"\bv\d+\b")
+# A number that is the same in every type of an integer.
+SMALL = re.compile(r"\d{1,2};")
+# Where a jump begins to which another one may lead. It becomes a label, or nothing.
+START = "\0{}\0"
+STARTS = re.compile("\0(\\d+)\0 ")
 
 
 def successors(block):
@@ -80,17 +85,45 @@ def moves(writer, to):
         else:
             target, source, _ = left.pop(free)
             made.append(f"{target} = {source};")
-    return made
+    return together(made)
+
+
+def together(made):
+    """The same with one statement for all that take the same small number. These read nothing, so they can come last."""
+    found = {}
+    for text in made:
+        target, _, source = text.partition(" = ")
+        found.setdefault(source if SMALL.fullmatch(source) else text, []).append(target)
+    last = {source: targets for source, targets in found.items() if SMALL.fullmatch(source)}
+    return [text for text in found if text not in last] + [" = ".join([*targets, source]) for source, targets in last.items()]
 
 
 def jump(writer, to, last=False):
     """One statement that leads to a block; nothing where that is the next anyway."""
     made = moves(writer, to)
     if not last or to != writer.following:
-        made.append(f"goto {writer.labels[to]};")
-    if last:
+        made = shared(writer, [*made, f"goto {writer.labels[to]};"])
+    if last and not keeps(made):
         return " ".join(made)
     return made[0] if len(made) == 1 else f"{{ {' '.join(made)} }}"
+
+
+def shared(writer, made):
+    """The statements of a jump, or a jump to the place that has the same ones."""
+    text = " ".join(made)
+    if len(made) < 3 or keeps(made):
+        return made
+    if text not in writer.jumps:
+        writer.jumps[text] = None
+        return [START.format(len(writer.jumps) - 1), *made]
+    place = list(writer.jumps).index(text)
+    writer.jumps[text] = f"M{place}"
+    return [f"goto M{place};"]
+
+
+def keeps(made):
+    """Whether a variable of their own keeps a value during the moves."""
+    return any(" n" in text.split("=")[0] for text in made)
 
 
 def branch(writer, instruction):
@@ -102,13 +135,19 @@ def branch(writer, instruction):
     yes, no = to
     if yes == writer.following and no != yes:
         condition, yes, no = negated(condition), no, yes
-    put(writer, f"if ({condition.text}) {jump(writer, yes)}")
+    put(writer, f"if ({tested(condition).text}) {jump(writer, yes)}")
     put(writer, jump(writer, no, last=True))
 
 
 def put(writer, text):
     if text:
         writer.put(text)
+
+
+def with_starts(writer, text):
+    """The text of a function with a label at each start that a jump leads to."""
+    labels = list(writer.jumps.values())
+    return STARTS.sub(lambda it: f"{labels[int(it[1])]}: " if labels[int(it[1])] else "", text)
 
 
 def switch(writer, instruction):
@@ -128,8 +167,8 @@ def switch(writer, instruction):
 
 
 def arm(writer, to):
-    made = [*moves(writer, to), f"goto {writer.labels[to]};"]
-    return ["{", *made, "}"] if any(" n" in text.split("=")[0] for text in made) else made
+    made = shared(writer, [*moves(writer, to), f"goto {writer.labels[to]};"])
+    return ["{", *made, "}"] if keeps(made) else made
 
 
 def give_back(writer, instruction):

@@ -3,6 +3,7 @@
 A value that is used once, in its own block, is written where it is used, unless it reads memory and something is written in
 between. An address that is a constant away from another is written at each use. All other values are variables.
 """
+import re
 from collections import Counter
 
 from . import flow
@@ -13,15 +14,18 @@ from .layout import holder, size
 from .reals import real_literal
 from .writers import WRITERS
 
+WORD = re.compile(r"\w+")
 LONGEST_INSIDE = 90
 LONGEST_AGAIN = 12
+LONGEST_LINE = 100
 
 
 class FunctionWriter:
     def __init__(self, file, function):
         self.file, self.function, self.types, self.names = file, function, file.types, file.names
         self.values, self.pending = {}, {}
-        self.heads, self.rooms, self.lines, self.count = [], {}, [], 0
+        self.heads, self.rooms, self.cleared, self.lines, self.count = [], {}, set(), [], 0
+        self.declared, self.jumps = None, {}
         self.uses, self.used_in = uses_of(function)
         self.block = self.following = None
         self.blocks = flow.ordered(function)
@@ -87,12 +91,24 @@ class FunctionWriter:
     # Statements
 
     def put(self, text):
+        self.declared = None
         self.lines.append(f"\t{text}")
+
+    def declare(self, type_name, text):
+        """Puts a declaration: into the one before it if that has the same type. Before C23, a label cannot stand before one."""
+        last = self.lines[-1] if self.lines else ""
+        if self.declared == type_name and len(last) + len(text) < LONGEST_LINE:
+            self.lines[-1] = f"{last[:-1]}, {text};"
+            return
+        if last.endswith(":"):
+            self.lines[-1] += ";"
+        self.put(f"{type_name} {text};")
+        self.declared = type_name
 
     def variable(self, type_, expression):
         """Puts the value into a variable of its own, and gives that."""
         name = self.fresh()
-        self.put(f"{self.types.name(type_)} {name} = {expression.text};")
+        self.declare(self.types.name(type_), f"{name} = {expression.text}")
         return Expression(name)
 
     def named(self, operand):
@@ -140,12 +156,12 @@ class FunctionWriter:
             self.pending.clear()  # what is left is read by nothing
             self.following = self.blocks[at + 1].name if at + 1 < len(self.blocks) else None
             if block.name in self.labels:
-                self.lines.append(f"{self.labels[block.name]}:;")
+                self.lines.append(f"{self.labels[block.name]}:")
+                self.declared = None
             for number, instruction in enumerate(block.instructions):
                 self.next = block.instructions[number + 1] if number + 1 < len(block.instructions) else None
                 self.write(instruction)
-        rooms = [f"\t_Alignas({aligned}) u8 {', '.join(names)};" for aligned, names in self.rooms.items()]
-        return "\n".join([f"{head} {{", *self.heads, *rooms, *self.lines, "}"])
+        return flow.with_starts(self, "\n".join([f"{head} {{", *self.heads, *self.rooms_declared(), *self.lines, "}"]))
 
     def write(self, instruction):
         if instruction.op not in WRITERS:
@@ -166,9 +182,9 @@ class FunctionWriter:
         """The function's declaration, without what follows it."""
         function = self.function
         parameters = ", ".join(f"{self.types.name(type_)} v{at + 1}" for at, (type_, _) in enumerate(function.parameters))
+        marks = {"noinline": "APART ", "cold": "RARE "}
         words = "static " if function.is_local else ""
-        marks = [it for it in ("noinline", "cold") if it in function.attributes]
-        words += f"__attribute__(({', '.join(marks)})) " if marks else ""
+        words += "".join(macro for attribute, macro in marks.items() if attribute in function.attributes)
         result = self.types.name(function.type)
         if not function.is_local and result == "u32":
             result = "int32_t"
@@ -180,8 +196,23 @@ class FunctionWriter:
             raise Unknown("an alloca in a loop", instruction.line)
         wide = max(size(instruction.more["type"]), 1)
         name = self.fresh()
-        self.rooms.setdefault(instruction.more["alignment"], []).append(f"{name}[{wide}]")
+        self.rooms[name] = (instruction.more["alignment"], wide)
         self.values[instruction.result] = Expression(name, ATOM, False, name, 0)
+
+    def clears(self, target, count):
+        """Whether a room begins with zeros: the first block sets all of it to 0, before anything else uses it. Notes that it does."""
+        if target not in self.rooms or str(self.rooms[target][1]) != count or self.block != self.blocks[0].name:
+            return False
+        if any(target in WORD.findall(line) for line in self.lines):
+            return False
+        self.cleared.add(target)
+        return True
+
+    def rooms_declared(self):
+        found = {}
+        for name, (aligned, wide) in self.rooms.items():
+            found.setdefault(aligned, []).append(f"{name}[{wide}]{' = {0}' if name in self.cleared else ''}")
+        return [f"\t_Alignas({aligned}) u8 {', '.join(names)};" for aligned, names in found.items()]
 
 
 def uses_of(function):

@@ -4,7 +4,7 @@ A value of n bits is held by the next wider unsigned type of C, with all other b
 that type; what has fewer may be an int in C, so its results are cut where they could have more bits.
 """
 from . import vectors
-from .expression import Expression, binary, cast, comparison, conditional, literal, plain, unary
+from .expression import Expression, binary, cast, comparison, conditional, literal, plain, tested, unary
 from .failure import Unknown
 from .layout import holder, is_odd
 from .reader import signed_value
@@ -125,9 +125,9 @@ def select(writer, instruction):
         return
     test = writer.expression(condition)
     if instruction.type.kind == "int" and instruction.type.bits == 1 and is_literal(right) and not right.value:
-        made = binary(test, "&&", writer.expression(left))
+        made = binary(tested(test), "&&", tested(writer.expression(left)))
     elif instruction.type.kind == "int" and instruction.type.bits == 1 and left.kind == "int" and left.value:
-        made = binary(test, "||", writer.expression(right))
+        made = binary(tested(test), "||", tested(writer.expression(right)))
     elif instruction.type.kind == "int" and is_literal(left) and is_literal(right):
         made = conditional(test, writer.exact(left), writer.exact(right))
     else:

@@ -90,6 +90,18 @@ def saturating(sign):
     return rule
 
 
+def signed_saturating(writer, instruction):
+    """sadd.sat: the sum overflows if its sign differs from those of both operands."""
+    type_ = of_integer(instruction)
+    first, second = (widened(it, writer.named(it)) for it in instruction.operands)
+    total = writer.variable(type_, wrapped(binary(first, "+", second), type_))
+    highest = plain(type_.bits - 1)
+    overflows = binary(binary(binary(total, "^", first), "&", binary(total, "^", second)), ">>", highest)
+    most = literal((1 << type_.bits - 1) - 1, holder(type_.bits))
+    limit = wrapped(binary(most, "+", binary(first, ">>", highest)), type_)
+    writer.define(instruction, conditional(overflows, limit, total))
+
+
 def overflowing(name, is_signed):
     """A sum, difference or product, and whether it overflowed."""
 
@@ -98,8 +110,8 @@ def overflowing(name, is_signed):
         kind = "s" if is_signed else "u"
         both = [signed(writer, it) if is_signed else writer.exact(it) for it in instruction.operands]
         result, flag = writer.fresh(), writer.fresh()
-        writer.put(f"{kind}{type_.bits} {result};")
-        writer.put(f"u8 {flag} = __builtin_{name}_overflow({both[0].text}, {both[1].text}, &{result});")
+        writer.declare(f"{kind}{type_.bits}", result)
+        writer.declare("u8", f"{flag} = __builtin_{name}_overflow({both[0].text}, {both[1].text}, &{result})")
         made = Expression(result)
         if is_signed:
             made = writer.variable(type_, cast(f"u{type_.bits}", made))
@@ -191,6 +203,7 @@ RULES = {
     "abs": absolute,
     "uadd.sat": saturating("+"),
     "usub.sat": saturating("-"),
+    "sadd.sat": signed_saturating,
     "uadd.with.overflow": overflowing("add", False),
     "usub.with.overflow": overflowing("sub", False),
     "umul.with.overflow": overflowing("mul", False),

@@ -136,7 +136,9 @@ def copy(writer, instruction, name):
     if instruction.operands[2].kind in ("int", "zero") and not instruction.operands[2].value:
         return
     if name == "memset" and source.text == "0":
-        writer.effect(f"clear({target.text}, {count.text});")
+        writer.flush()
+        if not writer.clears(target.text, count.text):
+            writer.put(f"clear({target.text}, {count.text});")
     else:
         used = {"memcpy": "copy", "memmove": "move", "memset": "fill"}[name]
         writer.effect(f"{used}({target.text}, {source.text}, {count.text});")

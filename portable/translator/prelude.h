@@ -31,7 +31,8 @@ typedef __int128 s128;
 typedef u8 *ptr;
 
 #define INLINE static inline __attribute__((always_inline, unused))
-#define APART static __attribute__((noinline, unused))
+#define APART __attribute__((noinline))
+#define RARE __attribute__((cold))
 
 /* Each access to memory copies bytes: ld and st where the address is aligned, lu and su where it may be any. */
 #define ACCESS(name, type) \
@@ -81,10 +82,10 @@ FUNNEL(64)
 
 /* Each operation is a function of its own, so that no compiler joins a product and a sum into one that rounds once. */
 #define REAL(type, bits) \
-	APART type type##_add(type x, type y) { return x + y; } \
-	APART type type##_sub(type x, type y) { return x - y; } \
-	APART type type##_mul(type x, type y) { return x * y; } \
-	APART type type##_div(type x, type y) { return x / y; } \
+	static APART type type##_add(type x, type y) { return x + y; } \
+	static APART type type##_sub(type x, type y) { return x - y; } \
+	static APART type type##_mul(type x, type y) { return x * y; } \
+	static APART type type##_div(type x, type y) { return x / y; } \
 	INLINE type type##_of(u##bits n) { type v; memcpy(&v, &n, sizeof v); return v; }
 REAL(float, 32)
 REAL(double, 64)

@@ -106,7 +106,7 @@ def copied(writer, instruction):
     if value.text[0] != "v" or not value.is_simple():
         value = writer.variable(instruction.operands[0].type, value)
     name = writer.fresh()
-    writer.put(f"{writer.types.name(instruction.type)} {name};")
+    writer.declare(writer.types.name(instruction.type), name)
     writer.put(f"memcpy(&{name}, &{value.text}, {size(instruction.type)});")
     writer.values[instruction.result] = Expression(name)
 
