@@ -1,0 +1,16 @@
+//! Damaged classic captures: whether the packet at a place can be trusted, and where packets go on after corrupt bytes.
+//!
+//! Lenient reading trusts the length that a packet states. In a damaged capture a wrong length hides the packets behind it. The
+//! calls here compare a packet with what follows it.
+#![tactic(auto)]
+
+mod behind;
+mod heads;
+mod row;
+mod search;
+mod weight;
+
+pub use behind::{begins_near, follows};
+pub use heads::{NEAR, Numbers, begins_capture, head_at};
+pub use search::resync;
+pub use weight::{Weight, can_be_this_long, weigh};
