@@ -13,7 +13,7 @@ use Rattle.pcap_ng.proofs.FirstBlock.{opening_stable}
 use Rattle.capcopy_run.specs.declared.exit.Exit.{Exit}
 use Rattle.capcopy_run.specs.Exits.{exit_of}
 use Rattle.capcopy_run.specs.Lines.{WritesLine}
-use Rattle.capcopy_run.specs.Listing.{ListsItems, ListsUntil}
+use Rattle.capcopy_run.specs.Listing.{ListsItems, ListsUntil, streams}
 use Rattle.capcopy_run.specs.BlockLines.{IsBodyWord, IsBlockLine, IsItemLine, kind_name, block_lines, section_line, heading_of}
 use Rattle.capcopy_run.proofs.Listing.{lists_heading, lists_known}
 
@@ -25,7 +25,7 @@ module _ (q : State) (section : Section) (names : heading_of q ≡ section_line 
 
   -- The blocks were listed after the section's line.
   pub blocks_known : WritesLine (λ line. line ≡ section_line section) before mid (Ok tt) → (most : ℕ) (now after : Option (List ℕ)) (result : Result (Unit {0}) Exit)
-      → ListsItems IsItemLine block_format q known now mid after most result → IfSome bytes (λ s. ListsUntil block_lines most s now before after (exit_of result))
+      → ListsItems IsItemLine block_format q (streams known mid) (streams now after) most result → IfSome bytes (λ s. ListsUntil block_lines most s now before after (exit_of result))
   blocks_known written most now after result run =
       let headed = subst (λ (l : List ℕ). Appends before mid l) (written.1 ∙ sym names) written.2 in
       lists_known block_lines opening_stable q blocks_lawful bytes known before mid took headed most now after result run

@@ -20,7 +20,7 @@ use Rattle.capcopy_run.specs.declared.exit.Exit.{Exit}
 use Rattle.capcopy_run.specs.declared.exit.Exit.TheVariants as exits
 use Rattle.capcopy_run.specs.Exits.{EndsAt, exit_of}
 use Rattle.capcopy_run.specs.Lines.{WritesLine}
-use Rattle.capcopy_run.specs.Listing.{Kind, Listing, TearsNext, LinesEnd, InputEnd, ListsItems, Listed, TearsLine, ListsUntil}
+use Rattle.capcopy_run.specs.Listing.{Kind, Listing, TearsNext, LinesEnd, InputEnd, ListsItems, Listed, TearsLine, ListsUntil, streams}
 use Rattle.capcopy_run.proofs.Lines.{lines_push}
 
 -- An error that is neither of a read nor of memory shows a fault of the bytes.
@@ -239,7 +239,7 @@ module _ {O S V : Type 0} (kind : Kind O S V) (opening : O) (laws : IsLawful (ki
       let is_line = subst (λ k. kind.IsLine (suc k) torn_.item torn_.line) (sym so_far.count) torn_.is_line in
       (listed, omega (arith, so_far.count, fewer), inr (record { next = torn_.item; others = read.more; more = refl; line = torn_.line; is_line = is_line; out = torn_.out }))
 
-  lists_from : (most : ℕ) (now after : Option (List ℕ)) (result : Result (Unit {0}) Exit) → ListsItems kind.IsLine f q (Some rest) now start after most result → ListsUntil kind most s now before after (exit_of result)
+  lists_from : (most : ℕ) (now after : Option (List ℕ)) (result : Result (Unit {0}) Exit) → ListsItems kind.IsLine f q (streams (Some rest) start) (streams now after) most result → ListsUntil kind most s now before after (exit_of result)
   lists_from most now after (Ok done) run = lists_clean most run.n run.here run.mid now after run.left run.so_far run.ends.0 run.ends.1 run.input run.ends.2
   lists_from most now after (Err exits.Most) run = lists_most most run.n run.here run.mid now after run.left run.so_far run.ends.0 run.input run.ends.1
   lists_from most now after (Err (exits.Refused (errors.InvalidField t))) run =
@@ -273,7 +273,7 @@ module _ {O S V : Type 0} (kind : Kind O S V) (stable : IsStable kind.opens) (op
 
   -- The items after the opening were listed.
   pub lists_known : IsLawful (kind.format opening) → (bytes known before start : Option (List ℕ)) → Takes kind.opens bytes known opening → Appends before start (kind.heading opening) → (most : ℕ) (now after : Option (List ℕ))
-      (result : Result (Unit {0}) Exit) → ListsItems kind.IsLine (kind.format opening) (kind.start opening) known now start after most result → IfSome bytes (λ s. ListsUntil kind most s now before after (exit_of result))
+      (result : Result (Unit {0}) Exit) → ListsItems kind.IsLine (kind.format opening) (kind.start opening) (streams known start) (streams now after) most result → IfSome bytes (λ s. ListsUntil kind most s now before after (exit_of result))
   lists_known laws None known before start took headed most now after result run = tt
   lists_known laws (Some s) None before start took headed most now after result run = absurd took.2
   lists_known laws (Some s) (Some rest) before start took headed most now after result run =

@@ -21,7 +21,7 @@ use Rattle.pcap_classic.proofs.Packets.{packets_say}
 use Rattle.pcap_classic.proofs.Stable.{header_stable}
 use Rattle.capcopy_run.specs.declared.exit.Exit.{Exit}
 use Rattle.capcopy_run.specs.Exits.{EndsAt, exit_of}
-use Rattle.capcopy_run.specs.Listing.{LinesEnd, ListsItems, ListsUntil}
+use Rattle.capcopy_run.specs.Listing.{LinesEnd, ListsItems, ListsUntil, streams}
 use Rattle.capcopy_run.specs.PacketLines.{packets_in}
 use Rattle.capcopy_run.specs.Skipping.{TakesExactly}
 use Rattle.capcopy_run.proofs.Listing.{ends_refused, lists_known}
@@ -57,9 +57,9 @@ packet_unread IsLine order r left mid n most fewer e exit cause ends =
 -- A capture whose header was read, and whose packets were listed in its byte order and timestamp resolution.
 pub packets_known : (grows : Type 0) (IsLine : ℕ → Captured → List ℕ → Type 0) (header : PcapHeader) (order : Endianness) (r : TsResolution) (bytes known now before : Option (List ℕ)) → order ≡ order_of header.magic_number → r ≡ resolution_of header.magic_number
     → Takes HeaderSays bytes known header → (most : ℕ) (after : Option (List ℕ)) (result : Result (Unit {0}) Exit)
-    → ListsItems IsLine (packet_format packet_limit (number_in order) r) tt known now before after most result → IfSome bytes (λ s. ListsUntil (packets_in grows IsLine) most s now before after (exit_of result))
+    → ListsItems IsLine (packet_format packet_limit (number_in order) r) tt (streams known before) (streams now after) most result → IfSome bytes (λ s. ListsUntil (packets_in grows IsLine) most s now before after (exit_of result))
 packets_known grows IsLine header order r bytes known now before is_order is_resolution took most after result run =
     let laws = packets_lawful packet_limit (number_in (order_of header.magic_number)) (resolution_of header.magic_number) in
-    let ordered = subst (λ (e : Endianness). ListsItems IsLine (packet_format packet_limit (number_in e) r) tt known now before after most result) is_order run in
-    let under = subst (λ (t : TsResolution). ListsItems IsLine (packet_format packet_limit (number_in (order_of header.magic_number)) t) tt known now before after most result) is_resolution ordered in
+    let ordered = subst (λ (e : Endianness). ListsItems IsLine (packet_format packet_limit (number_in e) r) tt (streams known before) (streams now after) most result) is_order run in
+    let under = subst (λ (t : TsResolution). ListsItems IsLine (packet_format packet_limit (number_in (order_of header.magic_number)) t) tt (streams known before) (streams now after) most result) is_resolution ordered in
     lists_known (packets_in grows IsLine) header_stable header laws bytes known before before took (Appends-nil before) most now after result under

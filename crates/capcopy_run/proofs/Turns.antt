@@ -11,7 +11,7 @@ use Rattle.capcopy_run.specs.declared.exit.Exit.{Exit}
 use Rattle.capcopy_run.specs.declared.exit.Exit.TheVariants.{Memory}
 use Rattle.capcopy_run.specs.Listing.{Listing, LinesEnd, InputEnd}
 use Rattle.capcopy_run.specs.Lines.{WritesLine}
-use Rattle.capcopy_run.specs.Turns.{GoesOn, Ends, TurnGives, WalkGives}
+use Rattle.capcopy_run.specs.Turns.{GoesOn, Ends, TurnGives, WalkGives, turn, walk}
 use Rattle.capcopy_run.proofs.Listing.{listing_more, ends_torn, any_torn}
 
 module _ {S V : Type 0} (IsLine : ℕ → V → List ℕ → Type 0) (f : Format S V) where
@@ -39,10 +39,10 @@ module _ {S V : Type 0} (IsLine : ℕ → V → List ℕ → Type 0) (f : Format
 
   -- A turn after a list that goes on.
   pub turn_behind : (here to there : S) (a b c p r t : Option (List ℕ)) (n k m most : ℕ) (result : Result Bool Exit) → GoesOn IsLine f here to a b p r n k
-      → TurnGives IsLine f to there b c r t k m most result → TurnGives IsLine f here there a c p t n m most result
-  turn_behind here to there a b c p r t n k m most (Ok true) on turn = λ q before start so_far. turn q before start (on q before start so_far)
-  turn_behind here to there a b c p r t n k m most (Ok false) on turn = λ q before start so_far. turn q before start (on q before start so_far)
-  turn_behind here to there a b c p r t n k m most (Err exit) on turn = λ q before start so_far. turn q before start (on q before start so_far)
+      → TurnGives IsLine f (turn to b r k) (turn there c t m) most result → TurnGives IsLine f (turn here a p n) (turn there c t m) most result
+  turn_behind here to there a b c p r t n k m most (Ok true) on next = λ q before start so_far. next q before start (on q before start so_far)
+  turn_behind here to there a b c p r t n k m most (Ok false) on next = λ q before start so_far. next q before start (on q before start so_far)
+  turn_behind here to there a b c p r t n k m most (Err exit) on next = λ q before start so_far. next q before start (on q before start so_far)
 
 -- An item at the front of the buffered bytes is taken from them and whatever follows.
 pub takes_shown : {S V : Type 0} (f : Format S V) → IsLawful f → (here : S) (s rest : List ℕ) (v : V) → f.says here s (whole v rest) → (behind : Option (List ℕ))
@@ -68,7 +68,7 @@ module _ {S V : Type 0} (IsLine : ℕ → V → List ℕ → Type 0) (f : Format
 
   -- The walk ends before the rest.
   pub walked_used : (from here : S) (shown rest : List ℕ) (start mid : Option (List ℕ)) (first n most : ℕ) → Walked from here shown rest start mid first n
-      → WalkGives IsLine f from here shown start mid first n most (Ok (length shown - length rest))
+      → WalkGives IsLine f shown (walk from start first) (walk here mid n) most (Ok (length shown - length rest))
   walked_used from here shown rest start mid first n most walked =
       let used = length shown - length rest in
       let count : length walked.front ≡ used = omega (arith, ap length walked.split, length-append walked.front rest) in
@@ -77,7 +77,7 @@ module _ {S V : Type 0} (IsLine : ℕ → V → List ℕ → Type 0) (f : Format
 
   -- The walk ends before the rest, because it is out of memory.
   pub walked_refused : (from here to : S) (shown rest : List ℕ) (start mid : Option (List ℕ)) (first n m most : ℕ) → Walked from here shown rest start mid first n → n < most
-      → WalkGives IsLine f from to shown start mid first m most (Err Memory)
+      → WalkGives IsLine f shown (walk from start first) (walk to mid m) most (Err Memory)
   walked_refused from here to shown rest start mid first n m most walked fewer = λ behind end q before out so_far.
       ends_here IsLine f here (prepend_known rest behind) end mid mid n most (Err Memory) (fewer, Keeps-refl mid) tt q before out (walked.on behind q before out so_far)
 
@@ -95,7 +95,7 @@ module _ {S V : Type 0} (IsLine : ℕ → V → List ℕ → Type 0) (f : Format
         }
 
     -- The walk ends, because the item's line wasn't written.
-    pub walked_torn : (to : S) (now : Option (List ℕ)) (m most : ℕ) (exit : Exit) → n < most → WritesLine (IsLine (n + 1) item) mid now (Err exit) → WalkGives IsLine f from to shown start now first m most (Err exit)
+    pub walked_torn : (to : S) (now : Option (List ℕ)) (m most : ℕ) (exit : Exit) → n < most → WritesLine (IsLine (n + 1) item) mid now (Err exit) → WalkGives IsLine f shown (walk from start first) (walk to now m) most (Err exit)
     walked_torn to now m most exit fewer part = λ behind end q before out so_far.
         let left = prepend_known rest behind in
         let torn = ends_torn IsLine (f.says here) left mid n most fewer (prepend_known after behind) now item exit (takes_shown f laws here rest after item stands behind) part in

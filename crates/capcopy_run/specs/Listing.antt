@@ -56,6 +56,15 @@ InputEnd IsSaid left now (Err Most) = Keeps left now
 InputEnd IsSaid left now (Err (Refused error)) = TakesAsked IsSaid left now
 InputEnd IsSaid left now (Err exit) = ⊤
 
+-- The input that a list reads, and the output that it writes.
+pub record Streams : Type 0 where
+  pub input : Option (List ℕ)
+  pub output : Option (List ℕ)
+
+-- This input and this output.
+abbrev pub streams : Option (List ℕ) → Option (List ℕ) → Streams
+streams input output = record { input = input; output = output }
+
 module _ {S V : Type 0} (IsLine : ℕ → V → List ℕ → Type 0) (f : Format S V) (q : S) where
   -- Listing: n items were read, they lead to this state, and their lines were written.
   pub record Listing (here : S) (before now out_before out_now : Option (List ℕ)) (n : ℕ) : Type 0 where
@@ -68,14 +77,14 @@ module _ {S V : Type 0} (IsLine : ℕ → V → List ℕ → Type 0) (f : Format
     pub out : Appends out_before out_now lines
 
   -- ListsItems: items were read and listed until the run ended.
-  pub record ListsItems (before now out_before out_now : Option (List ℕ)) (most : ℕ) (result : Result (Unit {0}) Exit) : Type 0 where
+  pub record ListsItems (old new : Streams) (most : ℕ) (result : Result (Unit {0}) Exit) : Type 0 where
     pub n : ℕ
     pub here : S
     pub left : Option (List ℕ)
     pub mid : Option (List ℕ)
-    pub so_far : Listing here before left out_before mid n
-    pub ends : LinesEnd IsLine (f.says here) left mid out_now n most result
-    pub input : InputEnd (f.says here) left now result
+    pub so_far : Listing here old.input left old.output mid n
+    pub ends : LinesEnd IsLine (f.says here) left mid new.output n most result
+    pub input : InputEnd (f.says here) left new.input result
 
 module _ {O S V : Type 0} (kind : Kind O S V) where
   -- Listed: s is an opening, a front of items and a rest, and the lines of the opening and of the first items were written.

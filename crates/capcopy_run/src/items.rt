@@ -3,8 +3,8 @@
 ghost use Rattle.std.specs.Prelude.{◌≡◌, ◌≤◌, ◌<◌, ◌+◌, ℕ, List, length, true, IfOk, IfErr};
 ghost use Rattle.capcopy_run.specs.Exits.{IsMemoryExit};
 ghost use Rattle.pcap_items.specs.Format.{Format};
-ghost use Rattle.capcopy_run.specs.Listing.{ListsItems};
-ghost use Rattle.capcopy_run.specs.Turns.{TurnGives, WalkGives};
+ghost use Rattle.capcopy_run.specs.Listing.{ListsItems, streams};
+ghost use Rattle.capcopy_run.specs.Turns.{TurnGives, WalkGives, turn, walk};
 
 use crate::Exit;
 use std::alloc::Global;
@@ -43,8 +43,8 @@ pub trait Lister {
         ensures counts { (listed.old ≤ listed.new) × (listed.new ≤ most) }
         ensures within { IfOk result (λ used. used ≤ length shown.now) }
         ensures memory { IfErr result (λ exit. IsMemoryExit exit → grows) }
-        ensures walks { WalkGives (is_line (setting self.old)) (format (setting self.old)) (state self.old) (state self.new) shown.now
-            (W.contents output.old) (W.contents output.new) listed.old listed.new most result };
+        ensures walks { WalkGives (is_line (setting self.old)) (format (setting self.old)) shown.now
+            (walk (state self.old) (W.contents output.old) listed.old) (walk (state self.new) (W.contents output.new) listed.new) most result };
 
     /// Writes the line of the item at the front of the input, and returns whether there was one. Returns the errors of `list_shown`, `Io`
     /// if the input fails or ends early, and `Refused` if the item is malformed.
@@ -60,8 +60,9 @@ pub trait Lister {
         ensures same { setting self.new ≡ setting self.old }
         ensures counts { IfOk result (λ more. (more ≡ true → listed.new ≡ listed.old + 1)) }
         ensures memory { IfErr result (λ exit. IsMemoryExit exit → grows) }
-        ensures turn { TurnGives (is_line (setting self.old)) (format (setting self.old)) (state self.old) (state self.new)
-            (R.remaining input.old) (R.remaining input.new) (W.contents output.old) (W.contents output.new) listed.old listed.new most result };
+        ensures turn { TurnGives (is_line (setting self.old)) (format (setting self.old))
+            (turn (state self.old) (R.remaining input.old) (W.contents output.old) listed.old)
+            (turn (state self.new) (R.remaining input.new) (W.contents output.new) listed.new) most result };
 }
 
 // Writes the lines of the items that are whole in the input's buffer, or else of the item cut by the end of the buffer. It flushes the
@@ -78,8 +79,9 @@ fn list_some<L: Lister, R: BufRead, W: Write>(
     ensures same { L.setting lister.new ≡ L.setting lister.old }
     ensures counts { IfOk result (λ more. (more ≡ true → (listed.old < listed.new) × (listed.new ≤ most))) }
     ensures memory { IfErr result (λ exit. IsMemoryExit exit → L.grows) }
-    ensures turn { TurnGives (L.is_line (L.setting lister.old)) (L.format (L.setting lister.old)) (L.state lister.old) (L.state lister.new)
-        (R.remaining input.old) (R.remaining input.new) (W.contents output.old) (W.contents output.new) listed.old listed.new most result }
+    ensures turn { TurnGives (L.is_line (L.setting lister.old)) (L.format (L.setting lister.old))
+        (turn (L.state lister.old) (R.remaining input.old) (W.contents output.old) listed.old)
+        (turn (L.state lister.new) (R.remaining input.new) (W.contents output.new) listed.new) most result }
 {
     output.flush()?;
     let shown = input.fill_buf()?;
@@ -106,7 +108,7 @@ pub fn list_items<L: Lister, R: BufRead, W: Write>(
 ) -> Result<(), Exit>
     ensures memory { IfErr result (λ exit. IsMemoryExit exit → L.grows) }
     ensures lists { ListsItems (L.is_line (L.setting lister.old)) (L.format (L.setting lister.old)) (L.state lister.old)
-        (R.remaining input.old) (R.remaining input.new) (W.contents output.old) (W.contents output.new) most result }
+        (streams (R.remaining input.old) (W.contents output.old)) (streams (R.remaining input.new) (W.contents output.new)) most result }
 {
     let mut listed = 0;
     while listed < most {

@@ -11,7 +11,7 @@ ghost use Rattle.capcopy_run.specs.Exits.{IsMemoryExit, IsOfKnownWord, exit_of};
 ghost use Rattle.capcopy_run.specs.Lines.{WritesLine};
 ghost use Rattle.capcopy_run.specs.Listing.{ListsUntil};
 ghost use Rattle.capcopy_run.specs.PacketLines.{of_header, packets_in};
-ghost use Rattle.capcopy_run.specs.Turns.{TurnGives, WalkGives};
+ghost use Rattle.capcopy_run.specs.Turns.{TurnGives, WalkGives, turn, walk};
 
 use crate::Exit;
 use crate::input::skip_exact;
@@ -45,7 +45,8 @@ pub trait PacketLine {
         ensures writes { WritesLine (line (setting self.old) index header) (W.contents output.old) (W.contents output.new) result };
 }
 
-// Writes a line for each whole packet record at the front of these bytes, and returns the number of bytes of these records.
+// Writes a line for each whole packet record at the front of these bytes, and returns the number of bytes of these records. Its parameters
+// are those of `Lister::list_shown`, with two fields of `Packets`.
 fn list_shown<L: PacketLine, B: ByteOrder, W: Write>(
     alloc: Global,
     lines: &mut L,
@@ -60,8 +61,8 @@ fn list_shown<L: PacketLine, B: ByteOrder, W: Write>(
     ensures counts { (listed.old ≤ listed.new) × (listed.new ≤ most) }
     ensures within { IfOk result (λ used. used ≤ length shown.now) }
     ensures memory { IfErr result (λ exit. IsMemoryExit exit → L.grows) }
-    ensures walks { WalkGives (of_header (L.line (L.setting lines.old))) (packet_format packet_limit B.number_of ts_resolution) tt tt shown.now
-        (W.contents output.old) (W.contents output.new) listed.old listed.new most result }
+    ensures walks { WalkGives (of_header (L.line (L.setting lines.old))) (packet_format packet_limit B.number_of ts_resolution) shown.now
+        (walk tt (W.contents output.old) listed.old) (walk tt (W.contents output.new) listed.new) most result }
 {
     let mut rest = shown;
     while *listed < most {
@@ -75,7 +76,8 @@ fn list_shown<L: PacketLine, B: ByteOrder, W: Write>(
     Ok(shown.len() - rest.len())
 }
 
-// Writes the line of the packet at the front of the input, after all of its data has been read.
+// Writes the line of the packet at the front of the input, after all of its data has been read. Its parameters are those of
+// `Lister::list_torn`, with two fields of `Packets`.
 fn list_torn<L: PacketLine, B: ByteOrder, R: BufRead, W: Write>(
     alloc: Global,
     lines: &mut L,
@@ -89,8 +91,9 @@ fn list_torn<L: PacketLine, B: ByteOrder, R: BufRead, W: Write>(
     ensures same { L.setting lines.new ≡ L.setting lines.old }
     ensures counts { IfOk result (λ more. listed.new ≡ listed.old + 1) }
     ensures memory { IfErr result (λ exit. IsMemoryExit exit → L.grows) }
-    ensures turn { TurnGives (of_header (L.line (L.setting lines.old))) (packet_format packet_limit B.number_of ts_resolution) tt tt
-        (R.remaining input.old) (R.remaining input.new) (W.contents output.old) (W.contents output.new) listed.old listed.new most result }
+    ensures turn { TurnGives (of_header (L.line (L.setting lines.old))) (packet_format packet_limit B.number_of ts_resolution)
+        (turn tt (R.remaining input.old) (W.contents output.old) listed.old)
+        (turn tt (R.remaining input.new) (W.contents output.new) listed.new) most result }
 {
     let header = PacketHeader::from_reader::<R, B>(input, ts_resolution)?;
     skip_exact(input, header.incl_len as usize)?;

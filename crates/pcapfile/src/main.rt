@@ -14,7 +14,7 @@ use std::alloc::AllocError;
 use std::io;
 use std::io::IsTerminal;
 use std::process::ExitCode;
-use task::Task;
+use task::{Refusal, Task};
 use words::Word;
 
 fn main(rt: HostRuntime) -> ExitCode {
@@ -78,22 +78,35 @@ fn run(rt: &HostRuntime) -> io::Result<u8> {
             "pcapfile: '{name} --as-is' is now '{name} --repair', and goes with version 0.3"
         )?;
     }
-    let task = match Task::new(word, words) {
+    let task = match Task::new(rt, word, words) {
         Ok(task) => task,
-        Err(argument) => {
-            eprintln!(rt;
-                "error: the value of --{argument} is not understood; 'pcapfile {name} --help' has the forms"
-            )?;
-            return Ok(USAGE);
-        }
+        Err(refusal) => return tell_refusal(rt, name, refusal),
     };
     let is_told = rt.stdout().is_terminal() && task.tells_meanwhile();
     let console = Console::new(rt, is_told || matches.get_flag(words::QUIET))?;
     let status = task.run(&console)?;
+    if status == 0 {
+        tell_misnamed(&console, &task);
+    }
     if console.has_fault() {
         tell_remedy(&console, &task);
     }
     Ok(status)
+}
+
+// Reports why a word's arguments make no task, and returns the exit status.
+fn tell_refusal(rt: &HostRuntime, word: &str, refusal: Refusal) -> io::Result<u8> {
+    match refusal {
+        Refusal::OutOfMemory(error) => return Err(io::Error::from(error)),
+        Refusal::Value(argument, forms) => eprintln!(rt;
+            "error: the value of --{argument} is not understood: it has the form {forms}"
+        )?,
+        Refusal::Zone => eprintln!(rt;
+            "error: the system's zone can't be read; TZ names one, or a time has its own"
+        )?,
+    }
+    eprintln!(rt; "For more information, try 'pcapfile {word} --help'.")?;
+    Ok(USAGE)
 }
 
 // Reports how to read more of a truncated or malformed capture. A failed write of this message is ignored.
@@ -102,6 +115,17 @@ fn tell_remedy(console: &Console, task: &Task) {
         return;
     };
     let _ = eprintln!(console.for_line(); "pcapfile: {remedy}");
+}
+
+// Reports that the extension of the output's name stands for another format than its own. A failed write of this message is ignored.
+fn tell_misnamed(console: &Console, task: &Task) {
+    let Some((out, format)) = task.misnamed() else {
+        return;
+    };
+    let out = Shown(out);
+    let _ = eprintln!(console.for_line();
+        "pcapfile: {out}: has the format {format}, although its name says otherwise"
+    );
 }
 
 // Reports that the arguments name no word of the program, and returns the exit status.

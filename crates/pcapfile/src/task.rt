@@ -4,15 +4,51 @@ use crate::sizes::size;
 use crate::words;
 use crate::words::Word;
 use clap::ArgMatches;
-use pcapfile_cut::Wanted;
+use pcapfile_cut::Range;
 use pcapfile_files::Console;
 use pcapfile_lines::Form;
 use pcapfile_run::Format;
-use pcapfile_words_check::{Informing, check_files, inform_files, list_files};
+use pcapfile_words_check::{Informing, Listing, check_files, inform_files, list_files};
 use pcapfile_words_convert::{Conversion, Merge, convert_file, merge_files};
-use pcapfile_words_cut::{Cutting, Joining, Way, cut_file, join_files, ranges};
-use pcapfile_words_repair::{Repair, check_files_as_is, list_files_as_is, repair_file};
+use pcapfile_words_cut::{
+    Cutting, Joining, Moment, Selecting, Way, Zone, cut_file, join_files, ranges,
+};
+use pcapfile_words_repair::{Repair, check_files_as_is, list_files_as_is, opening_of, repair_file};
+use std::alloc::AllocError;
 use std::io;
+
+/// The forms of a list of numbers.
+const RANGES: &str = "10-20, 10-, -20, 10, or a list of these as 1-5,10,100-";
+
+/// The forms of a size.
+const SIZES: &str = "5000, 100K, 1M or 2GB";
+
+/// The forms of a time.
+const TIMES: &str =
+    "1700000000.25, 2023-11-14, '2023-11-14 22:13:20.25', 2023-11-14T22:13:20.25Z or +10s";
+
+/// The forms of a header.
+const HEADERS: &str = "little,micro,1, with big for little, nano for micro, and any link type";
+
+/// The forms of a link type.
+const LINKS: &str = "a number, as 1 for Ethernet";
+
+/// Why there is no task.
+#[derive(Drop)]
+pub(crate) enum Refusal {
+    /// The argument with this name has a value that is in none of these forms.
+    Value(&'static str, &'static str),
+    /// The system's zone can't be read.
+    Zone,
+    /// Memory ran out.
+    OutOfMemory(AllocError),
+}
+
+impl From<AllocError> for Refusal {
+    fn from(error: AllocError) -> Refusal {
+        Refusal::OutOfMemory(error)
+    }
+}
 
 /// A word of the program with its arguments.
 #[derive(Drop)]
@@ -22,8 +58,7 @@ pub(crate) enum Task<'a> {
     /// A lenient check of these files.
     CheckAsIs(&'a [&'a str]),
     Info(Informing<'a>),
-    /// A list of the packets of these files, in this form; `None` is the default form for people.
-    List(&'a [&'a str], Option<Form>),
+    List(Listing<'a>),
     /// A lenient list of the packets of these files.
     ListAsIs(&'a [&'a str]),
     Convert(Conversion<'a>),
@@ -34,34 +69,49 @@ pub(crate) enum Task<'a> {
 }
 
 impl<'a> Task<'a> {
-    /// Returns the task of this word with these arguments, or the name of an argument with an invalid value.
-    pub(crate) fn new(word: Word, words: &'a ArgMatches<'_>) -> Result<Task<'a>, &'static str> {
+    /// Returns the task of this word with these arguments.
+    pub(crate) fn new(
+        rt: &HostRuntime,
+        word: Word,
+        words: &'a ArgMatches<'_>,
+    ) -> Result<Task<'a>, Refusal> {
         Ok(match word {
             Word::Check if words.get_flag(words::AS_IS) => Task::CheckAsIs(files(words)),
             Word::Check => Task::Check(files(words)),
             Word::Info => Task::Info(informing(words)),
             Word::List if words.get_flag(words::AS_IS) => Task::ListAsIs(files(words)),
-            Word::List => Task::List(files(words), form(words)),
+            Word::List => Task::List(listing(words)),
             Word::Convert => Task::Convert(conversion(words)),
-            Word::Cut => Task::Cut(cutting(words)?),
+            Word::Cut => Task::Cut(cutting(rt, words)?),
             Word::Join => Task::Join(joining(words)),
             Word::Merge => Task::Merge(merging(words)),
-            Word::Repair => Task::Repair(repairing(words)),
+            Word::Repair => Task::Repair(repairing(words)?),
         })
     }
 
     /// Returns whether the task writes lines for people while it reads; these lines show the progress.
     pub(crate) fn tells_meanwhile(&self) -> bool {
-        matches!(
-            self,
-            Task::CheckAsIs(_) | Task::List(..) | Task::ListAsIs(_)
-        )
+        matches!(self, Task::CheckAsIs(_) | Task::List(_) | Task::ListAsIs(_))
+    }
+
+    /// Returns the name of the output and its format, if the name's extension stands for another format.
+    pub(crate) fn misnamed(&self) -> Option<(&'a str, &'static str)> {
+        let (out, format) = match self {
+            Task::Convert(asked) => (asked.out, asked.to?),
+            Task::Merge(asked) => (asked.out, Format::PcapNg),
+            _ => return None,
+        };
+        match (format_of_name(out)?, format) {
+            (Format::PcapNg, Format::Pcap) => Some((out, "pcap")),
+            (Format::Pcap, Format::PcapNg) => Some((out, "PcapNg")),
+            _ => None,
+        }
     }
 
     /// Returns how to read more of a truncated or malformed capture, if this task stops there.
     pub(crate) fn remedy(&self) -> Option<&'static str> {
         match self {
-            Task::Check(_) | Task::List(..) => Some(
+            Task::Check(_) | Task::List(_) => Some(
                 "--as-is goes on after the fault, and 'pcapfile repair' writes what can be read",
             ),
             Task::Info(Informing { as_is: false, .. })
@@ -87,7 +137,7 @@ impl<'a> Task<'a> {
             Task::Check(names) => check_files(console, names),
             Task::CheckAsIs(names) => check_files_as_is(console, names),
             Task::Info(asked) => inform_files(console, asked),
-            Task::List(names, form) => list_files(console, names, *form),
+            Task::List(asked) => list_files(console, *asked),
             Task::ListAsIs(names) => list_files_as_is(console, names),
             Task::Convert(asked) => convert_file(console, asked),
             Task::Cut(asked) => cut_file(console, asked),
@@ -107,23 +157,34 @@ fn files<'a>(words: &'a ArgMatches<'_>) -> &'a [&'a str] {
     words.get_strs(words::FILES).unwrap_or_default()
 }
 
+// Returns the format that the extension of a file's name stands for, if it stands for one.
+fn format_of_name(name: &str) -> Option<Format> {
+    let (_, extension) = name.rsplit_once('.')?;
+    match extension {
+        "pcap" | "cap" | "dmp" => Some(Format::Pcap),
+        "pcapng" | "ntar" => Some(Format::PcapNg),
+        _ => None,
+    }
+}
+
 // Returns the arguments of the word `convert`.
 fn conversion<'a>(words: &ArgMatches<'a>) -> Conversion<'a> {
+    let out = words.get_str(words::OUT).unwrap_or_default();
     let to = match words.get_str(words::TO) {
         Some("pcap") => Some(Format::Pcap),
         Some("pcapng") => Some(Format::PcapNg),
-        _ => None,
+        _ => format_of_name(out),
     };
     Conversion {
         from: words.get_str(words::IN).unwrap_or_default(),
         to,
-        out: words.get_str(words::OUT).unwrap_or_default(),
+        out,
         as_is: is_repaired(words),
     }
 }
 
-// Returns how to cut a capture, or the name of the argument with an invalid value.
-fn way(words: &ArgMatches) -> Result<Way, &'static str> {
+// Returns how to cut a capture.
+fn way(words: &ArgMatches) -> Result<Way, Refusal> {
     if let Some(packets) = words.get_one::<u64>(words::EVERY) {
         return Ok(Way::Every(packets));
     }
@@ -131,29 +192,55 @@ fn way(words: &ArgMatches) -> Result<Way, &'static str> {
         return Ok(Way::Parts(parts));
     }
     if let Some(text) = words.get_str(words::BYTES) {
-        return Ok(Way::Bytes(size(text).ok_or(words::BYTES)?));
+        let size = size(text).ok_or(Refusal::Value(words::BYTES, SIZES))?;
+        return Ok(Way::Bytes(size));
     }
-    if let Some(text) = words.get_str(words::PACKETS) {
-        let (first, last) = ranges::packets(text).ok_or(words::PACKETS)?;
-        return Ok(Way::One(Wanted::Numbers { first, last }));
-    }
-    let from = match words.get_str(words::FROM) {
-        Some(text) => ranges::time(text).ok_or(words::FROM)?,
-        None => 0,
-    };
-    let until = match words.get_str(words::UNTIL) {
-        Some(text) => ranges::time(text).ok_or(words::UNTIL)?,
-        None => u64::MAX,
-    };
-    Ok(Way::One(Wanted::Times { from, until }))
+    Ok(Way::One)
 }
 
-// Returns the arguments of the word `cut`, or the name of one with an invalid value.
-fn cutting<'a>(words: &ArgMatches<'a>) -> Result<Cutting<'a>, &'static str> {
+// Returns the tests of the packets of a part.
+fn selecting(rt: &HostRuntime, words: &ArgMatches) -> Result<Selecting, Refusal> {
+    let zone = match words.get_flag(words::LOCAL) {
+        true => Zone::local(rt).ok_or(Refusal::Zone)?,
+        false => Zone::utc(rt.alloc()),
+    };
+    Ok(Selecting {
+        numbers: numbers(rt, words)?,
+        from: moment(words, words::FROM, &zone)?,
+        until: moment(words, words::UNTIL, &zone)?,
+        lengths: Range {
+            first: words.get_one(words::LEAST).unwrap_or(Range::ALL.first),
+            last: words.get_one(words::MOST).unwrap_or(Range::ALL.last),
+        },
+        interface: words.get_one(words::INTERFACE),
+    })
+}
+
+// Returns the ranges of the wanted packets' numbers.
+fn numbers(rt: &HostRuntime, words: &ArgMatches) -> Result<Vec<Range>, Refusal> {
+    let text = words.get_str(words::PACKETS).unwrap_or("1-");
+    ranges::numbers(rt.alloc(), text)?.ok_or(Refusal::Value(words::PACKETS, RANGES))
+}
+
+// Returns the time that an argument names.
+fn moment(words: &ArgMatches, name: &'static str, zone: &Zone) -> Result<Option<Moment>, Refusal> {
+    let Some(text) = words.get_str(name) else {
+        return Ok(None);
+    };
+    match Moment::of_text(text, zone) {
+        Some(moment) => Ok(Some(moment)),
+        None => Err(Refusal::Value(name, TIMES)),
+    }
+}
+
+// Returns the arguments of the word `cut`.
+fn cutting<'a>(rt: &HostRuntime, words: &ArgMatches<'a>) -> Result<Cutting<'a>, Refusal> {
     Ok(Cutting {
         from: words.get_str(words::CAPTURE).unwrap_or_default(),
         out: words.get_str(words::OUT).unwrap_or_default(),
         way: way(words)?,
+        selecting: selecting(rt, words)?,
+        bpf: words.get_str(words::BPF),
         as_is: is_repaired(words),
     })
 }
@@ -163,6 +250,15 @@ fn joining<'a>(words: &'a ArgMatches<'_>) -> Joining<'a> {
     Joining {
         parts: words.get_strs(words::PARTS_IN).unwrap_or_default(),
         out: words.get_str(words::OUT).unwrap_or_default(),
+    }
+}
+
+// Returns the arguments of the word `list`.
+fn listing<'a>(words: &'a ArgMatches<'_>) -> Listing<'a> {
+    Listing {
+        names: files(words),
+        form: form(words),
+        most: words.get_one(words::COUNT),
     }
 }
 
@@ -199,9 +295,22 @@ fn informing<'a>(words: &'a ArgMatches<'_>) -> Informing<'a> {
 }
 
 // Returns the arguments of the word `repair`.
-fn repairing<'a>(words: &ArgMatches<'a>) -> Repair<'a> {
-    Repair {
+fn repairing<'a>(words: &ArgMatches<'a>) -> Result<Repair<'a>, Refusal> {
+    let header = words.get_str(words::HEADER);
+    let is_guess = words.get_flag(words::GUESS);
+    let link = match words.get_one::<u64>(words::LINK) {
+        None => None,
+        Some(number) => Some(link_of(number)?),
+    };
+    Ok(Repair {
         from: words.get_str(words::BROKEN).unwrap_or_default(),
         out: words.get_str(words::OUT).unwrap_or_default(),
-    }
+        opening: opening_of(header, is_guess, link).ok_or(Refusal::Value(words::HEADER, HEADERS))?,
+    })
+}
+
+fn link_of(number: u64) -> Result<u32, Refusal> {
+    u32::try_from(number)
+        .ok()
+        .ok_or(Refusal::Value(words::LINK, LINKS))
 }

@@ -28,6 +28,21 @@ pub(crate) const FROM: &str = "from";
 /// The option for the time before which the packets of a part are.
 pub(crate) const UNTIL: &str = "until";
 
+/// The option that reads times without a zone in the system's zone.
+pub(crate) const LOCAL: &str = "local";
+
+/// The option for the least length on the wire.
+pub(crate) const LEAST: &str = "min-len";
+
+/// The option for the largest length on the wire.
+pub(crate) const MOST: &str = "max-len";
+
+/// The option for the number of an interface.
+pub(crate) const INTERFACE: &str = "interface";
+
+/// The option for the file with a filter.
+pub(crate) const BPF: &str = "bpf";
+
 /// The option for the number of packets of each part.
 pub(crate) const EVERY: &str = "every";
 
@@ -43,11 +58,23 @@ pub(crate) const AS_IS: &str = "as-is";
 /// The option to read what `repair` would write of a capture.
 pub(crate) const REPAIRED: &str = "repair";
 
+/// The option for the header of a capture that has none.
+pub(crate) const HEADER: &str = "header";
+
+/// The option to guess the header of a capture that has none.
+pub(crate) const GUESS: &str = "guess";
+
+/// The option for the link type of a guessed header.
+pub(crate) const LINK: &str = "link";
+
 /// The option for JSON output.
 pub(crate) const JSON: &str = "json";
 
 /// The option that hides the progress.
 pub(crate) const QUIET: &str = "quiet";
+
+/// The option for the number of packets to list.
+pub(crate) const COUNT: &str = "count";
 
 /// The option to list times in UTC.
 pub(crate) const UTC: &str = "utc";
@@ -123,6 +150,9 @@ const REPAIRED_HELP: &str =
 const CONVERT: &str =
     "Writes a capture in the other format, or unchanged where it has that format already.
 
+The format is that of --to, or of the extension of OUT (.pcap, .cap, .dmp, .pcapng or .ntar), or else the
+one that IN doesn't have. A message says if the format and the extension differ.
+
 A classic capture becomes one little-endian section with one interface and times in nanoseconds. A
 PcapNg capture becomes a little-endian classic capture in nanoseconds, with the link type of its first
 interface. What classic captures can't hold is left out and reported on standard error. The output is
@@ -131,13 +161,22 @@ written as OUT.part, and renamed to OUT when it is complete.";
 const CUT: &str =
     "Writes a part of a capture, or all of it in parts. Headers and packets keep their bytes.
 
-OUT is one part where --packets, --from or --until select packets. With --every, --parts or --bytes
-the parts have a number of five digits before the extension of OUT, so that a shell sorts them:
-OUT.pcap becomes OUT-00001.pcap, OUT-00002.pcap and so on. 'pcapfile join' restores the capture. Each
-file is written as FILE.part, and renamed to FILE when it is complete. Where the capture is truncated
-or malformed, the parts before the fault remain.
+OUT is one part, with the packets that pass all tests: --packets, --from, --until, --min-len, --max-len,
+--interface and --bpf. With --every, --parts or --bytes the parts have a number of five digits before
+the extension of OUT, so that a shell sorts them: OUT.pcap becomes OUT-00001.pcap, OUT-00002.pcap and
+so on. 'pcapfile join' restores the capture. Each file is written as FILE.part, and renamed to FILE when
+it is complete. Where the capture is truncated or malformed, the parts before the fault remain.
 
-A time is in seconds since 1970, as 1700000000.25, or as 2023-11-14T22:13:20.25Z.";
+A TIME is 1700000000.25 (seconds since 1970), 2023-11-14, '2023-11-14 22:13:20.25' (in UTC, or with
+--local in the system's zone), 2023-11-14T22:13:20.25+01:00, or +10s, +1.5s or '+1h 30m' after the first
+packet.
+
+A filter is a program of the classic BPF machine, as 'tcpdump -ddd EXPRESSION' prints it:
+
+    pcapfile cut --bpf <(tcpdump -ddd 'udp port 53') in.pcap -o out.pcap
+
+It sees the stored bytes of each packet, whatever its link type is. tcpdump makes programs for Ethernet
+unless -y names another link type.";
 
 const OUT_HELP: &str =
     "The output: - for standard output; links are followed, and devices and pipes are written to";
@@ -146,7 +185,22 @@ const PARTS_OUT_HELP: &str =
     "The output: - for standard output, of one part only; links are followed, devices are written to";
 
 const RANGE_HELP: &str =
-    "The packets with these numbers, as list counts them: 10-20, 10-, -20 or 10";
+    "The packets with these numbers, as list counts them: 10-20, 10-, -20, 10, or 1-5,10,100-";
+
+const LEAST_HELP: &str = "Packets that had at least N bytes on the wire";
+
+const MOST_HELP: &str = "Packets that had at most N bytes on the wire";
+
+const INTERFACE_HELP: &str =
+    "Packets of the interface with this number in its section, as list shows it; a classic capture has 0";
+
+const BPF_HELP: &str =
+    "Packets that the program in FILE accepts, as 'tcpdump -ddd' prints it; - is standard input";
+
+const LOCAL_HELP: &str = "Reads a TIME without a zone in the system's zone";
+
+/// The options for several parts. None of them goes with an option that selects packets.
+const MANY: &[&str] = &[EVERY, PARTS, BYTES];
 
 const PARTS_HELP: &str = "N parts of nearly equal length, of a file, and not with --repair";
 
@@ -165,9 +219,10 @@ const MERGE: &str =
 The next packet is always the earliest among the next packets of all captures. Of equal times, the
 earlier capture on the command line goes first, and a packet without a time goes before all others.
 Each interface of each capture gets an interface of its own, and each packet keeps its comments and
-other options. Blocks without a packet are left out, and standard error says how many of each kind. It
-also says why a capture is malformed, whose packets before that are merged. The output is written as
-OUT.part, and renamed to OUT when it is complete.";
+other options. Names, secrets and other blocks of little-endian captures go before the next packet of
+their capture. Of blocks that are left out, standard error says how many of each kind. It also says why
+a capture is malformed, whose packets before that are merged. The output is written as OUT.part, and
+renamed to OUT when it is complete.";
 
 const REPAIR: &str = "Writes what can be read of a capture as one in which nothing breaks a rule.
 
@@ -293,6 +348,7 @@ fn list<'a>(alloc: Global, command: Command<'a>) -> Result<Command<'a>, AllocErr
     command
         .about(LIST)
         .arg(files(alloc))?
+        .arg(count(alloc, COUNT, "The first N packets of each capture")?)?
         .arg(utc(alloc, UTC, "Times in UTC")?)?
         .arg(csv(
             alloc,
@@ -301,6 +357,11 @@ fn list<'a>(alloc: Global, command: Command<'a>) -> Result<Command<'a>, AllocErr
         )?)?
         .arg(objects(alloc, JSON, "A JSON object for each packet")?)?
         .arg(as_is(alloc))
+}
+
+fn count<'a>(alloc: Global, name: &'a str, help: &'a str) -> Result<Arg<'a>, AllocError> {
+    let count = number(alloc, name).short('n').help(help);
+    count.conflicts_with_all(&[AS_IS])
 }
 
 fn utc<'a>(alloc: Global, name: &'a str, help: &'a str) -> Result<Arg<'a>, AllocError> {
@@ -326,7 +387,9 @@ fn convert<'a>(alloc: Global, command: Command<'a>) -> Result<Command<'a>, Alloc
         .long("to")
         .value_name("FORMAT")
         .value_parser(FORMATS)
-        .help("The format of the output; without it, the format that IN doesn't have");
+        .help(
+            "The format of the output; without it, that of the extension of OUT, or the one that IN doesn't have",
+        );
     let out = output(alloc, OUT_HELP)?;
     command
         .about(CONVERT)
@@ -347,6 +410,11 @@ fn cut<'a>(alloc: Global, command: Command<'a>) -> Result<Command<'a>, AllocErro
         .arg(range(alloc, PACKETS, RANGE_HELP)?)?
         .arg(time(alloc, FROM, "Packets at this time and later")?)?
         .arg(time(alloc, UNTIL, "Packets before this time")?)?
+        .arg(flag(alloc, LOCAL).help(LOCAL_HELP))?
+        .arg(length(alloc, LEAST, LEAST_HELP)?)?
+        .arg(length(alloc, MOST, MOST_HELP)?)?
+        .arg(interface(alloc, INTERFACE, INTERFACE_HELP)?)?
+        .arg(bpf(alloc, BPF, BPF_HELP)?)?
         .arg(every(alloc, EVERY, "Parts of N packets")?)?
         .arg(parts(alloc, PARTS, PARTS_HELP)?)?
         .arg(bytes(alloc, BYTES, BYTES_HELP)?)?
@@ -358,17 +426,45 @@ fn cut<'a>(alloc: Global, command: Command<'a>) -> Result<Command<'a>, AllocErro
 fn range<'a>(alloc: Global, name: &'a str, help: &'a str) -> Result<Arg<'a>, AllocError> {
     let range = Arg::new(alloc, name)
         .long(name)
-        .value_name("RANGE")
+        .value_name("RANGES")
+        .allow_negative_numbers(true)
         .help(help);
-    range.conflicts_with_all(&[FROM, UNTIL, EVERY, PARTS, BYTES])
+    range.conflicts_with_all(MANY)
 }
 
 fn time<'a>(alloc: Global, name: &'a str, help: &'a str) -> Result<Arg<'a>, AllocError> {
     let time = Arg::new(alloc, name)
         .long(name)
         .value_name("TIME")
+        .allow_negative_numbers(true)
         .help(help);
-    time.conflicts_with_all(&[PACKETS, EVERY, PARTS, BYTES])
+    time.conflicts_with_all(MANY)
+}
+
+fn length<'a>(alloc: Global, name: &'a str, help: &'a str) -> Result<Arg<'a>, AllocError> {
+    let length = Arg::new(alloc, name)
+        .long(name)
+        .value_name("N")
+        .value_parser(ValueParser::unsigned(0, u64::MAX))
+        .help(help);
+    length.conflicts_with_all(MANY)
+}
+
+fn interface<'a>(alloc: Global, name: &'a str, help: &'a str) -> Result<Arg<'a>, AllocError> {
+    let interface = Arg::new(alloc, name)
+        .long(name)
+        .value_name("N")
+        .value_parser(ValueParser::unsigned(0, u64::from(u32::MAX)))
+        .help(help);
+    interface.conflicts_with_all(MANY)
+}
+
+fn bpf<'a>(alloc: Global, name: &'a str, help: &'a str) -> Result<Arg<'a>, AllocError> {
+    let bpf = Arg::new(alloc, name)
+        .long(name)
+        .value_name("FILE")
+        .help(help);
+    bpf.conflicts_with_all(MANY)
 }
 
 fn every<'a>(alloc: Global, name: &'a str, help: &'a str) -> Result<Arg<'a>, AllocError> {
@@ -428,10 +524,31 @@ fn repair<'a>(alloc: Global, command: Command<'a>) -> Result<Command<'a>, AllocE
     let from = Arg::new(alloc, BROKEN)
         .required(true)
         .help("The capture to repair; - is standard input");
+    let guess = flag(alloc, GUESS).help("Guesses the header of a capture without one");
+    let link = Arg::new(alloc, LINK)
+        .long(LINK)
+        .value_name("N")
+        .value_parser(ValueParser::unsigned(0, u64::from(u32::MAX)))
+        .help("The link type of a guessed header; 1 is Ethernet");
     command
         .about(REPAIR)
         .arg(from)?
+        .arg(given_header(
+            alloc,
+            HEADER,
+            "The header of a capture without one, as little,micro,1 or big,nano,101",
+        )?)?
+        .arg(guess)?
+        .arg(link)?
         .arg(output(alloc, OUT_HELP)?)
+}
+
+fn given_header<'a>(alloc: Global, name: &'a str, help: &'a str) -> Result<Arg<'a>, AllocError> {
+    let header = Arg::new(alloc, name)
+        .long(name)
+        .value_name("ORDER,RESOLUTION,LINK")
+        .help(help);
+    header.conflicts_with_all(&[GUESS, LINK])
 }
 
 fn as_is<'a>(alloc: Global) -> Arg<'a> {
@@ -452,7 +569,7 @@ fn json<'a>(alloc: Global) -> Arg<'a> {
 }
 
 fn quiet<'a>(alloc: Global) -> Arg<'a> {
-    let quiet = flag(alloc, QUIET).help(QUIET_HELP);
+    let quiet = flag(alloc, QUIET).short('q').help(QUIET_HELP);
     quiet.global(true)
 }
 

@@ -28,7 +28,7 @@ use Rattle.capcopy_run.specs.Lines.{WritesLine}
 use Rattle.pcapfile_as_is.specs.declared.counted.Counted.{Counted}
 use Rattle.pcapfile_as_is.specs.Counts.{counted, one_if, block_size}
 use Rattle.pcapfile_as_is.specs.declared.counted.Told.{Told}
-use Rattle.pcapfile_as_is.specs.Texts.{Row, AreTold, Telling, TellsBy, TellsItems, TellsTorn, WritesTold, numbered, item_in, text_in, has_number, has_flaw, size_in}
+use Rattle.pcapfile_as_is.specs.Texts.{Row, AreTold, Telling, TellsBy, TellsItems, TellsTorn, WritesTold, numbered, item_in, text_in, has_number, has_flaw, progress, size_in, told_by}
 
 -- A packet that was read is a header of 16 bytes and its data.
 pub as_is_long : (limit : ℕ) (header : PcapHeader) (s : List ℕ) (packet : AsIs) → (as_is_under limit header).says tt s (whole packet []) → length s ≡ 16 + packet.head.included
@@ -139,7 +139,7 @@ module _ {S V : Type 0} (f : Format S V) (q : S) (size : V → ℕ) (IsTold : �
 
   -- The run stops.
   pub telling_stops : (p reached : S) (before left now out_before out : Option (List ℕ)) (failed : Bool) (most : ℕ) (old here : Counted) (n : ℕ) (fault : Option PcapError) → Telling f q size IsTold p before left out_before out old here n
-      → reached ≡ p → n ≤ most → Stops (f.says p) left now failed n most fault → TellsItems f q size IsTold reached before now out_before out failed most old here fault
+      → reached ≡ p → n ≤ most → Stops (f.says p) left now failed n most fault → TellsItems (told_by f size IsTold) (progress q before out_before old) (progress reached now out here) failed most fault
   telling_stops p reached before left now out_before out failed most old here n fault so_far stays within stops =
       let many : length (map item_in so_far.rows) ≡ n = length-map so_far.rows item_in ∙ so_far.count in
       record {
@@ -161,7 +161,7 @@ module _ {S V : Type 0} (f : Format S V) (q : S) (size : V → ℕ) (IsTold : �
   -- A write failed within the text of the next item, or there was no memory to make it.
   pub telling_torn : (p reached : S) (before left now out_before mid out_now : Option (List ℕ)) (old here : Counted) (n number : ℕ) (item : V) (exit : Exit) → Telling f q size IsTold p before left out_before mid old here n
       → f.goes p item ≡ reached → Takes (f.says p) left now item → number ≡ counted (here.items + 1) → WritesTold (IsTold number here.bytes item) mid out_now (Err exit)
-      → TellsTorn f q size IsTold reached before now out_before out_now old here exit
+      → TellsTorn (told_by f size IsTold) (progress q before out_before old) (progress reached now out_now here) exit
   telling_torn p reached before left now out_before mid out_now old here n number item exit so_far goes took number_is torn =
       let rows = so_far.rows in
       let there : number ≡ counted (old.items + 1 + count_by has_number rows) = omega (arith, so_far.counts.items_are, number_is) in

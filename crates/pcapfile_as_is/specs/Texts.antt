@@ -76,29 +76,50 @@ module _ {S V : Type 0} (f : Format S V) (q : S) (size : V → ℕ) (IsTold : �
     pub counts : Counts old new rows
     pub out : Appends out_before out_now (flat_map text_in rows)
 
-  -- TellsItems: items, at most `most`, were read until the run stopped. They lead to this state and are counted, and their texts are
-  -- written.
-  pub record TellsItems (reached : S) (before now out_before out_now : Option (List ℕ)) (failed : Bool) (most : ℕ) (old new : Counted) (fault : Option PcapError) : Type 0 where
-    pub rows : List (Row V)
-    pub run : TakesItems f q before now failed most (map item_in rows) fault
-    pub leads : state_after f q (map item_in rows) ≡ reached
-    pub long : length run.took.bytes ≡ sum_by (size_in size) rows
-    pub told : AreTold size IsTold (old.items + 1) old.bytes rows
-    pub counts : Counts old new rows
-    pub out : Appends out_before out_now (flat_map text_in rows)
+-- What is told of items: their format, the size of each, and what is written for each, given its number and its place.
+pub record ToldBy (S V : Type 0) : Type 1 where
+  pub format : Format S V
+  pub size : V → ℕ
+  pub IsTold : ℕ → ℕ → V → Told → List ℕ → Type 0
 
-  -- TellsTorn: the items read lead to this state. All but the last are counted and their texts are written, and the last one's text ended
-  -- with this exit.
-  pub record TellsTorn (reached : S) (before now out_before out_now : Option (List ℕ)) (old new : Counted) (exit : Exit) : Type 0 where
-    pub rows : List (Row V)
-    pub next : V
-    pub told_next : Told
-    pub left : Option (List ℕ)
-    pub took : TakesTexts f q (map item_in rows) before left
-    pub took_next : Takes (f.says (state_after f q (map item_in rows))) left now next
-    pub leads : f.goes (state_after f q (map item_in rows)) next ≡ reached
-    pub told : AreTold size IsTold (old.items + 1) old.bytes rows
-    pub counts : Counts old new rows
-    pub mid : Option (List ℕ)
-    pub out : Appends out_before mid (flat_map text_in rows)
-    pub torn : WritesLine (IsTold (counted (old.items + 1 + count_by has_number rows)) (counted (old.bytes + sum_by (size_in size) rows)) next told_next) mid out_now (Err exit)
+-- What is told of items of this format, of this size.
+abbrev pub told_by : {S V : Type 0} → Format S V → (V → ℕ) → (ℕ → ℕ → V → Told → List ℕ → Type 0) → ToldBy S V
+told_by format size IsTold = record { format = format; size = size; IsTold = IsTold }
+
+-- What a run over items changes: the state of the format, the input, the output, and what is counted.
+pub record Progress (S : Type 0) : Type 0 where
+  pub state : S
+  pub input : Option (List ℕ)
+  pub output : Option (List ℕ)
+  pub counted : Counted
+
+-- A run with this state, input, output and counts.
+abbrev pub progress : {S : Type 0} → S → Option (List ℕ) → Option (List ℕ) → Counted → Progress S
+progress state input output counted = record { state = state; input = input; output = output; counted = counted }
+
+-- TellsItems: items, at most `most`, were read until the run stopped. They lead to the new state and are counted, and their texts are
+-- written.
+pub record TellsItems {S V : Type 0} (by : ToldBy S V) (old new : Progress S) (failed : Bool) (most : ℕ) (fault : Option PcapError) : Type 0 where
+  pub rows : List (Row V)
+  pub run : TakesItems by.format old.state old.input new.input failed most (map item_in rows) fault
+  pub leads : state_after by.format old.state (map item_in rows) ≡ new.state
+  pub long : length run.took.bytes ≡ sum_by (size_in by.size) rows
+  pub told : AreTold by.size by.IsTold (old.counted.items + 1) old.counted.bytes rows
+  pub counts : Counts by.format old.state by.size by.IsTold old.counted new.counted rows
+  pub out : Appends old.output new.output (flat_map text_in rows)
+
+-- TellsTorn: the items read lead to the new state. All but the last are counted and their texts are written, and the last one's text ended
+-- with this exit.
+pub record TellsTorn {S V : Type 0} (by : ToldBy S V) (old new : Progress S) (exit : Exit) : Type 0 where
+  pub rows : List (Row V)
+  pub next : V
+  pub told_next : Told
+  pub left : Option (List ℕ)
+  pub took : TakesTexts by.format old.state (map item_in rows) old.input left
+  pub took_next : Takes (by.format.says (state_after by.format old.state (map item_in rows))) left new.input next
+  pub leads : by.format.goes (state_after by.format old.state (map item_in rows)) next ≡ new.state
+  pub told : AreTold by.size by.IsTold (old.counted.items + 1) old.counted.bytes rows
+  pub counts : Counts by.format old.state by.size by.IsTold old.counted new.counted rows
+  pub mid : Option (List ℕ)
+  pub out : Appends old.output mid (flat_map text_in rows)
+  pub torn : WritesLine (by.IsTold (counted (old.counted.items + 1 + count_by has_number rows)) (counted (old.counted.bytes + sum_by (size_in by.size) rows)) next told_next) mid new.output (Err exit)

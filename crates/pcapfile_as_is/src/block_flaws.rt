@@ -7,7 +7,7 @@ ghost use Rattle.pcap_tolerant_blocks.specs.Flaws.{fault_of, said_of};
 ghost use Rattle.pcapfile_as_is.specs.BlockLines.{block_place, broken_rule, fault_line, option_text, said_line, said_lines};
 
 use crate::block_teller::BlockTeller;
-use crate::counted::Told;
+use crate::counted::{Spot, Told};
 use capcopy_run::{Exit, put_line};
 use pcap_core::rules::Rule;
 use pcap_tolerant_blocks::{Broken, Flaw};
@@ -139,13 +139,12 @@ impl BlockTeller for BlockFlawLines<'_> {
         &mut self,
         alloc: Global,
         output: &mut W,
-        number: u64,
-        place: u64,
+        at: Spot,
         reader: &PcapNgReaderAsIs<T>,
         lent: &LentAsIs,
     ) -> Result<Told, Exit> {
         let flaws = lent.flaws.as_slice();
-        put_flaws(alloc, output, self.prefix, number, place, flaws)?;
+        put_flaws(alloc, output, self.prefix, at.number, at.place, flaws)?;
         Ok(Told {
             has_number: true,
             has_flaw: !flaws.is_empty(),

@@ -18,7 +18,7 @@ ghost use Rattle.pcapfile_as_is.specs.Texts.{WritesTold};
 ghost use Rattle.pcapfile_as_is.specs.BlockLists.{HoldsIf, IsListedBody, IsMarkedLine, described, ending, mark_of, packet_as_is};
 
 use crate::block_teller::BlockTeller;
-use crate::counted::Told;
+use crate::counted::{Spot, Told};
 use capcopy_run::{Exit, ROOM, put_line};
 use pcap_file::pcapng::{BlockHeader, InterfaceDescriptionBlock, ParsedBlock};
 use pcap_tolerant_blocks::{Broken, EnhancedAsIs, Flaw, PacketBlockAsIs, SimpleAsIs};
@@ -252,8 +252,7 @@ impl BlockTeller for BlockPacketLines {
         &mut self,
         alloc: Global,
         output: &mut W,
-        number: u64,
-        place: u64,
+        at: Spot,
         reader: &PcapNgReaderAsIs<T>,
         lent: &LentAsIs,
     ) -> Result<Told, Exit> {
@@ -262,7 +261,7 @@ impl BlockTeller for BlockPacketLines {
                 has_number: false,
                 has_flaw: !lent.flaws.as_slice().is_empty(),
             }),
-            Some(held) => put_held(alloc, output, number, reader, &held),
+            Some(held) => put_held(alloc, output, at.number, reader, &held),
         }
     }
 }

@@ -8,7 +8,7 @@ ghost use Rattle.pcapfile_as_is.specs.MendedBlocks.{WritesMended};
 ghost use Rattle.pcapfile_mended.specs.Mended.{IsMended};
 
 use crate::block_teller::BlockTeller;
-use crate::counted::Told;
+use crate::counted::{Spot, Told};
 use capcopy_run::{Exit, put_line};
 use pcap_blocks::BlockType;
 use pcap_tolerant_captures::{LentAsIs, PcapNgReaderAsIs};
@@ -133,15 +133,14 @@ impl<E: Write> BlockTeller for BlockRepairs<E> {
         &mut self,
         alloc: Global,
         output: &mut W,
-        number: u64,
-        place: u64,
+        at: Spot,
         reader: &PcapNgReaderAsIs<T>,
         lent: &LentAsIs,
     ) -> Result<Told, Exit> {
         let block = block_in(reader, lent);
         let change = change_of(block, !lent.flaws.is_empty());
         let mended = put_mended(alloc, output, block, &mut self.body, &mut self.text)?;
-        self.tell(number, place, mended, change);
+        self.tell(at.number, at.place, mended, change);
         Ok(Told {
             has_number: true,
             has_flaw: mended != Mended::Stays,

@@ -4,10 +4,10 @@ ghost use Rattle.std.specs.Prelude.{◌≡◌, ◌<◌, ◌^◌, false, true, Ma
 ghost use Rattle.pcap_tolerant_captures.specs.Blocks.{as_is_format};
 ghost use Rattle.pcap_tolerant_captures.specs.ReaderAsIs.{state_of, stream_of, has_failed, is_done};
 ghost use Rattle.pcapfile_as_is.specs.Counts.{block_size};
-ghost use Rattle.pcapfile_as_is.specs.Texts.{TellsItems, TellsTorn};
+ghost use Rattle.pcapfile_as_is.specs.Texts.{TellsItems, TellsTorn, progress, told_by};
 
 use crate::block_teller::BlockTeller;
-use crate::counted::Counted;
+use crate::counted::{Counted, Spot};
 use capcopy_run::Exit;
 use pcap_core::PcapError;
 use pcap_tolerant_captures::PcapNgReaderAsIs;
@@ -35,12 +35,13 @@ pub fn tell_blocks<P: BlockTeller, T: Read + Drop, W: Write>(
     ensures readable { IfErr result (λ exit. (is_done reader.new ≡ false) × (has_failed reader.new ≡ false)) }
     ensures told { let tells = P.is_told (P.setting teller.old) in
         MatchResult result
-        (λ fault. TellsItems as_is_format (state_of reader.old) block_size tells (state_of reader.new)
-        (T.remaining (stream_of reader.old)) (T.remaining (stream_of reader.new)) (W.contents output.old) (W.contents output.new)
-        (has_failed reader.new) most counted.old counted.new fault)
-        (λ exit. TellsTorn as_is_format (state_of reader.old) block_size tells (state_of reader.new)
-        (T.remaining (stream_of reader.old)) (T.remaining (stream_of reader.new)) (W.contents output.old) (W.contents output.new)
-        counted.old counted.new exit) }
+        (λ fault. TellsItems (told_by as_is_format block_size tells)
+        (progress (state_of reader.old) (T.remaining (stream_of reader.old)) (W.contents output.old) counted.old)
+        (progress (state_of reader.new) (T.remaining (stream_of reader.new)) (W.contents output.new) counted.new)
+        (has_failed reader.new) most fault)
+        (λ exit. TellsTorn (told_by as_is_format block_size tells)
+        (progress (state_of reader.old) (T.remaining (stream_of reader.old)) (W.contents output.old) counted.old)
+        (progress (state_of reader.new) (T.remaining (stream_of reader.new)) (W.contents output.new) counted.new) exit) }
 {
     for turn in 0..most {
         match reader.next_header() {
@@ -48,7 +49,8 @@ pub fn tell_blocks<P: BlockTeller, T: Read + Drop, W: Write>(
             Some(Err(error)) => return Ok(Some(error)),
             Some(Ok(lent)) => {
                 let number = counted.items.saturating_add(1);
-                let told = teller.put(alloc, output, number, counted.bytes, reader, &lent)?;
+                let place = counted.bytes;
+                let told = teller.put(alloc, output, Spot { number, place }, reader, &lent)?;
                 counted.add_item(u64::from(lent.header.initial_len), told);
             }
         }

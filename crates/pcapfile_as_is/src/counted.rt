@@ -26,6 +26,15 @@ pub struct Told {
     pub has_flaw: bool,
 }
 
+/// The number of a packet or block, and where it is.
+#[derive(Clone, Copy)]
+pub struct Spot {
+    /// Its number in its capture.
+    pub number: u64,
+    /// The offset of its first byte in its capture.
+    pub place: u64,
+}
+
 // Returns 1 if the condition holds, and 0 otherwise.
 fn count_if(holds: bool) -> u64
     ensures { result ≡ one_if holds }

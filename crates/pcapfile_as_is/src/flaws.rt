@@ -4,6 +4,7 @@ ghost use Rattle.std.specs.Prelude.{◌≡◌, [], IfOk, string_bytes, if◌then
 ghost use Rattle.pcapfile_as_is.specs.FlawLines.{place_text, flaw_text, flaws_text};
 
 use crate::block_flaws::rule_flaw;
+use crate::counted::Spot;
 use crate::teller::Teller;
 use capcopy_run::{Exit, put_line};
 use pcap_classic::TsResolution;
@@ -117,14 +118,13 @@ impl Teller for FlawLines<'_> {
         alloc: Global,
         output: &mut W,
         ts_resolution: TsResolution,
-        number: u64,
-        place: u64,
+        at: Spot,
         packet: &PacketAsIs<'_>,
     ) -> Result<(), Exit> {
         if !packet.flaws.is_broken() {
             return Ok(());
         }
-        let lines = flaw_lines(alloc, self.prefix, number, place, packet.flaws)?;
+        let lines = flaw_lines(alloc, self.prefix, at.number, at.place, packet.flaws)?;
         put_line(output, lines.as_bytes())
     }
 }

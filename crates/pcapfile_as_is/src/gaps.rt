@@ -23,6 +23,10 @@ pub enum Scrap {
     PacketFront,
     /// The beginning of a truncated block.
     BlockFront,
+    /// The header of another capture.
+    OtherHeader,
+    /// Packets of another link type.
+    OtherLink,
 }
 
 /// The bytes of a capture that were left out so far.
@@ -67,6 +71,8 @@ impl Scrap {
             Scrap::NoBlocks => "no blocks",
             Scrap::PacketFront => "of a packet that is cut short",
             Scrap::BlockFront => "of a block that is cut short",
+            Scrap::OtherHeader => "the header of another capture",
+            Scrap::OtherLink => "packets of another link type",
         }
     }
 }

@@ -24,7 +24,7 @@ pub use block_repairs::BlockRepairs;
 pub use block_teller::BlockTeller;
 pub use block_telling::tell_blocks;
 pub use checked::CheckedAsIs;
-pub use counted::{Counted, Told};
+pub use counted::{Counted, Spot, Told};
 pub use flaws::FlawLines;
 pub use gaps::{Gap, LeftOut, Place, Scrap, put_gap};
 pub use listed::PacketLines;

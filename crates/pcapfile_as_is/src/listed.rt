@@ -4,6 +4,7 @@ ghost use Rattle.std.specs.Prelude.{◌≡◌, ◌≤◌, ◌+◌, ◌++◌, [],
 ghost use Rattle.pcap_tolerant.specs.AsIs.{as_it_is};
 ghost use Rattle.pcapfile_as_is.specs.Lists.{as_is_line, marks_text};
 
+use crate::counted::Spot;
 use crate::teller::Teller;
 use capcopy_run::{Exit, ROOM, put_byte, put_line, put_nine_digits, put_number, put_word};
 use pcap_classic::TsResolution;
@@ -75,12 +76,11 @@ impl Teller for PacketLines {
         alloc: Global,
         output: &mut W,
         ts_resolution: TsResolution,
-        number: u64,
-        place: u64,
+        at: Spot,
         packet: &PacketAsIs<'_>,
     ) -> Result<(), Exit> {
         let mut room = [0; ROOM];
-        let start = make_line(&mut room, ts_resolution, number, packet);
+        let start = make_line(&mut room, ts_resolution, at.number, packet);
         put_line(output, &room[start..])
     }
 }

@@ -7,6 +7,7 @@ ghost use Rattle.pcap_classic.specs.Written.{record_bytes};
 ghost use Rattle.capcopy_run.specs.Lines.{WritesLine};
 ghost use Rattle.pcapfile_as_is.specs.Repaired.{repaired_of};
 
+use crate::counted::Spot;
 use crate::mended::repaired;
 use crate::teller::Teller;
 use byteorder::{BigEndian, LittleEndian};
@@ -114,12 +115,11 @@ impl<E: Write> Teller for Repairs<E> {
         alloc: Global,
         output: &mut W,
         ts_resolution: TsResolution,
-        number: u64,
-        place: u64,
+        at: Spot,
         packet: &PacketAsIs<'_>,
     ) -> Result<(), Exit> {
         let made = repaired(packet, ts_resolution);
-        self.tell(number, place, packet, &made);
+        self.tell(at.number, at.place, packet, &made);
         put_made(output, &mut self.room, self.order, ts_resolution, &made)
     }
 }

@@ -5,6 +5,7 @@ ghost use Rattle.pcap_classic.specs.declared.common.TsResolution.{TsResolution a
 ghost use Rattle.pcap_tolerant.specs.AsIs.{AsIs, as_it_is};
 ghost use Rattle.capcopy_run.specs.Lines.{WritesLine};
 
+use crate::counted::Spot;
 use capcopy_run::Exit;
 use pcap_classic::TsResolution;
 use pcap_tolerant::PacketAsIs;
@@ -19,18 +20,17 @@ pub trait Teller {
 
     ghost text: { Setting → Resolution → ℕ → ℕ → AsIs → List ℕ };
 
-    /// Writes the text of the packet with this number, at the offset `place` of its capture. Returns `Io` if the output fails, and `Memory`
-    /// if there is no memory for the text.
+    /// Writes the text of the packet with this number, at this place. Returns `Io` if the output fails, and `Memory` if there is no memory
+    /// for the text.
     fn put<W: Write>(
         &mut self,
         alloc: Global,
         output: &mut W,
         ts_resolution: TsResolution,
-        number: u64,
-        place: u64,
+        at: Spot,
         packet: &PacketAsIs<'_>,
     ) -> Result<(), Exit>
         ensures same { setting self.new ≡ setting self.old }
-        ensures writes { WritesLine (λ line. line ≡ text (setting self.old) ts_resolution number place (as_it_is packet.now))
+        ensures writes { WritesLine (λ line. line ≡ text (setting self.old) ts_resolution at.number at.place (as_it_is packet.now))
             (W.contents output.old) (W.contents output.new) result };
 }

@@ -5,9 +5,9 @@ ghost use Rattle.pcap_classic.specs.Magic.{resolution_of};
 ghost use Rattle.pcap_tolerant.specs.ReaderAsIs.{stream_of, header_read, limit_of, has_failed, is_done};
 ghost use Rattle.pcap_tolerant.specs.Run.{as_is_under};
 ghost use Rattle.pcapfile_as_is.specs.Counts.{has_flaw, size_of};
-ghost use Rattle.pcapfile_as_is.specs.Texts.{TellsBy, TellsItems, TellsTorn};
+ghost use Rattle.pcapfile_as_is.specs.Texts.{TellsBy, TellsItems, TellsTorn, progress, told_by};
 
-use crate::counted::Counted;
+use crate::counted::{Counted, Spot};
 use crate::teller::Teller;
 use capcopy_run::Exit;
 use pcap_core::PcapError;
@@ -39,10 +39,13 @@ pub fn tell_packets<P: Teller, T: Read + Drop, W: Write>(
     ensures told { let f = as_is_under (limit_of reader.old) (header_read reader.old) in
         let tells = TellsBy has_flaw (P.text (P.setting teller.old) (resolution_of (header_read reader.old).magic_number)) in
         MatchResult result
-        (λ fault. TellsItems f tt size_of tells tt (T.remaining (stream_of reader.old)) (T.remaining (stream_of reader.new))
-        (W.contents output.old) (W.contents output.new) (has_failed reader.new) most counted.old counted.new fault)
-        (λ exit. TellsTorn f tt size_of tells tt (T.remaining (stream_of reader.old)) (T.remaining (stream_of reader.new))
-        (W.contents output.old) (W.contents output.new) counted.old counted.new exit) }
+        (λ fault. TellsItems (told_by f size_of tells)
+        (progress tt (T.remaining (stream_of reader.old)) (W.contents output.old) counted.old)
+        (progress tt (T.remaining (stream_of reader.new)) (W.contents output.new) counted.new)
+        (has_failed reader.new) most fault)
+        (λ exit. TellsTorn (told_by f size_of tells)
+        (progress tt (T.remaining (stream_of reader.old)) (W.contents output.old) counted.old)
+        (progress tt (T.remaining (stream_of reader.new)) (W.contents output.new) counted.new) exit) }
 {
     let ts_resolution = reader.ts_resolution();
     for turn in 0..most {
@@ -52,7 +55,14 @@ pub fn tell_packets<P: Teller, T: Read + Drop, W: Write>(
             Some(Ok(head)) => {
                 let packet = reader.packet(head);
                 let number = counted.items.saturating_add(1);
-                teller.put(alloc, output, ts_resolution, number, counted.bytes, &packet)?;
+                let place = counted.bytes;
+                teller.put(
+                    alloc,
+                    output,
+                    ts_resolution,
+                    Spot { number, place },
+                    &packet,
+                )?;
                 counted.add(&head);
             }
         }

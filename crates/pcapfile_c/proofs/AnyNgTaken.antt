@@ -20,6 +20,7 @@ use Rattle.pcapfile_c.specs.AnyCaptures.{HasEnded, IsNg, TakesAnyNgPacket, Takes
 use Rattle.pcapfile_c.specs.PushPackets.{ReadSays, ShowsInForce, Stops}
 use Rattle.pcapfile_c.specs.RoomCalls.{under_status}
 use Rattle.pcapfile_c.specs.ReadBlocks.{ShowsThere, read_format}
+use Rattle.pcapfile_c.specs.Readers.{any_reader, packet_reader}
 use Rattle.pcapfile_c.proofs.AnyTaken.{StartsNg}
 use Rattle.pcapfile_c.proofs.PacketLaws.{in_force_keeps}
 use Rattle.pcapfile_c.proofs.PacketsCome.{PacketsCome, behind, come_all, front_comes, packets_among, state_all, state_same, stops_front}
@@ -52,12 +53,12 @@ abbrev Comes : Kept → List ℕ → List ℕ → List PcapfileAnyPacket → Pca
 Comes kept s rest given error told z = (x : PacketsCome opening s kept.0.section kept.1 rest given) × Ended kept rest x.0 error told z
 
 module _ (kept next : Kept) (s left rest : List ℕ) (given : List PcapfileAnyPacket) (old shown : PcapfileAnyPacket) (error told : PcapfileError) (z : ℤ) (x : PacketsCome opening s kept.0.section kept.1 left given) where
-  with_places : TakesWithPlaces (behind opening x.0) kept.0.section next.0.section kept.1 next.1 left rest old shown error told z
+  with_places : TakesWithPlaces (behind opening x.0) (packet_reader kept.0.section kept.1 left old error) (packet_reader next.0.section next.1 rest shown told) z
       → Comes next s rest (given ++ under_status z (shown ∷ [])) error told z
   with_places (inl t) =
       let q = behind opening x.0 in
       let more = under_status z (shown ∷ []) in
-      let f = front_comes q next.0.section next.1 left rest old shown error told z t in
+      let f = front_comes q kept.0.section next.0.section kept.1 next.1 left rest old shown error told z t in
       let all = come_all opening s left rest kept.0.section next.0.section kept.1 next.1 given more x f.0 in
       let is : behind q f.0.0 ≡ behind opening all.0.0 = sym (state_all opening x.0 f.0.0) ∙ ap (behind opening) (sym all.1) in (
         all.0,
@@ -86,7 +87,7 @@ module _ (start : PcapfileCapture) (s : List ℕ) (fresh : IsFresh start) (is : 
 
   -- One call.
   call_takes : (kept next : Kept) (left rest : List ℕ) (given : List PcapfileAnyPacket) (old shown : PcapfileAnyPacket) (error told : PcapfileError) (z : ℤ) (come : Taken start s kept left given)
-      → TakesAnyNgPacket (behind opening come.1.0) kept.0 next.0 kept.1 next.1 left rest old shown error told z → Taken start s next rest (given ++ under_status z (shown ∷ []))
+      → TakesAnyNgPacket (behind opening come.1.0) (any_reader kept.0 kept.1 left old error) (any_reader next.0 next.1 rest shown told) z → Taken start s next rest (given ++ under_status z (shown ∷ []))
   call_takes kept next left rest given old shown error told z come (inl x) =
       let empty : under_status z (shown ∷ []) ≡ [] = ap (λ (k : ℤ). under_status k (shown ∷ [])) x.0 in
       rw empty (x.4.0 ∙ come.0, (with_places kept next s left rest given old shown error x.3 (pos 1) come.1 x.4.1).0)
@@ -120,7 +121,7 @@ module _ (start : PcapfileCapture) (s : List ℕ) (fresh : IsFresh start) (is : 
           by_ng (inr n) = let bad : StartsNg [] = subst StartsNg empty n.1 in absurd cc
 
   last_takes : (kept next : Kept) (left rest : List ℕ) (given : List PcapfileAnyPacket) (old shown : PcapfileAnyPacket) (error told : PcapfileError) (z : ℤ) (come : Taken start s kept left given) → CameToEnd z
-      → TakesAnyNgPacket (behind opening come.1.0) kept.0 next.0 kept.1 next.1 left rest old shown error told z → NgFrontTaken s rest given told z
+      → TakesAnyNgPacket (behind opening come.1.0) (any_reader kept.0 kept.1 left old error) (any_reader next.0 next.1 rest shown told) z → NgFrontTaken s rest given told z
   last_takes kept next left rest given old shown error told z come end (inl x) =
       let f = with_places kept next s left rest given old shown error x.3 (pos 1) come.1 x.4.1 in
       let front = stops_front opening next.0.section next.1 f.0.0 s rest error x.3 (pos 1) (λ e. absurd cc) (λ e. absurd cc) f.0.1 (f.1 (λ e. absurd cc) (λ e. absurd cc)) in

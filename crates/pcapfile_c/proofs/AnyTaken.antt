@@ -26,6 +26,7 @@ use Rattle.pcapfile_c.specs.AnyCaptures.{HasEnded, IsNg, TakesAnyPacket, TakesCa
 use Rattle.pcapfile_c.specs.Calls.{PacketsSaid}
 use Rattle.pcapfile_c.specs.Push.{Opened}
 use Rattle.pcapfile_c.specs.RoomCalls.{under_status}
+use Rattle.pcapfile_c.specs.Readers.{any_reader, header_reader}
 use Rattle.pcapfile_c.proofs.Pushes.{HaveCome, no_packet, not_both, opened_comes, packet_comes}
 use Rattle.pcapfile_c.proofs.RoomLaws.{none_refused}
 
@@ -51,7 +52,7 @@ links_stay before now held mid s packets given (inr o) (inl x) shows =
 
 -- A packet was read, or none.
 captured_comes : (before now : PcapfileHeader) (left rest s : List ℕ) (given : List PcapfileAnyPacket) (old shown : PcapfileAnyPacket) (error told : PcapfileError) (z : ℤ)
-    → TakesCaptured before now left rest old shown error told z → Come s before left given → Come s now rest (given ++ under_status z (shown ∷ []))
+    → TakesCaptured (header_reader before left old error) (header_reader now rest shown told) z → Come s before left given → Come s now rest (given ++ under_status z (shown ∷ []))
 captured_comes before now left rest s given old shown error told z (inl x) come =
     let packet = x.2 in
     let there = packet_comes before now left rest s come.0 packet x.3 come.1 in
@@ -81,7 +82,7 @@ module _ (start : PcapfileCapture) (s : List ℕ) (fresh : IsFresh start) (not :
 
   -- One call.
   call_takes : (kept next : Kept) (left rest : List ℕ) (given : List PcapfileAnyPacket) (old shown : PcapfileAnyPacket) (error told : PcapfileError) (z : ℤ) → Taken start s kept left given
-      → TakesAnyPacket kept.0 next.0 kept.1 next.1 left rest old shown error told z → Taken start s next rest (given ++ under_status z (shown ∷ []))
+      → TakesAnyPacket (any_reader kept.0 kept.1 left old error) (any_reader next.0 next.1 rest shown told) z → Taken start s next rest (given ++ under_status z (shown ∷ []))
   call_takes kept next left rest given old shown error told z come (inl x) =
       let empty : under_status z (shown ∷ []) ≡ [] = ap (λ (k : ℤ). under_status k (shown ∷ [])) x.0 in
       let there = captured_comes kept.0.header next.0.header left rest s given old shown error x.3 (pos 1) x.4.2 come.1 in
@@ -118,7 +119,7 @@ Ends now s rest given told z =
     ⊎ ((is_magic now.magic_number ≡ false) × NoHeader s rest given told z)
 
 front_ends : (before now : PcapfileHeader) (left rest s : List ℕ) (given : List PcapfileAnyPacket) (old shown : PcapfileAnyPacket) (error told : PcapfileError) (z : ℤ) → z ≢ pos 0
-    → TakesCaptured before now left rest old shown error told z → Come s before left given → Ends now s rest given told z
+    → TakesCaptured (header_reader before left old error) (header_reader now rest shown told) z → Come s before left given → Ends now s rest given told z
 unfolding Ends
 front_ends before now left rest s given old shown error told z some (inl x) come = absurd (some x.0)
 front_ends before now left rest s given old shown error told z some (inr (inl x)) (packets, come, shows) =
@@ -161,7 +162,7 @@ module _ (start : PcapfileCapture) (places : List PcapfileInterface) (s : List �
   in_order next rest given calls = taken_said next.0.header s rest given (calls_take start s fresh not places next rest given calls).1
 
   last_takes : (kept next : Kept) (left rest : List ℕ) (given : List PcapfileAnyPacket) (old shown : PcapfileAnyPacket) (error told : PcapfileError) (z : ℤ) → z ≢ pos 0 → Taken start s kept left given
-      → TakesAnyPacket kept.0 next.0 kept.1 next.1 left rest old shown error told z → FrontTaken s rest given told z ⊎ NoHeader s rest given told z
+      → TakesAnyPacket (any_reader kept.0 kept.1 left old error) (any_reader next.0 next.1 rest shown told) z → FrontTaken s rest given told z ⊎ NoHeader s rest given told z
   last_takes kept next left rest given old shown error told z some come (inl x) =
       let zero : next.0.section.magic_number ≡ 0 = ap (λ (t : PcapfileSection). t.magic_number) (x.4.0 ∙ come.0) ∙ fresh.0 in
       ended_there next.0 s rest given x.3 told z x.0 zero x.2 (front_ends kept.0.header next.0.header left rest s given old shown error x.3 (pos 1) one_some x.4.2 come.1)

@@ -17,6 +17,7 @@ use Rattle.pcapfile_c.specs.BlockPushes.{BlocksHaveEnded, GivesBlock, KeepsSecti
 use Rattle.pcapfile_c.specs.Push.{held_in}
 use Rattle.pcapfile_c.specs.PushBlocks.{TakesNextBlock}
 use Rattle.pcapfile_c.specs.RoomCalls.{all_given, all_put, under_status}
+use Rattle.pcapfile_c.specs.Readers.{block_reader}
 use Rattle.pcapfile_c.proofs.RoomLaws.{come_before, given_all, none_refused, none_refused_where, not_for_memory, put_all, refused_no_text, stays}
 
 abbrev Shows : Item → PcapfileBlock → Type 0
@@ -45,7 +46,7 @@ unfolding block_format
 behind_push q items item = state_push block_format q items item
 
 block_taken : (before push : PcapfilePush) (section next : PcapfileSection) (room s : List ℕ) (given : List PcapfileBlock) (old block : PcapfileBlock) (error told : PcapfileError) (z : ℤ)
-    → (x : BlocksCome s section (held_in before room) given) → TakesNextBlock (behind x.0) before push section next room old block error told z
+    → (x : BlocksCome s section (held_in before room) given) → TakesNextBlock (behind x.0) room (block_reader section before old error) (block_reader next push block told) z
     → BlocksCome s next (held_in push room) (given ++ under_status z (block ∷ []))
 block_taken before push section next room s given old block error told z x (inl (rest, inl t)) =
     let says = block_said (behind x.0) t.2 (held_in before room) (held_in push room) t.5 in
@@ -70,7 +71,7 @@ module _ (calls : List (List ℕ × List PcapfileBlock)) (push : PcapfilePush) (
   AreFront = (items : List Item) × Front block_format opening items (all_put e.earlier) (held_in push room) × ShowsState section (behind items) × AllZip Shows items (all_given e.earlier ++ e.given)
 
   last_come : (x : BlocksCome (all_put e.earlier) e.last_kept (held_in e.last room) (all_given e.earlier)) → (old block : PcapfileBlock) (error told : PcapfileError) → e.given ≡ under_status e.status (block ∷ [])
-      → TakesNextBlock (behind x.0) e.last push e.last_kept section room old block error told e.status → AreFront
+      → TakesNextBlock (behind x.0) room (block_reader e.last_kept e.last old error) (block_reader section push block told) e.status → AreFront
   unfolding AreFront block_format
   last_come x old block error told given (inl (rest, inl t)) = absurd (e.refused t.0)
   last_come x old block error told given (inl (rest, inr t)) =

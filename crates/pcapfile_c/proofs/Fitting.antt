@@ -28,6 +28,7 @@ use Rattle.pcapfile_values.specs.BlockTexts.{PutsAt, clock_options, section_bloc
 use Rattle.pcapfile_values.specs.Reasons.{IsRefused}
 use Rattle.pcapfile_values.proofs.Parts.{clock_short, interface_long, section_long}
 use Rattle.pcapfile_c.specs.Putting.{BeginsWith, Given, IsTextOf, PutsBlock, a_section, an_interface, a_packet}
+use Rattle.pcapfile_c.specs.Readers.{block_writer}
 
 -- A room begins with a text that was written at its front.
 pub begins : {text room now : List ℕ} → (n : ℕ) → n ≡ length text → PutsAt 0 text room now → BeginsWith text room now n
@@ -135,17 +136,17 @@ packet_is_text e s p order known room time original short = record {
 
 -- The result for a block that was written.
 pub puts_whole : (Stands : Reason → Type 0) (given : Given) (section next : PcapfileSection) (text room now : List ℕ) (n before : ℕ) (error : PcapfileError) → IsTextOf given section next text → n ≡ length text
-    → PutsAt 0 text room now → PutsBlock Stands given section next room now before n error error (pos 0)
+    → PutsAt 0 text room now → PutsBlock Stands given (block_writer section room before error) (block_writer next now n error) (pos 0)
 puts_whole Stands given section next text room now n before error is long put = inl (refl, refl, text, is, begins n long put)
 
 -- The result for a room that is too short.
 pub puts_nothing : (Stands : Reason → Type 0) (given : Given) (section after : PcapfileSection) (text room : List ℕ) (n before : ℕ) (error told : PcapfileError) (status : ℤ) → IsTextOf given section after text → n ≡ length text
-    → length room < n → told.rule ≡ 0 → told.missing ≡ n - length room → status ≡ pos 9 → PutsBlock Stands given section section room room before before error told (to_z w32 (of_z w32 status))
+    → length room < n → told.rule ≡ 0 → told.missing ≡ n - length room → status ≡ pos 9 → PutsBlock Stands given (block_writer section room before error) (block_writer section room before told) (to_z w32 (of_z w32 status))
 puts_nothing Stands given section after text room n before error told status is long few rule missing said =
     inr (refl, refl, refl, inl (ap (λ (z : ℤ). to_z w32 (of_z w32 z)) said, text, after, is, record { no_rule = rule; some = omega (arith, few, missing); together = omega (arith, few, missing, long) }))
 
 -- The result for a block with a reason against it.
 pub puts_refused : (Stands : Reason → Type 0) (given : Given) (section : PcapfileSection) (room : List ℕ) (before : ℕ) (error told : PcapfileError) (status : ℤ) (reason : Reason) → Stands reason → IsRefused reason told status
-    → PutsBlock Stands given section section room room before before error told (to_z w32 (of_z w32 status))
+    → PutsBlock Stands given (block_writer section room before error) (block_writer section room before told) (to_z w32 (of_z w32 status))
 puts_refused Stands given section room before error told status reason stands refused =
     inr (refl, refl, refl, inr (reason, stands, record { status_is = ap (λ (z : ℤ). to_z w32 (of_z w32 z)) refused.status_is; rule_is = refused.rule_is; none_missing = refused.none_missing }))

@@ -14,6 +14,7 @@ use Rattle.pcapfile_c.specs.PushNgBatches.{TakesNextNgPackets}
 use Rattle.pcapfile_c.specs.PushPackets.{ShowsInForce, Stops, TakesNextPacket}
 use Rattle.pcapfile_c.specs.ReadBlocks.{ShowsThere, read_format}
 use Rattle.pcapfile_c.specs.RoomCalls.{all_given, all_put, under_status}
+use Rattle.pcapfile_c.specs.Readers.{packet_reader}
 use Rattle.pcapfile_c.proofs.PacketsCome.{PacketsCome, behind, come_all, front_comes, packets_among, read_more, state_all, stops_front}
 use Rattle.pcapfile_c.proofs.RoomLaws.{come_before, given_all, put_all, stays}
 
@@ -58,10 +59,10 @@ module _ (before push : PcapfilePush) (kept next : InForceShown) (room s : List 
       let there = packet_keeps s (held_in before room) push.header kept next given keeps x in
       (stays Known s (held_in before room) (held_in push room) push.header push.header next next given more refl refl (ap (λ (p : PcapfilePush). held_in p room) same) none there, λ some known. absurd (known bad))
 
-  packet_taken : (old packet : PcapfileAnyPacket) → TakesNextPacket (behind opening x.0) before push kept.0 next.0 kept.1 next.1 room old packet error told z
+  packet_taken : (old packet : PcapfileAnyPacket) → TakesNextPacket (behind opening x.0) room (packet_reader kept.0 kept.1 before old error) (packet_reader next.0 next.1 push packet told) z
       → CallComes error told z s next (held_in push room) (given ++ under_status z (packet ∷ []))
   packet_taken old packet (inl t) =
-      let f = front_comes (behind opening x.0) next.0 next.1 (held_in before room) (held_in push room) old packet error told z t.1 in
+      let f = front_comes (behind opening x.0) kept.0 next.0 kept.1 next.1 (held_in before room) (held_in push room) old packet error told z t.1 in
       taken_comes (under_status z (packet ∷ [])) f.0 (λ some. elim f.1 [
         | inl e ↦ absurd (some e.0)
         | inr e ↦ e.1
@@ -71,7 +72,7 @@ module _ (before push : PcapfilePush) (kept next : InForceShown) (room s : List 
       let same : KeepsInForce kept next = (l.1.section_is, ap (take kept.0.interfaces) l.1.places_are) in
       left_comes (under_status z (packet ∷ [])) l.1.status_is l.1.push_is same none
 
-  packets_taken : (old packets : List PcapfileAnyPacket) (taken : ℕ) → TakesNextNgPackets (behind opening x.0) before push kept.0 next.0 kept.1 next.1 room old packets taken error told z
+  packets_taken : (old packets : List PcapfileAnyPacket) (taken : ℕ) → TakesNextNgPackets (behind opening x.0) room (packet_reader kept.0 kept.1 before old error) (packet_reader next.0 next.1 push packets told) taken z
       → CallComes error told z s next (held_in push room) (given ++ take taken packets)
   packets_taken old packets taken (inl t) =
       let f = t.1 in

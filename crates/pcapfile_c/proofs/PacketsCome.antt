@@ -24,6 +24,7 @@ use Rattle.pcapfile_c.specs.PushNgBatches.{PacketIsLast}
 use Rattle.pcapfile_c.specs.PushPackets.{EndsWalk, GivesPacket, ReadMayGrow, ReadSays, ReadText, ShowsInForce, Stops, TakesFrontPacket, is_packet_block}
 use Rattle.pcapfile_c.specs.RoomCalls.{under_status}
 use Rattle.pcapfile_c.specs.ReadBlocks.{ShowsThere, each_under, is_packet_there, read_format}
+use Rattle.pcapfile_c.specs.Readers.{packet_reader}
 use Rattle.pcapfile_c.proofs.Pushes.{not_both}
 use Rattle.pcapfile_c.proofs.RoomLaws.{none_refused_where, not_for_memory}
 
@@ -166,8 +167,8 @@ HasCome q items next now rest old packet error told z =
     ((z ≡ pos 0) × (told ≡ error) × PacketIsLast items) ⊎ ((packet ≡ old) × Stops (behind q items) next now rest error told z)
 
 -- A search for a packet.
-module _ (q : State) (next : PcapfileSection) (now : List PcapfileInterface) (s rest : List ℕ) (old packet : PcapfileAnyPacket) (error told : PcapfileError) (z : ℤ)
-    (t : TakesFrontPacket q next now s rest old packet error told z) where
+module _ (q : State) (section next : PcapfileSection) (places now : List PcapfileInterface) (s rest : List ℕ) (old packet : PcapfileAnyPacket) (error told : PcapfileError) (z : ℤ)
+    (t : TakesFrontPacket q (packet_reader section places s old error) (packet_reader next now rest packet told) z) where
   -- What the search returns.
   Comes : Type 0
   Comes = (x : PacketsCome q s next now rest (under_status z (packet ∷ []))) × HasCome q x.0 next now rest old packet error told z

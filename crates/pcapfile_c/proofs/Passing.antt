@@ -46,6 +46,7 @@ use Rattle.pcapfile_c.specs.declared.push.PcapfilePush.{PcapfilePush}
 use Rattle.pcapfile_c.specs.Push.{held_in}
 use Rattle.pcapfile_c.specs.Batches.{LeadingText, OtherText, PacketText, PacketFault, PacketMayGrow, PassageSays, is_packet}
 use Rattle.pcapfile_c.specs.PushPackets.{HaveBases, ShowsInForce, ShowsFound, GivesPacket, PutsBlock, PutsTells, StepTells, EndsWalk, TakesFrontPacket, TakesNextPacket, LeavesOthers, OthersStay, is_packet_block, ReadSays, ReadMayGrow, LacksPlace, Stops}
+use Rattle.pcapfile_c.specs.Readers.{packet_reader}
 use Rattle.pcapfile_c.proofs.BlockLaws.{behind_push}
 use Rattle.pcapfile_c.proofs.Pushed.{Found, held_says, with_rest}
 use Rattle.pcapfile_c.proofs.PushedBlocks.{block_ends}
@@ -313,7 +314,7 @@ puts_more q section next places now s mid rest x y =
 
 -- A block that is no packet, as a step of a search for any block.
 pub puts_step : (q : State) (section next : PcapfileSection) (places now : List PcapfileInterface) (s rest : List ℕ) (packet : PcapfileAnyPacket) (error told : PcapfileError) (r : Option ℤ)
-    → PutsTells q section next places now s rest error told r → StepTells q section next places now s rest packet packet error told r
+    → PutsTells q (packet_reader section places s tt error) (packet_reader next now rest tt told) r → StepTells q (packet_reader section places s packet error) (packet_reader next now rest packet told) r
 puts_step q section next places now s rest packet error told None x = (x.0, refl, x.1)
 puts_step q section next places now s rest packet error told (Some z) x = (x.0, x.1, inr (refl, x.2, x.3))
 
@@ -324,20 +325,20 @@ walk_ends : (q : State) (section : PcapfileSection) (places : List PcapfileInter
 walk_ends q section places s rest old packet error told z (inl e) = block_ends q s rest e.2.item e.2.text
 walk_ends q section places s rest old packet error told z (inr e) = ([], sym e.1)
 
-front_ends : (q : State) (next : PcapfileSection) (now : List PcapfileInterface) (s rest : List ℕ) (old packet : PcapfileAnyPacket) (error told : PcapfileError) (z : ℤ)
-    → TakesFrontPacket q next now s rest old packet error told z → (t : List ℕ) × (s ≡ t ++ rest)
-front_ends q next now s rest old packet error told z x =
+front_ends : (q : State) (section next : PcapfileSection) (places now : List PcapfileInterface) (s rest : List ℕ) (old packet : PcapfileAnyPacket) (error told : PcapfileError) (z : ℤ)
+    → TakesFrontPacket q (packet_reader section places s old error) (packet_reader next now rest packet told) z → (t : List ℕ) × (s ≡ t ++ rest)
+front_ends q section next places now s rest old packet error told z x =
     let o = texts_own block_format blocks_lawful q x.passed s x.mid x.texts in
     let m = walk_ends (state_after block_format q x.passed) next now x.mid rest old packet error told z x.ends in
     (o.0 ++ m.0, o.1 ∙ ap (λ (l : List ℕ). o.0 ++ l) m.1 ∙ sym (append_assoc o.0 m.0 rest))
 
 -- A packet is read from the held bytes.
 pub packet_takes : (before : PcapfilePush) (q : State) (section next : PcapfileSection) (places now : List PcapfileInterface) (room s rest : List ℕ) (old packet : PcapfileAnyPacket) (error told : PcapfileError) (z : ℤ)
-    → Found before room s → TakesFrontPacket q next now s rest old packet error told z
-    → TakesNextPacket q before (with_rest before before.header rest) section next places now room old packet error told z
+    → Found before room s → TakesFrontPacket q (packet_reader section places s old error) (packet_reader next now rest packet told) z
+    → TakesNextPacket q room (packet_reader section places before old error) (packet_reader next now (with_rest before before.header rest) packet told) z
 packet_takes before q section next places now room s rest old packet error told z found x =
-    let ends = front_ends q next now s rest old packet error told z x in
-    let held = held_says (λ s rest. TakesFrontPacket q next now s rest old packet error told z) before before.header room s rest found ends x in
+    let ends = front_ends q section next places now s rest old packet error told z x in
+    let held = held_says (λ s rest. TakesFrontPacket q (packet_reader section places s old error) (packet_reader next now rest packet told) z) before before.header room s rest found ends x in
     inl ((held.0, held.1, refl, refl), held.2)
 
 pub shows_state : (q : State) (section : PcapfileSection) (places : List PcapfileInterface) → ShowsInForce section places q → ShowsState section q
@@ -437,9 +438,9 @@ others_held before q next places now room s rest found x =
     (held_says (λ s rest. LeavesOthers q next places now s rest) before before.header room s rest found (o.0, o.1) x).2
 
 -- A search ends after blocks that are no packets.
-pub walk_done : (q : State) (section next : PcapfileSection) (places now : List PcapfileInterface) (s mid rest : List ℕ) (old before packet : PcapfileAnyPacket) (error known told : PcapfileError) (z : ℤ)
-    → before ≡ old → known ≡ error → (x : PutsBlocks q section places s mid) → StepTells (state_after block_format q x.0) section next places now mid rest before packet known told (Some z)
-    → TakesFrontPacket q next now s rest old packet error told z
-walk_done q section next places now s mid rest old before packet error known told z same is x y =
-    let here : TakesFrontPacket q section places s rest before packet known told z = record { passed = x.0; mid = mid; texts = x.1; none = x.2; in_force = x.3; ends = y.2 } in
+pub walk_done : (q : State) (first section next : PcapfileSection) (begun places now : List PcapfileInterface) (s mid rest : List ℕ) (old before packet : PcapfileAnyPacket) (error known told : PcapfileError) (z : ℤ)
+    → before ≡ old → known ≡ error → (x : PutsBlocks q section places s mid) → StepTells (state_after block_format q x.0) (packet_reader section places mid before known) (packet_reader next now rest packet told) (Some z)
+    → TakesFrontPacket q (packet_reader first begun s old error) (packet_reader next now rest packet told) z
+walk_done q first section next begun places now s mid rest old before packet error known told z same is x y =
+    let here : TakesFrontPacket q (packet_reader first begun s before known) (packet_reader section places rest packet told) z = record { passed = x.0; mid = mid; texts = x.1; none = x.2; in_force = x.3; ends = y.2 } in
     rw (y.0, y.1, sym same, sym is) here

@@ -18,6 +18,7 @@ use Rattle.pcapfile_values.specs.Shown.{captured}
 use Rattle.pcapfile_c.specs.declared.push.PcapfilePush.{PcapfilePush}
 use Rattle.pcapfile_c.specs.Calls.{PacketsSaid}
 use Rattle.pcapfile_c.specs.Push.{LiesWithin, Opened, TakesFront, TakesNext, held_in}
+use Rattle.pcapfile_c.specs.Readers.{header_reader, reader}
 
 -- The bytes between two places of a room.
 pub between_same : (b e : ℕ) (room : List ℕ) → b ≤ e → take (e - b) (drop b room) ≡ drop b (take e room)
@@ -66,7 +67,7 @@ opened_ends before now s after (inr x) = header_opening.ends s after x.1 x.3
 
 -- What is left is the end of the bytes.
 front_ends : (before now : PcapfileHeader) (s rest : List ℕ) (old packet : PcapfilePacket) (error told : PcapfileError) (z : ℤ)
-    → TakesFront before now s rest old packet error told z → (t : List ℕ) × (s ≡ t ++ rest)
+    → TakesFront (header_reader before s old error) (header_reader now rest packet told) z → (t : List ℕ) × (s ≡ t ++ rest)
 front_ends before now s rest old packet error told z (inl x) =
     let n = x.2 in
     let o = opened_ends before now s n.0 n.1 in
@@ -93,9 +94,9 @@ held_says Says before header room s rest found ends says =
 
 -- A packet is read from the held bytes.
 pub next_takes : (before : PcapfilePush) (header : PcapfileHeader) (room s rest : List ℕ) (old packet : PcapfilePacket) (error told : PcapfileError) (z : ℤ)
-    → Found before room s → TakesFront before.header header s rest old packet error told z
-    → TakesNext before (with_rest before header rest) room old packet error told z
+    → Found before room s → TakesFront (header_reader before.header s old error) (header_reader header rest packet told) z
+    → TakesNext room (reader before old error) (reader (with_rest before header rest) packet told) z
 next_takes before header room s rest old packet error told z found takes =
     let ends = front_ends before.header header s rest old packet error told z takes in
-    let held = held_says (λ s rest. TakesFront before.header header s rest old packet error told z) before header room s rest found ends takes in
+    let held = held_says (λ s rest. TakesFront (header_reader before.header s old error) (header_reader header rest packet told) z) before header room s rest found ends takes in
     inl (held.0, held.1, refl, held.2)

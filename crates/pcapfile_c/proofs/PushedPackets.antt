@@ -12,11 +12,12 @@ use Rattle.pcapfile_values.specs.declared.shown.PcapfilePacket.{PcapfilePacket}
 use Rattle.pcapfile_values.specs.Shown.{captured}
 use Rattle.pcapfile_c.specs.declared.push.PcapfilePush.{PcapfilePush}
 use Rattle.pcapfile_c.specs.PushBatches.{FillsPlaces, TakesFrontPackets, TakesNextPackets}
+use Rattle.pcapfile_c.specs.Readers.{header_reader, reader}
 use Rattle.pcapfile_c.proofs.Pushed.{Found, held_says, opened_ends, with_rest}
 
 -- What is left is the end of the bytes.
 fills_ends : (magic : ℕ) (s rest : List ℕ) (old packets : List PcapfilePacket) (taken : ℕ) (error told : PcapfileError) (z : ℤ)
-    → FillsPlaces magic s rest old packets taken error told z → (t : List ℕ) × (s ≡ t ++ rest)
+    → FillsPlaces magic (reader s old error) (reader rest packets told) taken z → (t : List ℕ) × (s ≡ t ++ rest)
 fills_ends magic s rest old packets taken error told z x =
     let order = number_in (order_of magic) in
     let r = resolution_of magic in
@@ -24,7 +25,7 @@ fills_ends magic s rest old packets taken error told z x =
     (o.0, o.1)
 
 pub packets_end : (before now : PcapfileHeader) (s rest : List ℕ) (old packets : List PcapfilePacket) (taken : ℕ) (error told : PcapfileError) (z : ℤ)
-    → TakesFrontPackets before now s rest old packets taken error told z → (t : List ℕ) × (s ≡ t ++ rest)
+    → TakesFrontPackets (header_reader before s old error) (header_reader now rest packets told) taken z → (t : List ℕ) × (s ≡ t ++ rest)
 packets_end before now s rest old packets taken error told z (inl x) =
     let o = opened_ends before now s x.0 x.1 in
     let p = fills_ends now.magic_number x.0 rest old packets taken error told z x.2 in
@@ -37,9 +38,9 @@ rest_fits b e room held t rest is text = omega (arith, ap length is ∙ length-t
 
 -- Packets are read from the held bytes.
 pub packets_take : (before : PcapfilePush) (header : PcapfileHeader) (room s rest : List ℕ) (old packets : List PcapfilePacket) (taken : ℕ) (error told : PcapfileError) (z : ℤ)
-    → Found before room s → TakesFrontPackets before.header header s rest old packets taken error told z
-    → TakesNextPackets before (with_rest before header rest) room old packets taken error told z
+    → Found before room s → TakesFrontPackets (header_reader before.header s old error) (header_reader header rest packets told) taken z
+    → TakesNextPackets room (reader before old error) (reader (with_rest before header rest) packets told) taken z
 packets_take before header room s rest old packets taken error told z found takes =
     let ends = packets_end before.header header s rest old packets taken error told z takes in
-    let held = held_says (λ s rest. TakesFrontPackets before.header header s rest old packets taken error told z) before header room s rest found ends takes in
+    let held = held_says (λ s rest. TakesFrontPackets (header_reader before.header s old error) (header_reader header rest packets told) taken z) before header room s rest found ends takes in
     inl (held.0, held.1, refl, held.2)

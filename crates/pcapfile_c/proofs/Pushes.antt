@@ -25,6 +25,7 @@ use Rattle.pcapfile_c.specs.PushBatches.{TakesFrontPackets}
 use Rattle.pcapfile_c.specs.Pushes.{GivesPackets, HaveEnded, KeepsNothing, TakingCall}
 use Rattle.pcapfile_c.specs.Pushes.TakingCall.{one, many}
 use Rattle.pcapfile_c.specs.RoomCalls.{all_given, all_put, under_status}
+use Rattle.pcapfile_c.specs.Readers.{header_reader}
 use Rattle.pcapfile_c.proofs.RoomLaws.{come_before, given_all, none_refused, put_all, refused_no_text, stays}
 
 -- Packets under a magic number.
@@ -83,7 +84,7 @@ packet_comes before now held rest s packets packet n come =
 
 -- A packet was read, or none.
 next_comes : (before now : PcapfileHeader) (held rest s : List ℕ) (packets : List Captured) (old packet : PcapfilePacket) (error told : PcapfileError) (z : ℤ)
-    → TakesFront before now held rest old packet error told z → HaveCome s before held packets → HaveCome s now rest (packets ++ under_status z (captured packet ∷ []))
+    → TakesFront (header_reader before held old error) (header_reader now rest packet told) z → HaveCome s before held packets → HaveCome s now rest (packets ++ under_status z (captured packet ∷ []))
 next_comes before now held rest s packets old packet error told z (inl x) come =
     let given : under_status z (captured packet ∷ []) ≡ captured packet ∷ [] = ap (λ (k : ℤ). under_status k (captured packet ∷ [])) x.0 in
     rw given (packet_comes before now held rest s packets (captured packet) x.2 come)
@@ -96,7 +97,7 @@ next_comes before now held rest s packets old packet error told z (inr (inr x)) 
 
 -- Packets were read, or none.
 many_come : (before now : PcapfileHeader) (held rest s : List ℕ) (packets : List Captured) (old places : List PcapfilePacket) (taken : ℕ) (error told : PcapfileError) (z : ℤ)
-    → TakesFrontPackets before now held rest old places taken error told z → HaveCome s before held packets → HaveCome s now rest (packets ++ map captured (take taken places))
+    → TakesFrontPackets (header_reader before held old error) (header_reader now rest places told) taken z → HaveCome s before held packets → HaveCome s now rest (packets ++ map captured (take taken places))
 many_come before now held rest s packets old places taken error told z (inl x) come =
     let more = map captured (take taken places) in
     let o = opened_comes before now held x.0 s packets x.1 come in

@@ -12,6 +12,7 @@ use Rattle.pcapfile_c.specs.declared.push.PcapfilePush.{PcapfilePush}
 use Rattle.pcapfile_c.specs.Push.{MakesSpace, held_in}
 use Rattle.pcapfile_c.specs.RoomCalls.{Ended, RoomCall, RoomCalls, all_given, all_put, under_status}
 use Rattle.pcapfile_c.specs.RoomCalls.RoomCall.{space, put, gives, between}
+use Rattle.pcapfile_c.specs.Readers.{reader}
 
 -- A refusal returns nothing.
 pub none_refused : {V A : Type 0} (IsSaid : Verdict V → Type 0) (told : PcapfileError) (z : ℤ) (all : List A) → TellsRefusal IsSaid told z → under_status z all ≡ []
@@ -38,7 +39,7 @@ refused_no_text f laws q s told z (inr (inr (inl x))) v after text = fault_no_te
 refused_no_text f laws q s told z (inr (inr (inr x))) v after text = fault_no_text f laws q Utf8 s x.2 v after text
 
 -- Making room leaves the held bytes the same.
-space_keeps : (before push : PcapfilePush) (room now : List ℕ) (wanted : ℕ) (error told : PcapfileError) (z : ℤ) → MakesSpace before push room now wanted error told z
+space_keeps : (before push : PcapfilePush) (room now : List ℕ) (wanted : ℕ) (error told : PcapfileError) (z : ℤ) → MakesSpace wanted (reader before room error) (reader push now told) z
     → (push.header ≡ before.header) × (held_in push now ≡ held_in before room)
 space_keeps before push room now wanted error told z (inl x) = rw (x.2, x.3) (refl, refl)
 space_keeps before push room now wanted error told z (inr (inl x)) = rw (x.2, x.3) (refl, refl)

@@ -23,6 +23,7 @@ use Rattle.pcapfile_c.specs.declared.any.PcapfileCapture.{PcapfileCapture}
 use Rattle.pcapfile_c.specs.AnyCaptures.{IsNg, TakesAnyNgPacket, TakesAnyPacket}
 use Rattle.pcapfile_c.specs.Calls.{PacketsSaid}
 use Rattle.pcapfile_c.specs.PushPackets.{ReadSays, ShowsInForce}
+use Rattle.pcapfile_c.specs.Readers.{any_reader}
 use Rattle.pcapfile_c.specs.RoomCalls.{under_status}
 use Rattle.pcapfile_c.specs.ReadBlocks.{ShowsThere, each_under, is_packet_there, read_format}
 
@@ -42,8 +43,9 @@ KeepsCapture kept next = (next.0 ≡ kept.0) × (take kept.0.section.interfaces 
 pub record AnyCall (kept next : Kept) (s rest : List ℕ) (shown : PcapfileAnyPacket) (told : PcapfileError) (status : ℤ) : Type 0 where
   pub old : PcapfileAnyPacket
   pub error : PcapfileError
-  pub packets : (IsNg kept.0 s → ⊥) → TakesAnyPacket kept.0 next.0 kept.1 next.1 s rest old shown error told status
-  pub blocks : (q : State) → IsNg kept.0 s → ShowsInForce kept.0.section kept.1 q → TakesAnyNgPacket q kept.0 next.0 kept.1 next.1 s rest old shown error told status
+  pub packets : (IsNg kept.0 s → ⊥) → TakesAnyPacket (any_reader kept.0 kept.1 s old error) (any_reader next.0 next.1 rest shown told) status
+  pub blocks : (q : State) → IsNg kept.0 s → ShowsInForce kept.0.section kept.1 q
+      → TakesAnyNgPacket q (any_reader kept.0 kept.1 s old error) (any_reader next.0 next.1 rest shown told) status
 
 -- AnyCalls start s kept rest given: calls on the bytes `s`, one after the other, left `rest` and returned these packets. Each call
 -- returned one under status 0, and otherwise none. Between two calls, the program may pass more places.

@@ -7,13 +7,14 @@ use Rattle.pcapfile_values.specs.declared.errors.PcapfileError.{PcapfileError}
 use Rattle.pcapfile_values.specs.Blocks.{ShowsState}
 use Rattle.pcapfile_c.specs.declared.push.PcapfilePush.{PcapfilePush}
 use Rattle.pcapfile_c.specs.PushBlocks.{TakesNextBlock}
+use Rattle.pcapfile_c.specs.Readers.{block_reader}
 use Rattle.pcapfile_c.specs.RoomCalls.{Ended, under_status}
 
 -- One call that reads a block, with these values behind its pointers.
 pub record BlockCall (before push : PcapfilePush) (section next : PcapfileSection) (room : List ℕ) (block : PcapfileBlock) (told : PcapfileError) (status : ℤ) : Type 0 where
   pub old : PcapfileBlock
   pub error : PcapfileError
-  pub takes : (q : State) → ShowsState section q → TakesNextBlock q before push section next room old block error told status
+  pub takes : (q : State) → ShowsState section q → TakesNextBlock q room (block_reader section before old error) (block_reader next push block told) status
 
 -- The call returns its block under status 0, and otherwise nothing.
 abbrev pub GivesBlock : ℤ → PcapfilePush → PcapfileSection → List ℕ → PcapfilePush → PcapfileSection → List PcapfileBlock → Type 0

@@ -28,7 +28,6 @@ use Rattle.pcapfile_values.specs.declared.blocks.PcapfileBlock.{PcapfileBlock}
 use Rattle.pcapfile_values.specs.declared.blocks.PcapfileSection.{PcapfileSection}
 use Rattle.pcapfile_values.specs.declared.bodies.PcapfileInterface.{PcapfileInterface}
 use Rattle.pcapfile_values.specs.declared.bodies.PcapfileNgPacket.{PcapfileNgPacket}
-use Rattle.pcapfile_values.specs.declared.errors.PcapfileError.{PcapfileError}
 use Rattle.pcapfile_values.specs.declared.shown.PcapfileBytes.{PcapfileBytes}
 use Rattle.pcapfile_values.specs.Blocks.{ShowsSection}
 use Rattle.pcapfile_values.specs.Bodies.{ShowsInterfaceOf, ShowsPacket}
@@ -36,6 +35,7 @@ use Rattle.pcapfile_values.specs.Refusals.{ShowsRule, TellsRefusalWhere}
 use Rattle.pcapfile_c.specs.declared.blocks_as_is.FoundAsIs.{FoundAsIs}
 use Rattle.pcapfile_c.specs.declared.blocks_as_is.PcapfileBlockAsIs.{PcapfileBlockAsIs}
 use Rattle.pcapfile_c.specs.declared.blocks_as_is.PcapfileBlockFlaw.{PcapfileBlockFlaw}
+use Rattle.pcapfile_c.specs.Readers.{BlockReader}
 
 -- ---- the state
 
@@ -198,15 +198,22 @@ NextStands q s (Ok x) =
     (item : Item) × ShowsStandingBlock item x.1.0.shown (said_in x.1.0.flaws) × ShowsStanding x.1.1 item.led.after × AsIsSays q s (whole item x.0.now)
 NextStands q s (Err e) = Refuses (MayGrow q s) (λ n. AsIsSays q s (lacks n)) (λ fault. AsIsSays q s (faulty fault)) e
 
+-- A lenient reader of blocks sets a block and places for its flaws.
+abbrev pub LenientReader : Type 0
+LenientReader = BlockReader PcapfileBytes (PcapfileBlockAsIs × List PcapfileBlockFlaw)
+
 -- Status 0: the left bytes begin with a block under this state. The structs show the block, its body and the state after it, the first
 -- places show its flaws, the rest is left, and the error is unchanged. Another status: the block is refused, and nothing else changed.
-abbrev pub TakesStanding : State → PcapfileSection → PcapfileSection → PcapfileBytes → PcapfileBytes → PcapfileBlockAsIs → PcapfileBlockAsIs → List PcapfileBlockFlaw → List PcapfileBlockFlaw → PcapfileError → PcapfileError → ℤ → Type 0
-TakesStanding q section next left now before after places shown error told status =
-    ((status ≡ pos 0) × (told ≡ error)
-    × (item : Item) × (flaws : List Said) × ShowsStandingBlock item after flaws × ShowsFlaws flaws places shown × ShowsStanding next item.led.after × AsIsSays q left.bytes.now (whole item now.bytes.now))
-    ⊎ ((next ≡ section) × (now ≡ left) × (after ≡ before) × (shown ≡ places) × TellsRefusalWhere (MayGrow q left.bytes.now) (AsIsSays q left.bytes.now) told status)
+abbrev pub TakesStanding : State → LenientReader → LenientReader → ℤ → Type 0
+TakesStanding q old new status =
+    ((status ≡ pos 0) × (new.error ≡ old.error)
+    × (item : Item) × (flaws : List Said) × ShowsStandingBlock item new.value.0 flaws × ShowsFlaws flaws old.value.1 new.value.1
+    × ShowsStanding new.section item.led.after × AsIsSays q old.left.bytes.now (whole item new.left.bytes.now))
+    ⊎ ((new.section ≡ old.section) × (new.left ≡ old.left) × (new.value.0 ≡ old.value.0) × (new.value.1 ≡ old.value.1)
+    × TellsRefusalWhere (MayGrow q old.left.bytes.now) (AsIsSays q old.left.bytes.now) new.error status)
 
 -- The magic number names no byte order, and nothing but the error changed.
-abbrev pub RefusesStanding : PcapfileSection → PcapfileSection → PcapfileBytes → PcapfileBytes → PcapfileBlockAsIs → PcapfileBlockAsIs → List PcapfileBlockFlaw → List PcapfileBlockFlaw → PcapfileError → ℤ → Type 0
-RefusesStanding section next left now before after places shown told status =
-    (status ≡ pos 3) × ShowsRule SectionMagic told × (next ≡ section) × (now ≡ left) × (after ≡ before) × (shown ≡ places)
+abbrev pub RefusesStanding : LenientReader → LenientReader → ℤ → Type 0
+RefusesStanding old new status =
+    (status ≡ pos 3) × ShowsRule SectionMagic new.error × (new.section ≡ old.section) × (new.left ≡ old.left) × (new.value.0 ≡ old.value.0)
+    × (new.value.1 ≡ old.value.1)

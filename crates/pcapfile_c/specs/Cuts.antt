@@ -13,8 +13,8 @@ use Rattle.pcap_parts.specs.declared.parting.Parting.TheVariants.{Equal, AtLeast
 use Rattle.pcap_parts.specs.Captures.{IsCut, IsCutAtLeast, IsCutFairly}
 use Rattle.pcap_parts.specs.NgParts.{HasOpening, IsNgCut, IsNgCutAtLeast, IsNgCutFairly}
 use Rattle.pcap_parts.specs.Places.{TellAllPlaces}
-use Rattle.pcapfile_values.specs.declared.errors.PcapfileError.{PcapfileError}
 use Rattle.pcapfile_values.specs.Refusals.{TellsRefusal, TellsRefusalWhere}
+use Rattle.pcapfile_c.specs.Readers.{Target}
 
 -- The first places hold these values, the number is how many they are, and all other places are unchanged.
 abbrev pub Fills : {A : Type 0} → List A → List A → List A → ℕ → Type 0
@@ -45,10 +45,11 @@ pub record CutsPackets (how : Parting) (bytes : List ℕ) (before after : List C
 
 -- Status 0: the capture is cut. Otherwise there are no cuts, and the places are unchanged. Status 11: there may be too few places.
 -- Another status: the capture's header is refused.
-abbrev pub TellsCuts : Parting → List ℕ → List Cut → List Cut → ℕ → PcapfileError → PcapfileError → ℤ → Type 0
-TellsCuts how bytes before after count error told status =
-    ((status ≡ pos 0) × (told ≡ error) × CutsPackets how bytes before after count)
-    ⊎ ((count ≡ 0) × (after ≡ before) × (((status ≡ pos 11) × (told ≡ error) × MayLackPlaces how bytes before) ⊎ TellsRefusal (HeaderSays bytes) told status))
+abbrev pub TellsCuts : Parting → List ℕ → Target (List Cut) → Target (List Cut) → ℕ → ℤ → Type 0
+TellsCuts how bytes old new count status =
+    ((status ≡ pos 0) × (new.error ≡ old.error) × CutsPackets how bytes old.value new.value count)
+    ⊎ ((count ≡ 0) × (new.value ≡ old.value)
+    × (((status ≡ pos 11) × (new.error ≡ old.error) × MayLackPlaces how bytes old.value) ⊎ TellsRefusal (HeaderSays bytes) new.error status))
 
 -- Cutting a PcapNg capture may allocate memory only after its first block, or if reading that block may.
 abbrev pub CutMayGrow : List ℕ → Type 0
@@ -67,10 +68,16 @@ LacksPlaces how bytes before places known =
     ((known ≡ 0) × MayLackPlaces how bytes before)
     ⊎ ((cuts : NgCuts) × CutsBlocks how bytes cuts × (known ≡ length cuts.interfaces.items) × (length places < known))
 
+-- A call that cuts a PcapNg capture sets places for cuts, and places for interfaces.
+abbrev pub CutTarget : Type 0
+CutTarget = Target (List NgCut × List ℕ)
+
 -- Status 0: the first places hold the cuts of the capture, and the first places for interfaces hold theirs. Otherwise there are no cuts,
 -- and all places are unchanged. Status 11: there are too few places. Another status: the first block is refused, or memory runs out.
-abbrev pub TellsBlockCuts : Parting → List ℕ → List NgCut → List NgCut → ℕ → List ℕ → List ℕ → ℕ → PcapfileError → PcapfileError → ℤ → Type 0
-TellsBlockCuts how bytes before after count places now known error told status =
-    ((status ≡ pos 0) × (told ≡ error) × (cuts : NgCuts) × CutsBlocks how bytes cuts × Fills cuts.cuts.items before after count × Fills cuts.interfaces.items places now known)
-    ⊎ ((count ≡ 0) × (after ≡ before) × (now ≡ places)
-    × (((status ≡ pos 11) × (told ≡ error) × LacksPlaces how bytes before places known) ⊎ ((known ≡ 0) × TellsRefusalWhere (CutMayGrow bytes) (OpeningSays bytes) told status)))
+abbrev pub TellsBlockCuts : Parting → List ℕ → CutTarget → CutTarget → ℕ → ℕ → ℤ → Type 0
+TellsBlockCuts how bytes old new count known status =
+    ((status ≡ pos 0) × (new.error ≡ old.error)
+    × (cuts : NgCuts) × CutsBlocks how bytes cuts × Fills cuts.cuts.items old.value.0 new.value.0 count × Fills cuts.interfaces.items old.value.1 new.value.1 known)
+    ⊎ ((count ≡ 0) × (new.value.0 ≡ old.value.0) × (new.value.1 ≡ old.value.1)
+    × (((status ≡ pos 11) × (new.error ≡ old.error) × LacksPlaces how bytes old.value.0 old.value.1 known)
+    ⊎ ((known ≡ 0) × TellsRefusalWhere (CutMayGrow bytes) (OpeningSays bytes) new.error status)))

@@ -1,3 +1,4 @@
+pub mod Readers
 pub mod Calls
 pub mod Writing
 pub mod Blocks

@@ -18,10 +18,10 @@ use Rattle.pcap_blocks.specs.StoredPacket.{Stored, StoredHead}
 use Rattle.pcap_options.specs.Values.{Entry, Unknown}
 use Rattle.pcap_raw_options.specs.UpTo.{no_kind}
 use Rattle.pcapfile_values.specs.declared.blocks.PcapfileBlock.{PcapfileBlock}
-use Rattle.pcapfile_values.specs.declared.errors.PcapfileError.{PcapfileError}
 use Rattle.pcapfile_values.specs.declared.shown.PcapfileBytes.{PcapfileBytes}
 use Rattle.pcapfile_values.specs.Refusals.{TellsRefusal}
 use Rattle.pcapfile_c.specs.declared.options.PcapfileOption.{PcapfileOption}
+use Rattle.pcapfile_c.specs.Readers.{Reader, Target}
 
 -- The option that a struct shows: its code, and its value without an interpretation.
 abbrev pub option_shown : PcapfileOption → Entry
@@ -39,11 +39,11 @@ OptionTells order s (Err e) = (s ≢ []) × Shows (λ fault. OptionSays order no
 
 -- Status 0: the left bytes begin with an option, the struct shows it, and the rest is left. Status 8: the list ends here. The error is
 -- unchanged under both. Another status: the option is refused, and the left bytes and the struct are unchanged.
-abbrev pub TakesOption : Endianness → PcapfileBytes → PcapfileBytes → PcapfileOption → PcapfileOption → PcapfileError → PcapfileError → ℤ → Type 0
-TakesOption e left now before after error told status =
-    ((status ≡ pos 0) × (told ≡ error) × OptionText (number_in e) no_kind (option_shown after) left.bytes.now now.bytes.now)
-    ⊎ (((status ≡ pos 8) × (told ≡ error) × (now ≡ left) × (after ≡ before) × IsOverAt (number_in e) left.bytes.now)
-    ⊎ ((now ≡ left) × (after ≡ before) × (left.bytes.now ≢ []) × TellsRefusal (OptionSays (number_in e) no_kind left.bytes.now) told status))
+abbrev pub TakesOption : Endianness → Reader PcapfileBytes PcapfileOption → Reader PcapfileBytes PcapfileOption → ℤ → Type 0
+TakesOption e old new status =
+    ((status ≡ pos 0) × (new.error ≡ old.error) × OptionText (number_in e) no_kind (option_shown new.value) old.left.bytes.now new.left.bytes.now)
+    ⊎ (((status ≡ pos 8) × (new.error ≡ old.error) × (new.left ≡ old.left) × (new.value ≡ old.value) × IsOverAt (number_in e) old.left.bytes.now)
+    ⊎ ((new.left ≡ old.left) × (new.value ≡ old.value) × (old.left.bytes.now ≢ []) × TellsRefusal (OptionSays (number_in e) no_kind old.left.bytes.now) new.error status))
 
 -- The verdict on a body whose options follow its first n bytes: what follows these, or that the body is too short.
 abbrev pub FixedSays : ℕ → Rule → List ℕ → Verdict (Unit {0}) → Type 0
@@ -114,9 +114,9 @@ OptionsTell order type s (Err e) = Shows (λ fault. OptionsSay order type s (fau
 
 -- Status 0: the options of the block begin at the shown bytes. Status 8: blocks of this type have none, and the shown bytes are
 -- unchanged. The error is unchanged under both. Another status: there is a fault before the options, and the shown bytes are unchanged.
-abbrev pub FindsOptions : Endianness → PcapfileBlock → PcapfileBytes → PcapfileBytes → PcapfileError → PcapfileError → ℤ → Type 0
-FindsOptions e block before after error told status =
+abbrev pub FindsOptions : Endianness → PcapfileBlock → Target PcapfileBytes → Target PcapfileBytes → ℤ → Type 0
+FindsOptions e block old new status =
     let IsSaid = OptionsSay (number_in e) (block_type block.type_) block.body.now in
-    ((status ≡ pos 0) × (told ≡ error) × IsSaid (whole tt after.bytes.now))
-    ⊎ (((status ≡ pos 8) × (told ≡ error) × (after ≡ before) × (has_options (block_type block.type_) ≡ false))
-    ⊎ ((after ≡ before) × TellsRefusal IsSaid told status))
+    ((status ≡ pos 0) × (new.error ≡ old.error) × IsSaid (whole tt new.value.bytes.now))
+    ⊎ (((status ≡ pos 8) × (new.error ≡ old.error) × (new.value ≡ old.value) × (has_options (block_type block.type_) ≡ false))
+    ⊎ ((new.value ≡ old.value) × TellsRefusal IsSaid new.error status))

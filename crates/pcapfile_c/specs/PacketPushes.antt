@@ -8,6 +8,7 @@ use Rattle.pcapfile_values.specs.declared.errors.PcapfileError.{PcapfileError}
 use Rattle.pcapfile_c.specs.declared.push.PcapfilePush.{PcapfilePush}
 use Rattle.pcapfile_c.specs.PushNgBatches.{TakesNextNgPackets}
 use Rattle.pcapfile_c.specs.PushPackets.{ShowsInForce, TakesNextPacket}
+use Rattle.pcapfile_c.specs.Readers.{packet_reader}
 use Rattle.pcapfile_c.specs.RoomCalls.{Ended, under_status}
 
 -- What the reader keeps beside the room: the section, and the places of its interfaces.
@@ -18,13 +19,15 @@ InForceShown = PcapfileSection × List PcapfileInterface
 pub record PacketCall (before push : PcapfilePush) (kept next : InForceShown) (room : List ℕ) (packet : PcapfileAnyPacket) (told : PcapfileError) (status : ℤ) : Type 0 where
   pub old : PcapfileAnyPacket
   pub error : PcapfileError
-  pub takes : (q : State) → ShowsInForce kept.0 kept.1 q → TakesNextPacket q before push kept.0 next.0 kept.1 next.1 room old packet error told status
+  pub takes : (q : State) → ShowsInForce kept.0 kept.1 q
+      → TakesNextPacket q room (packet_reader kept.0 kept.1 before old error) (packet_reader next.0 next.1 push packet told) status
 
 -- One call that reads many packets, with these values behind its pointers.
 pub record PacketsCall (before push : PcapfilePush) (kept next : InForceShown) (room : List ℕ) (packets : List PcapfileAnyPacket) (taken : ℕ) (told : PcapfileError) (status : ℤ) : Type 0 where
   pub old : List PcapfileAnyPacket
   pub error : PcapfileError
-  pub takes : (q : State) → ShowsInForce kept.0 kept.1 q → TakesNextNgPackets q before push kept.0 next.0 kept.1 next.1 room old packets taken error told status
+  pub takes : (q : State) → ShowsInForce kept.0 kept.1 q
+      → TakesNextNgPackets q room (packet_reader kept.0 kept.1 before old error) (packet_reader next.0 next.1 push packets told) taken status
 
 -- A call of either kind with this status: the one returns its packet under 0 and otherwise nothing, and the other those that it read.
 abbrev pub GivesUnder : ℤ → PcapfilePush → InForceShown → List ℕ → PcapfilePush → InForceShown → List PcapfileAnyPacket → Type 0

@@ -12,6 +12,7 @@ use Rattle.pcapfile_values.specs.Refusals.{TellsRefusal}
 use Rattle.pcapfile_values.specs.Shown.{captured, shown_header}
 use Rattle.pcapfile_c.specs.declared.push.PcapfilePush.{PcapfilePush}
 use Rattle.pcapfile_c.specs.Calls.{PacketsSaid}
+use Rattle.pcapfile_c.specs.Readers.{HeaderReader, Reader, header_reader}
 
 -- The held bytes of a room: those that came and haven't been read yet.
 abbrev pub held_in : PcapfilePush → List ℕ → List ℕ
@@ -41,13 +42,19 @@ TellsSpace push room wanted error told status =
     ((status ≡ pos 0) × (told ≡ error) × (push.end + wanted ≤ length room))
     ⊎ ((status ≡ pos 9) × (told.rule ≡ 0) × (0 < told.missing) × (length room + told.missing ≡ push.end + wanted))
 
+-- A call that makes room has the held bytes, the room, and the error.
+abbrev pub Room : Type 0
+Room = Reader PcapfilePush (List ℕ)
+
 -- The result of making room for this many more bytes after the held ones. Status 10: the held bytes are outside of the room. Status 0
 -- without a move: they fit. Otherwise they don't, and the held bytes moved to the front.
-abbrev pub MakesSpace : PcapfilePush → PcapfilePush → List ℕ → List ℕ → ℕ → PcapfileError → PcapfileError → ℤ → Type 0
-MakesSpace before push room now wanted error told status =
-    ((status ≡ pos 10) × (told ≡ error) × (push ≡ before) × (now ≡ room) × LiesOutside before room)
-    ⊎ (((status ≡ pos 0) × (told ≡ error) × (push ≡ before) × (now ≡ room) × LiesWithin before room × (before.end + wanted ≤ length room))
-    ⊎ (LiesWithin before room × (length room < before.end + wanted) × MovesToFront before push room now × TellsSpace push now wanted error told status))
+abbrev pub MakesSpace : ℕ → Room → Room → ℤ → Type 0
+MakesSpace wanted old new status =
+    ((status ≡ pos 10) × (new.error ≡ old.error) × (new.left ≡ old.left) × (new.value ≡ old.value) × LiesOutside old.left old.value)
+    ⊎ (((status ≡ pos 0) × (new.error ≡ old.error) × (new.left ≡ old.left) × (new.value ≡ old.value) × LiesWithin old.left old.value
+    × (old.left.end + wanted ≤ length old.value))
+    ⊎ (LiesWithin old.left old.value × (length old.value < old.left.end + wanted) × MovesToFront old.left new.left old.value new.value
+    × TellsSpace new.left new.value wanted old.error new.error status))
 
 -- Status 0: this many bytes of the room after the held ones are held too. Status 10: they exceed the room, or the held bytes are outside
 -- of it, and nothing changed.
@@ -69,15 +76,20 @@ NextText before now packet s rest = (after : List ℕ) × Opened before now s af
 
 -- The packet at the front of `s`, after the header, which is read first if there is none yet, and then `rest`. Status 0: the struct shows
 -- the packet. Another status: the packet after the header is refused, or the header is.
-abbrev pub TakesFront : PcapfileHeader → PcapfileHeader → List ℕ → List ℕ → PcapfilePacket → PcapfilePacket → PcapfileError → PcapfileError → ℤ → Type 0
-TakesFront before now s rest old packet error told status =
-    ((status ≡ pos 0) × (told ≡ error) × NextText before now (captured packet) s rest)
-    ⊎ (((packet ≡ old) × Opened before now s rest × TellsRefusal (PacketsSaid now.magic_number rest) told status)
-    ⊎ ((packet ≡ old) × (is_magic before.magic_number ≡ false) × (now ≡ before) × (rest ≡ s) × TellsRefusal (HeaderSays s) told status))
+abbrev pub TakesFront : HeaderReader PcapfilePacket → HeaderReader PcapfilePacket → ℤ → Type 0
+TakesFront old new status =
+    ((status ≡ pos 0) × (new.error ≡ old.error) × NextText old.header new.header (captured new.value) old.left new.left)
+    ⊎ (((new.value ≡ old.value) × Opened old.header new.header old.left new.left × TellsRefusal (PacketsSaid new.header.magic_number new.left) new.error status)
+    ⊎ ((new.value ≡ old.value) × (is_magic old.header.magic_number ≡ false) × (new.header ≡ old.header) × (new.left ≡ old.left)
+    × TellsRefusal (HeaderSays old.left) new.error status))
+
+-- A reader of the held bytes of this room, which has the header of what holds them.
+abbrev pub held_reader : {S : Type 0} → List ℕ → Reader PcapfilePush S → HeaderReader S
+held_reader room r = header_reader r.left.header (held_in r.left room) r.value r.error
 
 -- The packet at the front of the held bytes, whose rest stays held. Status 10: the held bytes are outside of the room, and nothing
 -- changed.
-abbrev pub TakesNext : PcapfilePush → PcapfilePush → List ℕ → PcapfilePacket → PcapfilePacket → PcapfileError → PcapfileError → ℤ → Type 0
-TakesNext before push room old packet error told status =
-    (LiesWithin before room × LiesWithin push room × (push.end ≡ before.end) × TakesFront before.header push.header (held_in before room) (held_in push room) old packet error told status)
-    ⊎ ((status ≡ pos 10) × (told ≡ error) × (push ≡ before) × (packet ≡ old) × LiesOutside before room)
+abbrev pub TakesNext : List ℕ → Reader PcapfilePush PcapfilePacket → Reader PcapfilePush PcapfilePacket → ℤ → Type 0
+TakesNext room old new status =
+    (LiesWithin old.left room × LiesWithin new.left room × (new.left.end ≡ old.left.end) × TakesFront (held_reader room old) (held_reader room new) status)
+    ⊎ ((status ≡ pos 10) × (new.error ≡ old.error) × (new.left ≡ old.left) × (new.value ≡ old.value) × LiesOutside old.left room)

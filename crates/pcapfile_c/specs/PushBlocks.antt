@@ -5,37 +5,46 @@ use Rattle.pcap_core.specs.Answer.{whole}
 use Rattle.pcap_ng.specs.Blocks.{Item, BlockSays, MayGrow}
 use Rattle.pcap_ng.specs.State.{State}
 use Rattle.pcapfile_values.specs.declared.blocks.PcapfileBlock.{PcapfileBlock}
-use Rattle.pcapfile_values.specs.declared.blocks.PcapfileSection.{PcapfileSection}
-use Rattle.pcapfile_values.specs.declared.errors.PcapfileError.{PcapfileError}
 use Rattle.pcapfile_values.specs.Blocks.{ShowsState, ShowsBlock}
 use Rattle.pcapfile_values.specs.Refusals.{ShowsRule, TellsRefusalWhere}
 use Rattle.pcapfile_c.specs.declared.push.PcapfilePush.{PcapfilePush}
 use Rattle.pcapfile_c.specs.Push.{LiesWithin, LiesOutside, held_in}
+use Rattle.pcapfile_c.specs.Readers.{BlockReader, block_reader}
 
--- The block at the front of `s` under this state, and then `rest`. Status 0: the structs show it and the state after it. Another status:
--- the block is refused, and nothing else changed.
-abbrev pub TakesFrontBlock : State → PcapfileSection → PcapfileSection → List ℕ → List ℕ → PcapfileBlock → PcapfileBlock → PcapfileError → PcapfileError → ℤ → Type 0
-TakesFrontBlock q section next s rest old block error told status =
-    ((status ≡ pos 0) × (told ≡ error) × (item : Item) × ShowsBlock item.block block × ShowsState next item.after × BlockSays q s (whole item rest))
-    ⊎ ((next ≡ section) × (rest ≡ s) × (block ≡ old) × TellsRefusalWhere (MayGrow q s) (BlockSays q s) told status)
+-- The block at the front of the bytes under this state. Status 0: the structs show it and the state after it. Another status: the block is
+-- refused, and nothing else changed.
+abbrev pub TakesFrontBlock : State → BlockReader (List ℕ) PcapfileBlock → BlockReader (List ℕ) PcapfileBlock → ℤ → Type 0
+TakesFrontBlock q old new status =
+    ((status ≡ pos 0) × (new.error ≡ old.error)
+    × (item : Item) × ShowsBlock item.block new.value × ShowsState new.section item.after × BlockSays q old.left (whole item new.left))
+    ⊎ ((new.section ≡ old.section) × (new.left ≡ old.left) × (new.value ≡ old.value)
+    × TellsRefusalWhere (MayGrow q old.left) (BlockSays q old.left) new.error status)
+
+-- A reader of blocks in pieces.
+abbrev pub BlockPush : Type 0
+BlockPush = BlockReader PcapfilePush PcapfileBlock
+
+-- A reader of the held bytes of this room.
+abbrev pub held_blocks : List ℕ → BlockPush → BlockReader (List ℕ) PcapfileBlock
+held_blocks room r = block_reader r.section (held_in r.left room) r.value r.error
 
 -- The held bytes are outside of the room, and nothing changed: status 10.
-abbrev pub LeavesBlocks : PcapfilePush → PcapfilePush → PcapfileSection → PcapfileSection → List ℕ → PcapfileBlock → PcapfileBlock → PcapfileError → PcapfileError → ℤ → Type 0
-LeavesBlocks before push section next room old block error told status =
-    (status ≡ pos 10) × (told ≡ error) × (push ≡ before) × (next ≡ section) × (block ≡ old) × LiesOutside before room
+abbrev pub LeavesBlocks : List ℕ → BlockPush → BlockPush → ℤ → Type 0
+LeavesBlocks room old new status =
+    (status ≡ pos 10) × (new.error ≡ old.error) × (new.left ≡ old.left) × (new.section ≡ old.section) × (new.value ≡ old.value) × LiesOutside old.left room
 
 -- The room still holds bytes up to the same end, and the header is unchanged.
 abbrev pub HoldsRest : PcapfilePush → PcapfilePush → List ℕ → Type 0
 HoldsRest before push room = LiesWithin before room × LiesWithin push room × (push.header ≡ before.header) × (push.end ≡ before.end)
 
 -- The block at the front of the held bytes, whose rest stays held.
-abbrev pub TakesNextBlock : State → PcapfilePush → PcapfilePush → PcapfileSection → PcapfileSection → List ℕ → PcapfileBlock → PcapfileBlock → PcapfileError → PcapfileError → ℤ → Type 0
-TakesNextBlock q before push section next room old block error told status =
-    (HoldsRest before push room × TakesFrontBlock q section next (held_in before room) (held_in push room) old block error told status)
-    ⊎ LeavesBlocks before push section next room old block error told status
+abbrev pub TakesNextBlock : State → List ℕ → BlockPush → BlockPush → ℤ → Type 0
+TakesNextBlock q room old new status =
+    (HoldsRest old.left new.left room × TakesFrontBlock q (held_blocks room old) (held_blocks room new) status)
+    ⊎ LeavesBlocks room old new status
 
 -- The magic number names no byte order, and nothing else changed; or the held bytes are outside of the room.
-abbrev pub RefusesNextBlock : PcapfilePush → PcapfilePush → PcapfileSection → PcapfileSection → List ℕ → PcapfileBlock → PcapfileBlock → PcapfileError → PcapfileError → ℤ → Type 0
-RefusesNextBlock before push section next room old block error told status =
-    (LiesWithin before room × (status ≡ pos 3) × ShowsRule SectionMagic told × (push ≡ before) × (next ≡ section) × (block ≡ old))
-    ⊎ LeavesBlocks before push section next room old block error told status
+abbrev pub RefusesNextBlock : List ℕ → BlockPush → BlockPush → ℤ → Type 0
+RefusesNextBlock room old new status =
+    (LiesWithin old.left room × (status ≡ pos 3) × ShowsRule SectionMagic new.error × (new.left ≡ old.left) × (new.section ≡ old.section) × (new.value ≡ old.value))
+    ⊎ LeavesBlocks room old new status

@@ -24,6 +24,7 @@ use Rattle.pcapfile_c.specs.declared.push.PcapfilePush.{PcapfilePush}
 use Rattle.pcapfile_c.specs.Batches.{PacketFault, PacketMayGrow, is_packet}
 use Rattle.pcapfile_c.specs.Push.{LiesWithin, LiesOutside, held_in}
 use Rattle.pcapfile_c.specs.PushBlocks.{HoldsRest}
+use Rattle.pcapfile_c.specs.Readers.{PacketReader, packet_reader}
 
 -- The structs show the state: the section, and its interfaces in the first places.
 abbrev pub ShowsInForce : PcapfileSection → List PcapfileInterface → State → Type 0
@@ -98,30 +99,41 @@ EndsWalk q section places s rest old packet error told status =
     ((status ≡ pos 0) × (told ≡ error) × GivesPacket q s rest packet)
     ⊎ ((packet ≡ old) × (rest ≡ s) × Stops q section places s error told status)
 
+-- A reader of blocks that sets nothing but the state and the error.
+abbrev pub StateReader : Type 0
+StateReader = PacketReader (List ℕ) (Unit {0})
+
+-- A reader of packets one at a time.
+abbrev pub OneReader : Type 0
+OneReader = PacketReader (List ℕ) PcapfileAnyPacket
+
 -- The result of a block that is no packet: the structs show the state after it, or the search ends before it with this status.
-abbrev pub PutsTells : State → PcapfileSection → PcapfileSection → List PcapfileInterface → List PcapfileInterface → List ℕ → List ℕ → PcapfileError → PcapfileError → Option ℤ → Type 0
-PutsTells q section next places now s rest error told None = (told ≡ error) × PutsBlock q next now s rest
-PutsTells q section next places now s rest error told (Some status) = (next ≡ section) × (now ≡ places) × (rest ≡ s) × Stops q section places s error told status
+abbrev pub PutsTells : State → StateReader → StateReader → Option ℤ → Type 0
+PutsTells q old new None = (new.error ≡ old.error) × PutsBlock q new.section new.places old.left new.left
+PutsTells q old new (Some status) =
+    (new.section ≡ old.section) × (new.places ≡ old.places) × (new.left ≡ old.left) × Stops q old.section old.places old.left old.error new.error status
 
 -- The result of a block: it is no packet and the structs show the state after it, or the search ends here with this status.
-abbrev pub StepTells : State → PcapfileSection → PcapfileSection → List PcapfileInterface → List PcapfileInterface → List ℕ → List ℕ → PcapfileAnyPacket → PcapfileAnyPacket → PcapfileError → PcapfileError → Option ℤ → Type 0
-StepTells q section next places now s rest old packet error told None = (told ≡ error) × (packet ≡ old) × PutsBlock q next now s rest
-StepTells q section next places now s rest old packet error told (Some status) = (next ≡ section) × (now ≡ places) × EndsWalk q section places s rest old packet error told status
+abbrev pub StepTells : State → OneReader → OneReader → Option ℤ → Type 0
+StepTells q old new None = (new.error ≡ old.error) × (new.value ≡ old.value) × PutsBlock q new.section new.places old.left new.left
+StepTells q old new (Some status) =
+    (new.section ≡ old.section) × (new.places ≡ old.places)
+    × EndsWalk q old.section old.places old.left new.left old.value new.value old.error new.error status
 
 -- Fewer bytes are left if the search goes on, and no more than before if it ends.
 abbrev pub LeavesFewer : List ℕ → List ℕ → Option ℤ → Type 0
 LeavesFewer s rest None = length rest < length s
 LeavesFewer s rest (Some status) = length rest ≤ length s
 
--- The packet at the front of `s` under this state, after blocks that are no packets, and then `rest`. Status 0: the struct shows it.
--- Another status: no packet follows these blocks, and the struct is unchanged.
-pub record TakesFrontPacket (q : State) (next : PcapfileSection) (now : List PcapfileInterface) (s rest : List ℕ) (old packet : PcapfileAnyPacket) (error told : PcapfileError) (status : ℤ) : Type 0 where
+-- The packet at the front of the bytes under this state, after blocks that are no packets. Status 0: the struct shows it. Another status:
+-- no packet follows these blocks, and the struct is unchanged.
+pub record TakesFrontPacket (q : State) (old new : OneReader) (status : ℤ) : Type 0 where
   pub passed : List Item
   pub mid : List ℕ
-  pub texts : Texts block_format q passed s mid
+  pub texts : Texts block_format q passed old.left mid
   pub none : filter is_packet_block passed ≡ []
-  pub in_force : ShowsInForce next now (state_after block_format q passed)
-  pub ends : EndsWalk (state_after block_format q passed) next now mid rest old packet error told status
+  pub in_force : ShowsInForce new.section new.places (state_after block_format q passed)
+  pub ends : EndsWalk (state_after block_format q passed) new.section new.places mid new.left old.value new.value old.error new.error status
 
 -- Every place is unchanged whose number is at least the number of interfaces after each of these blocks.
 abbrev pub OthersStay : List Item → List PcapfileInterface → List PcapfileInterface → Type 0
@@ -134,27 +146,36 @@ pub record LeavesOthers (q : State) (next : PcapfileSection) (places now : List 
   pub in_force : ShowsInForce next now (state_after block_format q passed)
   pub others : OthersStay passed places now
 
+-- A reader of packets in pieces, one at a time.
+abbrev pub PacketPush : Type 0
+PacketPush = PacketReader PcapfilePush PcapfileAnyPacket
+
+-- A reader of the held bytes of this room.
+abbrev pub held_packets : {S : Type 0} → List ℕ → PacketReader PcapfilePush S → PacketReader (List ℕ) S
+held_packets room r = packet_reader r.section r.places (held_in r.left room) r.value r.error
+
 -- Nothing changed: status 10.
-pub record LeavesPackets (before push : PcapfilePush) (section next : PcapfileSection) (places now : List PcapfileInterface) (old packet : PcapfileAnyPacket) (error told : PcapfileError) (status : ℤ) : Type 0 where
+pub record LeavesPackets (old new : PacketPush) (status : ℤ) : Type 0 where
   pub status_is : status ≡ pos 10
-  pub error_is : told ≡ error
-  pub push_is : push ≡ before
-  pub section_is : next ≡ section
-  pub places_are : now ≡ places
-  pub packet_is : packet ≡ old
+  pub error_is : new.error ≡ old.error
+  pub push_is : new.left ≡ old.left
+  pub section_is : new.section ≡ old.section
+  pub places_are : new.places ≡ old.places
+  pub packet_is : new.value ≡ old.value
 
 -- The arguments are invalid: the held bytes are outside of the room, or the section has more interfaces than there are places.
 abbrev pub MakesNoSense : PcapfilePush → PcapfileSection → List PcapfileInterface → List ℕ → Type 0
 MakesNoSense before section places room = LiesOutside before room ⊎ (length places < section.interfaces)
 
 -- The packet at the front of the held bytes, whose rest stays held.
-abbrev pub TakesNextPacket : State → PcapfilePush → PcapfilePush → PcapfileSection → PcapfileSection → List PcapfileInterface → List PcapfileInterface → List ℕ → PcapfileAnyPacket → PcapfileAnyPacket → PcapfileError → PcapfileError → ℤ → Type 0
-TakesNextPacket q before push section next places now room old packet error told status =
-    (HoldsRest before push room × TakesFrontPacket q next now (held_in before room) (held_in push room) old packet error told status)
-    ⊎ (MakesNoSense before section places room × LeavesPackets before push section next places now old packet error told status)
+abbrev pub TakesNextPacket : State → List ℕ → PacketPush → PacketPush → ℤ → Type 0
+TakesNextPacket q room old new status =
+    (HoldsRest old.left new.left room × TakesFrontPacket q (held_packets room old) (held_packets room new) status)
+    ⊎ (MakesNoSense old.left old.section old.places room × LeavesPackets old new status)
 
 -- The magic number names no byte order, and nothing else changed; or the arguments of the call are invalid.
-abbrev pub RefusesNextPacket : PcapfilePush → PcapfilePush → PcapfileSection → PcapfileSection → List PcapfileInterface → List PcapfileInterface → List ℕ → PcapfileAnyPacket → PcapfileAnyPacket → PcapfileError → PcapfileError → ℤ → Type 0
-RefusesNextPacket before push section next places now room old packet error told status =
-    (LiesWithin before room × (status ≡ pos 3) × ShowsRule SectionMagic told × (push ≡ before) × (next ≡ section) × (now ≡ places) × (packet ≡ old))
-    ⊎ (MakesNoSense before section places room × LeavesPackets before push section next places now old packet error told status)
+abbrev pub RefusesNextPacket : List ℕ → PacketPush → PacketPush → ℤ → Type 0
+RefusesNextPacket room old new status =
+    (LiesWithin old.left room × (status ≡ pos 3) × ShowsRule SectionMagic new.error
+    × (new.left ≡ old.left) × (new.section ≡ old.section) × (new.places ≡ old.places) × (new.value ≡ old.value))
+    ⊎ (MakesNoSense old.left old.section old.places room × LeavesPackets old new status)

@@ -8,13 +8,14 @@ use Rattle.pcapfile_values.specs.Shown.{captured}
 use Rattle.pcapfile_c.specs.declared.push.PcapfilePush.{PcapfilePush}
 use Rattle.pcapfile_c.specs.Push.{TakesNext}
 use Rattle.pcapfile_c.specs.PushBatches.{TakesNextPackets}
+use Rattle.pcapfile_c.specs.Readers.{reader}
 use Rattle.pcapfile_c.specs.RoomCalls.{Ended, under_status}
 
 -- One call that reads packets, by its status: it reads one packet and returns it under 0, or reads many and returns those.
 pub data TakingCall (before push : PcapfilePush) (room : List ℕ) (status : ℤ) : List Captured → Type 0 where
-  one : (old packet : PcapfilePacket) (error told : PcapfileError) → TakesNext before push room old packet error told status
+  one : (old packet : PcapfilePacket) (error told : PcapfileError) → TakesNext room (reader before old error) (reader push packet told) status
       → TakingCall before push room status (under_status status (captured packet ∷ []))
-  many : (old packets : List PcapfilePacket) (taken : ℕ) (error told : PcapfileError) → TakesNextPackets before push room old packets taken error told status
+  many : (old packets : List PcapfilePacket) (taken : ℕ) (error told : PcapfileError) → TakesNextPackets room (reader before old error) (reader push packets told) taken status
       → TakingCall before push room status (map captured (take taken packets))
 
 -- A call that reads packets, with nothing kept beside the room.

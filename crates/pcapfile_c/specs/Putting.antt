@@ -17,6 +17,7 @@ use Rattle.pcapfile_values.specs.declared.reasons.Reason.{Reason}
 use Rattle.pcapfile_values.specs.declared.reasons.Reason.TheVariants as reasons
 use Rattle.pcapfile_values.specs.BlockTexts.{section_block, interface_block, packet_block}
 use Rattle.pcapfile_values.specs.Reasons.{IsRefused}
+use Rattle.pcapfile_c.specs.Readers.{BlockWriter}
 
 -- What a program passes to a call that writes a block.
 pub data Given : Type 0 where
@@ -58,12 +59,12 @@ pub record NeedsRoom (text room : List ℕ) (told : PcapfileError) : Type 0 wher
 
 -- The result of a call. Status 0: the block was written, and the section is the one after it. Status 9: the room is too short. Status 3:
 -- there is a reason against it. Under both, nothing was written, and the section is unchanged.
-abbrev pub PutsBlock : (Reason → Type 0) → Given → PcapfileSection → PcapfileSection → List ℕ → List ℕ → ℕ → ℕ → PcapfileError → PcapfileError → ℤ → Type 0
-PutsBlock Stands given section next room now before written error told status =
-    ((status ≡ pos 0) × (told ≡ error) × (text : List ℕ) × IsTextOf given section next text × BeginsWith text room now written)
-    ⊎ ((next ≡ section) × (now ≡ room) × (written ≡ before)
-    × (((status ≡ pos 9) × (text : List ℕ) × (after : PcapfileSection) × IsTextOf given section after text × NeedsRoom text room told)
-    ⊎ ((reason : Reason) × Stands reason × IsRefused reason told status)))
+abbrev pub PutsBlock : (Reason → Type 0) → Given → BlockWriter → BlockWriter → ℤ → Type 0
+PutsBlock Stands given old new status =
+    ((status ≡ pos 0) × (new.error ≡ old.error) × (text : List ℕ) × IsTextOf given old.section new.section text × BeginsWith text old.room new.room new.written)
+    ⊎ ((new.section ≡ old.section) × (new.room ≡ old.room) × (new.written ≡ old.written)
+    × (((status ≡ pos 9) × (text : List ℕ) × (after : PcapfileSection) × IsTextOf given old.section after text × NeedsRoom text old.room new.error)
+    ⊎ ((reason : Reason) × Stands reason × IsRefused reason new.error status)))
 
 -- The reasons against a section.
 abbrev pub SectionFlaw : PcapfileSection → Reason → Type 0

@@ -8,12 +8,12 @@ use Rattle.pcap_core.specs.Answer.{Order, number_in, whole, faulty}
 use Rattle.pcap_core.specs.Faults.{Shows}
 use Rattle.pcap_options.specs.Names.{NameText, NameSays, NamesText, NamesSay}
 use Rattle.pcap_options.specs.Record.{Address, AddressSays, NameRecord, End, Ipv4, Ipv6, Other, Form, RecordValueSays, RecordText, RecordSays}
-use Rattle.pcapfile_values.specs.declared.errors.PcapfileError.{PcapfileError}
 use Rattle.pcapfile_values.specs.declared.shown.PcapfileBytes.{PcapfileBytes}
 use Rattle.pcapfile_values.specs.Refusals.{TellsRefusal}
 use Rattle.pcapfile_c.specs.declared.records.PcapfileRecord.{PcapfileRecord}
 use Rattle.pcapfile_c.specs.Options.{BeginsTells}
 use Rattle.pcapfile_c.specs.Options as options
+use Rattle.pcapfile_c.specs.Readers.{Reader}
 
 -- The struct shows an address under this type: its bytes, and the bytes that are its names.
 pub record ShowsAddress (type : ℕ) (address : Address) (shown : PcapfileRecord) : Type 0 where
@@ -62,17 +62,17 @@ RecordsTell order s = BeginsTells (options.NamesSay order s)
 -- Status 0: the left bytes begin with a record, the struct shows it, and the rest is left. Status 8: they begin with the end of the
 -- records. The error is unchanged under both. Another status: the record is refused. The left bytes and the struct are unchanged unless
 -- the status is 0.
-abbrev pub TakesRecord : Endianness → PcapfileBytes → PcapfileBytes → PcapfileRecord → PcapfileRecord → PcapfileError → PcapfileError → ℤ → Type 0
-TakesRecord e left now before after error told status =
-    ((status ≡ pos 0) × (told ≡ error) × (r : NameRecord) × ShowsRecord r (Some after) × RecordText (number_in e) r left.bytes.now now.bytes.now)
-    ⊎ (((status ≡ pos 8) × (told ≡ error) × (now ≡ left) × (after ≡ before) × (rest : List ℕ) × RecordText (number_in e) End left.bytes.now rest)
-    ⊎ ((now ≡ left) × (after ≡ before) × TellsRefusal (RecordSays (number_in e) left.bytes.now) told status))
+abbrev pub TakesRecord : Endianness → Reader PcapfileBytes PcapfileRecord → Reader PcapfileBytes PcapfileRecord → ℤ → Type 0
+TakesRecord e old new status =
+    ((status ≡ pos 0) × (new.error ≡ old.error) × (r : NameRecord) × ShowsRecord r (Some new.value) × RecordText (number_in e) r old.left.bytes.now new.left.bytes.now)
+    ⊎ (((status ≡ pos 8) × (new.error ≡ old.error) × (new.left ≡ old.left) × (new.value ≡ old.value) × (rest : List ℕ) × RecordText (number_in e) End old.left.bytes.now rest)
+    ⊎ ((new.left ≡ old.left) × (new.value ≡ old.value) × TellsRefusal (RecordSays (number_in e) old.left.bytes.now) new.error status))
 
 -- Status 0: the left bytes begin with a name, which is shown, and what follows its zero byte is left. Status 8: nothing is left. The
 -- error is unchanged under both. Another status: the name is refused. The left bytes and what is shown are unchanged unless the status is
 -- 0.
-abbrev pub TakesName : PcapfileBytes → PcapfileBytes → PcapfileBytes → PcapfileBytes → PcapfileError → PcapfileError → ℤ → Type 0
-TakesName left now before after error told status =
-    ((status ≡ pos 0) × (told ≡ error) × NameText after.bytes.now left.bytes.now now.bytes.now)
-    ⊎ (((status ≡ pos 8) × (told ≡ error) × (now ≡ left) × (after ≡ before) × (left.bytes.now ≡ []))
-    ⊎ ((now ≡ left) × (after ≡ before) × (left.bytes.now ≢ []) × TellsRefusal (NameSays left.bytes.now) told status))
+abbrev pub TakesName : Reader PcapfileBytes PcapfileBytes → Reader PcapfileBytes PcapfileBytes → ℤ → Type 0
+TakesName old new status =
+    ((status ≡ pos 0) × (new.error ≡ old.error) × NameText new.value.bytes.now old.left.bytes.now new.left.bytes.now)
+    ⊎ (((status ≡ pos 8) × (new.error ≡ old.error) × (new.left ≡ old.left) × (new.value ≡ old.value) × (old.left.bytes.now ≡ []))
+    ⊎ ((new.left ≡ old.left) × (new.value ≡ old.value) × (old.left.bytes.now ≢ []) × TellsRefusal (NameSays old.left.bytes.now) new.error status))

@@ -4,6 +4,7 @@ use Rattle.std.specs.List.{flat_map}
 use Rattle.pcapfile_values.specs.declared.errors.PcapfileError.{PcapfileError}
 use Rattle.pcapfile_c.specs.declared.push.PcapfilePush.{PcapfilePush}
 use Rattle.pcapfile_c.specs.Push.{MakesSpace, Puts, held_in}
+use Rattle.pcapfile_c.specs.Readers.{reader}
 
 -- What a call with this status put or returned: all of it under 0, and otherwise nothing.
 abbrev pub under_status : {A : Type 0} → ℤ → List A → List A
@@ -24,7 +25,7 @@ module _ {T G : Type 0} (Gives : ℤ → PcapfilePush → T → List ℕ → Pca
   -- One of the calls, with its result; or what the program does between two calls, which keeps the held bytes: it writes elsewhere in the
   -- room, or takes another room. Each has the bytes that were put and the values that were returned.
   pub data RoomCall (before : PcapfilePush) (kept : T) (room : List ℕ) (push : PcapfilePush) (next : T) (now : List ℕ) : List ℕ → List G → Type 0 where
-    space : (wanted : ℕ) (error told : PcapfileError) (status : ℤ) → next ≡ kept → MakesSpace before push room now wanted error told status → RoomCall before kept room push next now [] []
+    space : (wanted : ℕ) (error told : PcapfileError) (status : ℤ) → next ≡ kept → MakesSpace wanted (reader before room error) (reader push now told) status → RoomCall before kept room push next now [] []
     put : (count : ℕ) (status : ℤ) → next ≡ kept → now ≡ room → Puts before push room count status
         → RoomCall before kept room push next now (under_status status (take count (drop before.end room))) []
     gives : (status : ℤ) (given : List G) → now ≡ room → Gives status before kept room push next given → RoomCall before kept room push next now [] given

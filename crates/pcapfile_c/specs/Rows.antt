@@ -5,7 +5,6 @@ use Rattle.pcap_core.specs.Answer.{Verdict, Says, whole, lacks, faulty}
 use Rattle.pcap_items.specs.Format.{Format, Texts}
 use Rattle.pcap_classic.specs.PacketText.{Captured}
 use Rattle.pcapfile_values.specs.declared.bodies.PcapfileNgPacket.{PcapfileNgPacket}
-use Rattle.pcapfile_values.specs.declared.errors.PcapfileError.{PcapfileError}
 use Rattle.pcapfile_values.specs.declared.shown.PcapfileBytes.{PcapfileBytes}
 use Rattle.pcapfile_values.specs.declared.shown.PcapfileHeader.{PcapfileHeader}
 use Rattle.pcapfile_values.specs.Refusals.{TellsRefusal, TellsRefusalWhere}
@@ -13,6 +12,7 @@ use Rattle.pcapfile_c.specs.declared.rows.PcapfileNgRow.{PcapfileNgRow}
 use Rattle.pcapfile_c.specs.declared.rows.PcapfileRow.{PcapfileRow}
 use Rattle.pcapfile_c.specs.Batches.{EndsWithPacket, Leading, OtherText, PacketMayGrow, PacketText, PassageSays, somes}
 use Rattle.pcapfile_c.specs.Calls.{PacketsSaid}
+use Rattle.pcapfile_c.specs.Readers.{Reader}
 
 -- The number of bytes, at most 2^32 - 1.
 abbrev pub stored_shown : List ℕ → ℕ
@@ -46,12 +46,12 @@ row_format header total = record { says = λ q. RowSays header total; goes = λ 
 
 -- This many packets after this header were read as rows into the first places, and all other places are unchanged. Status 0: every place
 -- is filled, or nothing is left. Another status: what is left is refused.
-pub record TakesRows (header : PcapfileHeader) (left now : PcapfileBytes) (before after : List PcapfileRow) (taken : ℕ) (error told : PcapfileError) (status : ℤ) : Type 0 where
-  pub within : taken ≤ length after
-  pub texts : Texts (row_format header (length left.bytes.now)) tt (take taken after) left.bytes.now now.bytes.now
-  pub others : drop taken after ≡ drop taken before
-  pub ends : ((status ≡ pos 0) × (told ≡ error) × ((taken ≡ length after) ⊎ (now.bytes.now ≡ [])))
-      ⊎ ((taken < length after) × (0 < length now.bytes.now) × TellsRefusal (PacketsSaid header.magic_number now.bytes.now) told status)
+pub record TakesRows (header : PcapfileHeader) (old new : Reader PcapfileBytes (List PcapfileRow)) (taken : ℕ) (status : ℤ) : Type 0 where
+  pub within : taken ≤ length new.value
+  pub texts : Texts (row_format header (length old.left.bytes.now)) tt (take taken new.value) old.left.bytes.now new.left.bytes.now
+  pub others : drop taken new.value ≡ drop taken old.value
+  pub ends : ((status ≡ pos 0) × (new.error ≡ old.error) × ((taken ≡ length new.value) ⊎ (new.left.bytes.now ≡ [])))
+      ⊎ ((taken < length new.value) × (0 < length new.left.bytes.now) × TellsRefusal (PacketsSaid header.magic_number new.left.bytes.now) new.error status)
 
 -- The number of bytes in a block of this type before the data of its packet.
 abbrev pub data_place : ℕ → ℕ
@@ -90,14 +90,14 @@ ng_row_format total = record { says = NgRowSays total; goes = λ e found. e; hea
 -- This many packets of a section in this byte order were read as rows into the first places, with the skipped blocks among them, and all
 -- other places are unchanged. Status 0: every place is filled, or nothing is left. Status 8: a section header or an interface follows.
 -- Another status: what is left is refused.
-pub record TakesNgRows (e : Endianness) (left now : PcapfileBytes) (before after : List PcapfileNgRow) (taken : ℕ) (error told : PcapfileError) (status : ℤ) : Type 0 where
+pub record TakesNgRows (e : Endianness) (old new : Reader PcapfileBytes (List PcapfileNgRow)) (taken : ℕ) (status : ℤ) : Type 0 where
   pub found : List (Option PcapfileNgRow)
-  pub within : taken ≤ length after
-  pub texts : Texts (ng_row_format (length left.bytes.now)) e found left.bytes.now now.bytes.now
-  pub rows : take taken after ≡ somes found
+  pub within : taken ≤ length new.value
+  pub texts : Texts (ng_row_format (length old.left.bytes.now)) e found old.left.bytes.now new.left.bytes.now
+  pub rows : take taken new.value ≡ somes found
   -- Nothing was read after the packet that fills the last place.
-  pub stops : taken ≡ length after → EndsWithPacket found
-  pub others : drop taken after ≡ drop taken before
-  pub ends : ((status ≡ pos 0) × (told ≡ error) × ((taken ≡ length after) ⊎ (now.bytes.now ≡ [])))
-      ⊎ (((status ≡ pos 8) × (told ≡ error) × (taken < length after) × Leading e now.bytes.now)
-      ⊎ ((taken < length after) × (0 < length now.bytes.now) × TellsRefusalWhere (PacketMayGrow e now.bytes.now) (PassageSays e now.bytes.now) told status))
+  pub stops : taken ≡ length new.value → EndsWithPacket found
+  pub others : drop taken new.value ≡ drop taken old.value
+  pub ends : ((status ≡ pos 0) × (new.error ≡ old.error) × ((taken ≡ length new.value) ⊎ (new.left.bytes.now ≡ [])))
+      ⊎ (((status ≡ pos 8) × (new.error ≡ old.error) × (taken < length new.value) × Leading e new.left.bytes.now)
+      ⊎ ((taken < length new.value) × (0 < length new.left.bytes.now) × TellsRefusalWhere (PacketMayGrow e new.left.bytes.now) (PassageSays e new.left.bytes.now) new.error status))

@@ -6,6 +6,7 @@ ghost use Rattle.pcapfile_values.specs.Blocks.{order_shown};
 ghost use Rattle.pcapfile_c.specs.AnyCaptures.{IsNg, HasEnded, TakesAnyPacket, TakesAnyNgPacket, TakesHeaded, TakesSectioned, RefusesAnyPacket};
 ghost use Rattle.pcapfile_c.specs.AnyCaptures.{LeavesAnyPacket, TakesCaptured, TakesWithPlaces, RefusesWithPlaces, LacksPlaces};
 ghost use Rattle.pcapfile_c.specs.PushPackets.{ShowsInForce, HaveBases, LeavesOthers};
+ghost use Rattle.pcapfile_c.specs.Readers.{any_reader, header_reader, packet_reader};
 
 use crate::push::take_front;
 use crate::push_packets::take_packet;
@@ -44,18 +45,18 @@ pub extern "C" fn pcapfile_take_any<'a>(
     error: &mut PcapfileError,
 ) -> i32
     ensures packets { (IsNg capture.old left.old.bytes.now → ⊥) →
-        TakesAnyPacket capture.old capture.new interfaces.old interfaces.new left.old.bytes.now left.new.bytes.now packet.old packet.new
-        error.old error.new result }
+        TakesAnyPacket (any_reader capture.old interfaces.old left.old.bytes.now packet.old error.old)
+        (any_reader capture.new interfaces.new left.new.bytes.now packet.new error.new) result }
     ensures blocks { (q : State) → IsNg capture.old left.old.bytes.now → ShowsInForce capture.old.section interfaces.old q →
-        TakesAnyNgPacket q capture.old capture.new interfaces.old interfaces.new left.old.bytes.now left.new.bytes.now packet.old packet.new
-        error.old error.new result }
+        TakesAnyNgPacket q (any_reader capture.old interfaces.old left.old.bytes.now packet.old error.old)
+        (any_reader capture.new interfaces.new left.new.bytes.now packet.new error.new) result }
     ensures bases { HaveBases capture.old.section interfaces.old → HaveBases capture.new.section interfaces.new }
     ensures refused { IsNg capture.old left.old.bytes.now → order_shown capture.old.section.magic_number ≡ None →
-        RefusesAnyPacket capture.old capture.new interfaces.old interfaces.new left.old.bytes.now left.new.bytes.now packet.old packet.new
-        error.old error.new result }
+        RefusesAnyPacket (any_reader capture.old interfaces.old left.old.bytes.now packet.old error.old)
+        (any_reader capture.new interfaces.new left.new.bytes.now packet.new error.new) result }
     ensures lacking { IsNg capture.old left.old.bytes.now → length interfaces.old < capture.old.section.interfaces →
-        LeavesAnyPacket capture.old capture.new interfaces.old interfaces.new left.old.bytes.now left.new.bytes.now packet.old packet.new
-        error.old error.new result }
+        LeavesAnyPacket (any_reader capture.old interfaces.old left.old.bytes.now packet.old error.old)
+        (any_reader capture.new interfaces.new left.new.bytes.now packet.new error.new) result }
     ensures others { (q : State) → IsNg capture.old left.old.bytes.now → ShowsInForce capture.old.section interfaces.old q →
         LeavesOthers q capture.new.section interfaces.old interfaces.new left.old.bytes.now left.new.bytes.now }
 {
@@ -78,18 +79,18 @@ fn take_either<'a>(
     error: &mut PcapfileError,
 ) -> i32
     ensures packets { (IsNg capture.old left.old.bytes.now → ⊥) →
-        TakesHeaded capture.old capture.new interfaces.old interfaces.new left.old.bytes.now left.new.bytes.now packet.old packet.new
-        error.old error.new result }
+        TakesHeaded (any_reader capture.old interfaces.old left.old.bytes.now packet.old error.old)
+        (any_reader capture.new interfaces.new left.new.bytes.now packet.new error.new) result }
     ensures blocks { (q : State) → IsNg capture.old left.old.bytes.now → ShowsInForce capture.old.section interfaces.old q →
-        TakesSectioned q capture.old capture.new interfaces.old interfaces.new left.old.bytes.now left.new.bytes.now packet.old packet.new
-        error.old error.new result }
+        TakesSectioned q (any_reader capture.old interfaces.old left.old.bytes.now packet.old error.old)
+        (any_reader capture.new interfaces.new left.new.bytes.now packet.new error.new) result }
     ensures bases { HaveBases capture.old.section interfaces.old → HaveBases capture.new.section interfaces.new }
     ensures refused { IsNg capture.old left.old.bytes.now → order_shown capture.old.section.magic_number ≡ None →
-        RefusesAnyPacket capture.old capture.new interfaces.old interfaces.new left.old.bytes.now left.new.bytes.now packet.old packet.new
-        error.old error.new result }
+        RefusesAnyPacket (any_reader capture.old interfaces.old left.old.bytes.now packet.old error.old)
+        (any_reader capture.new interfaces.new left.new.bytes.now packet.new error.new) result }
     ensures lacking { IsNg capture.old left.old.bytes.now → length interfaces.old < capture.old.section.interfaces →
-        LeavesAnyPacket capture.old capture.new interfaces.old interfaces.new left.old.bytes.now left.new.bytes.now packet.old packet.new
-        error.old error.new result }
+        LeavesAnyPacket (any_reader capture.old interfaces.old left.old.bytes.now packet.old error.old)
+        (any_reader capture.new interfaces.new left.new.bytes.now packet.new error.new) result }
     ensures others { (q : State) → IsNg capture.old left.old.bytes.now → ShowsInForce capture.old.section interfaces.old q →
         LeavesOthers q capture.new.section interfaces.old interfaces.new left.old.bytes.now left.new.bytes.now }
 {
@@ -107,7 +108,8 @@ fn take_any_packet<'a>(
     packet: &mut PcapfileAnyPacket<'a>,
     error: &mut PcapfileError,
 ) -> i32
-    ensures { TakesCaptured header.old header.new left.old.bytes.now left.new.bytes.now packet.old packet.new error.old error.new result }
+    ensures { TakesCaptured (header_reader header.old left.old.bytes.now packet.old error.old)
+        (header_reader header.new left.new.bytes.now packet.new error.new) result }
 {
     let mut found = PcapfilePacket {
         ts_sec: 0,
@@ -133,15 +135,15 @@ fn take_any_block<'a>(
     error: &mut PcapfileError,
 ) -> i32
     ensures taken { (q : State) → ShowsInForce section.old interfaces.old q →
-        TakesWithPlaces q section.old section.new interfaces.old interfaces.new left.old.bytes.now left.new.bytes.now packet.old packet.new
-        error.old error.new result }
+        TakesWithPlaces q (packet_reader section.old interfaces.old left.old.bytes.now packet.old error.old)
+        (packet_reader section.new interfaces.new left.new.bytes.now packet.new error.new) result }
     ensures bases { HaveBases section.old interfaces.old → HaveBases section.new interfaces.new }
     ensures refused { order_shown section.old.magic_number ≡ None →
-        RefusesWithPlaces section.old section.new interfaces.old interfaces.new left.old.bytes.now left.new.bytes.now packet.old packet.new
-        error.old error.new result }
+        RefusesWithPlaces (packet_reader section.old interfaces.old left.old.bytes.now packet.old error.old)
+        (packet_reader section.new interfaces.new left.new.bytes.now packet.new error.new) result }
     ensures lacking { length interfaces.old < section.old.interfaces →
-        LacksPlaces section.old section.new interfaces.old interfaces.new left.old.bytes.now left.new.bytes.now packet.old packet.new
-        error.old error.new result }
+        LacksPlaces (packet_reader section.old interfaces.old left.old.bytes.now packet.old error.old)
+        (packet_reader section.new interfaces.new left.new.bytes.now packet.new error.new) result }
     ensures others { (q : State) → ShowsInForce section.old interfaces.old q → LeavesOthers q section.new interfaces.old interfaces.new left.old.bytes.now left.new.bytes.now }
 {
     if interfaces.len() < section.interfaces as usize {

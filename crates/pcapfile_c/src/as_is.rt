@@ -7,6 +7,7 @@ ghost use Rattle.pcap_classic.specs.Parser.{header_of};
 ghost use Rattle.pcap_tolerant.specs.AsIs.{rules_of, first_rule, as_it_is};
 ghost use Rattle.pcapfile_c.specs.AsIs.{bits_of, number_or_0, ShowsAsIs, AsIsSaid, TellsPlace, PacketsStandAgain};
 ghost use Rattle.pcapfile_c.specs.Calls.{Takes, RefusesMagic};
+ghost use Rattle.pcapfile_c.specs.Readers.{reader};
 
 use pcap_classic::TsResolution;
 use pcap_classic::pcap::PcapParser;
@@ -48,8 +49,8 @@ pub extern "C" fn pcapfile_take_packet_as_is<'a>(
     error: &mut PcapfileError,
 ) -> i32
     ensures taken { IsTrue (is_magic header.now.magic_number) →
-        Takes (AsIsSaid limit header.now.magic_number) (ShowsAsIs (resolution_of header.now.magic_number)) left.old left.new packet.old packet.new
-        error.old error.new result }
+        Takes (AsIsSaid limit header.now.magic_number) (ShowsAsIs (resolution_of header.now.magic_number)) (reader left.old packet.old error.old)
+        (reader left.new packet.new error.new) result }
     ensures refused { is_magic header.now.magic_number ≡ false → RefusesMagic left.old left.new packet.old packet.new error.new result }
 {
     let Some(parser) = parser_behind(header) else {

@@ -6,6 +6,7 @@ ghost use Rattle.pcap_ng.specs.Opening.{OpeningSays};
 ghost use Rattle.pcap_parts.specs.declared.parting.Parting.TheVariants as partings;
 ghost use Rattle.pcap_parts.specs.Partings.{AsksSome};
 ghost use Rattle.pcapfile_c.specs.Cuts.{CutMayGrow, CutsBlocks, Fills, HasRoom, MayLackPlaces, TellsBlockCuts};
+ghost use Rattle.pcapfile_c.specs.Readers.{target};
 
 use pcap_core::ResultParsing;
 use pcap_parts::{NgCut, NgCuts, Parting, cut_pcapng, cut_pcapng_at_least};
@@ -27,8 +28,8 @@ pub extern "C" fn pcapfile_cut_blocks(
     known: &mut usize,
     error: &mut PcapfileError,
 ) -> i32
-    ensures told { TellsBlockCuts (partings.Equal (length cuts.old)) capture.now.bytes.now cuts.old cuts.new count.new interfaces.old interfaces.new
-        known.new error.old error.new result }
+    ensures told { TellsBlockCuts (partings.Equal (length cuts.old)) capture.now.bytes.now (target (cuts.old, interfaces.old) error.old)
+        (target (cuts.new, interfaces.new) error.new) count.new known.new result }
     ensures lacking { MayLackPlaces (partings.Equal (length cuts.old)) capture.now.bytes.now cuts.old → (result ≡ pos 11) × (known.new ≡ 0) }
 {
     *count = 0;
@@ -63,8 +64,8 @@ pub extern "C" fn pcapfile_cut_blocks_at_least(
     known: &mut usize,
     error: &mut PcapfileError,
 ) -> i32
-    ensures told { TellsBlockCuts (partings.AtLeast (max at_least 1)) capture.now.bytes.now cuts.old cuts.new count.new interfaces.old interfaces.new
-        known.new error.old error.new result }
+    ensures told { TellsBlockCuts (partings.AtLeast (max at_least 1)) capture.now.bytes.now (target (cuts.old, interfaces.old) error.old)
+        (target (cuts.new, interfaces.new) error.new) count.new known.new result }
     ensures lacking { MayLackPlaces (partings.AtLeast (max at_least 1)) capture.now.bytes.now cuts.old → (result ≡ pos 11) × (known.new ≡ 0) }
 {
     *count = 0;
@@ -86,7 +87,8 @@ pub extern "C" fn pcapfile_cut_blocks_at_least(
     )
 }
 
-// Writes the requested cuts and the places of the interfaces into the first places. `cuts` must have room for every cut.
+// Writes the requested cuts and the places of the interfaces into the first places. `cuts` must have room for every cut. Its parameters are
+// those of the calls for C.
 fn fill_cuts(
     alloc: Global,
     bytes: &[u8],
@@ -101,7 +103,8 @@ fn fill_cuts(
     requires no_interface { known.old ≡ 0 }
     requires some { AsksSome parting }
     requires room { HasRoom parting (length bytes.now) (length cuts.old) }
-    ensures { TellsBlockCuts parting bytes.now cuts.old cuts.new count.new interfaces.old interfaces.new known.new error.old error.new result }
+    ensures { TellsBlockCuts parting bytes.now (target (cuts.old, interfaces.old) error.old)
+        (target (cuts.new, interfaces.new) error.new) count.new known.new result }
 {
     match cut_capture(alloc, bytes, parting) {
         Ok(found) => {

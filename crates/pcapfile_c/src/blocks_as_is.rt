@@ -14,6 +14,7 @@ ghost use Rattle.pcap_tolerant_captures.specs.State.{State};
 ghost use Rattle.pcapfile_values.specs.Blocks.{order_shown};
 ghost use Rattle.pcapfile_c.specs.BlocksAsIs.{ShowsStanding, shown_flaw, ShowsFlaws, ShowsReading, said_in, IsOf, TellsSection, FindsNothing, FindsInterface};
 ghost use Rattle.pcapfile_c.specs.BlocksAsIs.{FindsPacket, LeadsStanding, NextStands, TakesStanding, RefusesStanding};
+ghost use Rattle.pcapfile_c.specs.Readers.{block_reader};
 
 use byteorder::{BigEndian, LittleEndian};
 use pcap_core::rules::Rule;
@@ -69,9 +70,11 @@ pub extern "C" fn pcapfile_take_block_as_is<'a>(
     error: &mut PcapfileError,
 ) -> i32
     ensures taken { (q : State) → ShowsStanding section.old q →
-        TakesStanding q section.old section.new left.old left.new block.old block.new flaws.old flaws.new error.old error.new result }
+        TakesStanding q (block_reader section.old left.old (block.old, flaws.old) error.old)
+        (block_reader section.new left.new (block.new, flaws.new) error.new) result }
     ensures refused { order_shown section.old.magic_number ≡ None →
-        RefusesStanding section.old section.new left.old left.new block.old block.new flaws.old flaws.new error.new result }
+        RefusesStanding (block_reader section.old left.old (block.old, flaws.old) error.old)
+        (block_reader section.new left.new (block.new, flaws.new) error.new) result }
 {
     match next_standing(section, alloc, left.bytes) {
         Ok((rest, (found, next))) => {

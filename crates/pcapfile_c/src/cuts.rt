@@ -8,6 +8,7 @@ ghost use Rattle.pcap_parts.specs.declared.parting.Parting.TheVariants as partin
 ghost use Rattle.pcap_parts.specs.Parts.{AreCuts};
 ghost use Rattle.pcap_parts.specs.Partings.{AreAskedFor, AsksSome};
 ghost use Rattle.pcapfile_c.specs.Cuts.{HasRoom, MayLackPlaces, TellsCuts};
+ghost use Rattle.pcapfile_c.specs.Readers.{target};
 
 use pcap_classic::pcap::PcapParser;
 use pcap_parts::{Cut, Parting, Passed, skip_packets};
@@ -24,7 +25,8 @@ pub extern "C" fn pcapfile_cut_packets(
     count: &mut usize,
     error: &mut PcapfileError,
 ) -> i32
-    ensures told { TellsCuts (partings.Equal (length cuts.old)) capture.now.bytes.now cuts.old cuts.new count.new error.old error.new result }
+    ensures told { TellsCuts (partings.Equal (length cuts.old)) capture.now.bytes.now (target cuts.old error.old)
+        (target cuts.new error.new) count.new result }
     ensures lacking { MayLackPlaces (partings.Equal (length cuts.old)) capture.now.bytes.now cuts.old → result ≡ pos 11 }
 {
     *count = 0;
@@ -45,7 +47,8 @@ pub extern "C" fn pcapfile_cut_packets_at_least(
     count: &mut usize,
     error: &mut PcapfileError,
 ) -> i32
-    ensures told { TellsCuts (partings.AtLeast (max at_least 1)) capture.now.bytes.now cuts.old cuts.new count.new error.old error.new result }
+    ensures told { TellsCuts (partings.AtLeast (max at_least 1)) capture.now.bytes.now (target cuts.old error.old)
+        (target cuts.new error.new) count.new result }
     ensures lacking { MayLackPlaces (partings.AtLeast (max at_least 1)) capture.now.bytes.now cuts.old → result ≡ pos 11 }
 {
     *count = 0;
@@ -67,7 +70,7 @@ fn fill_cuts(
     requires none { count.old ≡ 0 }
     requires some { AsksSome parting }
     requires room { HasRoom parting (length capture.now.bytes.now) (length cuts.old) }
-    ensures { TellsCuts parting capture.now.bytes.now cuts.old cuts.new count.new error.old error.new result }
+    ensures { TellsCuts parting capture.now.bytes.now (target cuts.old error.old) (target cuts.new error.new) count.new result }
 {
     match PcapParser::new(capture.bytes) {
         Ok((after, parser)) => {

@@ -6,6 +6,7 @@ ghost use Rattle.pcap_core.specs.Answer.{number_in};
 ghost use Rattle.pcap_blocks.specs.SectionHeader.{magic_order};
 ghost use Rattle.pcapfile_c.specs.Bodies.{RefusesSection};
 ghost use Rattle.pcapfile_c.specs.Options.{FindsOptions, TakesOption, OptionsTell, OptionTells, FixedTells, PacketTells};
+ghost use Rattle.pcapfile_c.specs.Readers.{reader, target};
 
 use crate::records::behind_records;
 use byteorder::{BigEndian, ByteOrder, LittleEndian};
@@ -35,7 +36,7 @@ pub extern "C" fn pcapfile_options<'a>(
     error: &mut PcapfileError,
 ) -> i32
     ensures found { (e : Endianness) → magic_order section.now.magic_number ≡ Some e →
-        FindsOptions e block.now options.old options.new error.old error.new result }
+        FindsOptions e block.now (target options.old error.old) (target options.new error.new) result }
     ensures refused { magic_order section.now.magic_number ≡ None → RefusesSection options.old options.new error.new result }
 {
     let Some(order) = section.endianness() else {
@@ -61,7 +62,7 @@ pub extern "C" fn pcapfile_take_option<'a>(
     error: &mut PcapfileError,
 ) -> i32
     ensures taken { (e : Endianness) → magic_order section.now.magic_number ≡ Some e →
-        TakesOption e left.old left.new option.old option.new error.old error.new result }
+        TakesOption e (reader left.old option.old error.old) (reader left.new option.new error.new) result }
     ensures refused { magic_order section.now.magic_number ≡ None →
         (left.new ≡ left.old) × RefusesSection option.old option.new error.new result }
 {

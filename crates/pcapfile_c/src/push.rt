@@ -3,6 +3,7 @@
 ghost use Rattle.std.specs.Prelude.{◌≡◌, ◌≤◌, ◌↔◌, false, IsTrue};
 ghost use Rattle.pcap_classic.specs.Magic.{is_magic};
 ghost use Rattle.pcapfile_c.specs.Push.{LiesWithin, MakesSpace, MovesToFront, Puts, TakesFront, TakesNext};
+ghost use Rattle.pcapfile_c.specs.Readers.{header_reader, reader};
 
 use crate::pcap::{next_packet, pcapfile_take_header, take_slowly};
 use pcapfile_values::errors::PcapfileError;
@@ -31,7 +32,7 @@ pub extern "C" fn pcapfile_push_space(
     wanted: usize,
     error: &mut PcapfileError,
 ) -> i32
-    ensures { MakesSpace push.old push.new room.old room.new wanted error.old error.new result }
+    ensures { MakesSpace wanted (reader push.old room.old error.old) (reader push.new room.new error.new) result }
 {
     if !push.lies_within(room.len()) {
         return 10;
@@ -75,7 +76,7 @@ pub extern "C" fn pcapfile_push_next<'a>(
     packet: &mut PcapfilePacket<'a>,
     error: &mut PcapfileError,
 ) -> i32
-    ensures { TakesNext push.old push.new room.now packet.old packet.new error.old error.new result }
+    ensures { TakesNext room.now (reader push.old packet.old error.old) (reader push.new packet.new error.new) result }
 {
     let Some(held) = room.get(push.begin..push.end) else {
         return 10;
@@ -94,7 +95,8 @@ pub(crate) fn take_front<'a>(
     packet: &mut PcapfilePacket<'a>,
     error: &mut PcapfileError,
 ) -> i32
-    ensures { TakesFront header.old header.new left.old.bytes.now left.new.bytes.now packet.old packet.new error.old error.new result }
+    ensures { TakesFront (header_reader header.old left.old.bytes.now packet.old error.old)
+        (header_reader header.new left.new.bytes.now packet.new error.new) result }
 {
     match header.kind() {
         Some((endianness, resolution)) => {
@@ -114,7 +116,8 @@ fn take_first<'a>(
     error: &mut PcapfileError,
 ) -> i32
     requires { is_magic header.old.magic_number ≡ false }
-    ensures { TakesFront header.old header.new left.old.bytes.now left.new.bytes.now packet.old packet.new error.old error.new result }
+    ensures { TakesFront (header_reader header.old left.old.bytes.now packet.old error.old)
+        (header_reader header.new left.new.bytes.now packet.new error.new) result }
 {
     let status = pcapfile_take_header(left, header, error);
     if status != 0 {

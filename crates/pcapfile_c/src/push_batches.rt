@@ -8,6 +8,7 @@ ghost use Rattle.pcapfile_c.specs.PushBatches.{FillsPlaces, TakesFrontPackets, T
 ghost use Rattle.pcapfile_c.specs.PushNgBatches.{TakesFrontNgPackets, TakesNextNgPackets, RefusesNextNgPackets, LeavesNgPackets};
 ghost use Rattle.pcapfile_c.specs.Push.{LiesWithin, held_in};
 ghost use Rattle.pcapfile_c.specs.PushPackets.{ShowsInForce, HaveBases, LeavesOthers, MakesNoSense};
+ghost use Rattle.pcapfile_c.specs.Readers.{header_reader, packet_reader, reader};
 
 use crate::pcap::{pcapfile_take_header, take_each};
 use crate::push::PcapfilePush;
@@ -32,7 +33,7 @@ pub extern "C" fn pcapfile_push_packets<'a>(
     taken: &mut usize,
     error: &mut PcapfileError,
 ) -> i32
-    ensures { TakesNextPackets push.old push.new room.now packets.old packets.new taken.new error.old error.new result }
+    ensures { TakesNextPackets room.now (reader push.old packets.old error.old) (reader push.new packets.new error.new) taken.new result }
 {
     *taken = 0;
     let Some(held) = room.get(push.begin..push.end) else {
@@ -53,7 +54,8 @@ fn take_front_packets<'a>(
     error: &mut PcapfileError,
 ) -> i32
     requires { taken.old ≡ 0 }
-    ensures { TakesFrontPackets header.old header.new left.old.bytes.now left.new.bytes.now packets.old packets.new taken.new error.old error.new result }
+    ensures { TakesFrontPackets (header_reader header.old left.old.bytes.now packets.old error.old)
+        (header_reader header.new left.new.bytes.now packets.new error.new) taken.new result }
 {
     match header.kind() {
         Some(_) => fill_places(header, left, packets, taken, error),
@@ -73,7 +75,8 @@ fn take_first_packets<'a>(
 ) -> i32
     requires none_taken { taken.old ≡ 0 }
     requires none_in_force { is_magic header.old.magic_number ≡ false }
-    ensures { TakesFrontPackets header.old header.new left.old.bytes.now left.new.bytes.now packets.old packets.new taken.new error.old error.new result }
+    ensures { TakesFrontPackets (header_reader header.old left.old.bytes.now packets.old error.old)
+        (header_reader header.new left.new.bytes.now packets.new error.new) taken.new result }
 {
     let status = pcapfile_take_header(left, header, error);
     if status != 0 {
@@ -91,7 +94,8 @@ fn fill_places<'a>(
     error: &mut PcapfileError,
 ) -> i32
     requires { IsTrue (is_magic header.now.magic_number) }
-    ensures { FillsPlaces header.now.magic_number left.old.bytes.now left.new.bytes.now packets.old packets.new taken.new error.old error.new result }
+    ensures { FillsPlaces header.now.magic_number (reader left.old.bytes.now packets.old error.old)
+        (reader left.new.bytes.now packets.new error.new) taken.new result }
 {
     let status = take_each(header, left, packets, taken, error);
     if status == 0 && *taken < packets.len() {
@@ -115,14 +119,15 @@ pub extern "C" fn pcapfile_push_ng_packets<'a>(
     error: &mut PcapfileError,
 ) -> i32
     ensures taken { (q : State) → ShowsInForce section.old interfaces.old q →
-        TakesNextNgPackets q push.old push.new section.old section.new interfaces.old interfaces.new room.now packets.old packets.new taken.new
-        error.old error.new result }
+        TakesNextNgPackets q room.now (packet_reader section.old interfaces.old push.old packets.old error.old)
+        (packet_reader section.new interfaces.new push.new packets.new error.new) taken.new result }
     ensures bases { HaveBases section.old interfaces.old → HaveBases section.new interfaces.new }
     ensures refused { order_shown section.old.magic_number ≡ None →
-        RefusesNextNgPackets push.old push.new section.old section.new interfaces.old interfaces.new room.now packets.old packets.new taken.new
-        error.old error.new result }
+        RefusesNextNgPackets room.now (packet_reader section.old interfaces.old push.old packets.old error.old)
+        (packet_reader section.new interfaces.new push.new packets.new error.new) taken.new result }
     ensures nonsense { MakesNoSense push.old section.old interfaces.old room.now →
-        LeavesNgPackets push.old push.new section.old section.new interfaces.old interfaces.new packets.old packets.new taken.new error.old error.new result }
+        LeavesNgPackets (packet_reader section.old interfaces.old push.old packets.old error.old)
+        (packet_reader section.new interfaces.new push.new packets.new error.new) taken.new result }
     ensures others { (q : State) → ShowsInForce section.old interfaces.old q → LiesWithin push.old room.now →
         LeavesOthers q section.new interfaces.old interfaces.new (held_in push.old room.now) (held_in push.new room.now) }
 {
@@ -142,7 +147,8 @@ pub extern "C" fn pcapfile_push_ng_packets<'a>(
     status
 }
 
-// Reads packets at the front of `left`, and the blocks before each.
+// Reads packets at the front of `left`, and the blocks before each. Its parameters are those of `pcapfile_push_ng_packets`, with `left` for
+// the room.
 fn take_ng_packets<'a>(
     alloc: Global,
     section: &mut PcapfileSection,
@@ -154,7 +160,8 @@ fn take_ng_packets<'a>(
 ) -> i32
     requires { taken.old ≡ 0 }
     ensures taken { (q : State) → ShowsInForce section.old interfaces.old q →
-        TakesFrontNgPackets q section.new interfaces.new left.old.bytes.now left.new.bytes.now packets.old packets.new taken.new error.old error.new result }
+        TakesFrontNgPackets q (packet_reader section.old interfaces.old left.old.bytes.now packets.old error.old)
+        (packet_reader section.new interfaces.new left.new.bytes.now packets.new error.new) taken.new result }
     ensures bases { HaveBases section.old interfaces.old → HaveBases section.new interfaces.new }
     ensures fewer { length left.new.bytes.now ≤ length left.old.bytes.now }
     ensures others { (q : State) → ShowsInForce section.old interfaces.old q → LeavesOthers q section.new interfaces.old interfaces.new left.old.bytes.now left.new.bytes.now }

@@ -4,6 +4,7 @@ ghost use Rattle.std.specs.Prelude.{◌≡◌, None};
 ghost use Rattle.pcap_ng.specs.State.{State};
 ghost use Rattle.pcapfile_values.specs.Blocks.{ShowsState, order_shown};
 ghost use Rattle.pcapfile_c.specs.PushBlocks.{TakesNextBlock, RefusesNextBlock};
+ghost use Rattle.pcapfile_c.specs.Readers.{block_reader};
 
 use crate::blocks::pcapfile_take_block;
 use crate::push::PcapfilePush;
@@ -25,9 +26,11 @@ pub extern "C" fn pcapfile_push_block<'a>(
     error: &mut PcapfileError,
 ) -> i32
     ensures taken { (q : State) → ShowsState section.old q →
-        TakesNextBlock q push.old push.new section.old section.new room.now block.old block.new error.old error.new result }
+        TakesNextBlock q room.now (block_reader section.old push.old block.old error.old)
+        (block_reader section.new push.new block.new error.new) result }
     ensures refused { order_shown section.old.magic_number ≡ None →
-        RefusesNextBlock push.old push.new section.old section.new room.now block.old block.new error.old error.new result }
+        RefusesNextBlock room.now (block_reader section.old push.old block.old error.old)
+        (block_reader section.new push.new block.new error.new) result }
 {
     let Some(held) = room.get(push.begin..push.end) else {
         return 10;

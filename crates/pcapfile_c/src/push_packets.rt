@@ -9,6 +9,7 @@ ghost use Rattle.pcapfile_c.specs.Batches.{LeadingText};
 ghost use Rattle.pcapfile_c.specs.Push.{LiesWithin, held_in};
 ghost use Rattle.pcapfile_c.specs.PushPackets.{ShowsInForce, HaveBases, LeavesFewer, PutsTells, StepTells, TakesFrontPacket};
 ghost use Rattle.pcapfile_c.specs.PushPackets.{TakesNextPacket, RefusesNextPacket, MakesNoSense, LeavesOthers, LeavesPackets};
+ghost use Rattle.pcapfile_c.specs.Readers.{packet_reader};
 
 use crate::batches::{Front, front_of};
 use crate::push::PcapfilePush;
@@ -39,12 +40,15 @@ pub extern "C" fn pcapfile_push_ng_next<'a>(
     error: &mut PcapfileError,
 ) -> i32
     ensures taken { (q : State) → ShowsInForce section.old interfaces.old q →
-        TakesNextPacket q push.old push.new section.old section.new interfaces.old interfaces.new room.now packet.old packet.new error.old error.new result }
+        TakesNextPacket q room.now (packet_reader section.old interfaces.old push.old packet.old error.old)
+        (packet_reader section.new interfaces.new push.new packet.new error.new) result }
     ensures bases { HaveBases section.old interfaces.old → HaveBases section.new interfaces.new }
     ensures refused { order_shown section.old.magic_number ≡ None →
-        RefusesNextPacket push.old push.new section.old section.new interfaces.old interfaces.new room.now packet.old packet.new error.old error.new result }
+        RefusesNextPacket room.now (packet_reader section.old interfaces.old push.old packet.old error.old)
+        (packet_reader section.new interfaces.new push.new packet.new error.new) result }
     ensures nonsense { MakesNoSense push.old section.old interfaces.old room.now →
-        LeavesPackets push.old push.new section.old section.new interfaces.old interfaces.new packet.old packet.new error.old error.new result }
+        LeavesPackets (packet_reader section.old interfaces.old push.old packet.old error.old)
+        (packet_reader section.new interfaces.new push.new packet.new error.new) result }
     ensures others { (q : State) → ShowsInForce section.old interfaces.old q → LiesWithin push.old room.now →
         LeavesOthers q section.new interfaces.old interfaces.new (held_in push.old room.now) (held_in push.new room.now) }
 {
@@ -74,7 +78,8 @@ pub(crate) fn take_packet<'a>(
     error: &mut PcapfileError,
 ) -> i32
     ensures taken { (q : State) → ShowsInForce section.old interfaces.old q →
-        TakesFrontPacket q section.new interfaces.new left.old.bytes.now left.new.bytes.now packet.old packet.new error.old error.new result }
+        TakesFrontPacket q (packet_reader section.old interfaces.old left.old.bytes.now packet.old error.old)
+        (packet_reader section.new interfaces.new left.new.bytes.now packet.new error.new) result }
     ensures bases { HaveBases section.old interfaces.old → HaveBases section.new interfaces.new }
     ensures fewer { length left.new.bytes.now ≤ length left.old.bytes.now }
     ensures others { (q : State) → ShowsInForce section.old interfaces.old q → LeavesOthers q section.new interfaces.old interfaces.new left.old.bytes.now left.new.bytes.now }
@@ -98,8 +103,8 @@ fn take_block<'a>(
     error: &mut PcapfileError,
 ) -> Option<i32>
     ensures taken { (q : State) → ShowsInForce section.old interfaces.old q →
-        StepTells q section.old section.new interfaces.old interfaces.new left.old.bytes.now left.new.bytes.now packet.old packet.new
-        error.old error.new result }
+        StepTells q (packet_reader section.old interfaces.old left.old.bytes.now packet.old error.old)
+        (packet_reader section.new interfaces.new left.new.bytes.now packet.new error.new) result }
     ensures bases { HaveBases section.old interfaces.old → HaveBases section.new interfaces.new }
     ensures fewer { LeavesFewer left.old.bytes.now left.new.bytes.now result }
     ensures others { (i : ℕ) → section.new.interfaces ≤ i → slice_get interfaces.new i ≡ slice_get interfaces.old i }
@@ -136,7 +141,8 @@ fn take_first(
 ) -> Option<i32>
     requires { magic_order section.old.magic_number ≡ None }
     ensures taken { (q : State) (places : List PcapfileInterface) → ShowsInForce section.old places q →
-        PutsTells q section.old section.new places places left.old.bytes.now left.new.bytes.now error.old error.new result }
+        PutsTells q (packet_reader section.old places left.old.bytes.now tt error.old)
+        (packet_reader section.new places left.new.bytes.now tt error.new) result }
     ensures bases { (places : List PcapfileInterface) → HaveBases section.old places → HaveBases section.new places }
     ensures fewer { LeavesFewer left.old.bytes.now left.new.bytes.now result }
 {
@@ -164,7 +170,8 @@ fn take_section<'a>(
     requires { length rest.now < length left.old.bytes.now }
     ensures taken { (q : State) (places : List PcapfileInterface) → ShowsInForce section.old places q →
         LeadingText (order_at q) types.SectionHeader body.now left.old.bytes.now rest.now →
-        PutsTells q section.old section.new places places left.old.bytes.now left.new.bytes.now error.old error.new result }
+        PutsTells q (packet_reader section.old places left.old.bytes.now tt error.old)
+        (packet_reader section.new places left.new.bytes.now tt error.new) result }
     ensures bases { (places : List PcapfileInterface) → HaveBases section.old places → HaveBases section.new places }
     ensures fewer { LeavesFewer left.old.bytes.now left.new.bytes.now result }
 {
@@ -178,7 +185,8 @@ fn take_section<'a>(
     }
 }
 
-// Adds the interface whose block is at the front of `left` and has this body, before `rest`.
+// Adds the interface whose block is at the front of `left` and has this body, before `rest`. Its parameters are those of `take_block`, and
+// what that function found of the block.
 #[cold]
 #[inline(never)]
 fn take_interface<'a>(
@@ -195,7 +203,8 @@ fn take_interface<'a>(
     requires shorter { length rest.now < length left.old.bytes.now }
     ensures taken { (q : State) → ShowsInForce section.old interfaces.old q →
         LeadingText (order_at q) types.InterfaceDescription body.now left.old.bytes.now rest.now →
-        PutsTells q section.old section.new interfaces.old interfaces.new left.old.bytes.now left.new.bytes.now error.old error.new result }
+        PutsTells q (packet_reader section.old interfaces.old left.old.bytes.now tt error.old)
+        (packet_reader section.new interfaces.new left.new.bytes.now tt error.new) result }
     ensures bases { HaveBases section.old interfaces.old → HaveBases section.new interfaces.new }
     ensures fewer { LeavesFewer left.old.bytes.now left.new.bytes.now result }
     ensures others { (i : ℕ) → section.new.interfaces ≤ i → slice_get interfaces.new i ≡ slice_get interfaces.old i }

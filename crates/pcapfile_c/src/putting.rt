@@ -2,6 +2,7 @@
 
 ghost use Rattle.std.specs.Prelude.{◌≡◌, ◌<◌, ◌^◌};
 ghost use Rattle.pcapfile_c.specs.Putting.{PacketFlaw, InterfaceFlaw, SectionFlaw, PutsBlock, a_section, an_interface, a_packet};
+ghost use Rattle.pcapfile_c.specs.Readers.{block_writer};
 
 use pcap_core::DataLink;
 use pcap_core::rules::Rule;
@@ -20,8 +21,8 @@ pub extern "C" fn pcapfile_put_section(
     written: &mut usize,
     error: &mut PcapfileError,
 ) -> i32
-    ensures { PutsBlock (SectionFlaw section.old) (a_section section.old) section.old section.new room.old room.new written.old written.new
-        error.old error.new result }
+    ensures { PutsBlock (SectionFlaw section.old) (a_section section.old) (block_writer section.old room.old written.old error.old)
+        (block_writer section.new room.new written.new error.new) result }
 {
     let opened = without_interfaces(
         section.magic_number,
@@ -50,8 +51,8 @@ pub extern "C" fn pcapfile_put_interface(
     written: &mut usize,
     error: &mut PcapfileError,
 ) -> i32
-    ensures { PutsBlock (InterfaceFlaw section.old interface.now) (an_interface interface.now) section.old section.new room.old room.new
-        written.old written.new error.old error.new result }
+    ensures { PutsBlock (InterfaceFlaw section.old interface.now) (an_interface interface.now)
+        (block_writer section.old room.old written.old error.old) (block_writer section.new room.new written.new error.new) result }
 {
     let Some(order) = section.endianness() else {
         return refuse(Reason::Breaks(Rule::SectionMagic), error);
@@ -86,8 +87,8 @@ pub extern "C" fn pcapfile_put_ng_packet(
     written: &mut usize,
     error: &mut PcapfileError,
 ) -> i32
-    ensures { PutsBlock (PacketFlaw section.now packet.now) (a_packet packet.now) section.now section.now room.old room.new written.old written.new
-        error.old error.new result }
+    ensures { PutsBlock (PacketFlaw section.now packet.now) (a_packet packet.now) (block_writer section.now room.old written.old error.old)
+        (block_writer section.now room.new written.new error.new) result }
 {
     let Some(order) = section.endianness() else {
         return refuse(Reason::Breaks(Rule::SectionMagic), error);

@@ -7,6 +7,7 @@ ghost use Rattle.pcap_options.specs.Record.{form_of};
 ghost use Rattle.pcap_blocks.specs.SectionHeader.{magic_order};
 ghost use Rattle.pcapfile_c.specs.Bodies.{RefusesSection};
 ghost use Rattle.pcapfile_c.specs.Records.{TakesRecord, TakesName, RecordTells, RecordsTell, ValueTells, AddressTells, NamesTell};
+ghost use Rattle.pcapfile_c.specs.Readers.{reader};
 
 use byteorder::{BigEndian, ByteOrder, LittleEndian};
 use pcap_blocks::str_from_u8_null_terminated;
@@ -39,7 +40,7 @@ pub extern "C" fn pcapfile_take_record<'a>(
     error: &mut PcapfileError,
 ) -> i32
     ensures taken { (e : Endianness) → magic_order section.now.magic_number ≡ Some e →
-        TakesRecord e left.old left.new shown.old shown.new error.old error.new result }
+        TakesRecord e (reader left.old shown.old error.old) (reader left.new shown.new error.new) result }
     ensures refused { magic_order section.now.magic_number ≡ None →
         (left.new ≡ left.old) × RefusesSection shown.old shown.new error.new result }
 {
@@ -64,7 +65,7 @@ pub extern "C" fn pcapfile_take_name<'a>(
     name: &mut PcapfileBytes<'a>,
     error: &mut PcapfileError,
 ) -> i32
-    ensures { TakesName left.old left.new name.old name.new error.old error.new result }
+    ensures { TakesName (reader left.old name.old error.old) (reader left.new name.new error.new) result }
 {
     if left.bytes.is_empty() {
         return 8;

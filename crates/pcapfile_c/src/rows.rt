@@ -8,6 +8,7 @@ ghost use Rattle.pcapfile_values.specs.Shown.{captured};
 ghost use Rattle.pcapfile_c.specs.Bodies.{RefusesSection};
 ghost use Rattle.pcapfile_c.specs.Calls.{RefusesMagic};
 ghost use Rattle.pcapfile_c.specs.Rows.{ShowsRow, ShowsNgRow, TakesRows, TakesNgRows, data_place, stored_shown};
+ghost use Rattle.pcapfile_c.specs.Readers.{reader};
 
 use crate::batches::{Front, any_front, plain_packet};
 use crate::pcap::next_packet;
@@ -63,7 +64,7 @@ pub extern "C" fn pcapfile_take_rows(
     error: &mut PcapfileError,
 ) -> i32
     ensures taken { IsTrue (is_magic header.now.magic_number) →
-        TakesRows header.now left.old left.new rows.old rows.new taken.new error.old error.new result }
+        TakesRows header.now (reader left.old rows.old error.old) (reader left.new rows.new error.new) taken.new result }
     ensures refused { is_magic header.now.magic_number ≡ false →
         (taken.new ≡ 0) × RefusesMagic left.old left.new rows.old rows.new error.new result }
 {
@@ -103,7 +104,7 @@ pub extern "C" fn pcapfile_take_ng_rows(
     error: &mut PcapfileError,
 ) -> i32
     ensures taken { (e : Endianness) → magic_order section.now.magic_number ≡ Some e →
-        TakesNgRows e left.old left.new rows.old rows.new taken.new error.old error.new result }
+        TakesNgRows e (reader left.old rows.old error.old) (reader left.new rows.new error.new) taken.new result }
     ensures refused { magic_order section.now.magic_number ≡ None →
         (taken.new ≡ 0) × (left.new ≡ left.old) × RefusesSection rows.old rows.new error.new result }
 {

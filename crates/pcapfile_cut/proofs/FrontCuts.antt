@@ -52,7 +52,7 @@ store header (v ∷ vs) s rest texts =
 pub chosen_append : (wanted : Wanted) (xs ys : List Stored) → (others : List Stored) × (chosen wanted (xs ++ ys) ≡ chosen wanted xs ++ others)
 chosen_append wanted xs [] = ([], ap (chosen wanted) (append-nil xs) ∙ sym (append-nil (chosen wanted xs)))
 chosen_append wanted xs (y ∷ ys) =
-    let one = one_if (takes wanted (length xs + 1) y.packet.header) y in
+    let one = one_if (takes wanted (length xs + 1) y.packet) y in
     let more = chosen_append wanted (xs ++ y ∷ []) ys in (
       one ++ more.0,
       ap (chosen wanted) (sym (append_assoc xs (y ∷ []) ys)) ∙ more.1 ∙ ap (λ (l : List Stored). l ++ more.0) (chosen_push wanted xs y) ∙ append_assoc (chosen wanted xs) one more.0,

@@ -19,7 +19,7 @@ use Rattle.pcapfile_cut.specs.declared.joining.Joined.{Joined}
 use Rattle.pcapfile_cut.specs.declared.joining.Joined.TheVariants.{Unopened, OtherHeader, Packets}
 use Rattle.pcapfile_cut.specs.declared.opening.Opening.{Opening}
 use Rattle.pcapfile_cut.specs.declared.wanted.Wanted.{Wanted}
-use Rattle.pcapfile_cut.specs.declared.wanted.Wanted.TheVariants.{All, Numbers, Times, Bytes}
+use Rattle.pcapfile_cut.specs.declared.wanted.Wanted.TheVariants.{All, Numbers, Bytes, Selected}
 use Rattle.pcapfile_cut.specs.Choice.{Stored, WantsMore, chosen, text_of}
 use Rattle.pcapfile_cut.specs.Cuts.{CutsBehind, Ends, EndsWhole, IsStored, LastIsWanted, OpensPart, PacketIsSaid, packets_under}
 use Rattle.pcapfile_cut.specs.Fronts.{CutsInto, HoldsPackets, IsJoined, JoinsOthers, TakesAll, packets_of}
@@ -36,8 +36,8 @@ chosen_all (Numbers first last) packets is needed =
       | inr some ↦ omega (arith, ap length some.2, length-append some.0 (some.1 ∷ []), some.3)
     ] in
     rw (is, take_all last packets within) refl
-chosen_all (Times from until) packets is needed = absurd is
 chosen_all (Bytes most) packets is needed = refl
+chosen_all (Selected selection) packets is needed = absurd is
 
 none_fails : (P : PcapError → Type 0) (fault : Option PcapError) → fault ≡ None → IsSomeAnd fault P → ⊥
 none_fails P None fine is = is

@@ -10,7 +10,7 @@ use Rattle.pcapfile_cut.specs.declared.cutting.Outcome.{Outcome}
 use Rattle.pcapfile_cut.specs.declared.wanted.Wanted.{Wanted}
 use Rattle.pcap_core.specs.declared.errors.PcapError.{PcapError}
 use Rattle.pcapfile_cut.specs.Choice.{Stored, WantsMore, chosen, takes, text_of}
-use Rattle.pcapfile_cut.specs.Cuts.{CutsBehind, IsStored, Passes, PassesOne, StepsCut, counted, outcome_of}
+use Rattle.pcapfile_cut.specs.Cuts.{CutsBehind, IsStored, Passes, PassesOne, StepsCut, counted, outcome_of, progress}
 use Rattle.pcapfile_cut.proofs.Chosen.{chosen_none, chosen_push, one_if}
 
 counted_more : (b c m n : ℕ) → b ≡ counted m → c ≡ counted (b + n) → c ≡ counted (m + n)
@@ -26,9 +26,9 @@ text_push xs x = flat_map-append (λ (stored : Stored). stored.text) xs (x ∷ [
 
 -- The bytes of one more packet, if the test says that it is wanted.
 chosen_text_push : (wanted : Wanted) (xs : List Stored) (x : Stored)
-    → text_of (chosen wanted (xs ++ x ∷ [])) ≡ text_of (chosen wanted xs) ++ (if takes wanted (length xs + 1) x.packet.header then x.text else [])
+    → text_of (chosen wanted (xs ++ x ∷ [])) ≡ text_of (chosen wanted xs) ++ (if takes wanted (length xs + 1) x.packet then x.text else [])
 chosen_text_push wanted xs x =
-    let b = takes wanted (length xs + 1) x.packet.header in
+    let b = takes wanted (length xs + 1) x.packet in
     ap text_of (chosen_push wanted xs x) ∙ flat_map-append (λ (stored : Stored). stored.text) (chosen wanted xs) (one_if b x)
     ∙ ap (λ (t : List ℕ). text_of (chosen wanted xs) ++ t) (text_if b x)
 
@@ -49,9 +49,9 @@ module _ (header : PcapHeader) (wanted : Wanted) where
       → WantsMore wanted old.packets old.bytes → (one : PassesOne header wanted left now mid out_now old new) → Passes header wanted (xs ++ one.stored ∷ []) before now out out_now new
   passes_more xs before left now out mid out_now old new so_far wants one =
       let x = one.stored in
-      let went : Appends mid out_now (if takes wanted (length xs + 1) x.packet.header then x.text else []) =
-      subst (λ (n : ℕ). Appends mid out_now (if takes wanted (n + 1) x.packet.header then x.text else [])) so_far.count one.went in
-      let all_went = Appends-trans out mid out_now (text_of (chosen wanted xs)) (if takes wanted (length xs + 1) x.packet.header then x.text else []) so_far.went went in
+      let went : Appends mid out_now (if takes wanted (length xs + 1) x.packet then x.text else []) =
+      subst (λ (n : ℕ). Appends mid out_now (if takes wanted (n + 1) x.packet then x.text else [])) so_far.count one.went in
+      let all_went = Appends-trans out mid out_now (text_of (chosen wanted xs)) (if takes wanted (length xs + 1) x.packet then x.text else []) so_far.went went in
       let all_took = Consumes-trans before left now (text_of xs) x.text so_far.took one.took in
       let last : WantsMore wanted (length xs) (counted (length (text_of xs))) =
       subst (λ (k : ℕ). WantsMore wanted (length xs) k) so_far.bytes (subst (λ (n : ℕ). WantsMore wanted n old.bytes) so_far.count wants) in
@@ -65,9 +65,9 @@ module _ (header : PcapHeader) (wanted : Wanted) where
       }
 
   -- The packet in which a write failed is wanted.
-  pub torn_wanted : (xs : List Stored) (n : ℕ) (x : Stored) → n ≡ length xs → takes wanted (n + 1) x.packet.header ≡ true → chosen wanted (xs ++ x ∷ []) ≡ chosen wanted xs ++ x ∷ []
+  pub torn_wanted : (xs : List Stored) (n : ℕ) (x : Stored) → n ≡ length xs → takes wanted (n + 1) x.packet ≡ true → chosen wanted (xs ++ x ∷ []) ≡ chosen wanted xs ++ x ∷ []
   torn_wanted xs n x count is =
-      let here : takes wanted (length xs + 1) x.packet.header ≡ true = subst (λ (k : ℕ). takes wanted (k + 1) x.packet.header ≡ true) count is in
+      let here : takes wanted (length xs + 1) x.packet ≡ true = subst (λ (k : ℕ). takes wanted (k + 1) x.packet ≡ true) count is in
       chosen_push wanted xs x ∙ ap (λ (b : Bool). chosen wanted xs ++ one_if b x) here
 
   passes_same : (xs : List Stored) (before left out mid : Option (List ℕ)) (old new : Outcome) → new.packets ≡ old.packets → new.bytes ≡ old.bytes
@@ -86,7 +86,7 @@ module _ (header : PcapHeader) (wanted : Wanted) where
 
   -- The next packet is truncated or malformed, or a write failed in it.
   pub ends_refused : (xs : List Stored) (before left now out mid out_now : Option (List ℕ)) (old new : Outcome) (e : PcapError) → Passes header wanted xs before left out mid old
-      → WantsMore wanted old.packets old.bytes → StepsCut header wanted left now mid out_now old new (Err e) → CutsBehind header wanted before now out out_now (outcome_of new (Err e))
+      → WantsMore wanted old.packets old.bytes → StepsCut header wanted (progress left mid old) (progress now out_now new) (Err e) → CutsBehind header wanted before now out out_now (outcome_of new (Err e))
   ends_refused xs before left now out mid out_now old new e so_far wants found = record {
     packets = xs;
     left = left;

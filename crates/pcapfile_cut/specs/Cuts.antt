@@ -125,7 +125,7 @@ pub record PassesOne (header : PcapHeader) (wanted : Wanted) (before now out out
   pub stored : Stored
   pub is_stored : IsStored header stored
   pub took : Consumes before now stored.text
-  pub went : Appends out out_now (if takes wanted (old.packets + 1) stored.packet.header then stored.text else [])
+  pub went : Appends out out_now (if takes wanted (old.packets + 1) stored.packet then stored.text else [])
   pub packets : new.packets ≡ old.packets + 1
   pub bytes : new.bytes ≡ counted (old.bytes + length stored.text)
   pub no_read_failed : new.read_failed ≡ false
@@ -144,7 +144,7 @@ pub record TearsOne (header : PcapHeader) (wanted : Wanted) (before now out out_
   pub stored : Stored
   pub is_stored : IsStored header stored
   pub took : Consumes before now stored.text
-  pub is_wanted : takes wanted (old.packets + 1) stored.packet.header ≡ true
+  pub is_wanted : takes wanted (old.packets + 1) stored.packet ≡ true
   pub refused : IsIo e
   pub no_read_failed : new.read_failed ≡ false
   pub write_failed : new.write_failed ≡ true
@@ -157,9 +157,22 @@ pub record RefusesOne (header : PcapHeader) (before now out out_now : Option (Li
   pub no_write_failed : new.write_failed ≡ false
   pub went : Keeps out out_now
 
+-- What a cut reads, writes and counts.
+pub record Progress : Type 0 where
+  pub input : Option (List ℕ)
+  pub output : Option (List ℕ)
+  pub outcome : Outcome
+
+-- A cut with this input, output and outcome.
+abbrev pub progress : Option (List ℕ) → Option (List ℕ) → Outcome → Progress
+progress input output outcome = record { input = input; output = output; outcome = outcome }
+
 -- One step of a cut.
-abbrev pub StepsCut : PcapHeader → Wanted → Option (List ℕ) → Option (List ℕ) → Option (List ℕ) → Option (List ℕ) → Outcome → Outcome → Result Bool PcapError → Type 0
-StepsCut header wanted before now out out_now old new (Ok true) = PassesOne header wanted before now out out_now old new
-StepsCut header wanted before now out out_now old new (Ok false) = (new.packets ≡ old.packets) × (new.bytes ≡ old.bytes) × FindsEnd before now out out_now new
-StepsCut header wanted before now out out_now old new (Err e) =
-    (new.packets ≡ old.packets) × (new.bytes ≡ old.bytes) × (TearsOne header wanted before now out out_now old new e ⊎ RefusesOne header before now out out_now new e)
+abbrev pub StepsCut : PcapHeader → Wanted → Progress → Progress → Result Bool PcapError → Type 0
+StepsCut header wanted old new (Ok true) = PassesOne header wanted old.input new.input old.output new.output old.outcome new.outcome
+StepsCut header wanted old new (Ok false) =
+    (new.outcome.packets ≡ old.outcome.packets) × (new.outcome.bytes ≡ old.outcome.bytes) × FindsEnd old.input new.input old.output new.output new.outcome
+StepsCut header wanted old new (Err e) =
+    (new.outcome.packets ≡ old.outcome.packets) × (new.outcome.bytes ≡ old.outcome.bytes)
+    × (TearsOne header wanted old.input new.input old.output new.output old.outcome new.outcome e
+    ⊎ RefusesOne header old.input new.input old.output new.output new.outcome e)

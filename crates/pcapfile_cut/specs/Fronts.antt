@@ -14,7 +14,7 @@ use Rattle.pcapfile_cut.specs.declared.joining.Joined.{Joined}
 use Rattle.pcapfile_cut.specs.declared.joining.Joined.TheVariants.{Packets}
 use Rattle.pcapfile_cut.specs.declared.opening.Opening.{Opening}
 use Rattle.pcapfile_cut.specs.declared.wanted.Wanted.{Wanted}
-use Rattle.pcapfile_cut.specs.declared.wanted.Wanted.TheVariants.{All, Numbers, Times, Bytes}
+use Rattle.pcapfile_cut.specs.declared.wanted.Wanted.TheVariants.{All, Numbers, Bytes, Selected}
 use Rattle.pcapfile_cut.specs.Choice.{Stored, WantsMore, chosen, text_of}
 use Rattle.pcapfile_cut.specs.Cuts.{EndsTorn, OpensPart, PacketIsSaid, packets_under}
 use Rattle.pcapfile_cut.specs.Joins.{JoinsPart}
@@ -69,8 +69,8 @@ pub record CutsFront (header : PcapHeader) (wanted : Wanted) (s : List ℕ) (now
 abbrev pub TakesAll : Wanted → Type 0
 TakesAll All = ⊤
 TakesAll (Numbers first last) = first ≡ 1
-TakesAll (Times from until) = ⊥
 TakesAll (Bytes most) = ⊤
+TakesAll (Selected selection) = ⊥
 
 -- The packets s are cut into these parts one after another, each into an empty writer, without an error; `left` is in no part.
 abbrev pub CutsInto : Opening → List Wanted → List (List ℕ) → List ℕ → List ℕ → Type 0

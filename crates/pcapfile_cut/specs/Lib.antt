@@ -1,5 +1,9 @@
+pub mod BlockCuts
+pub mod BlockParts
 pub mod Choice
 pub mod Cuts
 pub mod Fronts
 pub mod Joins
 pub mod Openings
+pub mod Repeating
+pub mod Selections

@@ -1,10 +1,10 @@
 //! Cutting packets out of a classic capture.
 
-ghost use Rattle.std.specs.Prelude.{◌≡◌, ◌<◌, ◌+◌, ◌^◌, [], true, false, if◌then◌else◌, IsTrue, IfErr, OnOk, MatchResult};
+ghost use Rattle.std.specs.Prelude.{◌≡◌, ◌<◌, ◌+◌, ◌^◌, [], drop, true, false, if◌then◌else◌, IsTrue, IfErr, OnOk, MatchResult};
 ghost use Rattle.pcap_items.specs.Held.{held_bytes};
 ghost use Rattle.pcap_items.specs.Writing.{WritesAll};
 ghost use Rattle.pcap_classic.specs.Magic.{is_magic};
-ghost use Rattle.pcapfile_cut.specs.Cuts.{CutsBehind, CutsPart, IsNew, StepsCut, outcome_of};
+ghost use Rattle.pcapfile_cut.specs.Cuts.{CutsBehind, CutsPart, IsNew, StepsCut, outcome_of, progress};
 
 use crate::opening::Opening;
 use crate::wanted::Wanted;
@@ -56,9 +56,9 @@ pub fn cut_part<R: Read, W: Write>(
     opening: &Opening,
     input: &mut R,
     output: &mut W,
-    wanted: Wanted,
+    wanted: Wanted<'_>,
 ) -> Outcome
-    ensures { CutsPart opening.now wanted (R.remaining input.old) (R.remaining input.new) (W.contents output.old) (W.contents output.new) result }
+    ensures { CutsPart opening.now wanted.entry (R.remaining input.old) (R.remaining input.new) (W.contents output.old) (W.contents output.new) result }
 {
     let mut outcome = Outcome::none();
     outcome.fault = cut_under(alloc, opening, input, output, wanted, &mut outcome).err();
@@ -71,11 +71,11 @@ fn cut_under<R: Read, W: Write>(
     opening: &Opening,
     input: &mut R,
     output: &mut W,
-    wanted: Wanted,
+    wanted: Wanted<'_>,
     outcome: &mut Outcome,
 ) -> ResultParsing<()>
     requires { IsNew outcome.old }
-    ensures { CutsPart opening.now wanted (R.remaining input.old) (R.remaining input.new) (W.contents output.old) (W.contents output.new)
+    ensures { CutsPart opening.now wanted.entry (R.remaining input.old) (R.remaining input.new) (W.contents output.old) (W.contents output.new)
         (outcome_of outcome.new result) }
 {
     put(output, &mut outcome.write_failed, opening.bytes())?;
@@ -88,12 +88,12 @@ pub(crate) fn cut_packets<R: Read, W: Write>(
     header: &PcapHeader,
     input: &mut R,
     output: &mut W,
-    wanted: Wanted,
+    wanted: Wanted<'_>,
     outcome: &mut Outcome,
 ) -> ResultParsing<()>
     requires valid { IsTrue (is_magic header.now.magic_number) }
     requires new { IsNew outcome.old }
-    ensures { CutsBehind header.now wanted (R.remaining input.old) (R.remaining input.new) (W.contents output.old) (W.contents output.new)
+    ensures { CutsBehind header.now wanted.entry (R.remaining input.old) (R.remaining input.new) (W.contents output.old) (W.contents output.new)
         (outcome_of outcome.new result) }
 {
     let mut held = Held::new(alloc);
@@ -110,7 +110,7 @@ fn cut_next<R: Read, W: Write>(
     header: &PcapHeader,
     input: &mut R,
     output: &mut W,
-    wanted: Wanted,
+    wanted: Wanted<'_>,
     outcome: &mut Outcome,
     held: &mut Held,
 ) -> ResultParsing<bool>
@@ -119,25 +119,31 @@ fn cut_next<R: Read, W: Write>(
     requires no_read_failed { outcome.old.read_failed ≡ false }
     requires no_write_failed { outcome.old.write_failed ≡ false }
     requires between { held_bytes held.old ≡ [] }
-    ensures steps { StepsCut header.now wanted (R.remaining input.old) (R.remaining input.new) (W.contents output.old) (W.contents output.new)
-        outcome.old outcome.new result }
+    ensures steps { StepsCut header.now wanted.entry (progress (R.remaining input.old) (W.contents output.old) outcome.old)
+        (progress (R.remaining input.new) (W.contents output.new) outcome.new) result }
     ensures between { OnOk result (held_bytes held.new ≡ []) }
 {
     let packets = PacketsUnder { header };
     let Some(head) = fill_item(&packets, input, &mut outcome.read_failed, held)? else {
         return Ok(false);
     };
-    let is_wanted = wanted.takes(outcome.packets + 1, &head);
-    put_if(
-        output,
-        &mut outcome.write_failed,
-        is_wanted,
-        held.as_slice(),
-    )?;
+    let text = held.as_slice();
+    let is_wanted = wanted.takes(outcome.packets + 1, &head, data_of(text));
+    put_if(output, &mut outcome.write_failed, is_wanted, text)?;
     outcome.packets += 1;
-    outcome.bytes = outcome.bytes.saturating_add(held.as_slice().len() as u64);
+    outcome.bytes = outcome.bytes.saturating_add(text.len() as u64);
     held.clear();
     Ok(true)
+}
+
+// Returns the data of a packet, which is behind its header.
+fn data_of(text: &[u8]) -> &[u8]
+    ensures { result.now ≡ drop 16 text.now }
+{
+    match text.get(16..) {
+        Some(data) => data,
+        None => &[],
+    }
 }
 
 // Writes the bytes if they are wanted.

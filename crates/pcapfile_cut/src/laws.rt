@@ -1,15 +1,19 @@
 //! Laws of captures that are cut and joined. The contract of each function says what is proved of it.
 
-ghost use Rattle.std.specs.Prelude.{◌≡◌, ◌≤◌, ◌++◌, ℕ, List, ◌∷◌, length, Option, None, Some, []};
+ghost use Rattle.std.specs.Prelude.{◌≡◌, ◌≤◌, ◌++◌, ℕ, List, ◌∷◌, length, false, true, Option, None, Some, []};
 ghost use Rattle.pcap_classic.specs.declared.pcap.header.PcapHeader.{PcapHeader};
 ghost use Rattle.pcapfile_cut.specs.declared.cutting.Outcome.{Outcome};
 ghost use Rattle.pcapfile_cut.specs.declared.opening.Opening.{Opening};
 ghost use Rattle.pcapfile_cut.specs.declared.wanted.Wanted.{Wanted};
-ghost use Rattle.pcapfile_cut.specs.declared.wanted.Wanted.TheVariants.{All, Numbers};
+ghost use Rattle.pcapfile_cut.specs.declared.wanted.Wanted.TheVariants.{All, Numbers, Selected};
+ghost use Rattle.pcapfile_cut.specs.BlockCuts.{Place};
+ghost use Rattle.pcapfile_cut.specs.BlockParts.{CutsEach, HasPacketNext, HoldsBlocks};
 ghost use Rattle.pcapfile_cut.specs.Choice.{Stored, WantsMore, chosen};
 ghost use Rattle.pcapfile_cut.specs.Cuts.{CutsBehind, OpensPart};
 ghost use Rattle.pcapfile_cut.specs.Fronts.{CutsFront, CutsInto, HoldsPackets, JoinsOthers};
 ghost use Rattle.pcapfile_cut.specs.Openings.{bytes_of};
+ghost use Rattle.pcapfile_cut.specs.Repeating.{HasNoHeader, Typed, about_packets, is_header, opening_behind, texts_of};
+ghost use Rattle.pcapfile_cut.specs.Selections.{goes_behind};
 
 /// A cut of known bytes writes the bytes of the first wanted packets of their front, and of all of these if it ended without an
 /// error and would have gone on.
@@ -22,6 +26,12 @@ pub fn cut_is_of_the_front()
 pub fn numbers_end_at_the_last()
     ensures { (first last : ℕ) (packets more : List Stored) → last ≤ length packets →
         chosen (Numbers first last) (packets ++ more) ≡ chosen (Numbers first last) packets }
+{}
+
+/// No packet after the last number of a selection's ranges is wanted.
+pub fn selections_end_at_the_last()
+    ensures { (selection : _) (packets more : List Stored) → goes_behind selection.now (length packets) ≡ false →
+        chosen (Selected selection) (packets ++ more) ≡ chosen (Selected selection) packets }
 {}
 
 /// Parts that are cut one after another have, concatenated, the packets from the beginning of the first part to the end of the
@@ -38,4 +48,17 @@ pub fn parts_join()
         CutsInto opening (wanted ∷ wants) (part ∷ parts) s left → part ≡ bytes_of opening ++ behind →
         OpensPart opening All (Some behind) now (Some []) (Some first_out) outcome → outcome.fault ≡ None → WantsMore All outcome.packets outcome.bytes →
         JoinsOthers opening parts first_out out → out ++ left ≡ bytes_of opening ++ s }
+{}
+
+/// A part of a PcapNg capture begins with the last section header before its packets, and with all interfaces, names and decryption
+/// secrets after that header, in the order of the capture.
+pub fn part_begins_with_its_section()
+    ensures { (opening : List ℕ) (before after : List Typed) (header : Typed) → is_header header.type_ ≡ true → HasNoHeader after →
+        opening_behind opening (before ++ header ∷ after) ≡ header.text ++ texts_of (about_packets after) }
+{}
+
+/// Parts of a PcapNg capture that are cut one after another each begin with the blocks in force, and then have their share of the
+/// blocks. The shares, concatenated, are the blocks from the beginning of the first part to the end of the last.
+pub fn parts_hold_the_blocks()
+    ensures { (wants : List Wanted) (parts : List (List ℕ)) (a now : Place) → HasPacketNext a → CutsEach wants parts a now → HoldsBlocks parts a now }
 {}

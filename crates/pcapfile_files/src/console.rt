@@ -2,6 +2,7 @@
 
 ghost use Rattle.std.specs.Prelude.{None};
 
+use crate::foreign::Foreign;
 use crate::progress::Progress;
 use capcopy_run::Uninterrupted;
 use std::alloc::{AllocError, Global};
@@ -21,8 +22,8 @@ pub struct Console {
     progress: Option<Shared>,
     /// Whether a capture was found truncated or malformed.
     has_fault: Cell<bool>,
-    /// Whether the file whose first bytes were read last is not a capture, and no message has reported that yet.
-    is_foreign: Rc<Cell<bool>>,
+    /// What the file is whose first bytes were read last, if it is not a capture and no message has reported that yet.
+    foreign: Rc<Cell<Option<Foreign>>>,
 }
 
 impl Console {
@@ -36,7 +37,7 @@ impl Console {
             rt: *rt,
             progress,
             has_fault: Cell::new(false),
-            is_foreign: Rc::new(rt.alloc(), Cell::new(false))?,
+            foreign: Rc::new(rt.alloc(), Cell::new(None))?,
         })
     }
 
@@ -61,18 +62,19 @@ impl Console {
         clear(&self.progress);
     }
 
-    /// Records that a capture is truncated or malformed. If the file doesn't begin like a capture, it isn't counted.
+    /// Records that a capture is truncated or malformed.
     pub fn note_fault(&self) {
-        if self.is_foreign.get() {
-            self.is_foreign.set(false);
-        } else {
-            self.has_fault.set(true);
-        }
+        self.has_fault.set(true);
     }
 
-    /// Returns the shared flag that records that a file doesn't begin like a capture.
-    pub(crate) fn foreign(&self) -> Result<Rc<Cell<bool>>, AllocError> {
-        self.is_foreign.clone()
+    /// Returns what the file is that a message is about, if it is not a capture and this is the first message about it.
+    pub(crate) fn take_foreign(&self) -> Option<Foreign> {
+        self.foreign.take()
+    }
+
+    /// Returns the shared place that records what a file is that is not a capture.
+    pub(crate) fn foreign(&self) -> Result<Rc<Cell<Option<Foreign>>>, AllocError> {
+        self.foreign.clone()
     }
 
     /// Returns whether a capture was found truncated or malformed.

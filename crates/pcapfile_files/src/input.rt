@@ -3,7 +3,8 @@
 ghost use Rattle.std.specs.Prelude.{None};
 
 use crate::console::{Console, Shared};
-use crate::walk::{Walk, begins_capture};
+use crate::foreign::Foreign;
+use crate::walk::Walk;
 use capcopy_run::Uninterrupted;
 use std::alloc::Global;
 use std::cell::Cell;
@@ -53,8 +54,8 @@ pub struct Watched {
     progress: Option<Shared>,
     /// Whether no bytes have been read from it yet.
     is_new: bool,
-    /// The shared flag that records that the capture doesn't begin like one.
-    is_foreign: Rc<Cell<bool>>,
+    /// The shared place that records what the file is if it doesn't begin like a capture.
+    foreign: Rc<Cell<Option<Foreign>>>,
 }
 
 impl Watched {
@@ -71,7 +72,7 @@ impl Read for Watched {
         let came = self.stream.read(buf)?;
         if self.is_new {
             self.is_new = false;
-            self.is_foreign.set(!begins_capture(&buf[..came]));
+            self.foreign.set(Foreign::of_front(&buf[..came]));
         }
         if let Some(progress) = &self.progress {
             let packets = self.walk.pass(&buf[..came]);
@@ -121,6 +122,6 @@ pub fn open_further(console: &Console, name: &str) -> io::Result<Watched> {
         walk: Walk::new(),
         progress: console.add_capture(length)?,
         is_new: true,
-        is_foreign: console.foreign()?,
+        foreign: console.foreign()?,
     })
 }

@@ -3,6 +3,7 @@
 #![tactic(auto)]
 
 mod console;
+mod foreign;
 mod identity;
 mod input;
 mod numbered;
@@ -22,5 +23,6 @@ pub use output::{OUTPUT, Output, write_named};
 pub use shown::{NOT_UTF8, Shown, ShownJson};
 pub use standard::keep_standard_streams;
 pub use tell::{
-    AT_FAULT, FAILED, UNREAD, USAGE, status_of, tell_error, tell_exit, tell_io, tell_unwritten,
+    AT_FAULT, FAILED, UNREAD, USAGE, status_of, tell_error, tell_exit, tell_foreign, tell_io,
+    tell_unwritten,
 };

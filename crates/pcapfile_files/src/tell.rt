@@ -5,6 +5,7 @@ ghost use Rattle.std.specs.IoError.{error_kind};
 ghost use Rattle.pcapfile_files.specs.Statuses.{failed_status};
 
 use crate::console::Console;
+use crate::foreign::Foreign;
 use crate::shown::{NOT_UTF8, Shown};
 use capcopy_run::Exit;
 use pcap_file::PcapError;
@@ -42,8 +43,9 @@ pub fn tell_io(console: &Console, name: &str, error: &io::Error) -> io::Result<u
     let shown = Shown(name);
     match error.kind() {
         ErrorKind::UnexpectedEof => {
-            console.note_fault();
-            eprintln!(console.for_line(); "pcapfile: {shown}: cut short")?;
+            if !tell_foreign(console, name)? {
+                eprintln!(console.for_line(); "pcapfile: {shown}: cut short")?;
+            }
             return Ok(AT_FAULT);
         }
         ErrorKind::InvalidInput if name.ends_with(NOT_UTF8) => eprintln!(console.for_line();
@@ -64,13 +66,35 @@ pub fn tell_error(console: &Console, name: &str, error: &PcapError) -> io::Resul
             eprintln!(console.for_line(); "pcapfile: {shown}: out of memory")?;
             return Ok(NO_MEMORY);
         }
+        _ => {}
+    }
+    if tell_foreign(console, name)? {
+        return Ok(AT_FAULT);
+    }
+    match error {
         PcapError::IncompleteBuffer(_) => eprintln!(console.for_line();
             "pcapfile: {shown}: cut short"
         )?,
         error => eprintln!(console.for_line(); "pcapfile: {shown}: {error}")?,
     }
-    console.note_fault();
     Ok(AT_FAULT)
+}
+
+/// Prints what a file is that can't be read as a capture, and how to read it, if it doesn't begin like one. Otherwise records
+/// that a capture is truncated or malformed, and returns false.
+pub fn tell_foreign(console: &Console, name: &str) -> io::Result<bool> {
+    let shown = Shown(name);
+    match console.take_foreign() {
+        Some(Foreign::Unknown) => Ok(false),
+        Some(foreign) => {
+            eprintln!(console.for_line(); "pcapfile: {shown}: {foreign}")?;
+            Ok(true)
+        }
+        None => {
+            console.note_fault();
+            Ok(false)
+        }
+    }
 }
 
 /// Prints how the run over a file ended if it did not reach the end of the capture, and returns the exit status.

@@ -3,12 +3,17 @@
 #![tactic(auto)]
 
 mod captured;
+mod frames;
+mod opening;
+mod packets;
 mod repaired;
 mod rows;
 mod standing;
 mod window;
 
 pub use captured::Captured;
+pub use opening::{Guessed, Opening, header_with, magic_of};
+pub use packets::Change;
 pub use repaired::Repaired;
-pub use rows::Rows;
+pub use rows::{Changed, Rows};
 pub use standing::{BlockRows, HEADER, PacketRows, Standing, Stop};

@@ -2,6 +2,8 @@
 
 ghost use Rattle.std.specs.Prelude.{None};
 
+use crate::opening::{Guessed, Opening};
+use crate::packets::Change;
 use crate::rows::Rows;
 use crate::standing::{BlockRows, HEADER, PacketRows, Standing, Stop};
 use capcopy_run::Exit;
@@ -51,6 +53,8 @@ pub struct Repaired {
     given: usize,
     /// The position in the original capture, and the number of left-out bytes that were reported.
     place: Place,
+    /// The number of changed lengths that were reported.
+    changed: u64,
 }
 
 impl Packets {
@@ -122,6 +126,32 @@ impl Making {
         };
     }
 
+    // Reports the changed length of the next packet or block.
+    fn say_length(&mut self, alloc: Global, change: Option<Change>, counted: &Counted) {
+        let Some(change) = change else {
+            return;
+        };
+        let item = match self {
+            Making::Packets(_) => "packet",
+            Making::Blocks(_) => "block",
+        };
+        let number = counted.items.saturating_add(1);
+        let Ok(text) = change.text(alloc, item, number, counted.bytes) else {
+            return;
+        };
+        // A failed message doesn't stop the repair.
+        let _ = match self {
+            Making::Packets(packets) => {
+                let prefix = packets.repairs.prefix.as_str();
+                writeln!(packets.repairs.notes, "{prefix}{text}")
+            }
+            Making::Blocks(blocks) => {
+                let prefix = blocks.repairs.prefix.as_str();
+                writeln!(blocks.repairs.notes, "{prefix}{text}")
+            }
+        };
+    }
+
     // Reports the number of packets or blocks that are changed.
     fn say_changed(&mut self, counted: &Counted) {
         let (changed, of) = (counted.flawed, counted.items);
@@ -158,13 +188,30 @@ impl Making {
 impl Repaired {
     /// Returns the repaired form of the capture with this name. The errors are those of the beginning of the capture.
     pub fn new(console: &Console, name: &str, stream: Watched) -> ResultParsing<Repaired> {
+        Repaired::opened_as(console, name, stream, Opening::Own)
+    }
+
+    /// Returns the same, with a given or guessed header if the capture has none.
+    pub fn opened_as(
+        console: &Console,
+        name: &str,
+        stream: Watched,
+        opening: Opening,
+    ) -> ResultParsing<Repaired> {
         let alloc = console.alloc();
         let shown = Shown(name);
         let prefix = format!(in alloc; "pcapfile: {shown}: ")?;
-        let notes = BufWriter::with_capacity(alloc, OUTPUT, console.notes()?)?;
-        let standing = Standing::open(alloc, stream)?;
+        let mut notes = BufWriter::with_capacity(alloc, OUTPUT, console.notes()?)?;
+        let (standing, guessed) = Standing::open_as(alloc, stream, opening)?;
+        let first = match (opening, &guessed) {
+            (Opening::Guess(_), None) | (Opening::Own, _) => HEADER as u64,
+            _ => 0,
+        };
+        if let Some(guessed) = &guessed {
+            say_guess(&mut notes, prefix.as_str(), guessed);
+        }
         match standing {
-            Standing::Packets(opening, rows) => {
+            Standing::Packets(made, rows) => {
                 let repairs = Repairs {
                     order: rows.endianness(),
                     prefix,
@@ -172,7 +219,7 @@ impl Repaired {
                     room: Vec::new(alloc),
                 };
                 let making = Making::Packets(Packets { rows, repairs });
-                Ok(Repaired::with(alloc, making, opening, HEADER as u64))
+                Ok(Repaired::with(alloc, making, made, first))
             }
             Standing::Blocks(rows) => {
                 let repairs = BlockRepairs {
@@ -196,6 +243,7 @@ impl Repaired {
             made,
             given: 0,
             place: Place::new(bytes),
+            changed: 0,
         }
     }
 
@@ -222,6 +270,11 @@ impl Repaired {
             };
             if let Some(gap) = self.place.pass(making.rows().left_out()) {
                 making.say_left_out(&gap);
+            }
+            let changed = making.rows().changed();
+            if changed.count > self.changed {
+                making.say_length(self.alloc, changed.last, &self.place.counted);
+                self.changed = changed.count;
             }
             if making.rows().is_at_end() {
                 making.say_changed(&self.place.counted);
@@ -266,6 +319,29 @@ fn given_up(notes: &mut Lines, stop: Stop) -> Exit {
         Stop::Unread(error) => Exit::from(error),
         Stop::Untold(exit) => exit,
     }
+}
+
+// Reports a guessed header.
+fn say_guess(notes: &mut Lines, prefix: &str, guessed: &Guessed) {
+    let order = match guessed.header.magic_number {
+        0xA1B2_C3D4 | 0xA1B2_3C4D => "big",
+        _ => "little",
+    };
+    let resolution = match guessed.header.magic_number {
+        0xA1B2_C3D4 | 0xD4C3_B2A1 => "micro",
+        _ => "nano",
+    };
+    let link = u32::from(guessed.header.datalink);
+    let how = if guessed.is_link_assumed {
+        ", which is assumed"
+    } else {
+        ""
+    };
+    // A failed message doesn't stop the repair.
+    let _ = writeln!(
+        notes,
+        "{prefix}its header is a guess: {order},{resolution},{link}, of link type {link}{how}"
+    );
 }
 
 fn io_error(exit: Exit) -> io::Error {

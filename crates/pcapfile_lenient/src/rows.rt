@@ -2,17 +2,17 @@
 
 ghost use Rattle.std.specs.Prelude.{None};
 
-use crate::window::{Sought, Window};
-use pcap_file::{PcapError, PcapParser, ResultParsing, Rule};
-use pcap_tolerant::next_packet_as_is;
+use crate::frames::mend_frame;
+use crate::packets::{Change, HEADER, Here, LIMIT, Packets};
+use crate::window::{IN_A_ROW, Sought, Window};
+use pcap_file::pcap::PcapHeader;
+use pcap_file::{PcapError, ResultParsing, Rule};
+use pcap_tolerant_captures::resync::resync as first_blocks;
 use pcap_tolerant_captures::{OpenedAsIs, PcapNgParserAsIs};
 use pcapfile_as_is::{LeftOut, Scrap};
 use std::alloc::{AllocError, Global};
 use std::io;
 use std::io::Read;
-
-/// The longest packet that lenient reading returns, in bytes.
-pub(crate) const LIMIT: u32 = 16_777_216;
 
 /// The first bytes of a section header.
 const SECTION: [u8; 4] = [0x0A, 0x0D, 0x0D, 0x0A];
@@ -20,21 +20,30 @@ const SECTION: [u8; 4] = [0x0A, 0x0D, 0x0D, 0x0A];
 /// The kind of the items in a capture.
 #[derive(Drop)]
 enum Kind {
-    /// Packets, read by a parser with the capture's header.
-    Packets(PcapParser),
+    /// Packets.
+    Packets(Packets),
     /// Blocks, read by a parser with the section and interfaces before them.
     Blocks(PcapNgParserAsIs),
 }
 
-/// The item at the front of bytes.
+/// What is at the front of blocks.
 #[derive(Clone, Copy)]
 enum Front {
-    /// A packet or block of this many bytes.
-    Item(usize),
-    /// The beginning of a possible item, with at least this many bytes missing.
+    /// A block of this many bytes.
+    Block(usize),
+    /// The beginning of a possible block, with at least this many bytes missing.
     Missing(usize),
     /// Corrupt bytes, and the rule that they break, if any.
     Garbage(Option<Rule>),
+}
+
+/// The next step of a search for an item.
+#[derive(Clone, Copy)]
+enum Step {
+    /// The item is ready, or the row ends here.
+    Done,
+    /// The search goes on.
+    Further,
 }
 
 /// The packets or blocks of a capture that follow each other in a row. A read returns no byte at the end of a row, which is at corrupt
@@ -46,51 +55,28 @@ pub struct Rows {
     /// The number of buffered bytes that belong to a packet or block.
     ready: usize,
     left_out: LeftOut,
+    /// The last changed length, and how many there are so far.
+    changed: Changed,
+    /// Whether the last packets were left out for their link type.
+    is_leaving_out: bool,
     /// Whether nothing follows.
     is_at_end: bool,
 }
 
+/// The last changed length, and how many lengths were changed so far.
+#[derive(Clone, Copy)]
+pub struct Changed {
+    /// The number of changed lengths.
+    pub count: u64,
+    /// The last of them.
+    pub last: Option<Change>,
+}
+
 impl Kind {
-    // Returns the item at the front of these bytes. A section or interface there is in force afterwards.
-    fn front(&mut self, bytes: &[u8]) -> Result<Front, AllocError> {
-        let left = match self {
-            Kind::Packets(parser) => match next_packet_as_is(parser, bytes, LIMIT) {
-                Ok((rest, _packet)) => Ok(rest.len()),
-                Err(error) => Err(error),
-            },
-            Kind::Blocks(parser) => match parser.next_block_as_is(bytes) {
-                Ok((rest, _block)) => Ok(rest.len()),
-                Err(error) => Err(error),
-            },
-        };
-        match left {
-            Ok(left) => Ok(Front::Item(bytes.len().saturating_sub(left))),
-            Err(PcapError::IncompleteBuffer(n)) => Ok(Front::Missing(n)),
-            Err(PcapError::OutOfMemory(error)) => Err(error),
-            Err(error) => Ok(Front::Garbage(error.rule())),
-        }
-    }
-
-    // Classifies the last bytes of the capture, when at least `missing` bytes are missing from an item.
-    fn last(&self, bytes: &[u8], missing: usize) -> Front {
-        match self {
-            Kind::Packets(parser) => match broken_by(parser, bytes) {
-                Some(rule) => Front::Garbage(Some(rule)),
-                None => Front::Missing(missing),
-            },
-            Kind::Blocks(_) => {
-                if bytes.len().saturating_add(missing) > LIMIT as usize {
-                    return Front::Garbage(None);
-                }
-                Front::Missing(missing)
-            }
-        }
-    }
-
     // Returns the items to look for after corrupt bytes.
     fn sought(&self) -> Sought<'_> {
         match self {
-            Kind::Packets(parser) => Sought::Packets(parser),
+            Kind::Packets(packets) => Sought::Packets(packets.parser(), packets.time_by(None)),
             Kind::Blocks(parser) => Sought::Blocks(parser),
         }
     }
@@ -114,8 +100,8 @@ impl Kind {
 
 impl Rows {
     /// Returns the rows of the packets that the window shows next, read by a parser with the header.
-    pub(crate) fn of_packets(parser: PcapParser, window: Window) -> Rows {
-        Rows::new(Kind::Packets(parser), window, 0)
+    pub(crate) fn of_packets(header: PcapHeader, window: Window) -> ResultParsing<Rows> {
+        Ok(Rows::new(Kind::Packets(Packets::new(header)?), window, 0))
     }
 
     /// Returns the rows of the blocks from the first section header in the window on, and leaves out what is before it. If there is none,
@@ -149,6 +135,11 @@ impl Rows {
             window,
             ready,
             left_out,
+            changed: Changed {
+                count: 0,
+                last: None,
+            },
+            is_leaving_out: false,
             is_at_end: false,
         }
     }
@@ -163,46 +154,131 @@ impl Rows {
         self.is_at_end
     }
 
+    /// Returns the changed lengths so far.
+    pub fn changed(&self) -> Changed {
+        self.changed
+    }
+
     // Finds the next packet or block. At the end of a row none is ready.
     fn find_next(&mut self) -> io::Result<()> {
         for _ in 0..u64::MAX {
-            match self.kind.front(self.window.shown())? {
-                Front::Item(len) => {
-                    self.ready = len;
-                    break;
+            let step = match &mut self.kind {
+                Kind::Packets(packets) => {
+                    let here = packets.look(&mut self.window)?;
+                    self.step_at(here)?
                 }
-                Front::Garbage(rule) => return self.pass_garbage(rule),
-                Front::Missing(n) => {
-                    if !self.window.show(n)? {
-                        return self.pass_end(n);
-                    }
+                Kind::Blocks(parser) => {
+                    let front = front_of(parser, self.window.shown())?;
+                    self.step_before(front)?
                 }
+            };
+            if let Step::Done = step {
+                break;
             }
         }
         Ok(())
     }
 
-    // Skips corrupt bytes that break this rule, if any.
+    // Takes a step at a packet, or at other bytes of a classic capture.
+    fn step_at(&mut self, here: Here) -> io::Result<Step> {
+        if let Here::OtherLink(len) = here {
+            self.window.pass(len);
+            self.leave_out(len as u64, Scrap::OtherLink, None);
+            self.is_leaving_out = true;
+            return Ok(Step::Further);
+        }
+        if self.is_leaving_out {
+            self.is_leaving_out = false;
+            return Ok(Step::Done);
+        }
+        match here {
+            Here::Packet(len) => self.ready = len,
+            Here::Changed(change) => self.note(change),
+            Here::Garbage(rule) => self.pass_garbage(rule)?,
+            Here::Torn => self.pass_torn(),
+            Here::Header => {
+                if let Kind::Packets(packets) = &mut self.kind {
+                    packets.begin(self.window.shown());
+                }
+                self.window.pass(HEADER);
+                self.leave_out(HEADER as u64, Scrap::OtherHeader, None);
+            }
+            Here::OtherLink(_) => {}
+        }
+        Ok(Step::Done)
+    }
+
+    // Takes a step before a block, or before other bytes of a PcapNg capture.
+    fn step_before(&mut self, front: Front) -> io::Result<Step> {
+        match front {
+            Front::Block(len) => self.ready = len,
+            Front::Garbage(rule) => self.pass_blocks(rule)?,
+            Front::Missing(n) => {
+                if self.window.show(n)? {
+                    return Ok(Step::Further);
+                }
+                self.pass_end(n)?;
+            }
+        }
+        Ok(Step::Done)
+    }
+
+    // Notes a changed length.
+    fn note(&mut self, change: Change) {
+        self.changed = Changed {
+            count: self.changed.count.saturating_add(1),
+            last: Some(change),
+        };
+    }
+
+    // Mends the frame of a block, or skips corrupt bytes that break this rule, if any.
+    fn pass_blocks(&mut self, rule: Option<Rule>) -> io::Result<()> {
+        let change = match &self.kind {
+            Kind::Packets(_) => None,
+            Kind::Blocks(parser) => mend_frame(parser, &mut self.window)?,
+        };
+        match change {
+            Some(change) => self.note(change),
+            None => self.pass_garbage(rule)?,
+        }
+        Ok(())
+    }
+
+    // Skips corrupt bytes that break this rule, if any. The first of them begins no packet.
     fn pass_garbage(&mut self, rule: Option<Rule>) -> io::Result<()> {
+        self.window.pass(1);
         let passed = self.window.pass_to(self.kind.sought())?;
         let scrap = self.kind.garbage();
-        self.leave_out(passed.bytes, scrap, rule);
+        self.leave_out(passed.bytes.saturating_add(1), scrap, rule);
         self.is_at_end = !passed.is_found;
         Ok(())
     }
 
-    // Skips the last bytes of the capture, if any, when at least `missing` bytes are missing from an item.
+    // Skips the last bytes of a PcapNg capture, if any, when at least `missing` bytes are missing from a block.
     fn pass_end(&mut self, missing: usize) -> io::Result<()> {
         let last = self.window.shown();
-        if let Front::Garbage(rule) = self.kind.last(last, missing) {
-            return self.pass_garbage(rule);
+        let goes_on = match &self.kind {
+            Kind::Packets(_) => false,
+            Kind::Blocks(parser) => first_blocks(
+                parser,
+                last.get(1..).unwrap_or_default(),
+                IN_A_ROW,
+            ).is_some(),
+        };
+        if goes_on || last.len().saturating_add(missing) > LIMIT as usize {
+            return self.pass_blocks(None);
         }
-        let len = last.len();
+        self.pass_torn();
+        Ok(())
+    }
+
+    // Skips the last bytes of the capture, which are of a truncated item.
+    fn pass_torn(&mut self) {
+        let len = self.window.shown().len();
         self.window.pass(len);
         let scrap = self.kind.torn();
         self.leave_out(len as u64, scrap, None);
         self.is_at_end = true;
-        Ok(())
     }
 
     fn leave_out(&mut self, bytes: u64, scrap: Scrap, rule: Option<Rule>) {
@@ -230,11 +306,13 @@ impl Read for Rows {
     }
 }
 
-// Returns the rule that the packet at the front of these bytes breaks, if any.
-fn broken_by(parser: &PcapParser, bytes: &[u8]) -> Option<Rule> {
-    match parser.next_packet(bytes) {
-        Ok(_) => None,
-        Err(error) => error.rule(),
+// Returns the block at the front of these bytes. A section or interface there is in force afterwards.
+fn front_of(parser: &mut PcapNgParserAsIs, bytes: &[u8]) -> Result<Front, AllocError> {
+    match parser.next_block_as_is(bytes) {
+        Ok((rest, _block)) => Ok(Front::Block(bytes.len().saturating_sub(rest.len()))),
+        Err(PcapError::IncompleteBuffer(n)) => Ok(Front::Missing(n)),
+        Err(PcapError::OutOfMemory(error)) => Err(error),
+        Err(error) => Ok(Front::Garbage(error.rule())),
     }
 }
 

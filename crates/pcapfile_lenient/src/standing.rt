@@ -4,7 +4,9 @@ ghost use Rattle.std.specs.Prelude.{◌≡◌, ◌<◌, ◌^◌, false};
 ghost use Rattle.pcap_tolerant.specs.ReaderAsIs.{is_done, has_failed};
 ghost use Rattle.pcap_tolerant_captures.specs.ReaderAsIs.{is_done as is_done_with_blocks, has_failed as has_failed_in_blocks};
 
-use crate::rows::{LIMIT, Rows};
+use crate::opening::{Guessed, Opening, bytes_of, guess};
+use crate::packets::{HEADER as HEADER_LEN, LIMIT};
+use crate::rows::Rows;
 use crate::window::Window;
 use capcopy_run::Exit;
 use pcap_file::pcap::PcapHeader;
@@ -18,7 +20,7 @@ use std::alloc::Global;
 use std::io::Write;
 
 /// The length of the header of a classic capture, in bytes.
-pub const HEADER: usize = 24;
+pub const HEADER: usize = HEADER_LEN;
 
 /// The first byte of a PcapNg capture.
 const FIRST_OF_BLOCKS: u8 = 10;
@@ -124,13 +126,45 @@ impl Standing {
         let mut window = Window::new(alloc, buffered(alloc, stream)?);
         window.show(HEADER)?;
         match header_in(window.shown()) {
-            Ok(header) => Standing::of_packets(alloc, header, window),
+            Ok(header) => Standing::after_header(alloc, header, window),
             Err(error) => Standing::of_blocks(alloc, error, window),
         }
     }
 
-    // Returns the packets under this header.
-    fn of_packets(
+    /// Returns the same, with a given or guessed header if the capture has none, and the guess, if there is one.
+    pub fn open_as(
+        alloc: Global,
+        stream: Watched,
+        opening: Opening,
+    ) -> ResultParsing<(Standing, Option<Guessed>)> {
+        let link = match opening {
+            Opening::Own => return Ok((Standing::open(alloc, stream)?, None)),
+            Opening::Given(_) => None,
+            Opening::Guess(link) => link,
+        };
+        let mut window = Window::new(alloc, buffered(alloc, stream)?);
+        if let Opening::Given(header) = opening {
+            return Ok((Standing::without_header(alloc, header, window)?, None));
+        }
+        window.show(HEADER)?;
+        let error = match header_in(window.shown()) {
+            Ok(header) => return Ok((Standing::after_header(alloc, header, window)?, None)),
+            Err(error) => error,
+        };
+        if window.shown().first() == Some(&FIRST_OF_BLOCKS) {
+            return Ok((Standing::of_blocks(alloc, error, window)?, None));
+        }
+        match guess(&mut window, link)? {
+            None => Ok((Standing::of_blocks(alloc, error, window)?, None)),
+            Some(guessed) => {
+                let standing = Standing::without_header(alloc, guessed.header, window)?;
+                Ok((standing, Some(guessed)))
+            }
+        }
+    }
+
+    // Returns the packets under a header that the window begins with.
+    fn after_header(
         alloc: Global,
         header: PcapHeader,
         mut window: Window,
@@ -138,7 +172,27 @@ impl Standing {
         let bytes = window.shown().get(..HEADER).unwrap_or_default();
         let opening = Vec::from_slice(alloc, bytes)?;
         window.pass(HEADER);
-        let rows = Rows::of_packets(PcapParser::with_header(header)?, window);
+        Standing::of_packets(alloc, header, opening, window)
+    }
+
+    // Returns the packets under a header that the window doesn't have.
+    fn without_header(
+        alloc: Global,
+        header: PcapHeader,
+        window: Window,
+    ) -> ResultParsing<Standing> {
+        let opening = Vec::from_slice(alloc, &bytes_of(&header))?;
+        Standing::of_packets(alloc, header, opening, window)
+    }
+
+    // Returns the packets under this header, whose bytes are the opening.
+    fn of_packets(
+        alloc: Global,
+        header: PcapHeader,
+        opening: Vec<u8>,
+        window: Window,
+    ) -> ResultParsing<Standing> {
+        let rows = Rows::of_packets(header, window)?;
         let parser = PcapParser::with_header(header)?;
         let reader = ReaderAsIs::with_parser(alloc, parser, rows, LIMIT);
         Ok(Standing::Packets(opening, PacketRows { reader }))

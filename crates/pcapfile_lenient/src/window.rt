@@ -1,8 +1,9 @@
 //! Looking ahead at the bytes of a capture before they are read.
 
+use crate::packets::ROW;
 use capcopy_run::Uninterrupted;
+use pcap_damaged::resync as first_packets;
 use pcap_file::PcapParser;
-use pcap_tolerant::resync::resync as first_packets;
 use pcap_tolerant_captures::PcapNgParserAsIs;
 use pcap_tolerant_captures::resync::{resync as first_blocks, resync_section};
 use pcapfile_files::Watched;
@@ -10,11 +11,8 @@ use std::alloc::Global;
 use std::io;
 use std::io::{BufRead, BufReader};
 
-/// The number of packets or blocks without a fault in a row that resynchronization needs.
-const IN_A_ROW: usize = 2;
-
-/// The most bytes needed to be sure of such a row: two packets that break no rule have no more.
-const ROW: usize = 524_320;
+/// The number of blocks without a fault in a row that resynchronization needs.
+pub(crate) const IN_A_ROW: usize = 2;
 
 /// The number of bytes that are looked at at once.
 const WINDOW: usize = 2_097_152;
@@ -25,8 +23,8 @@ type Input = BufReader<Uninterrupted<Watched>>;
 /// The items to look for after corrupt bytes.
 #[derive(Clone, Copy)]
 pub(crate) enum Sought<'a> {
-    /// Packets, read by a parser with the capture's header.
-    Packets(&'a PcapParser),
+    /// Packets, read by a parser with the capture's header, and near this time in seconds.
+    Packets(&'a PcapParser, u32),
     /// Blocks, read by a parser with the section and interfaces before them.
     Blocks(&'a PcapNgParserAsIs),
     /// A section header.
@@ -54,10 +52,10 @@ pub(crate) struct Window {
 }
 
 impl Sought<'_> {
-    // Returns the first offset at which these items are found.
-    fn first(self, bytes: &[u8]) -> Option<usize> {
+    // Returns the first offset at which these items are found, which for packets is below this bound.
+    fn first(self, bytes: &[u8], bound: usize) -> Option<usize> {
         match self {
-            Sought::Packets(parser) => first_packets(parser, bytes, IN_A_ROW),
+            Sought::Packets(parser, time) => first_packets(parser, time, bytes, bound),
             Sought::Blocks(parser) => first_blocks(parser, bytes, IN_A_ROW),
             Sought::Section => resync_section(bytes),
         }
@@ -100,20 +98,46 @@ impl Window {
         Ok(false)
     }
 
+    /// Extends the window to this many bytes, and returns whether there are as many.
+    pub(crate) fn reach(&mut self, bytes: usize) -> io::Result<bool> {
+        let missing = bytes.saturating_sub(self.shown().len());
+        if missing == 0 {
+            return Ok(true);
+        }
+        self.show(missing)
+    }
+
+    /// Extends the window so that rows at its front can be found, and returns the number of places where they can.
+    pub(crate) fn reach_row(&mut self) -> io::Result<usize> {
+        let is_all = !self.reach(WINDOW)?;
+        Ok(self.sure(is_all))
+    }
+
+    // Returns the number of places at which a row doesn't go on after the bytes in the window.
+    fn sure(&self, is_all: bool) -> usize {
+        let len = self.shown().len();
+        if is_all {
+            return len;
+        }
+        len.saturating_sub(ROW)
+    }
+
+    /// Puts other bytes into the window, from this offset on.
+    pub(crate) fn put(&mut self, offset: usize, bytes: &[u8]) {
+        let from = self.passed.saturating_add(offset);
+        for (place, byte) in self.room.iter_mut().skip(from).zip(bytes) {
+            *place = *byte;
+        }
+    }
+
     /// Skips bytes up to the first place where these items are found. It looks at enough bytes at once to be sure that the place is the
     /// first one, except for longer blocks.
     pub(crate) fn pass_to(&mut self, sought: Sought<'_>) -> io::Result<Passed> {
         let mut bytes: u64 = 0;
         for _ in 0..u64::MAX {
-            let is_all = !self.show(WINDOW.saturating_sub(self.shown().len()))?;
-            let shown = self.shown();
-            // From here on, a row may go on after the bytes in the window.
-            let sure = if is_all {
-                shown.len()
-            } else {
-                shown.len().saturating_sub(ROW)
-            };
-            let found = sought.first(shown);
+            let is_all = !self.reach(WINDOW)?;
+            let sure = self.sure(is_all);
+            let found = sought.first(self.shown(), sure);
             let passed = found.unwrap_or(sure).min(sure);
             self.pass(passed);
             bytes = bytes.saturating_add(passed as u64);

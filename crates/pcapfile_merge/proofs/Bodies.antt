@@ -1,5 +1,5 @@
 -- Where the bytes of a packet are in the body of its block.
-use Rattle.std.proofs.Common.{◌≡◌, ◌+◌, ℕ, List, ◌++◌, take, drop, length, Bool, true, false, Option, None, Some, Ok, Err, sym, ap, ◌∙◌, subst, append_assoc}
+use Rattle.std.proofs.Common.{◌≡◌, ◌+◌, ℕ, List, [], ◌∷◌, ◌++◌, take, drop, length, Bool, true, false, Option, None, Some, Ok, Err, sym, ap, ◌∙◌, subst, append_assoc, inl, inr}
 use Rattle.std.specs.Prelude.{Result, if◌then◌else◌, unwrap_or}
 use Rattle.std.specs.List.{slice_get}
 use Rattle.std.proofs.Math.Seq.{drop-append_seam, take-append_seam, take-length}
@@ -27,11 +27,12 @@ use Rattle.pcapfile_run.specs.BlockPackets.{HoldsPacket, InBlock, packet_in as p
 use Rattle.pcapfile_merge.specs.declared.made.Made.{Made}
 use Rattle.pcapfile_merge.specs.declared.packet.Pending.{Pending}
 use Rattle.pcapfile_merge.specs.BufferedBlocks.{lent_by}
-use Rattle.pcapfile_merge.specs.Making.{IsMade, MakesText}
-use Rattle.pcapfile_merge.specs.Packets.{plain_text}
+use Rattle.pcapfile_merge.specs.Keeping.{carried, is_carried}
+use Rattle.pcapfile_merge.specs.Making.{IsMade, KeepsText, MakesText}
+use Rattle.pcapfile_merge.specs.Packets.{Packet, plain_text}
 use Rattle.pcapfile_merge.specs.Passing.{IsSaid, TellsPending, bytes_within, start_of}
 use Rattle.pcapfile_merge.specs.Taking.{packet_in, text_by}
-use Rattle.pcapfile_merge.specs.TakingBlocks.{EndsBlock, GivesOf, IsTimeBy, IsUnmade, block_under, enhanced_in, numbered, packet_unmade}
+use Rattle.pcapfile_merge.specs.TakingBlocks.{EndsBlock, GivesOf, IsTimeBy, IsUnmade, block_under, block_unkept, enhanced_in, numbered, packet_unmade}
 
 dropped : (n : ℕ) (s rest : List ℕ) → Behind n s rest → drop n s ≡ rest
 dropped n s rest behind = ap (drop n) behind.text ∙ ap (λ (k : ℕ). drop k (behind.bytes ++ rest)) (sym behind.length_is) ∙ drop-append_seam behind.bytes rest
@@ -124,7 +125,7 @@ module _ (base : ℕ) (interfaces : List Interface) (block : Framed) (packet : I
       ∙ ap (λ (n : ℕ). plain_text n pending.units pending.original_len packet.bytes) said.number
       ∙ ap (λ (n : ℕ). plain_text number pending.units n packet.bytes) said.original_len
       ∙ ap little_text (sym plain) in
-      (is, packet, holds, record { by = said.by; described = said.described; units = pending.units; time = said.time; text = text })
+      inl (is, packet, holds, record { by = said.by; described = said.described; units = pending.units; time = said.time; text = text })
 
   -- The case of a packet whose own block was made.
   made_given : (said pending : Pending) (made : Made) (enhanced : Enhanced) → IsSaid base interfaces packet said → enhanced_in holds.body ≡ Some enhanced → IsMade block.endianness said enhanced made pending
@@ -139,7 +140,7 @@ module _ (base : ℕ) (interfaces : List Interface) (block : Framed) (packet : I
       ∙ all
       ∙ makes.text
       ∙ ap (λ (n : ℕ). little_text (EnhancedBody (numbered block.endianness n enhanced))) tells.number
-      ∙ ap (λ (o : Option Enhanced). little_text (block_under block.endianness number said.units packet o)) (sym is_one) in (
+      ∙ ap (λ (o : Option Enhanced). little_text (block_under block.endianness number said.units packet o)) (sym is_one) in inl (
         is,
         packet,
         holds,
@@ -166,6 +167,19 @@ module _ (base : ℕ) (interfaces : List Interface) (block : Framed) (packet : I
       → enhanced_in holds.body ≡ Some enhanced → MakesText order said enhanced made result → TellsPending base interfaces block made result
   made_or_ends order said made enhanced result same tells is_one makes =
       made_or_ends_there said made enhanced result tells is_one (subst (λ (e : Endianness). MakesText e said enhanced made result) same makes)
+
+-- A block that is kept was made, or it ended the capture.
+pub kept_or_ends : (base : ℕ) (interfaces : List Interface) (block : Framed) (made : Made) (result : Result Pending PcapError) → is_carried block ≡ true → KeepsText block made result → TellsPending base interfaces block made result
+kept_or_ends base interfaces block made (Err e) is why = block_unkept is why
+kept_or_ends base interfaces block made (Ok pending) is keeps =
+    let items = made.text.items in
+    let lent = bytes_within (lent_by made block.body) pending in
+    let all : lent ≡ items =
+    ap (λ (l : List ℕ). bytes_within l pending) (made_lent made block.body keeps.is_lent) ∙ ap (λ (n : ℕ). take n (drop pending.start items)) keeps.len ∙ ap (λ (n : ℕ). take (length items) (drop n items)) keeps.start ∙ take-length items in
+    let text : text_by pending.is_made pending lent ≡ (carried block).text = ap (λ (b : Bool). text_by b pending lent) keeps.is_made ∙ all ∙ keeps.text in
+    let same : carried block ≡ packet_in lent pending =
+    ap (λ (t : Option Timestamp). record { time = t; text = (carried block).text }) (sym keeps.time) ∙ ap (λ (l : List ℕ). record { time = pending.time; text = l }) (sym text) in
+    inr (ap (λ (b : Bool). if b then carried block ∷ [] else []) is ∙ ap (λ (p : Packet). p ∷ []) same)
 
 -- If a body is no enhanced packet, the block is made from the packet's bytes.
 pub none_plain : (packet : InBlock) (found : Option Enhanced) → found ≡ None → (order : Endianness) (number units : ℕ) → block_under order number units packet found ≡ EnhancedBody (plain_packet number units packet.original_len packet.bytes)

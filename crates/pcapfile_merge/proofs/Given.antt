@@ -2,7 +2,6 @@
 use Rattle.std.proofs.Common.{◌≡◌, ◌≤◌, ℕ, drop, arith, List, [], ◌∷◌, ◌++◌, map, Bool, false, Option, None, Some, refl, sym, ap, ◌∙◌, subst}
 use Rattle.std.specs.Prelude.{IfSome, Ok}
 use Rattle.std.proofs.lemmas.List.{map-append, append-nil, length-take}
-use Rattle.pcap_file.specs.Placing.{Source}
 use Rattle.pcap_core.specs.declared.errors.PcapError.{PcapError}
 use Rattle.pcap_core.specs.Answer.{Verdict}
 use Rattle.pcap_items.specs.Reading.{NextGives, Takes}
@@ -23,13 +22,14 @@ use Rattle.pcapfile_merge.specs.declared.reader.Reader.{Reader}
 use Rattle.pcapfile_merge.specs.declared.reader.Reader.TheVariants.{Packets, Blocks}
 use Rattle.pcapfile_merge.specs.declared.reader.Taken.{Taken}
 use Rattle.pcapfile_merge.specs.Buffered.{data_of, has_failed, header_of, is_done, left_of, lent_packet}
-use Rattle.pcapfile_merge.specs.BufferedBlocks.{body_of, source_of}
+use Rattle.pcapfile_merge.specs.BufferedBlocks.{body_of, progress_of}
+use Rattle.pcapfile_merge.specs.Keeping.{Progress}
 use Rattle.pcapfile_merge.specs.Packets.{Packet, packet_of}
 use Rattle.pcapfile_merge.specs.Holding.{HoldsFew, IsReady, IsReadyIf, TakesNext, TakesThere, alone, bytes_in, held_by}
 use Rattle.pcapfile_merge.specs.Sources.{GaveBy, GavePackets, GaveStored, Stands}
 use Rattle.pcapfile_merge.specs.Taking.{IsOf, TakesPacket, TakesPending, packet_in}
 use Rattle.pcapfile_merge.specs.TakingBlocks.{TakesStored}
-use Rattle.pcapfile_merge.proofs.StoredGiven.{GaveUpTo, taken_one, takes_first, takes_further}
+use Rattle.pcapfile_merge.proofs.StoredGiven.{GaveLed, GaveUpTo, taken_one, takes_first, takes_further}
 
 stood : {V : Type 0} (IsSaid : List ℕ → Verdict V → Type 0) (left now : Option (List ℕ)) (failed : Bool) (next : Option Pending) (fault : Option PcapError) (n : Pending) → next ≡ Some n → Stands IsSaid left now failed next fault → now ≡ left
 stood IsSaid left now failed None fault n is stands = absurd (let no : ⊥ = cc in no)
@@ -68,12 +68,12 @@ module _ {R : Type 0} (remaining : R → Option (List ℕ)) (base : ℕ) where
   unfolding Held
   gave_held from reader given taken same held = record { same = same; captured = held.0; given_are = held.2; left = held.1; took = held.3; stands = held.4 }
 
-  one_taken : (reader : BufferedBlocks R) (next : Option Pending) → taken_one base (source_of remaining reader) (bytes_in (Blocks reader)) next ≡ held_by (Blocks reader) next
+  one_taken : (reader : BufferedBlocks R) (next : Option Pending) → taken_one base (progress_of remaining reader) (bytes_in (Blocks reader)) next ≡ held_by (Blocks reader) next
   one_taken reader None = refl
   one_taken reader (Some p) = refl
 
-  gave_stored : (from reader : BufferedBlocks R) (given : List Packet) (taken : Taken) → GaveUpTo base (source_of remaining from) (source_of remaining reader) given taken.next taken.fault → GaveStored remaining base from reader given taken
-  gave_stored from reader given taken gave = record { mid = gave.0; gave = gave.1; stands = gave.2 }
+  gave_stored : (from reader : BufferedBlocks R) (given : List Packet) (taken : Taken) → GaveLed base (progress_of remaining from) (progress_of remaining reader) given taken.next taken.fault → GaveStored remaining base from reader given taken
+  gave_stored from reader given taken gave = record { lead = gave.0; leads = gave.1; mid = gave.2.0; gave = gave.2.1; stands = gave.2.2 }
 
   -- A reader that held a packet takes the next one.
   pub gave_more : (from old new : Reader R) (given : List Packet) (was now : Taken) (n : Pending) → was.next ≡ Some n → GaveBy remaining base from old given was → TakesNext remaining Closed base old new now
@@ -83,9 +83,9 @@ module _ {R : Type 0} (remaining : R → Option (List ℕ)) (base : ℕ) where
       let took = subst (λ (l : Option (List ℕ)). TakesTexts (reader_format packet_limit (header_of from)) tt gave.captured (left_of remaining from) l) (sym there) gave.took in
       gave_held from new (given ++ held_by (Packets new) now.next) now (takes.0 ∙ gave.same) (held_more from old new given gave.captured now.next now.fault gave.given_are gave.same took takes.1)
   gave_more (Blocks from) (Blocks old) (Blocks new) given was now n is gave takes =
-      let more = takes_further base (source_of remaining from) (source_of remaining old) (source_of remaining new) given was.next was.fault n is (gave.mid, gave.gave, gave.stands) (bytes_in (Blocks new)) now.next now.fault takes in
-      gave_stored from new (given ++ held_by (Blocks new) now.next) now
-      (subst (λ (l : List Packet). GaveUpTo base (source_of remaining from) (source_of remaining new) (given ++ l) now.next now.fault) (one_taken new now.next) more)
+      let more = takes_further base (progress_of remaining from) (progress_of remaining old) (progress_of remaining new) gave.lead given was.next was.fault n is (gave.mid, gave.gave, gave.stands) (bytes_in (Blocks new)) now.next now.fault takes in
+      let up_to = subst (λ (l : List Packet). GaveUpTo base (progress_of remaining from) (progress_of remaining new) gave.lead (given ++ l) now.next now.fault) (one_taken new now.next) more.1 in
+      gave_stored from new (given ++ held_by (Blocks new) now.next) now (gave.lead, more.0 ∙ gave.leads, up_to)
   gave_more (Packets from) (Packets old) (Blocks new) given was now n is gave takes = absurd takes
   gave_more (Blocks from) (Blocks old) (Packets new) given was now n is gave takes = absurd takes
   gave_more (Packets from) (Blocks old) new given was now n is gave takes = absurd gave
@@ -99,9 +99,9 @@ module _ {R : Type 0} (remaining : R → Option (List ℕ)) (base : ℕ) where
   gave_first (Packets old) (Blocks new) taken ready takes = absurd takes
   gave_first (Blocks old) (Packets new) taken ready takes = absurd takes
   gave_first (Blocks old) (Blocks new) taken ready takes =
-      let first = takes_first base (source_of remaining old) (source_of remaining new) (ready, old.reader.unfailed ready) (bytes_in (Blocks new)) taken.next taken.fault takes in
+      let first = takes_first base (progress_of remaining old) (progress_of remaining new) (bytes_in (Blocks new)) taken.next taken.fault takes in
       gave_stored old new (held_by (Blocks new) taken.next) taken
-      (subst (λ (l : List Packet). GaveUpTo base (source_of remaining old) (source_of remaining new) l taken.next taken.fault) (one_taken new taken.next) first)
+      (subst (λ (l : List Packet). GaveLed base (progress_of remaining old) (progress_of remaining new) l taken.next taken.fault) (one_taken new taken.next) first)
 
 -- A reader that holds a packet has refused nothing, and the packet is short.
 pub pending_ready : {R : Type 0} (remaining : R → Option (List ℕ)) (number : ℕ) (header : PcapHeader) (left : Option (List ℕ)) (new : BufferedPackets R) (next : Option Pending) (fault : Option PcapError) → TakesPending remaining number header left new next fault
@@ -115,7 +115,7 @@ pub stays_taken : {R : Type 0} (remaining : R → Option (List ℕ)) (choice : I
 stays_taken remaining choice base (Packets old) (Packets mid) (Packets new) taken stays takes =
     let there = subst (λ (h : PcapHeader). (header_of new ≡ h) × TakesPending remaining base h (left_of remaining mid) new taken.next taken.fault) stays.0 takes in
     (there.0, subst (λ (l : Option (List ℕ)). TakesPending remaining base (header_of old) l new taken.next taken.fault) stays.1.1 there.1)
-stays_taken remaining choice base (Blocks old) (Blocks mid) (Blocks new) taken stays takes = subst (λ (s : Source). TakesStored choice base s (source_of remaining new) (bytes_in (Blocks new)) taken.next taken.fault) stays.1 takes
+stays_taken remaining choice base (Blocks old) (Blocks mid) (Blocks new) taken stays takes = subst (λ (s : Progress). TakesStored choice base s (progress_of remaining new) (bytes_in (Blocks new)) taken.next taken.fault) stays.1 takes
 stays_taken remaining choice base (Packets old) (Blocks mid) new taken stays takes = absurd stays
 stays_taken remaining choice base (Blocks old) (Packets mid) new taken stays takes = absurd stays
 stays_taken remaining choice base (Packets old) (Packets mid) (Blocks new) taken stays takes = absurd takes
@@ -141,8 +141,8 @@ pub blocks_few : {R : Type 0} (reader : BufferedBlocks R) (next : Option Pending
 blocks_few reader None few = omega arith
 blocks_few reader (Some p) few = omega (arith, length-take p.len (drop p.start (body_of reader)), few)
 
-pub blocks_ready : {R : Type 0} (remaining : R → Option (List ℕ)) (choice : Interfaces) (base : ℕ) (a : Source) (reader : BufferedBlocks R) (bytes : Pending → List ℕ) (next : Option Pending) (fault : Option PcapError)
-    → TakesStored choice base a (source_of remaining reader) bytes next fault → IsReadyIf (Blocks reader) next
+pub blocks_ready : {R : Type 0} (remaining : R → Option (List ℕ)) (choice : Interfaces) (base : ℕ) (a : Progress) (reader : BufferedBlocks R) (bytes : Pending → List ℕ) (next : Option Pending) (fault : Option PcapError)
+    → TakesStored choice base a (progress_of remaining reader) bytes next fault → IsReadyIf (Blocks reader) next
 blocks_ready remaining choice base a reader bytes None fault takes = refl
-blocks_ready remaining choice base a reader bytes (Some p) None takes = takes.3.goes_on
+blocks_ready remaining choice base a reader bytes (Some p) None takes = takes.3.1.goes_on
 blocks_ready remaining choice base a reader bytes (Some p) (Some e) takes = absurd takes

@@ -3,6 +3,7 @@ pub mod Bodies
 pub mod Choices
 pub mod FrontsGiven
 pub mod Given
+pub mod Keeping
 pub mod Lying
 pub mod MergeLaws
 pub mod Merges

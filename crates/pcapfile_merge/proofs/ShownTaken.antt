@@ -19,7 +19,6 @@ use Rattle.pcap_ng.specs.Enhanced.{PacketText, enhanced_frame}
 use Rattle.pcap_ng.specs.Frames.{FrameText, Framed, frame_format}
 use Rattle.pcap_ng.specs.Lent.{body_in}
 use Rattle.pcap_file.specs.Placing as placing
-use Rattle.pcap_file.specs.Placing.{Source, TakesNext}
 use Rattle.pcap_ng.specs.Reader.{body_of, interfaces_in_force, section_in_force, state_of, stream_of}
 use Rattle.pcap_ng.specs.State.{or_big, order_at, within}
 use Rattle.pcap_ng.proofs.EnhancedFrames.{packet_item, packet_says}
@@ -27,15 +26,17 @@ use Rattle.pcap_ng.proofs.Lent.{held_block}
 use Rattle.pcap_ng.proofs.Stretched.{own_text}
 use Rattle.pcap_core.proofs.Texts.{front_of}
 use Rattle.pcapfile_run.specs.BlockPackets.{HoldsPacket, InBlock}
+use Rattle.pcapfile_merge.specs.declared.kept.Kept.{Kept}
 use Rattle.pcapfile_merge.specs.declared.made.Made.{Made}
 use Rattle.pcapfile_merge.specs.declared.packet.Pending.{Pending}
 use Rattle.pcapfile_merge.specs.declared.reader.Interfaces.{Interfaces}
 use Rattle.pcapfile_merge.specs.declared.stored.Said.{Said}
-use Rattle.pcapfile_merge.specs.BufferedBlocks.{PlainText, lent_by, source_at, text_in}
+use Rattle.pcapfile_merge.specs.BufferedBlocks.{PlainText, lent_by, progress_at, source_at, text_in}
+use Rattle.pcapfile_merge.specs.Keeping.{Progress, progress_with}
 use Rattle.pcapfile_merge.specs.Passing.{TellsStored, TellsTaken, bytes_within, in_said}
 use Rattle.pcapfile_merge.specs.Reordered.{little_entry}
 use Rattle.pcapfile_merge.specs.Taking.{packet_in}
-use Rattle.pcapfile_merge.specs.TakingBlocks.{GivesOf, IsGoing, IsTimeBy, numbered}
+use Rattle.pcapfile_merge.specs.TakingBlocks.{GivesOf, IsGoing, IsTimeBy, TakesItem, numbered}
 use Rattle.pcapfile_merge.proofs.Bodies.{nothing_made, plain_given}
 use Rattle.pcapfile_merge.proofs.Lying.{front_taken}
 use Rattle.pcapfile_merge.proofs.Turning.{passed_none}
@@ -95,42 +96,44 @@ pub order_there : (section there : Section) (interfaces : List Interface) (e : E
 unfolding order_at
 order_there section there interfaces e same named = ap or_big (sym named) ∙ ap (λ (s : Section). or_big (magic_order s.magic)) same
 
-module _ {R A : Type 0} (remaining : R → Option (List ℕ)) (choice : Interfaces) (base : ℕ) (a : Source) where
+module _ {R A : Type 0} (remaining : R → Option (List ℕ)) (choice : Interfaces) (base : ℕ) (a : Progress) where
   -- The buffered reader takes the block that the reader takes and holds.
-  pub held_taken : (shown : Option ℕ) (mid reader : PcapNgReader (BufReader R A)) (made : Made) (result : Result (Option Pending) PcapError) → shown ≡ None → source_at remaining shown mid ≡ a
-      → TellsTaken choice base (placing.source_of (reader_remaining remaining) mid) (placing.source_of (reader_remaining remaining) reader) (lent_by made (body_of reader)) result
-      → TellsTaken choice base a (source_at remaining shown reader) (lent_by made (body_in (text_in shown reader))) result
-  held_taken None mid reader made result none same tells =
-      subst (λ (s : Source). TellsTaken choice base s (source_at remaining None reader) (lent_by made (body_in (text_in None reader))) result) same tells
-  held_taken (Some n) mid reader made result none same tells = absurd (let no : ⊥ = cc in no)
+  pub held_taken : (shown : Option ℕ) (mid reader : PcapNgReader (BufReader R A)) (before kept : Kept) (made : Made) (result : Result (Option Pending) PcapError) → shown ≡ None → progress_at remaining shown mid before ≡ a
+      → TellsTaken choice base (progress_with before (placing.source_of (reader_remaining remaining) mid)) (progress_with kept (placing.source_of (reader_remaining remaining) reader)) (lent_by made (body_of reader)) result
+      → TellsTaken choice base a (progress_at remaining shown reader kept) (lent_by made (body_in (text_in shown reader))) result
+  held_taken None mid reader before kept made result none same tells =
+      subst (λ (s : Progress). TellsTaken choice base s (progress_at remaining None reader kept) (lent_by made (body_in (text_in None reader))) result) same tells
+  held_taken (Some n) mid reader before kept made result none same tells = absurd (let no : ⊥ = cc in no)
 
-  module _ (shown : Option ℕ) (reader : PcapNgReader (BufReader R A)) (packet : EnhancedNumbers) (n : ℕ) (none : shown ≡ None) (same : source_at remaining shown reader ≡ a) (ready : a.done ≡ false)
+  module _ (shown : Option ℕ) (reader : PcapNgReader (BufReader R A)) (kept : Kept) (packet : EnhancedNumbers) (n : ℕ) (none : shown ≡ None) (same : progress_at remaining shown reader kept ≡ a) (ready : a.source.done ≡ false)
       (text : PlainText (order_at (state_of reader)) packet (take n (reader_buffer (stream_of reader))) []) where
     item_there : Item
     item_there = packet_item (order_at (state_of reader)) text.frame.0 text.body (state_of reader)
 
-    starts : source_at remaining None reader ≡ a
-    starts = subst (λ (o : Option ℕ). source_at remaining o reader ≡ a) none same
+    starts : progress_at remaining None reader kept ≡ a
+    starts = subst (λ (o : Option ℕ). progress_at remaining o reader kept ≡ a) none same
 
-    going : IsGoing a
+    going : IsGoing a.source
     going =
-        let done : (source_at remaining None reader).done ≡ false = ap (λ (s : Source). s.done) starts ∙ ready in
-        (ready, sym (ap (λ (s : Source). s.failed) starts) ∙ reader.unfailed done)
+        let done : (source_at remaining None reader).done ≡ false = ap (λ (s : Progress). s.source.done) starts ∙ ready in
+        (ready, sym (ap (λ (s : Progress). s.source.failed) starts) ∙ reader.unfailed done)
 
-    next_there : TakesNext a (source_at remaining (Some n) reader) item_there
+    next_there : TakesItem a (progress_at remaining (Some n) reader kept) item_there
     unfolding item_there
     next_there =
         let stream = stream_of reader in
         let s = reader_buffer stream in
-        let done : (source_at remaining None reader).done ≡ false = ap (λ (s : Source). s.done) starts ∙ ready in
-        subst (λ (b : Source). TakesNext b (source_at remaining (Some n) reader) item_there) starts
-        (record {
-          took = (take n s, packet_says (order_at (state_of reader)) (section_in_force reader) (interfaces_in_force reader) refl text.frame.0 text.body (take n s) [] text.frame.1, front_taken (reader_capacity stream == 0) n s (remaining (reader_inner stream)));
-          leads = refl;
-          no_read_failed = reader.unfailed done;
-          went_on = done;
-          goes_on = done;
-        })
+        let done : (source_at remaining None reader).done ≡ false = ap (λ (s : Progress). s.source.done) starts ∙ ready in
+        subst (λ (b : Progress). TakesItem b (progress_at remaining (Some n) reader kept) item_there) starts (
+          (refl, refl),
+          record {
+            took = (take n s, packet_says (order_at (state_of reader)) (section_in_force reader) (interfaces_in_force reader) refl text.frame.0 text.body (take n s) [] text.frame.1, front_taken (reader_capacity stream == 0) n s (remaining (reader_inner stream)));
+            leads = refl;
+            no_read_failed = reader.unfailed done;
+            went_on = done;
+            goes_on = done;
+          },
+        )
 
     gives_there : (pending : Pending) (body : List ℕ) → body ≡ text.body
         → ((bytes : List ℕ) → packet.stored ≡ length bytes → TellsStored base (interfaces_in_force reader) (in_said (said_of packet) bytes) (Ok pending))
@@ -152,7 +155,7 @@ module _ {R A : Type 0} (remaining : R → Option (List ℕ)) (choice : Interfac
     -- A packet that is whole in the buffer was taken.
     pub shown_taken : (pending : Pending) (made : Made) → made.is_lent ≡ false
         → ((bytes : List ℕ) → packet.stored ≡ length bytes → TellsStored base (interfaces_in_force reader) (in_said (said_of packet) bytes) (Ok pending))
-        → TellsTaken choice base a (source_at remaining (Some n) reader) (lent_by made (body_in (text_in (Some n) reader))) (Ok (Some pending))
+        → TellsTaken choice base a (progress_at remaining (Some n) reader kept) (lent_by made (body_in (text_in (Some n) reader))) (Ok (Some pending))
     unfolding item_there
     shown_taken pending made unmade tells =
         let there = body_in (text_in (Some n) reader) in

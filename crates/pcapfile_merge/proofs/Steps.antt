@@ -13,8 +13,8 @@ use Rattle.pcapfile_merge.specs.declared.packet.Pending.{Pending}
 use Rattle.pcapfile_merge.specs.declared.source.Source.{Source}
 use Rattle.pcapfile_merge.specs.Choosing.{Chooses, IsFirst}
 use Rattle.pcapfile_merge.specs.Merges.{ComesLater, IsNotBefore}
-use Rattle.pcapfile_merge.specs.Merging.{EndsMerge, Input, Merging, MergesAt, MergesRun, held_of, packets_in, text_of, texts}
-use Rattle.pcapfile_merge.specs.Packets.{Packet, IsEarlier}
+use Rattle.pcapfile_merge.specs.Merging.{EndsMerge, Input, Merging, MergesAt, MergesRun, held_of, packets_in}
+use Rattle.pcapfile_merge.specs.Packets.{Packet, IsEarlier, text_of, texts}
 use Rattle.pcapfile_merge.specs.Holding.{Holds, bytes_in, held_by}
 use Rattle.pcapfile_merge.specs.Sources.{Advances, Gave, GaveBy, pending_of}
 use Rattle.pcapfile_merge.specs.Taking.{packet_in, text_by}

@@ -14,9 +14,11 @@ use Rattle.pcap_file.specs.Placing.{Source}
 use Rattle.pcap_ng.specs.Reader as readers
 use Rattle.pcap_ng.specs.State.{order_at}
 use Rattle.pcapfile_merge.specs.declared.buffered_blocks.BufferedBlocks.{BufferedBlocks}
+use Rattle.pcapfile_merge.specs.declared.kept.Kept.{Kept}
 use Rattle.pcapfile_merge.specs.declared.left_out.LeftOut.{LeftOut}
 use Rattle.pcapfile_merge.specs.declared.made.Made.{Made}
 use Rattle.pcapfile_merge.specs.Buffered.{left_behind, lent_of}
+use Rattle.pcapfile_merge.specs.Keeping.{Progress, progress_with}
 
 -- The text that is lent: from the reader, or the first n bytes of its buffer.
 abbrev pub text_in : {R A : Type 0} → Option ℕ → PcapNgReader (BufReader R A) → List ℕ
@@ -31,6 +33,10 @@ source_at remaining shown reader = record {
   failed = readers.has_failed reader;
   done = readers.is_done reader;
 }
+
+-- How far the reader is, with the blocks that it kept or left out.
+abbrev pub progress_at : {R A : Type 0} → (R → Option (List ℕ)) → Option ℕ → PcapNgReader (BufReader R A) → Kept → Progress
+progress_at remaining shown reader kept = progress_with kept (source_at remaining shown reader)
 
 -- The text of a block that was made, or else this body.
 abbrev pub lent_by : Made → List ℕ → List ℕ
@@ -57,7 +63,11 @@ module _ {R : Type 0} where
 
   -- The counts of the blocks that were left out so far.
   abbrev pub left_out_of : BufferedBlocks R → LeftOut
-  left_out_of blocks = blocks.left_out
+  left_out_of blocks = blocks.kept.left_out
+
+  -- The text of the blocks that were kept from before the first packet.
+  abbrev pub leading_of : BufferedBlocks R → List ℕ
+  leading_of blocks = blocks.kept.leading.items
 
   -- Whether the reader has refused something.
   abbrev pub is_done : BufferedBlocks R → Bool
@@ -67,9 +77,13 @@ module _ {R : Type 0} where
   abbrev pub source_of : (R → Option (List ℕ)) → BufferedBlocks R → Source
   source_of remaining blocks = source_at remaining blocks.shown blocks.reader
 
+  -- How far the buffered blocks are.
+  abbrev pub progress_of : (R → Option (List ℕ)) → BufferedBlocks R → Progress
+  progress_of remaining blocks = progress_at remaining blocks.shown blocks.reader blocks.kept
+
   -- StaysAt remaining old new: the reader removed the lent block from the buffer and took no other.
   abbrev pub StaysAt : (R → Option (List ℕ)) → BufferedBlocks R → BufferedBlocks R → Type 0
-  StaysAt remaining old new = (new.shown ≡ None) × (source_of remaining new ≡ source_of remaining old) × (new.made.is_lent ≡ false)
+  StaysAt remaining old new = (new.shown ≡ None) × (progress_of remaining new ≡ progress_of remaining old) × (new.made.is_lent ≡ false)
 
   -- LiesThere blocks packet n: the first n bytes of the buffer are the block of an enhanced packet without options, with these numbers.
   abbrev pub LiesThere : BufferedBlocks R → EnhancedNumbers → ℕ → Type 0

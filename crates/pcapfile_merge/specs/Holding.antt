@@ -10,7 +10,7 @@ use Rattle.pcapfile_merge.specs.declared.reader.Reader.TheVariants.{Packets, Blo
 use Rattle.pcapfile_merge.specs.declared.reader.Taken.{Taken}
 use Rattle.pcapfile_merge.specs.Buffered as packets
 use Rattle.pcapfile_merge.specs.BufferedBlocks as blocks
-use Rattle.pcapfile_merge.specs.BufferedBlocks.{source_of}
+use Rattle.pcapfile_merge.specs.BufferedBlocks.{progress_of}
 use Rattle.pcapfile_merge.specs.Packets.{Packet}
 use Rattle.pcapfile_merge.specs.Taking.{TakesPacket, packet_in}
 use Rattle.pcapfile_merge.specs.TakingBlocks.{TakesStored}
@@ -64,7 +64,7 @@ Holds next = (pending : Pending) × (next ≡ Some pending)
 
 -- A reader of blocks took the next packet, or took none for the stated reason.
 abbrev pub TakesBlocks : {R : Type 0} → (R → Option (List ℕ)) → Interfaces → ℕ → BufferedBlocks R → BufferedBlocks R → Taken → Type 0
-TakesBlocks remaining choice base old new taken = TakesStored choice base (source_of remaining old) (source_of remaining new) (bytes_in (Blocks new)) taken.next taken.fault
+TakesBlocks remaining choice base old new taken = TakesStored choice base (progress_of remaining old) (progress_of remaining new) (bytes_in (Blocks new)) taken.next taken.fault
 
 -- A reader took the next packet, or took none for the stated reason.
 abbrev pub TakesNext : {R : Type 0} → (R → Option (List ℕ)) → Interfaces → ℕ → Reader R → Reader R → Taken → Type 0

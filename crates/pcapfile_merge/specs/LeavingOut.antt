@@ -21,11 +21,14 @@ with_secrets left_out = record left_out { secrets = counted (left_out.secrets + 
 abbrev pub with_unknown : ℕ → LeftOut → LeftOut
 with_unknown number left_out = if number == 10 then with_secrets left_out else with_other left_out
 
--- The counts after one more block of this type: sections and interfaces aren't counted.
+-- The counts after one more block of this type: sections, interfaces and packets aren't counted.
 abbrev pub with_block : BlockType → LeftOut → LeftOut
 with_block types.SectionHeader left_out = left_out
 with_block types.InterfaceDescription left_out = left_out
 with_block types.NameResolution left_out = record left_out { names = counted (left_out.names + 1) }
 with_block types.InterfaceStatistics left_out = record left_out { statistics = counted (left_out.statistics + 1) }
+with_block types.EnhancedPacket left_out = left_out
+with_block types.Packet left_out = left_out
+with_block types.SimplePacket left_out = left_out
 with_block (types.Unknown number) left_out = with_unknown number left_out
 with_block _ left_out = with_other left_out

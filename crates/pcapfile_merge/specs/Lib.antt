@@ -4,6 +4,7 @@ pub mod Choices
 pub mod Choosing
 pub mod Fronts
 pub mod Holding
+pub mod Keeping
 pub mod LeavingOut
 pub mod Making
 pub mod Merges

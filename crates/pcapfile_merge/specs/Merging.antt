@@ -1,7 +1,7 @@
 -- The packets that a merge takes from its sources, and the bytes that it writes.
 use Rattle.std.specs.Prelude.{◌≡◌, ◌⊎◌, ◌<◌, ℕ, List, ◌++◌, map, length, Option, None, Some, Result, Ok, Err}
 use Rattle.std.specs.Result.{result_err}
-use Rattle.std.specs.List.{flat_map, slice_index_or, slice_set}
+use Rattle.std.specs.List.{slice_index_or, slice_set}
 use Rattle.std.specs.Io.KnownBytes.{Appends}
 use Rattle.pcap_core.specs.declared.errors.PcapError.{PcapError}
 use Rattle.pcap_core.specs.Errors.{IsIo}
@@ -11,15 +11,8 @@ use Rattle.pcapfile_merge.specs.declared.reader.Reader.{Reader}
 use Rattle.pcapfile_merge.specs.declared.source.Source.{Source}
 use Rattle.pcapfile_merge.specs.Choosing.{HaveEnded, IsFirst}
 use Rattle.pcapfile_merge.specs.Merges.{Merges}
-use Rattle.pcapfile_merge.specs.Packets.{Packet, IsEarlier}
+use Rattle.pcapfile_merge.specs.Packets.{Packet, IsEarlier, text_of, texts}
 use Rattle.pcapfile_merge.specs.Sources.{Advances, Gave, pending_of}
-
--- The text of a packet's block, and the texts of several packets in a row.
-abbrev pub text_of : Packet → List ℕ
-text_of p = p.text
-
-abbrev pub texts : List Packet → List ℕ
-texts = flat_map text_of
 
 -- The packets that were written, without the indexes of their inputs.
 abbrev pub packets_in : List (ℕ × Packet) → List Packet

@@ -1,5 +1,6 @@
 -- Packets that are merged, and their times.
 use Rattle.std.specs.Prelude.{⊤, ◌≡◌, ◌⊎◌, ◌<◌, ◌<ℤ◌, ℕ, List, Bool, true, false, Option, None, Some}
+use Rattle.std.specs.List.{flat_map}
 use Rattle.pcap_times.specs.declared.clock.Timestamp.{Timestamp}
 use Rattle.pcap_classic.specs.PacketText.{Captured}
 use Rattle.pcap_file.specs.Conversion.{exact_time}
@@ -7,10 +8,17 @@ use Rattle.pcap_blocks.specs.ParsedBlock.{EnhancedBody}
 use Rattle.pcap_written.specs.Plain.{plain_packet}
 use Rattle.pcap_file.specs.Converted.{little_text, time_of}
 
--- A packet that is merged: its time, if it has one, and the text of the block that is written.
+-- A packet that is merged, or another block: its time, if it has one, and the text of the block that is written.
 pub record Packet : Type 0 where
   pub time : Option Timestamp
   pub text : List ℕ
+
+-- The text of a packet's block, and the texts of several packets in a row.
+abbrev pub text_of : Packet → List ℕ
+text_of p = p.text
+
+abbrev pub texts : List Packet → List ℕ
+texts = flat_map text_of
 
 -- The text of a packet without options: the number of its interface among those of all inputs, its time in units of its interface's
 -- clock, its length on the wire and its bytes ('Enhanced Packet Block').

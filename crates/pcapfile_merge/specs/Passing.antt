@@ -1,5 +1,5 @@
 -- The results of the steps that take the next packet from blocks.
-use Rattle.std.specs.Prelude.{⊤, ◌≡◌, ◌⊎◌, ◌+◌, ℕ, List, length, take, drop, true, false, Option, None, Some, Result, Ok, Err, codes}
+use Rattle.std.specs.Prelude.{⊤, ◌≡◌, ◌⊎◌, ◌+◌, ℕ, List, length, take, drop, Bool, true, false, Option, None, Some, Result, Ok, Err, codes}
 use Rattle.std.specs.List.{slice_get}
 use Rattle.pcap_core.specs.declared.errors.PcapError.{PcapError}
 use Rattle.pcap_blocks.specs.declared.block_type.BlockType.{BlockType}
@@ -9,10 +9,11 @@ use Rattle.pcap_ng.specs.declared.pcapng.block_header.BlockHeader.{BlockHeader}
 use Rattle.pcap_ng.specs.Blocks.{Item}
 use Rattle.pcap_ng.specs.Frames.{Framed}
 use Rattle.pcap_file.specs.Placed.{is_packet}
-use Rattle.pcap_file.specs.Placing.{HasMessage, RefusesNext, Source, TakesNext}
+use Rattle.pcap_file.specs.Placing.{HasMessage, RefusesNext, TakesNext}
 use Rattle.pcap_ng.specs.State.{is_kept}
 use Rattle.pcapfile_run.specs.BlockPackets.{InBlock}
 use Rattle.pcapfile_run.specs.BlockPackets as in_blocks
+use Rattle.pcapfile_merge.specs.declared.kept.Kept.{Kept}
 use Rattle.pcapfile_merge.specs.declared.made.Made.{Made}
 use Rattle.pcapfile_merge.specs.declared.packet.Pending.{Pending}
 use Rattle.pcapfile_merge.specs.declared.reader.Interfaces.{Interfaces}
@@ -20,17 +21,38 @@ use Rattle.pcapfile_merge.specs.declared.reader.Interfaces.TheVariants.{Closed}
 use Rattle.pcapfile_merge.specs.declared.stored.Said.{Said}
 use Rattle.pcapfile_merge.specs.Taking.{packet_in}
 use Rattle.pcapfile_merge.specs.BufferedBlocks.{lent_by}
-use Rattle.pcapfile_merge.specs.TakingBlocks.{EndsBlock, EndsWell, GivesOf, IsTimeBy, IsUnfit, Passes, TakesStored}
+use Rattle.pcapfile_merge.specs.Keeping.{IsBeside, IsUnkept, KeepsBlock, Progress, is_carried}
+use Rattle.pcapfile_merge.specs.TakingBlocks.{EndsBlock, EndsWell, GivesOf, IsTimeBy, IsUnfit, MayPass, Passes, TakesItem, TakesStored}
 
 -- A block of this type can't be skipped after packets.
 abbrev pub BarsType : Interfaces → BlockType → PcapError → Type 0
 BarsType choice type e = (choice ≡ Closed) × (is_kept type ≡ true) × HasMessage (codes "Block: an interface or a section behind packets") e
 
--- Blocks were skipped up to one that holds a packet, with this header, or to the end, or the next block was refused.
-abbrev pub PassesTo : Interfaces → Source → Source → (BlockHeader → Item) → Result (Option BlockHeader) PcapError → Type 0
-PassesTo choice a b lent (Ok (Some header)) = (mid : Source) × Passes choice a mid × TakesNext mid b (lent header) × (is_packet (lent header).block.type_ ≡ true)
-PassesTo choice a b lent (Ok None) = (mid : Source) × (passed : Passes choice a mid) × EndsWell mid b (length passed.items)
-PassesTo choice a b lent (Err e) = (mid : Source) × Passes choice a mid × (RefusesNext mid b e ⊎ ((item : Item) × TakesNext mid b item × BarsType choice item.block.type_ e))
+-- A block gives something to a merge: it holds a packet, or it is kept.
+abbrev pub IsGiver : Framed → Type 0
+IsGiver block = (is_packet block.type_ ≡ true) ⊎ (is_carried block ≡ true)
+
+-- TellsGiver choice block gives: the block gives something next, or it may be skipped.
+abbrev pub TellsGiver : Interfaces → Framed → Bool → Type 0
+TellsGiver choice block true = IsGiver block
+TellsGiver choice block false = MayPass choice block
+
+-- Why a block ends a capture before a packet: it can't be skipped after packets, or it can't be kept.
+abbrev pub Bars : Interfaces → Framed → PcapError → Type 0
+Bars choice block e = BarsType choice block.type_ e ⊎ ((is_carried block ≡ true) × IsUnkept block e)
+
+-- PassesOne choice block old new result: the block gives something next, or it was skipped, or it ends the capture.
+abbrev pub PassesOne : Interfaces → Framed → Kept → Kept → Result Bool PcapError → Type 0
+PassesOne choice block old new (Ok true) = (new ≡ old) × IsGiver block
+PassesOne choice block old new (Ok false) = MayPass choice block × KeepsBlock block old new
+PassesOne choice block old new (Err e) = (new.leading.items ≡ old.leading.items) × (new.left_out ≡ old.left_out) × Bars choice block e
+
+-- Blocks were skipped up to one that gives something, with this header, or to the end, or the next block was refused.
+abbrev pub PassesTo : Interfaces → Progress → Progress → (BlockHeader → Item) → Result (Option BlockHeader) PcapError → Type 0
+PassesTo choice a b lent (Ok (Some header)) = (mid : Progress) × Passes choice a mid × TakesItem mid b (lent header) × IsGiver (lent header).block
+PassesTo choice a b lent (Ok None) = (mid : Progress) × (passed : Passes choice a mid) × EndsWell mid b (length passed.items)
+PassesTo choice a b lent (Err e) =
+    (mid : Progress) × Passes choice a mid × IsBeside mid b × (RefusesNext mid.source b.source e ⊎ ((item : Item) × TakesNext mid.source b.source item × Bars choice item.block e))
 
 -- The bytes of the packet with these facts, in the body of its block.
 abbrev pub bytes_within : List ℕ → Pending → List ℕ
@@ -80,6 +102,6 @@ abbrev pub TellsBody : ℕ → List Interface → Body → Result Pending PcapEr
 TellsBody base interfaces body = TellsIfPacket base interfaces (in_blocks.packet_in interfaces body)
 
 -- The result of taking a packet from a reader, which then lends this body.
-abbrev pub TellsTaken : Interfaces → ℕ → Source → Source → List ℕ → Result (Option Pending) PcapError → Type 0
+abbrev pub TellsTaken : Interfaces → ℕ → Progress → Progress → List ℕ → Result (Option Pending) PcapError → Type 0
 TellsTaken choice base a b body (Ok next) = TakesStored choice base a b (bytes_within body) next None
 TellsTaken choice base a b body (Err e) = TakesStored choice base a b (bytes_within body) None (Some e)

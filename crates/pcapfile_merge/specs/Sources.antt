@@ -11,7 +11,6 @@ use Rattle.pcapfile_merge.specs.declared.buffered.BufferedPackets.{BufferedPacke
 use Rattle.pcapfile_merge.specs.declared.buffered_blocks.BufferedBlocks.{BufferedBlocks}
 use Rattle.pcap_ng.specs.Blocks.{Item, block_format}
 use Rattle.pcap_file.specs.Placed.{is_packet}
-use Rattle.pcap_file.specs.Placing as blocks
 use Rattle.pcap_ng.specs.State.{is_kept}
 use Rattle.pcapfile_merge.specs.declared.packet.Pending.{Pending}
 use Rattle.pcapfile_merge.specs.declared.reader.Interfaces.TheVariants.{Closed}
@@ -20,9 +19,10 @@ use Rattle.pcapfile_merge.specs.declared.reader.Reader.TheVariants.{Packets, Blo
 use Rattle.pcapfile_merge.specs.declared.reader.Taken.{Taken}
 use Rattle.pcapfile_merge.specs.declared.source.Source.{Source}
 use Rattle.pcapfile_merge.specs.Buffered.{has_failed, header_of, left_of}
-use Rattle.pcapfile_merge.specs.BufferedBlocks.{source_of}
+use Rattle.pcapfile_merge.specs.BufferedBlocks.{leading_of, progress_of}
 use Rattle.pcapfile_merge.specs.Holding.{TakesNext, held_by}
-use Rattle.pcapfile_merge.specs.Packets.{Packet, packet_of}
+use Rattle.pcapfile_merge.specs.Keeping.{Progress, with_items}
+use Rattle.pcapfile_merge.specs.Packets.{Packet, packet_of, texts}
 use Rattle.pcapfile_merge.specs.Taking.{EndsThere}
 use Rattle.pcapfile_merge.specs.TakingBlocks.{EndsAt, EndsWell, GivesIn, IsGoing}
 
@@ -53,28 +53,31 @@ abbrev pub IsKeptFirst : List Item → Type 0
 IsKeptFirst [] = ⊤
 IsKeptFirst (item ∷ items) = (is_packet item.block.type_ ≡ true → AllByRecursion (λ (later : Item). is_kept later.block.type_ ≡ false) items) × IsKeptFirst items
 
--- These packets are exactly those of the blocks whose texts were taken, in order.
-pub record BlocksGave (base : ℕ) (a b : blocks.Source) (given : List Packet) : Type 0 where
+-- These packets and kept blocks are exactly those of the blocks whose texts were taken, in order. The other blocks were counted.
+pub record BlocksGave (base : ℕ) (a b : Progress) (given : List Packet) : Type 0 where
   pub items : List Item
   pub packets : List (Option Packet)
-  pub took : TakesTexts block_format a.state items a.left b.left
-  pub in_force : state_after block_format a.state items ≡ b.state
-  pub goes_on : IsGoing b
+  pub took : TakesTexts block_format a.source.state items a.source.left b.source.left
+  pub in_force : state_after block_format a.source.state items ≡ b.source.state
+  pub goes_on : IsGoing b.source
   pub kept_first : IsKeptFirst items
   pub gives : AllZip (GivesIn base) items packets
   pub given_are : given ≡ filter_map (λ packet. packet) packets
+  pub counts : b.left_out ≡ with_items items a.left_out
 
 -- A reader is after the block that gave the last of these packets, or where the capture ends, after n blocks.
-abbrev pub StandsBehind : ℕ → List Packet → ℕ → blocks.Source → blocks.Source → Option Pending → Option PcapError → Type 0
+abbrev pub StandsBehind : ℕ → List Packet → ℕ → Progress → Progress → Option Pending → Option PcapError → Type 0
 StandsBehind base given n mid now (Some pending) fault = (fault ≡ None) × (now ≡ mid) × (given ≢ [])
 StandsBehind base given n mid now None None = EndsWell mid now n
 StandsBehind base given n mid now None (Some e) = EndsAt (given ≢ []) base mid now e
 
--- From where the reader `from` was, these packets of blocks were taken, and then the reader is there.
+-- From where the reader `from` was, these packets and kept blocks were taken, behind those whose text leads, and then the reader is there.
 pub record GaveStored {R : Type 0} (remaining : R → Option (List ℕ)) (base : ℕ) (from reader : BufferedBlocks R) (given : List Packet) (taken : Taken) : Type 0 where
-  pub mid : blocks.Source
-  pub gave : BlocksGave base (source_of remaining from) mid given
-  pub stands : StandsBehind base given (length gave.items) mid (source_of remaining reader) taken.next taken.fault
+  pub lead : List Packet
+  pub leads : leading_of reader ≡ leading_of from ++ texts lead
+  pub mid : Progress
+  pub gave : BlocksGave base (progress_of remaining from) mid (lead ++ given)
+  pub stands : StandsBehind base given (length gave.items) mid (progress_of remaining reader) taken.next taken.fault
 
 -- A reader gave these packets from where `from` was. If it holds a packet, that is the last of them.
 abbrev pub GaveBy : {R : Type 0} → (R → Option (List ℕ)) → ℕ → Reader R → Reader R → List Packet → Taken → Type 0

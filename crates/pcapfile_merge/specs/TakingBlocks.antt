@@ -1,5 +1,5 @@
 -- The packets that are taken from a reader of blocks.
-use Rattle.std.specs.Prelude.{◌≡◌, ◌⊎◌, ◌<◌, ◌≤◌, ◌+◌, ◌-◌, ◌^◌, ℕ, List, length, map, true, false, Option, None, Some, codes}
+use Rattle.std.specs.Prelude.{◌≡◌, ◌⊎◌, ◌<◌, ◌≤◌, ◌+◌, ◌-◌, ◌^◌, ◌++◌, ℕ, List, [], ◌∷◌, length, map, true, false, Option, None, Some, codes}
 use Rattle.std.specs.List.{AllByRecursion, slice_get}
 use Rattle.pcap_core.specs.declared.common.Endianness.{Endianness}
 use Rattle.pcap_core.specs.declared.common.Endianness.TheVariants.{Little}
@@ -9,7 +9,6 @@ use Rattle.pcap_core.specs.Answer.{lacks, faulty, Refuses}
 use Rattle.pcap_items.specs.Format.{state_after}
 use Rattle.pcap_items.specs.Takes.{TakesTexts}
 use Rattle.pcap_times.specs.declared.clock.Timestamp.{Timestamp}
-use Rattle.pcap_blocks.specs.declared.block_type.BlockType.{BlockType}
 use Rattle.pcap_blocks.specs.EnhancedPacket.{Enhanced}
 use Rattle.pcap_blocks.specs.InterfaceDescription.{Interface}
 use Rattle.pcap_blocks.specs.ParsedBlock.{Body, EnhancedBody}
@@ -32,7 +31,8 @@ use Rattle.pcapfile_run.specs.BlockPackets.{HoldsPacket, InBlock}
 use Rattle.pcapfile_merge.specs.declared.packet.Pending.{Pending}
 use Rattle.pcapfile_merge.specs.declared.reader.Interfaces.{Interfaces}
 use Rattle.pcapfile_merge.specs.declared.reader.Interfaces.TheVariants.{Closed, Open}
-use Rattle.pcapfile_merge.specs.Packets.{Packet}
+use Rattle.pcapfile_merge.specs.Keeping.{IsBeside, IsUnkept, Progress, is_carried, kept_blocks, kept_list, with_items}
+use Rattle.pcapfile_merge.specs.Packets.{Packet, texts}
 use Rattle.pcapfile_merge.specs.Reordered.{NeedReordering, little_entry}
 use Rattle.pcapfile_merge.specs.Taking.{packet_in}
 
@@ -76,11 +76,15 @@ pub record IsMerged (order : Endianness) (base : ℕ) (interfaces : List Interfa
   pub time : IsTimeBy by packet.units p.time units
   pub text : p.text ≡ little_text (block_under order (base + packet.interface) units packet (enhanced_in body))
 
--- A block gives this packet, or none if it holds none.
-abbrev pub GivesOf : ℕ → List Interface → Framed → Option Packet → Type 0
-GivesOf base interfaces block (Some p) =
+-- A block holds the packet of which a merge makes this one.
+abbrev pub HoldsMerged : ℕ → List Interface → Framed → Packet → Type 0
+HoldsMerged base interfaces block p =
     (is_packet block.type_ ≡ true) × (packet : InBlock) × (holds : HoldsPacket interfaces block packet) × IsMerged block.endianness base interfaces holds.body packet p
-GivesOf base interfaces block None = is_packet block.type_ ≡ false
+
+-- A block gives the packet that it holds, or itself if it is kept. It gives nothing if it is left out.
+abbrev pub GivesOf : ℕ → List Interface → Framed → Option Packet → Type 0
+GivesOf base interfaces block (Some p) = HoldsMerged base interfaces block p ⊎ (kept_list block ≡ p ∷ [])
+GivesOf base interfaces block None = (is_packet block.type_ ≡ false) × (kept_list block ≡ [])
 
 -- GivesIn base item packet: the same for a block of a capture.
 abbrev pub GivesIn : ℕ → Item → Option Packet → Type 0
@@ -113,39 +117,47 @@ pub data EndsBlock (Behind : Type 0) (base : ℕ) (interfaces : List Interface) 
   -- It is an enhanced packet that can't be written with its number.
   packet_unmade : (packet : InBlock) (holds : HoldsPacket interfaces block packet) (enhanced : Enhanced) → enhanced_in holds.body ≡ Some enhanced
       → IsUnmade block.endianness (base + packet.interface) enhanced e → EndsBlock Behind base interfaces block e
+  -- It holds no packet and can't be kept.
+  block_unkept : is_carried block ≡ true → IsUnkept block e → EndsBlock Behind base interfaces block e
 
 -- The next block ends a capture that is merged: it is refused, or it is taken and ends the capture.
-abbrev pub EndsAt : Type 0 → ℕ → Source → Source → PcapError → Type 0
-EndsAt Behind base a b e = RefusesNext a b e ⊎ ((item : Item) × TakesNext a b item × EndsBlock Behind base (interfaces_at item.after) item.block e)
+abbrev pub EndsAt : Type 0 → ℕ → Progress → Progress → PcapError → Type 0
+EndsAt Behind base a b e = IsBeside a b × (RefusesNext a.source b.source e ⊎ ((item : Item) × TakesNext a.source b.source item × EndsBlock Behind base (interfaces_at item.after) item.block e))
 
--- A block of this type may be skipped: it holds no packet, and after packets it describes no interface and begins no section.
-abbrev pub MayPass : Interfaces → BlockType → Type 0
-MayPass Open type = is_packet type ≡ false
-MayPass Closed type = (is_packet type ≡ false) × (is_kept type ≡ false)
+-- A block may be skipped: it holds no packet. After packets, it also describes no interface, begins no section and isn't kept.
+abbrev pub MayPass : Interfaces → Framed → Type 0
+MayPass Open block = is_packet block.type_ ≡ false
+MayPass Closed block = (is_packet block.type_ ≡ false) × (is_kept block.type_ ≡ false) × (is_carried block ≡ false)
 
 -- A reader has refused nothing, and no read of its stream failed.
 abbrev pub IsGoing : Source → Type 0
 IsGoing a = (a.done ≡ false) × (a.failed ≡ false)
 
--- Blocks were skipped.
-pub record Passes (choice : Interfaces) (a b : Source) : Type 0 where
+-- Blocks were skipped. The text of those that are kept was put behind the leading text, and the others were counted.
+pub record Passes (choice : Interfaces) (a b : Progress) : Type 0 where
   pub items : List Item
-  pub may_pass : AllByRecursion (λ (item : Item). MayPass choice item.block.type_) items
-  pub took : TakesTexts block_format a.state items a.left b.left
-  pub in_force : state_after block_format a.state items ≡ b.state
-  pub goes_on : IsGoing b
+  pub may_pass : AllByRecursion (λ (item : Item). MayPass choice item.block) items
+  pub took : TakesTexts block_format a.source.state items a.source.left b.source.left
+  pub in_force : state_after block_format a.source.state items ≡ b.source.state
+  pub goes_on : IsGoing b.source
+  pub leads : b.leading ≡ a.leading ++ texts (kept_blocks items)
+  pub counts : b.left_out ≡ with_items items a.left_out
 
 -- The most blocks that a reader skips without a packet.
 abbrev pub most_passed : ℕ
 most_passed = 2 ^ 64 - 1
 
 -- After n blocks, the stream is at its end, or the reader skipped the most blocks.
-abbrev pub EndsWell : Source → Source → ℕ → Type 0
-EndsWell a b n = TakesNone a b ⊎ ((b ≡ a) × (most_passed ≤ n))
+abbrev pub EndsWell : Progress → Progress → ℕ → Type 0
+EndsWell a b n = (IsBeside a b × TakesNone a.source b.source) ⊎ ((b ≡ a) × (most_passed ≤ n))
+
+-- The next block was taken, and no further block was kept or left out.
+abbrev pub TakesItem : Progress → Progress → Item → Type 0
+TakesItem a b item = IsBeside a b × TakesNext a.source b.source item
 
 -- Blocks were skipped up to one that gives the packet with these facts, or to the end, or an error ended the capture.
-abbrev pub TakesStored : Interfaces → ℕ → Source → Source → (Pending → List ℕ) → Option Pending → Option PcapError → Type 0
-TakesStored choice base a b bytes (Some pending) None = (mid : Source) × Passes choice a mid × (item : Item) × TakesNext mid b item × GivesIn base item (Some (packet_in (bytes pending) pending))
-TakesStored choice base a b bytes None None = (mid : Source) × (passed : Passes choice a mid) × EndsWell mid b (length passed.items)
-TakesStored choice base a b bytes None (Some e) = (mid : Source) × Passes choice a mid × EndsAt (choice ≡ Closed) base mid b e
+abbrev pub TakesStored : Interfaces → ℕ → Progress → Progress → (Pending → List ℕ) → Option Pending → Option PcapError → Type 0
+TakesStored choice base a b bytes (Some pending) None = (mid : Progress) × Passes choice a mid × (item : Item) × TakesItem mid b item × GivesIn base item (Some (packet_in (bytes pending) pending))
+TakesStored choice base a b bytes None None = (mid : Progress) × (passed : Passes choice a mid) × EndsWell mid b (length passed.items)
+TakesStored choice base a b bytes None (Some e) = (mid : Progress) × Passes choice a mid × EndsAt (choice ≡ Closed) base mid b e
 TakesStored choice base a b bytes (Some pending) (Some e) = ⊥

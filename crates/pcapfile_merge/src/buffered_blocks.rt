@@ -1,12 +1,14 @@
 //! Blocks of a PcapNg capture, lent from the reader's buffer without a copy.
 
-ghost use Rattle.std.specs.Prelude.{◌≡◌, false, map, None, IfSome};
+ghost use Rattle.std.specs.Prelude.{◌≡◌, [], false, map, None, IfSome};
 ghost use Rattle.std.specs.Io.Buffered.{reader_remaining};
 ghost use Rattle.pcap_core.specs.Answer.{number_in};
 ghost use Rattle.pcap_blocks.specs.InterfaceDescription.{interface_of};
 ghost use Rattle.pcap_file.specs.Placing as readers;
-ghost use Rattle.pcapfile_merge.specs.BufferedBlocks.{LiesThere, PlainText, body_of, interfaces_of, left_out_of, source_of};
+ghost use Rattle.pcapfile_merge.specs.BufferedBlocks.{LiesThere, PlainText, body_of, interfaces_of, leading_of, left_out_of, progress_of};
+ghost use Rattle.pcapfile_merge.specs.LeavingOut.{nothing};
 
+use crate::kept::Kept;
 use crate::left_out::LeftOut;
 use crate::made::Made;
 use crate::parts::{behind, front};
@@ -30,7 +32,7 @@ pub struct BufferedBlocks<R> {
     pub(crate) reader: PcapNgReader<BufReader<R>>,
     pub(crate) shown: Option<usize>,
     pub(crate) made: Made,
-    pub(crate) left_out: LeftOut,
+    pub(crate) kept: Kept,
 }
 
 impl<R> BufferedBlocks<R> {
@@ -45,27 +47,34 @@ impl<R> BufferedBlocks<R> {
     pub fn left_out(&self) -> LeftOut
         ensures { result ≡ left_out_of self.now }
     {
-        self.left_out
+        self.kept.left_out
+    }
+
+    /// Returns the text of the blocks without a packet that were kept from before the first packet. They are little-endian.
+    pub fn leading(&self) -> &[u8]
+        ensures { result.now ≡ leading_of self.now }
+    {
+        self.kept.leading.as_slice()
     }
 }
 
 impl<R: Read + Drop> BufferedBlocks<R> {
     /// Makes a reader of the blocks after those that `reader` took.
     pub fn new(alloc: Global, reader: PcapNgReader<BufReader<R>>) -> BufferedBlocks<R>
-        ensures { source_of R.remaining result ≡ readers.source_of (reader_remaining R.remaining) reader }
+        ensures { progress_of R.remaining result ≡ record { source = readers.source_of (reader_remaining R.remaining) reader; leading = []; left_out = nothing } }
     {
         BufferedBlocks {
             reader,
             shown: None,
             made: Made::new(alloc),
-            left_out: LeftOut::nothing(),
+            kept: Kept::new(alloc),
         }
     }
 
     // Removes the lent block from the buffer.
     #[inline(always)]
     pub(crate) fn let_go(&mut self)
-        ensures source { source_of R.remaining self.new ≡ source_of R.remaining self.old }
+        ensures source { progress_of R.remaining self.new ≡ progress_of R.remaining self.old }
         ensures nothing { self.new.shown ≡ None }
         ensures unmade { self.new.made.is_lent ≡ false }
     {

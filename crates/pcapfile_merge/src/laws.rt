@@ -2,8 +2,9 @@
 
 ghost use Rattle.std.specs.Prelude.{◌≡◌, ◌++◌, ℕ, List, [], map, Some};
 ghost use Rattle.std.specs.List.{AllByRecursion, slice_index_or};
-ghost use Rattle.pcap_file.specs.Placing.{Source, TakesNone};
+ghost use Rattle.pcap_file.specs.Placing.{TakesNone};
 ghost use Rattle.pcapfile_merge.specs.Fronts.{AreOfAll, AreOfFirst};
+ghost use Rattle.pcapfile_merge.specs.Keeping.{Progress};
 ghost use Rattle.pcapfile_merge.specs.Merges.{IsSorted, Merges, given_by};
 ghost use Rattle.pcapfile_merge.specs.Packets.{Packet, IsEarlier};
 ghost use Rattle.pcapfile_merge.specs.Sources.{BlocksGave};
@@ -21,13 +22,16 @@ pub fn merges_of_sorted_inputs_are_sorted()
         IsSorted IsEarlier (map (λ (given : ℕ × Packet). given.1) out) }
 {}
 
-/// If the bytes of the stream are known, the packets that a source of blocks gave are those of the first blocks of their front.
+/// If the bytes of the stream are known, the packets and kept blocks that a source of blocks gave are those of the first blocks of their
+/// front.
 pub fn blocks_give_their_front()
-    ensures { (base : ℕ) (a b : Source) (given : List Packet) (s : List ℕ) → BlocksGave base a b given → a.left ≡ Some s → AreOfFirst base a.state s given }
+    ensures { (base : ℕ) (a b : Progress) (given : List Packet) (s : List ℕ) → BlocksGave base a b given → a.source.left ≡ Some s
+        → AreOfFirst base a.source.state s given }
 {}
 
-/// If a source of blocks reached the end of its stream, its packets are those of all blocks of the front, and nothing is left.
+/// If a source of blocks reached the end of its stream, its packets and kept blocks are those of all blocks of the front, and nothing is
+/// left.
 pub fn blocks_give_all_at_the_end()
-    ensures { (base : ℕ) (a b now : Source) (given : List Packet) (s : List ℕ) → BlocksGave base a b given → TakesNone b now → a.left ≡ Some s
-        → AreOfAll base a.state s given }
+    ensures { (base : ℕ) (a b now : Progress) (given : List Packet) (s : List ℕ) → BlocksGave base a b given → TakesNone b.source now.source → a.source.left ≡ Some s
+        → AreOfAll base a.source.state s given }
 {}

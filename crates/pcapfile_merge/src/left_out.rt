@@ -34,12 +34,16 @@ impl LeftOut {
         }
     }
 
-    // Counts a block of this type. Sections and interfaces aren't counted.
+    // Counts a block of this type. Sections, interfaces and packets aren't counted.
     pub(crate) fn count(&mut self, type_: BlockType)
         ensures { self.new ≡ with_block type_ self.old }
     {
         match type_ {
-            BlockType::SectionHeader | BlockType::InterfaceDescription => (),
+            BlockType::SectionHeader
+            | BlockType::InterfaceDescription
+            | BlockType::EnhancedPacket
+            | BlockType::Packet
+            | BlockType::SimplePacket => (),
             BlockType::NameResolution => self.names = self.names.saturating_add(1),
             BlockType::InterfaceStatistics => self.statistics = self.statistics.saturating_add(1),
             BlockType::Unknown(SECRETS) => self.secrets = self.secrets.saturating_add(1),

@@ -4,6 +4,7 @@
 mod buffered;
 mod buffered_blocks;
 mod choice;
+mod kept;
 pub mod laws;
 mod left_out;
 mod made;

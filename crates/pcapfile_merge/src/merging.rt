@@ -4,7 +4,8 @@ ghost use Rattle.std.specs.Prelude.{◌≡◌, ◌≤◌, ◌<◌, length, Some}
 ghost use Rattle.pcap_items.specs.Writing.{WritesAll};
 ghost use Rattle.pcapfile_merge.specs.Choosing.{Chooses};
 ghost use Rattle.pcapfile_merge.specs.Holding.{Holds};
-ghost use Rattle.pcapfile_merge.specs.Merging.{MergesAt, MergesNext, MergesRun, outcome_of, texts};
+ghost use Rattle.pcapfile_merge.specs.Merging.{MergesAt, MergesNext, MergesRun, outcome_of};
+ghost use Rattle.pcapfile_merge.specs.Packets.{texts};
 ghost use Rattle.pcapfile_merge.specs.Sources.{pending_of};
 
 use crate::choice::earliest;
@@ -18,13 +19,13 @@ use std::io::{Read, Write};
 /// The outcome of a merge.
 #[derive(Debug, Drop)]
 pub struct Merged {
-    /// How many packets were written.
+    /// How many packets and other blocks were written.
     pub packets: u64,
     /// The error with which writing failed, if it did.
     pub fault: Option<PcapError>,
 }
 
-/// Writes the packets of the sources, merged by time, and at most `most` of them.
+/// Writes the packets and the other blocks of the sources, merged by time, and at most `most` of them.
 pub fn merge_packets<R: Read + Drop, W: Write>(
     sources: &mut [Source<R>],
     writer: &mut W,

@@ -1,6 +1,6 @@
 //! The packets of a PcapNg capture that is merged.
 
-ghost use Rattle.std.specs.Prelude.{◌≡◌, ◌≤◌, ℕ, List, length, false, true, map, Some, IfOk, IfSome, MatchResult};
+ghost use Rattle.std.specs.Prelude.{◌≡◌, ◌⊎◌, ◌≤◌, ℕ, List, length, false, true, map, Some, IfOk, IfSome, MatchResult};
 ghost use Rattle.std.specs.Option.{option_map};
 ghost use Rattle.pcap_blocks.specs.EnhancedPacket.{enhanced_of};
 ghost use Rattle.pcap_blocks.specs.InterfaceDescription.{interface_of};
@@ -11,13 +11,15 @@ ghost use Rattle.pcap_file.specs.Placing.{source_of};
 ghost use Rattle.pcap_ng.specs.Reader.{body_of, is_done, lent_item};
 ghost use Rattle.pcap_ng.specs.State.{is_kept};
 ghost use Rattle.pcapfile_run.specs.BlockPackets.{in_block};
-ghost use Rattle.pcapfile_merge.specs.Passing.{BarsType, PassesTo, TellsBody, TellsPending, TellsStored, TellsTaken, bytes_before, in_said};
+ghost use Rattle.pcapfile_merge.specs.Keeping.{progress_with};
+ghost use Rattle.pcapfile_merge.specs.Passing.{BarsType, IsGiver, PassesOne, PassesTo, TellsBody, TellsGiver, TellsPending, TellsStored, TellsTaken};
+ghost use Rattle.pcapfile_merge.specs.Passing.{bytes_before, in_said};
 ghost use Rattle.pcapfile_merge.specs.BufferedBlocks as buffered;
 ghost use Rattle.pcapfile_merge.specs.Holding.{BlockThere, HoldsFewBlocks, IsReadyBlocks, IsWhole, TakesBlocks};
-ghost use Rattle.pcapfile_merge.specs.TakingBlocks.{IsTimeBy, MayPass, enhanced_in};
+ghost use Rattle.pcapfile_merge.specs.TakingBlocks.{IsTimeBy, enhanced_in};
 
 use crate::buffered_blocks::BufferedBlocks;
-use crate::left_out::LeftOut;
+use crate::kept::{Kept, is_carried};
 use crate::made::Made;
 use crate::packet::{MOST, Pending};
 use crate::reader::{Interfaces, Taken};
@@ -69,7 +71,7 @@ fn take_shown<R: Read + Drop>(
     interfaces: Interfaces,
 ) -> ResultParsing<Option<Pending>>
     requires { buffered.is_done blocks.old ≡ false }
-    ensures takes { TellsTaken interfaces base (buffered.source_of R.remaining blocks.old) (buffered.source_of R.remaining blocks.new)
+    ensures takes { TellsTaken interfaces base (buffered.progress_of R.remaining blocks.old) (buffered.progress_of R.remaining blocks.new)
         (buffered.body_of blocks.new) result }
     ensures few { IfOk result (λ next. IfSome next (λ pending. pending.len ≤ 4294967260)) }
 {
@@ -79,7 +81,7 @@ fn take_shown<R: Read + Drop>(
             alloc,
             &mut blocks.reader,
             &mut blocks.made,
-            &mut blocks.left_out,
+            &mut blocks.kept,
             base,
             interfaces,
         ),
@@ -114,31 +116,32 @@ fn take_block<R: Read + Drop>(
     alloc: Global,
     reader: &mut PcapNgReader<R>,
     made: &mut Made,
-    left_out: &mut LeftOut,
+    kept: &mut Kept,
     base: u32,
     interfaces: Interfaces,
 ) -> ResultParsing<Option<Pending>>
     requires ready { is_done reader.old ≡ false }
     requires unmade { made.old.is_lent ≡ false }
-    ensures takes { TellsTaken interfaces base (source_of R.remaining reader.old) (source_of R.remaining reader.new)
+    ensures takes { TellsTaken interfaces base (progress_with kept.old (source_of R.remaining reader.old)) (progress_with kept.new (source_of R.remaining reader.new))
         (buffered.lent_by made.new (body_of reader.new)) result }
     ensures few { IfOk result (λ next. IfSome next (λ pending. pending.len ≤ 4294967260)) }
 {
-    let Some(header) = pass_to_packet(reader, interfaces, left_out)? else {
+    let Some(header) = pass_to_giver(reader, interfaces, kept)? else {
         return Ok(None);
     };
     let block = reader.block(header);
-    Ok(Some(pending_in_block(alloc, reader.interfaces(), &block, base, made)?))
+    Ok(Some(pending_in_giver(alloc, reader.interfaces(), &block, base, made)?))
 }
 
-// Skips blocks up to one that holds a packet, and counts those that are left out.
-fn pass_to_packet<R: Read + Drop>(
+// Skips blocks up to one that gives something next, and keeps or counts them.
+fn pass_to_giver<R: Read + Drop>(
     reader: &mut PcapNgReader<R>,
     interfaces: Interfaces,
-    left_out: &mut LeftOut,
+    kept: &mut Kept,
 ) -> ResultParsing<Option<BlockHeader>>
     requires { is_done reader.old ≡ false }
-    ensures { PassesTo interfaces (source_of R.remaining reader.old) (source_of R.remaining reader.new) (lent_item reader.new) result }
+    ensures { PassesTo interfaces (progress_with kept.old (source_of R.remaining reader.old)) (progress_with kept.new (source_of R.remaining reader.new))
+        (lent_item reader.new) result }
 {
     for turn in 0..u64::MAX {
         let header = match reader.next_header() {
@@ -146,29 +149,42 @@ fn pass_to_packet<R: Read + Drop>(
             Some(Err(error)) => return Err(error),
             Some(Ok(header)) => header,
         };
-        if holds_packet(header.type_) {
+        let block = reader.block(header);
+        if pass_one(&block, interfaces, kept)? {
             return Ok(Some(header));
         }
-        may_pass(header.type_, interfaces)?;
-        left_out.count(header.type_);
     }
     Ok(None)
 }
 
-// Refuses a block that begins a section or describes an interface after packets. Any other block without a packet may be skipped.
-fn may_pass(type_: BlockType, interfaces: Interfaces) -> ResultParsing<()>
-    requires { is_packet type_ ≡ false }
-    ensures { MatchResult result (λ done. MayPass interfaces type_) (BarsType interfaces type_) }
+// Returns whether a block gives something next. If it doesn't, the block is kept or counted.
+fn pass_one(block: &Block, interfaces: Interfaces, kept: &mut Kept) -> ResultParsing<bool>
+    ensures { PassesOne interfaces (framed_of block.now) kept.old kept.new result }
 {
+    if gives_next(block, interfaces)? {
+        return Ok(true);
+    }
+    kept.pass(block)?;
+    Ok(false)
+}
+
+// Returns whether a block gives something next: it holds a packet, or it comes after packets and is kept. Refuses a block that begins a
+// section or describes an interface after packets.
+fn gives_next(block: &Block, interfaces: Interfaces) -> ResultParsing<bool>
+    ensures { MatchResult result (TellsGiver interfaces (framed_of block.now)) (BarsType interfaces (framed_of block.now).type_) }
+{
+    if holds_packet(block.type_) {
+        return Ok(true);
+    }
     match interfaces {
-        Interfaces::Open => Ok(()),
+        Interfaces::Open => Ok(false),
         Interfaces::Closed => {
-            if stays_in_force(type_) {
+            if stays_in_force(block.type_) {
                 return Err(PcapError::InvalidField(
                     "Block: an interface or a section behind packets",
                 ));
             }
-            Ok(())
+            Ok(is_carried(block))
         }
     }
 }
@@ -181,6 +197,25 @@ fn stays_in_force(type_: BlockType) -> bool
         type_,
         BlockType::SectionHeader | BlockType::InterfaceDescription
     )
+}
+
+// Returns the facts about the packet in a block, or about a block that is kept.
+fn pending_in_giver(
+    alloc: Global,
+    interfaces: &[InterfaceDescriptionBlock<'static>],
+    block: &Block,
+    base: u32,
+    made: &mut Made,
+) -> ResultParsing<Pending>
+    requires gives { IsGiver (framed_of block.now) }
+    requires unmade { made.old.is_lent ≡ false }
+    ensures tells { TellsPending base (map interface_of interfaces.now) (framed_of block.now) made.new result }
+    ensures few { IfOk result (λ pending. pending.len ≤ 4294967260) }
+{
+    if holds_packet(block.type_) {
+        return pending_in_block(alloc, interfaces, block, base, made);
+    }
+    made.keep(block)
 }
 
 // Returns the facts about the packet in a block. If it is an enhanced packet, its block is made for the output.

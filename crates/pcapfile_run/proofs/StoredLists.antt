@@ -12,7 +12,7 @@ use Rattle.pcap_ng.proofs.FirstBlock.{opening_stable}
 use Rattle.capcopy_run.specs.declared.exit.Exit.{Exit}
 use Rattle.capcopy_run.specs.Exits.{exit_of}
 use Rattle.capcopy_run.specs.Lines.{WritesLine}
-use Rattle.capcopy_run.specs.Listing.{ListsItems, ListsUntil}
+use Rattle.capcopy_run.specs.Listing.{ListsItems, ListsUntil, streams}
 use Rattle.capcopy_run.proofs.Listing.{lists_known}
 use Rattle.pcapfile_lines.specs.declared.form.Form.{Form}
 use Rattle.pcapfile_run.specs.declared.checked.Format.{Format}
@@ -30,7 +30,7 @@ stored_written form index n m item interfaces before now result counts described
 
 -- A capture whose first block was read, and whose packets were listed.
 pub stored_known : (form : Option Form) (q : State) (bytes known before : Option (List ℕ)) → Takes OpeningSays bytes known q → (most : ℕ) (now after : Option (List ℕ)) (result : Result (Unit {0}) Exit)
-    → ListsItems (IsNumberedLine form) numbered_blocks (q, 0) known now before after most result → IfSome bytes (λ s. ListsUntil (stored_lines form) most s now before after (exit_of result))
+    → ListsItems (IsNumberedLine form) numbered_blocks (q, 0) (streams known before) (streams now after) most result → IfSome bytes (λ s. ListsUntil (stored_lines form) most s now before after (exit_of result))
 stored_known form q bytes known before took most now after result run =
     lists_known (stored_lines form) opening_stable q stored_blocks.lawful bytes known before before took (Appends-nil before) most now after result run
 

@@ -1,7 +1,7 @@
 //! The word `check`.
 
 use pcap_file::PcapError;
-use pcapfile_files::{AT_FAULT, Console, Shown, buffered, open_watched, tell_io};
+use pcapfile_files::{AT_FAULT, Console, Shown, buffered, open_watched, tell_foreign, tell_io};
 use pcapfile_run::{Checked, End, Format, check_blocks, check_packets, format_of};
 use std::io;
 use std::io::ErrorKind;
@@ -15,7 +15,7 @@ pub fn check_files(console: &Console, names: &[&str]) -> io::Result<u8> {
     Ok(status)
 }
 
-// Writes the line on a capture. If the capture can't be read, or memory runs out, the line goes to standard error.
+// Writes the line on a capture. If the file is no capture or can't be read, or memory runs out, a line goes to standard error.
 fn check_file(console: &Console, name: &str) -> io::Result<u8> {
     let checked = match read_and_check(console, name) {
         Ok(checked) => checked,
@@ -24,8 +24,8 @@ fn check_file(console: &Console, name: &str) -> io::Result<u8> {
     // The progress line is cleared before any other line is written.
     console.clear();
     let shown = Shown(name);
-    if checked.status() == AT_FAULT {
-        console.note_fault();
+    if checked.status() == AT_FAULT && tell_foreign(console, name)? {
+        return Ok(AT_FAULT);
     }
     match checked.end {
         End::Unread(_) | End::Memory => tell_unread(console, name, &checked)?,

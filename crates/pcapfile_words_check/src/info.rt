@@ -3,7 +3,9 @@
 use crate::check::tell_unread;
 use capcopy_run::Uninterrupted;
 use pcap_file::PcapError;
-use pcapfile_files::{AT_FAULT, Console, OUTPUT, Shown, ShownJson, buffered, tell_error, tell_io};
+use pcapfile_files::{
+    AT_FAULT, Console, OUTPUT, Shown, ShownJson, buffered, tell_error, tell_foreign, tell_io,
+};
 use pcapfile_info::{Information, inform_blocks, inform_packets};
 use pcapfile_lenient::Captured;
 use pcapfile_run::{End, Format, format_of};
@@ -70,8 +72,8 @@ fn write_told<W: Write>(
     }
     // The progress line is cleared before any other line is written.
     console.clear();
-    if checked.status() == AT_FAULT {
-        console.note_fault();
+    if checked.status() == AT_FAULT && tell_foreign(console, name)? && !as_json {
+        return Ok(AT_FAULT);
     }
     if as_json {
         match json_of(console.alloc(), name, information) {

@@ -7,4 +7,4 @@ mod list;
 
 pub use check::check_files;
 pub use info::{Informing, inform_files};
-pub use list::list_files;
+pub use list::{Listing, list_files};

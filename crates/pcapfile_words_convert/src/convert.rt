@@ -1,14 +1,16 @@
 //! The word `convert`.
 
+use crate::left_out::LeftOut;
+use crate::with_fcs::{Again, HEADER, has_reserved_bits, header_with_more, put_packets};
 use pcap_file::pcap::PcapHeader;
-use pcap_file::pcapng::InterfaceDescriptionBlock;
+use pcap_file::pcapng::{InterfaceDescriptionBlock, PcapNgWriter};
 use pcap_file::run::{
     IfUnplaced, Under, convert_to_pcap, convert_to_pcapng, copy_buffered, copy_pcapng_buffered,
 };
-use pcap_file::{DataLink, PcapError, PcapNgReader, PcapWriter, ResultParsing};
+use pcap_file::{DataLink, PcapError, PcapNgReader, PcapReader, PcapWriter, ResultParsing};
 use pcapfile_files::{Console, OUTPUT, Shown, buffered, tell_error, tell_io, write_named};
 use pcapfile_lenient::Captured;
-use pcapfile_run::{Format, format_of, holds_packet};
+use pcapfile_run::{Format, format_of};
 use std::alloc::Global;
 use std::io;
 use std::io::{BufRead, BufWriter, Read, Write};
@@ -35,10 +37,10 @@ pub struct Conversion<'a> {
 /// The outcome of a conversion.
 #[derive(Drop)]
 struct Ended {
-    /// The number of packets that don't fit in the other format.
-    left_out: u64,
-    /// The number of blocks without a packet that were left out.
-    others: u64,
+    /// What doesn't fit in the other format.
+    left_out: LeftOut,
+    /// Whether bits without a meaning were left out of the field of a link type.
+    has_lost_bits: bool,
     /// The error that ended the conversion before the end of the capture.
     fault: Option<PcapError>,
     /// Whether that error is of a write.
@@ -49,8 +51,8 @@ impl Ended {
     // Returns the outcome of a conversion that left nothing out.
     fn whole(fault: Option<PcapError>, write_failed: bool) -> Ended {
         Ended {
-            left_out: 0,
-            others: 0,
+            left_out: LeftOut::default(),
+            has_lost_bits: false,
             fault,
             write_failed,
         }
@@ -70,16 +72,11 @@ fn tell_ended(console: &Console, asked: &Conversion, ended: &io::Result<Ended>) 
         Ok(ended) => ended,
         Err(error) => return tell_io(console, asked.from, error),
     };
-    let from = Shown(asked.from);
-    let (packets, blocks) = (ended.left_out, ended.others);
-    if packets > 0 {
+    ended.left_out.tell(console, asked.from)?;
+    if ended.has_lost_bits {
+        let from = Shown(asked.from);
         eprintln!(console.for_line();
-            "pcapfile: {from}: {packets} packets have no place there, and are left out"
-        )?;
-    }
-    if blocks > 0 {
-        eprintln!(console.for_line();
-            "pcapfile: {from}: {blocks} blocks without a packet are left out"
+            "pcapfile: {from}: reserved bits beside the link type are left out"
         )?;
     }
     match &ended.fault {
@@ -124,17 +121,48 @@ fn convert_to_blocks<R: BufRead + Drop, W: Write + Drop>(
     mut input: R,
     mut output: W,
 ) -> Ended {
-    let ended = match from {
-        Format::Pcap => {
-            let copied = convert_to_pcapng(alloc, &mut input, &mut output, u64::MAX);
-            Ended::whole(copied.fault, copied.write_failed)
-        }
-        Format::PcapNg => {
-            let copied = copy_pcapng_buffered(alloc, &mut input, &mut output, u64::MAX);
-            Ended::whole(copied.fault, copied.write_failed)
-        }
+    if let Format::Pcap = from {
+        return convert_classic(alloc, input, output);
+    }
+    let copied = copy_pcapng_buffered(alloc, &mut input, &mut output, u64::MAX);
+    flushed(output, Ended::whole(copied.fault, copied.write_failed))
+}
+
+// Writes the packets of a classic capture as blocks.
+fn convert_classic<R: Read + Drop, W: Write + Drop>(
+    alloc: Global,
+    mut input: R,
+    mut output: W,
+) -> Ended {
+    let mut bytes = [0; HEADER];
+    if let Err(error) = input.read_exact(&mut bytes) {
+        return Ended::whole(Some(PcapError::IoError(error)), false);
+    }
+    if let Some(header) = header_with_more(&bytes) {
+        return convert_with_fcs(alloc, header, input, output);
+    }
+    let mut capture = Again::new(bytes, input);
+    let copied = convert_to_pcapng(alloc, &mut capture, &mut output, u64::MAX);
+    flushed(output, Ended::whole(copied.fault, copied.write_failed))
+}
+
+// Writes the packets after a header whose field has more than a link type.
+fn convert_with_fcs<R: Read + Drop, W: Write + Drop>(
+    alloc: Global,
+    header: PcapHeader,
+    input: R,
+    output: W,
+) -> Ended {
+    let has_lost_bits = has_reserved_bits(&header);
+    let mut reader = PcapReader::with_header(alloc, header, input);
+    let mut writer = match PcapNgWriter::new(alloc, output) {
+        Ok(writer) => writer,
+        Err(error) => return Ended::whole(Some(error), true),
     };
-    flushed(output, ended)
+    let fault = put_packets(alloc, &mut reader, &mut writer).err();
+    let mut ended = Ended::whole(fault, writer.failed());
+    ended.has_lost_bits = has_lost_bits;
+    flushed(writer.into_writer(), ended)
 }
 
 fn convert_to_packets<R: BufRead + Drop, W: Write + Drop>(
@@ -160,46 +188,56 @@ fn place_blocks<R: Read + Drop, W: Write + Drop>(
     output: W,
 ) -> ResultParsing<Ended> {
     let mut reader = PcapNgReader::new(alloc, input)?;
-    let mut ended = pass_to_interface(&mut reader)?;
+    let mut ended = Ended::whole(None, false);
+    ended.left_out.note_section(&reader);
+    pass_to_interface(&mut reader, &mut ended.left_out)?;
     let header = header_under(reader.interfaces());
     let mut writer = match PcapWriter::with_header(header, output) {
         Ok(writer) => writer,
         Err(error) => return Ok(Ended::whole(Some(error), true)),
     };
-    let converted = convert_to_pcap(
-        alloc,
-        &mut reader,
-        &mut writer,
-        IfUnplaced::LeaveOut,
-        u64::MAX,
-    );
-    let packets = converted.packets.saturating_add(converted.left_out);
-    let others = converted.blocks.saturating_sub(packets);
-    ended.left_out = ended.left_out.saturating_add(converted.left_out);
-    ended.others = ended.others.saturating_add(others);
-    ended.fault = converted.fault;
+    ended.fault = place_packets(alloc, &mut reader, &mut writer, &mut ended.left_out);
     ended.write_failed = writer.failed();
     Ok(flushed(writer.into_writer(), ended))
 }
 
 // Skips blocks until an interface is described. Packets before it don't fit in a classic capture.
-fn pass_to_interface<R: Read + Drop>(reader: &mut PcapNgReader<R>) -> ResultParsing<Ended> {
-    let mut early = Ended::whole(None, false);
+fn pass_to_interface<R: Read + Drop>(
+    reader: &mut PcapNgReader<R>,
+    left_out: &mut LeftOut,
+) -> ResultParsing<()> {
     for _turn in 0..u64::MAX {
         let Some(header) = reader.next_header() else {
             break;
         };
-        let type_ = header?.type_;
-        if !reader.interfaces().is_empty() {
+        let _header = header?;
+        if let Some(first) = reader.interfaces().first() {
+            left_out.note_interface(first);
             break;
         }
-        if holds_packet(type_) {
-            early.left_out = early.left_out.saturating_add(1);
-        } else {
-            early.others = early.others.saturating_add(1);
-        }
+        left_out.count(reader, false);
     }
-    Ok(early)
+    Ok(())
+}
+
+// Writes the packets of the other blocks, counts what is left out, and returns the error that ended the conversion, if any.
+fn place_packets<R: Read + Drop, W: Write + Drop>(
+    alloc: Global,
+    reader: &mut PcapNgReader<R>,
+    writer: &mut PcapWriter<W>,
+    left_out: &mut LeftOut,
+) -> Option<PcapError> {
+    for _block in 0..u64::MAX {
+        let converted = convert_to_pcap(alloc, reader, writer, IfUnplaced::LeaveOut, 1);
+        if converted.fault.is_some() {
+            return converted.fault;
+        }
+        if converted.blocks == 0 {
+            break;
+        }
+        left_out.count(reader, converted.packets > 0);
+    }
+    None
 }
 
 // Returns the header of the classic capture that blocks become. Without an interface its link type is Ethernet.

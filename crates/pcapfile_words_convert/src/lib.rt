@@ -2,8 +2,10 @@
 #![tactic(auto)]
 
 mod convert;
+mod left_out;
 mod merge;
 mod opening;
+mod with_fcs;
 
 pub use convert::{Conversion, convert_file};
 pub use merge::{Merge, merge_files};

@@ -15,7 +15,8 @@ pub(crate) fn interfaces_of<R>(reader: &Reader<R>) -> u32 {
     }
 }
 
-/// Writes a section header, and the description of each interface of each source, in order.
+/// Writes a section header, the description of each interface of each source, and the blocks that each source kept from before its first
+/// packet.
 pub(crate) fn put_opening<R, W: Write + Drop>(
     alloc: Global,
     sources: &[Source<R>],
@@ -34,12 +35,18 @@ pub(crate) fn put_opening<R, W: Write + Drop>(
             }
         }
     }
-    Ok(writer.into_writer())
+    let mut output = writer.into_writer();
+    for source in sources {
+        if let Reader::Blocks(blocks) = source.reader() {
+            output.write_all(blocks.leading())?;
+        }
+    }
+    Ok(output)
 }
 
-// Returns the interface of a classic capture with this header. Its times are in nanoseconds. An option keeps the length of the frame
-// check sequence, which the header has beside the link type, and counts it in bits.
-fn interface_under(
+/// Returns the interface of a classic capture with this header. Its times are in nanoseconds. An option keeps the length of the frame
+/// check sequence, which the header has beside the link type, and counts it in bits.
+pub(crate) fn interface_under(
     alloc: Global,
     header: &PcapHeader,
 ) -> ResultParsing<InterfaceDescriptionBlock<'static>> {

@@ -1,173 +1,47 @@
 //! PcapNg captures that are read part by part.
 
+mod selected;
+
+use crate::selecting::Tests;
 use crate::source::{Source, Untimed, nothing};
-use pcap_file::pcapng::{
-    BlockHeader, BlockType, InterfaceDescriptionBlock, ParsedBlock, Timestamp,
-};
-use pcap_file::{PcapError, PcapNgReader, ResultParsing};
+use pcap_file::ResultParsing;
+use pcap_file::pcapng::Timestamp;
 use pcap_items::stream::put;
 use pcapfile_cut::{Outcome, Wanted};
-use pcapfile_run::{holds_packet, interface_at, packet_in_body};
 use std::alloc::Global;
 use std::io;
 use std::io::{Read, Write};
 
-/// The nanoseconds in a second.
-const SECOND: u64 = 1_000_000_000;
-
-/// A PcapNg capture after its first section header.
+/// A PcapNg capture that is read part by part.
 #[derive(Drop)]
 pub(crate) struct Blocks<R> {
-    reader: PcapNgReader<R>,
-    /// The texts of the current section header and of its interfaces.
-    in_force: Vec<u8>,
-    /// The header of a block that the reader lends and that is in no part yet.
-    pending: Option<BlockHeader>,
-    /// How many packets were left out because they have no known time.
+    blocks: pcapfile_cut::Blocks<R>,
+    /// How many packets were left out because a test doesn't apply to them.
     untimed: Untimed,
+    /// The time of the first packet that has one, if a test depends on it and that packet was read.
+    first: Option<Timestamp>,
 }
 
 impl<R: Read + Drop> Blocks<R> {
     /// Reads the first section header.
     pub(crate) fn new(alloc: Global, input: R) -> ResultParsing<Blocks<R>> {
-        let reader = PcapNgReader::new(alloc, input)?;
-        let in_force = Vec::from_slice(alloc, reader.text())?;
         Ok(Blocks {
-            reader,
-            in_force,
-            pending: None,
+            blocks: pcapfile_cut::Blocks::new(alloc, input)?,
             untimed: Untimed::default(),
+            first: None,
         })
     }
 
-    /// Returns the texts of the current section header and of its interfaces.
+    /// Returns the bytes of the blocks with which a part at this position begins.
     pub(crate) fn in_force(&self) -> &[u8] {
-        self.in_force.as_slice()
-    }
-
-    // Returns the header of the next block, which the reader then lends.
-    fn lend_next(&mut self) -> ResultParsing<Option<BlockHeader>> {
-        if let Some(header) = self.pending.take() {
-            return Ok(Some(header));
-        }
-        let Some(header) = self.reader.next_header() else {
-            return Ok(None);
-        };
-        let header = header?;
-        match header.type_ {
-            BlockType::SectionHeader => {
-                self.in_force.clear();
-                self.in_force.extend_from_slice(self.reader.text())?;
-            }
-            BlockType::InterfaceDescription => {
-                self.in_force.extend_from_slice(self.reader.text())?;
-            }
-            _ => {}
-        }
-        Ok(Some(header))
+        self.blocks.opening()
     }
 
     fn put_block<W: Write>(&self, output: &mut W, outcome: &mut Outcome) -> ResultParsing<()> {
-        let text = self.reader.text();
+        let text = self.blocks.reader().text();
         put(output, &mut outcome.write_failed, text)?;
         pass_text(text, outcome);
         Ok(())
-    }
-
-    // Skips blocks until the reader lends the packet of this number.
-    fn pass_to(&mut self, number: u64, outcome: &mut Outcome) -> ResultParsing<()> {
-        for _ in 0..u64::MAX {
-            let Some(header) = self.lend_next()? else {
-                break;
-            };
-            if holds_packet(header.type_) {
-                if outcome.packets.saturating_add(1) >= number {
-                    self.pending = Some(header);
-                    break;
-                }
-                outcome.packets = outcome.packets.saturating_add(1);
-            }
-            pass_text(self.reader.text(), outcome);
-        }
-        Ok(())
-    }
-
-    // Writes the current section header and its interfaces, and then blocks until no more packets are wanted.
-    fn put_blocks<W: Write>(
-        &mut self,
-        output: &mut W,
-        wanted: Wanted,
-        others_follow: bool,
-        outcome: &mut Outcome,
-    ) -> ResultParsing<()> {
-        match wanted {
-            Wanted::Numbers { first, .. } if first > 1 => self.pass_to(first, outcome)?,
-            _ => {}
-        }
-        put(output, &mut outcome.write_failed, self.in_force.as_slice())?;
-        for _ in 0..u64::MAX {
-            let Some(header) = self.lend_next()? else {
-                break;
-            };
-            if holds_packet(header.type_) {
-                if is_enough(wanted, outcome) {
-                    self.pending = Some(header);
-                    break;
-                }
-                outcome.packets = outcome.packets.saturating_add(1);
-            }
-            self.put_block(output, outcome)?;
-            if !others_follow && is_enough(wanted, outcome) {
-                break;
-            }
-        }
-        Ok(())
-    }
-
-    // Writes the current section header and its interfaces, and then all blocks, except packets that have no known time or are
-    // outside of these times.
-    fn put_times<W: Write>(
-        &mut self,
-        alloc: Global,
-        output: &mut W,
-        times: (Timestamp, Timestamp),
-        outcome: &mut Outcome,
-    ) -> ResultParsing<()> {
-        put(output, &mut outcome.write_failed, self.in_force.as_slice())?;
-        for _ in 0..u64::MAX {
-            let Some(header) = self.lend_next()? else {
-                break;
-            };
-            if !holds_packet(header.type_) || self.is_within(alloc, header, times)? {
-                self.put_block(output, outcome)?;
-            } else {
-                pass_text(self.reader.text(), outcome);
-            }
-        }
-        Ok(())
-    }
-
-    // Returns whether the packet of the lent block has a time from the first one on, and before the second.
-    fn is_within(
-        &mut self,
-        alloc: Global,
-        header: BlockHeader,
-        times: (Timestamp, Timestamp),
-    ) -> ResultParsing<bool> {
-        let block = self.reader.block(header);
-        let parsed = match block.parsed(alloc) {
-            Ok(parsed) => parsed,
-            Err(PcapError::OutOfMemory(error)) => return Err(PcapError::OutOfMemory(error)),
-            Err(_) => {
-                self.untimed.malformed = self.untimed.malformed.saturating_add(1);
-                return Ok(false);
-            }
-        };
-        let Some(time) = time_of(self.reader.interfaces(), &parsed) else {
-            self.untimed.without_time = self.untimed.without_time.saturating_add(1);
-            return Ok(false);
-        };
-        Ok(times.0 <= time && time < times.1)
     }
 }
 
@@ -176,24 +50,27 @@ impl<R: Read + Drop> Source for Blocks<R> {
         &mut self,
         alloc: Global,
         output: &mut W,
-        wanted: Wanted,
+        wanted: Wanted<'_>,
         others_follow: bool,
     ) -> Outcome {
+        self.blocks.cut(output, wanted, others_follow)
+    }
+
+    fn write_selected<W: Write>(
+        &mut self,
+        alloc: Global,
+        output: &mut W,
+        tests: Tests<'_>,
+    ) -> Outcome {
         let mut outcome = nothing();
-        let done = match wanted {
-            Wanted::Times { from, until } => {
-                let times = (moment(from), moment(until));
-                self.put_times(alloc, output, times, &mut outcome)
-            }
-            wanted => self.put_blocks(output, wanted, others_follow, &mut outcome),
-        };
+        let done = self.put_selected(alloc, output, tests, &mut outcome);
         outcome.fault = done.err();
-        outcome.read_failed = self.reader.failed();
+        outcome.read_failed = self.blocks.reader().failed();
         outcome
     }
 
     fn is_at_end(&mut self) -> io::Result<bool> {
-        Ok(self.pending.is_none())
+        Ok(self.blocks.is_all_in_parts())
     }
 
     fn untimed(&self) -> Untimed {
@@ -201,39 +78,13 @@ impl<R: Read + Drop> Source for Blocks<R> {
     }
 
     fn opening_len(&self) -> u64 {
-        self.in_force.len() as u64
+        self.in_force().len() as u64
     }
-}
-
-fn moment(nanoseconds: u64) -> Timestamp {
-    Timestamp {
-        seconds: i128::from(nanoseconds / SECOND),
-        nanoseconds: (nanoseconds % SECOND) as u32,
-    }
-}
-
-// Returns the time of the packet in a body, if it has one.
-fn time_of(
-    interfaces: &[InterfaceDescriptionBlock<'static>],
-    parsed: &ParsedBlock<'_>,
-) -> Option<Timestamp> {
-    let packet = packet_in_body(interfaces, parsed)?;
-    let interface = interface_at(interfaces, packet.interface)?;
-    Some(interface.timestamp(packet.units?))
 }
 
 // Counts the bytes of a block.
 fn pass_text(text: &[u8], outcome: &mut Outcome) {
     outcome.bytes = outcome.bytes.saturating_add(text.len() as u64);
-}
-
-// Returns whether no more packets are wanted after these.
-fn is_enough(wanted: Wanted, outcome: &Outcome) -> bool {
-    match wanted {
-        Wanted::Numbers { last, .. } => outcome.packets >= last,
-        Wanted::Bytes(bytes) => outcome.packets > 0 && outcome.bytes >= bytes,
-        Wanted::All | Wanted::Times { .. } => false,
-    }
 }
 
 /// Appends the blocks of a further part to those that have these texts in force. The part's opening is left out if it is the
@@ -246,7 +97,7 @@ pub(crate) fn join_blocks<R: Read + Drop, W: Write>(
 ) -> Outcome {
     let mut outcome = nothing();
     outcome.fault = put_behind(alloc, part, in_force, output, &mut outcome).err();
-    outcome.read_failed = part.reader.failed();
+    outcome.read_failed = part.blocks.reader().failed();
     outcome
 }
 
@@ -262,7 +113,7 @@ fn put_behind<R: Read + Drop, W: Write>(
         put(output, &mut outcome.write_failed, lead.as_slice())?;
     }
     for _ in 0..u64::MAX {
-        let Some(_) = part.lend_next()? else {
+        let Some(_) = part.blocks.pass()? else {
             break;
         };
         part.put_block(output, outcome)?;
@@ -282,10 +133,10 @@ fn lead_of<R: Read + Drop>(
         if lead.len() >= in_force.len() || !in_force.starts_with(lead.as_slice()) {
             break;
         }
-        let Some(_) = part.lend_next()? else {
+        let Some(_) = part.blocks.pass()? else {
             break;
         };
-        let text = part.reader.text();
+        let text = part.blocks.reader().text();
         pass_text(text, outcome);
         lead.extend_from_slice(text)?;
     }

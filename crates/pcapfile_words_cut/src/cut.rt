@@ -1,8 +1,11 @@
 //! The word `cut`.
 
 use crate::blocks::Blocks;
+use crate::filters::load;
+use crate::selecting::{Selecting, Tests};
 use crate::source::{Packets, Source, Untimed, flushed};
 use crate::tell::tell_outcome;
+use pcap_filter::Filter;
 use pcap_parts::to_next_end;
 use pcapfile_cut::{Outcome, Wanted};
 use pcapfile_files::{
@@ -23,6 +26,10 @@ pub struct Cutting<'a> {
     pub out: &'a str,
     /// The way to cut it.
     pub way: Way,
+    /// The tests of the packets of a single part.
+    pub selecting: Selecting,
+    /// The name of the file with the filter of a single part, if there is one.
+    pub bpf: Option<&'a str>,
     /// Whether the program cuts what `repair` would write.
     pub as_is: bool,
 }
@@ -30,8 +37,8 @@ pub struct Cutting<'a> {
 /// The ways to cut a capture.
 #[derive(Clone, Copy)]
 pub enum Way {
-    /// One part, with these packets.
-    One(Wanted),
+    /// One part, with the selected packets.
+    One,
     /// Parts of this many packets each.
     Every(u64),
     /// This many parts of nearly the same length.
@@ -53,9 +60,9 @@ struct Place {
 
 impl Way {
     // Returns which of the next packets make a part whose opening has this many bytes. Each part gets at least one packet.
-    fn wanted(self, opening: u64, place: Place) -> Wanted {
+    fn wanted<'a>(self, opening: u64, place: Place) -> Wanted<'a> {
         match self {
-            Way::One(wanted) => wanted,
+            Way::One => Wanted::All,
             Way::Every(packets) => Wanted::Numbers {
                 first: 1,
                 last: packets.max(1),
@@ -66,12 +73,12 @@ impl Way {
     }
 
     fn is_many(self) -> bool {
-        !matches!(self, Way::One(_))
+        !matches!(self, Way::One)
     }
 }
 
 // Returns the packets up to the end of the next of `parts` nearly equal shares, or all packets for the last share.
-fn next_share(place: Place, parts: u64) -> Wanted {
+fn next_share<'a>(place: Place, parts: u64) -> Wanted<'a> {
     match to_next_end(place.passed as usize, place.length as usize, parts as usize) {
         Some(bytes) => Wanted::Bytes(bytes as u64),
         None => Wanted::All,
@@ -90,16 +97,36 @@ pub fn cut_file(console: &Console, asked: &Cutting) -> io::Result<u8> {
             return Ok(USAGE);
         }
     }
+    let Some(bpf) = asked.bpf else {
+        return cut_capture(console, asked, None);
+    };
+    if (asked.from, bpf) == (STANDARD, STANDARD) {
+        eprintln!(console.for_line();
+            "error: the capture and the filter can't both be standard input"
+        )?;
+        return Ok(USAGE);
+    }
+    match load(console, bpf)? {
+        Ok(filter) => cut_capture(console, asked, Some(&filter)),
+        Err(status) => Ok(status),
+    }
+}
+
+fn cut_capture(console: &Console, asked: &Cutting, filter: Option<&Filter>) -> io::Result<u8> {
+    let tests = Tests {
+        asked: &asked.selecting,
+        filter,
+    };
     match Captured::open(console, asked.from, asked.as_is) {
         Ok(capture) => match (capture.length(), asked.way) {
             (None, Way::Parts(_)) => tell_no_length(console),
-            (length, _) => cut_stream(console, asked, capture, length.unwrap_or_default()),
+            (length, _) => cut_stream(console, asked, tests, capture, length.unwrap_or_default()),
         },
         Err(error) => tell_error(console, asked.from, &error),
     }
 }
 
-// Reports how many packets are left out because they have no known time.
+// Reports how many packets are left out because a test doesn't apply to them.
 fn tell_untimed(console: &Console, from: &str, packets: Untimed) -> io::Result<()> {
     let from = Shown(from);
     let Untimed {
@@ -109,7 +136,7 @@ fn tell_untimed(console: &Console, from: &str, packets: Untimed) -> io::Result<(
     if malformed > 0 {
         let s = plural(malformed);
         eprintln!(console.for_line();
-            "pcapfile: {from}: left out {malformed} packet{s} with a malformed body, which has no known time"
+            "pcapfile: {from}: left out {malformed} packet{s} with a malformed body"
         )?;
     }
     if without_time > 0 {
@@ -135,6 +162,7 @@ fn tell_no_length(console: &Console) -> io::Result<u8> {
 fn cut_stream<R: Read + Drop>(
     console: &Console,
     asked: &Cutting,
+    tests: Tests<'_>,
     stream: R,
     length: u64,
 ) -> io::Result<u8> {
@@ -142,11 +170,11 @@ fn cut_stream<R: Read + Drop>(
     match format_of(&mut input) {
         Err(error) => tell_io(console, asked.from, &error),
         Ok(Format::Pcap) => match Packets::new(input) {
-            Ok(mut packets) => cut_source(console, asked, &mut packets, length),
+            Ok(mut packets) => cut_source(console, asked, tests, &mut packets, length),
             Err(error) => tell_error(console, asked.from, &error),
         },
         Ok(Format::PcapNg) => match Blocks::new(console.alloc(), input) {
-            Ok(mut blocks) => cut_source(console, asked, &mut blocks, length),
+            Ok(mut blocks) => cut_source(console, asked, tests, &mut blocks, length),
             Err(error) => tell_error(console, asked.from, &error),
         },
     }
@@ -155,6 +183,7 @@ fn cut_stream<R: Read + Drop>(
 fn cut_source<S: Source>(
     console: &Console,
     asked: &Cutting,
+    tests: Tests<'_>,
     source: &mut S,
     length: u64,
 ) -> io::Result<u8> {
@@ -165,7 +194,7 @@ fn cut_source<S: Source>(
         length: length.saturating_sub(opening),
     };
     if !asked.way.is_many() {
-        let status = write_part(console, asked, asked.out, source, &mut place)?;
+        let status = write_selected(console, asked, tests, source, place)?;
         tell_untimed(console, asked.from, source.untimed())?;
         return Ok(status);
     }
@@ -200,6 +229,32 @@ fn part_name(alloc: Global, out: &str, number: u64) -> io::Result<String> {
         Some(folder) => Ok(format!(in alloc; "{folder}/{name}")?),
         None => Ok(name),
     }
+}
+
+// Writes the part with the selected packets, and returns the exit status.
+fn write_selected<S: Source>(
+    console: &Console,
+    asked: &Cutting,
+    tests: Tests<'_>,
+    source: &mut S,
+    place: Place,
+) -> io::Result<u8> {
+    let read = [asked.from, asked.bpf.unwrap_or(asked.from)];
+    write_named(console, asked.out, &read, |output| {
+        let written = select_to(console.alloc(), tests, source, output);
+        tell_written(console, asked, asked.out, place, &written)
+    })
+}
+
+fn select_to<S: Source, W: Write + Drop>(
+    alloc: Global,
+    tests: Tests<'_>,
+    source: &mut S,
+    output: W,
+) -> io::Result<Outcome> {
+    let mut output = BufWriter::with_capacity(alloc, OUTPUT, output)?;
+    let outcome = source.write_selected(alloc, &mut output, tests);
+    Ok(flushed(&mut output, outcome))
 }
 
 // Writes one part, and returns the exit status. The position moves past the bytes that were read.

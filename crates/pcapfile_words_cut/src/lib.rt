@@ -3,10 +3,15 @@
 
 mod blocks;
 mod cut;
+mod filters;
 mod join;
 pub mod ranges;
+mod selecting;
 mod source;
 mod tell;
+mod times;
 
 pub use cut::{Cutting, Way, cut_file};
 pub use join::{Joining, join_files};
+pub use selecting::Selecting;
+pub use times::{Moment, Zone};

@@ -1,17 +1,24 @@
 //! Captures of either format that are read part by part.
 
-use pcap_file::{PcapError, ResultParsing};
+use crate::selecting::Tests;
+use byteorder::{BigEndian, LittleEndian};
+use pcap_file::pcap::PacketHeader;
+use pcap_file::pcapng::Timestamp;
+use pcap_file::{Endianness, PcapError, ResultParsing};
 use pcapfile_cut::{Opening, Outcome, Wanted, cut_part};
 use std::alloc::Global;
 use std::io;
-use std::io::{BufRead, Write};
+use std::io::{BufRead, Read, Write};
 
-/// How many packets a selection by times left out because they have no known time.
+/// The length of a packet's header in a classic capture, in bytes.
+const HEAD: usize = 16;
+
+/// How many packets a selection left out because a test doesn't apply to them.
 #[derive(Clone, Copy, Default)]
 pub(crate) struct Untimed {
     /// Packets with a malformed body.
     pub(crate) malformed: u64,
-    /// Packets that are stored without a time.
+    /// Packets that are stored without a time, if a test depends on it.
     pub(crate) without_time: u64,
 }
 
@@ -23,14 +30,22 @@ pub(crate) trait Source {
         &mut self,
         alloc: Global,
         output: &mut W,
-        wanted: Wanted,
+        wanted: Wanted<'_>,
         others_follow: bool,
+    ) -> Outcome;
+
+    /// Writes one part: the opening at this position, and the selected packets after it.
+    fn write_selected<W: Write>(
+        &mut self,
+        alloc: Global,
+        output: &mut W,
+        tests: Tests<'_>,
     ) -> Outcome;
 
     /// Returns whether all of the capture is in a part.
     fn is_at_end(&mut self) -> io::Result<bool>;
 
-    /// Returns how many packets were left out because they have no known time.
+    /// Returns how many packets were left out because a test doesn't apply to them.
     fn untimed(&self) -> Untimed;
 
     /// Returns the length of the next part's opening, in bytes.
@@ -41,13 +56,19 @@ pub(crate) trait Source {
 #[derive(Drop)]
 pub(crate) struct Packets<R> {
     opening: Opening,
-    input: R,
+    input: Rest<R>,
 }
 
 impl<R: BufRead + Drop> Packets<R> {
     /// Reads the header.
     pub(crate) fn new(mut input: R) -> ResultParsing<Packets<R>> {
         let opening = Opening::read(&mut input, &mut false)?;
+        let input = Rest {
+            head: [0; HEAD],
+            next: 0,
+            end: 0,
+            input,
+        };
         Ok(Packets { opening, input })
     }
 
@@ -62,14 +83,34 @@ impl<R: BufRead + Drop> Source for Packets<R> {
         &mut self,
         alloc: Global,
         output: &mut W,
-        wanted: Wanted,
+        wanted: Wanted<'_>,
         _others_follow: bool,
     ) -> Outcome {
         cut_part(alloc, &self.opening, &mut self.input, output, wanted)
     }
 
+    fn write_selected<W: Write>(
+        &mut self,
+        alloc: Global,
+        output: &mut W,
+        tests: Tests<'_>,
+    ) -> Outcome {
+        if tests.is_relative() {
+            if let Err(error) = self.input.read_ahead() {
+                return unread(error);
+            }
+        }
+        let first = first_time(&self.opening, self.input.ahead());
+        let mut selection = tests.selection(first);
+        if !tests.has_interface(0) {
+            selection.numbers = &[];
+        }
+        let wanted = Wanted::Selected(&selection);
+        cut_part(alloc, &self.opening, &mut self.input, output, wanted)
+    }
+
     fn is_at_end(&mut self) -> io::Result<bool> {
-        Ok(self.input.fill_buf()?.is_empty())
+        Ok(self.input.ahead().is_empty() && self.input.input.fill_buf()?.is_empty())
     }
 
     fn untimed(&self) -> Untimed {
@@ -79,6 +120,86 @@ impl<R: BufRead + Drop> Source for Packets<R> {
     fn opening_len(&self) -> u64 {
         self.opening.bytes().len() as u64
     }
+}
+
+/// The bytes of the first packet's header that were read ahead, and then the rest of the input.
+#[derive(Drop)]
+struct Rest<R> {
+    head: [u8; HEAD],
+    /// The place of the next of these bytes.
+    next: usize,
+    /// The place where these bytes end.
+    end: usize,
+    input: R,
+}
+
+impl<R: Read> Rest<R> {
+    // Reads the header of the next packet ahead, or as much of it as there is.
+    fn read_ahead(&mut self) -> io::Result<()> {
+        self.end = read_front(&mut self.input, &mut self.head)?;
+        Ok(())
+    }
+
+    // Returns the bytes that were read ahead and not taken.
+    fn ahead(&self) -> &[u8] {
+        self.head.get(self.next..self.end).unwrap_or_default()
+    }
+}
+
+impl<R: Read> Read for Rest<R> {
+    ghost use Rattle.std.specs.Prelude.{None};
+
+    ghost remaining = { λ stream. None };
+
+    fn read(&mut self, buf: &mut [u8]) -> io::Result<usize> {
+        let held = self.head.get(self.next..self.end).unwrap_or_default();
+        if held.is_empty() {
+            return self.input.read(buf);
+        }
+        let count = held.len().min(buf.len());
+        buf[..count].copy_from_slice(&held[..count]);
+        self.next = self.next.saturating_add(count);
+        Ok(count)
+    }
+}
+
+// Fills the buffer with the next bytes, and returns how many there are before the end.
+fn read_front<R: Read>(input: &mut R, buf: &mut [u8; HEAD]) -> io::Result<usize> {
+    let mut filled = 0;
+    for _ in 0..HEAD {
+        let came = input.read(buf.get_mut(filled..).unwrap_or_default())?;
+        if came == 0 {
+            break;
+        }
+        filled = filled.saturating_add(came);
+    }
+    Ok(filled)
+}
+
+// Returns the time in the header of the first packet. It is 1970 if the header is truncated or malformed, since a cut then stops there.
+fn first_time(opening: &Opening, bytes: &[u8]) -> Timestamp {
+    let header = opening.header();
+    let resolution = header.ts_resolution();
+    let head = match header.endianness() {
+        Endianness::Big => PacketHeader::from_slice::<BigEndian>(bytes, resolution),
+        Endianness::Little => PacketHeader::from_slice::<LittleEndian>(bytes, resolution),
+    };
+    let (seconds, nanoseconds) = match head {
+        Ok((_, head)) => (head.ts_sec, head.ts_nsec),
+        Err(_) => (0, 0),
+    };
+    Timestamp {
+        seconds: i128::from(seconds),
+        nanoseconds,
+    }
+}
+
+// Returns the outcome of a part whose first packet can't be read.
+fn unread(error: io::Error) -> Outcome {
+    let mut outcome = nothing();
+    outcome.fault = Some(PcapError::IoError(error));
+    outcome.read_failed = true;
+    outcome
 }
 
 /// Returns the outcome of a part of which nothing is written.

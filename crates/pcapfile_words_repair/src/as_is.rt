@@ -4,9 +4,9 @@ use capcopy_run::Exit;
 use pcap_file::{PcapError, ResultParsing};
 use pcapfile_as_is::{BlockTeller, Counted, Gap, LeftOut, Place, Scrap, Teller};
 use pcapfile_files::{Console, open_watched};
-use pcapfile_lenient::{HEADER, Rows, Standing, Stop};
+use pcapfile_lenient::{Change, HEADER, Rows, Standing, Stop};
 use pcapfile_run::Format;
-use std::alloc::Global;
+use std::alloc::{AllocError, Global};
 use std::io::Write;
 
 /// The most packets or blocks that are reported.
@@ -23,6 +23,17 @@ pub(crate) struct Telling {
     pub(crate) place: Place,
     /// The error that ended the capture early: `IncompleteBuffer` if it is truncated there.
     pub(crate) fault: Option<PcapError>,
+    /// The number of packets or blocks whose length was changed.
+    pub(crate) changed: u64,
+}
+
+/// What is between two rows.
+#[derive(Clone, Copy)]
+pub(crate) enum Between {
+    /// A gap.
+    Gap(Gap),
+    /// A changed length of the next packet or block.
+    Change(Change),
 }
 
 impl Telling {
@@ -35,36 +46,60 @@ impl Telling {
             format,
             place: Place::new(bytes),
             fault: None,
+            changed: 0,
         })
     }
 
-    /// Reports the packets or blocks before the next gap, and returns the gap. `None` after the end. It returns the errors of
-    /// the teller.
+    /// Returns the message on a changed length of the next packet or block.
+    pub(crate) fn text_of(&self, alloc: Global, change: &Change) -> Result<String, AllocError> {
+        let item = match self.format {
+            Format::Pcap => "packet",
+            Format::PcapNg => "block",
+        };
+        let counted = &self.place.counted;
+        change.text(alloc, item, counted.items.saturating_add(1), counted.bytes)
+    }
+
+    /// Reports the packets or blocks before the next gap or changed length, and returns that. `None` after the end. It returns
+    /// the errors of the teller.
     pub(crate) fn tell_row<P: Teller, B: BlockTeller, W: Write>(
         &mut self,
         alloc: Global,
         packets: &mut P,
         blocks: &mut B,
         output: &mut W,
-    ) -> Result<Option<Gap>, Exit> {
+    ) -> Result<Option<Between>, Exit> {
         for _ in 0..u64::MAX {
             let Some(standing) = self.standing.take() else {
                 break;
             };
-            let (gap, is_at_end) = match rows_of(&standing) {
-                Some(rows) => (self.pass(rows.left_out()), rows.is_at_end()),
+            let (between, is_at_end) = match rows_of(&standing) {
+                Some(rows) => (self.between(rows), rows.is_at_end()),
                 None => (None, false),
             };
             if is_at_end {
-                return Ok(gap);
+                return Ok(between);
             }
-            if gap.is_some() {
+            if between.is_some() {
                 self.standing = Some(standing);
-                return Ok(gap);
+                return Ok(between);
             }
             self.standing = self.tell_on(alloc, standing, packets, blocks, output)?;
         }
         Ok(None)
+    }
+
+    // Returns the gap or the changed length that ended a row, if that is new.
+    fn between(&mut self, rows: &Rows) -> Option<Between> {
+        if let Some(gap) = self.pass(rows.left_out()) {
+            return Some(Between::Gap(gap));
+        }
+        let changed = rows.changed();
+        if changed.count == self.changed {
+            return None;
+        }
+        self.changed = changed.count;
+        Some(Between::Change(changed.last?))
     }
 
     // Counts a gap and returns it. `None` for a truncated packet or block, which is no gap and ends the capture.

@@ -1,10 +1,11 @@
 //! The lenient word `check`.
 
-use crate::as_is::{MOST, Telling};
-use capcopy_run::{Exit, Uninterrupted};
+use crate::as_is::{Between, MOST, Telling};
+use capcopy_run::{Exit, Uninterrupted, put_line};
 use pcap_file::PcapError;
 use pcapfile_as_is::{BlockFlawLines, CheckedAsIs, FlawLines, put_gap};
 use pcapfile_files::{Console, OUTPUT, Shown, tell_error, tell_unwritten};
+use pcapfile_lenient::Change;
 use pcapfile_run::{Checked, End, end_of};
 use std::alloc::Global;
 use std::io;
@@ -47,13 +48,40 @@ fn tell_flaws<W: Write>(
     let mut packets = FlawLines { prefix };
     let mut blocks = BlockFlawLines { prefix };
     for _ in 0..u64::MAX {
-        let gap = telling.tell_row(alloc, &mut packets, &mut blocks, output)?;
-        let Some(gap) = gap else {
+        let row = telling.tell_row(alloc, &mut packets, &mut blocks, output)?;
+        let Some(between) = row else {
             break;
         };
-        put_gap(alloc, output, prefix, &gap)?;
+        put_between(alloc, output, prefix, telling, &between)?;
     }
     Ok(())
+}
+
+// Writes the line on what is between two packets or blocks.
+fn put_between<W: Write>(
+    alloc: Global,
+    output: &mut W,
+    prefix: &str,
+    telling: &Telling,
+    between: &Between,
+) -> Result<(), Exit> {
+    match between {
+        Between::Gap(gap) => put_gap(alloc, output, prefix, gap),
+        Between::Change(change) => put_change(alloc, output, prefix, telling, change),
+    }
+}
+
+// Writes the line on a length that the reader changed.
+fn put_change<W: Write>(
+    alloc: Global,
+    output: &mut W,
+    prefix: &str,
+    telling: &Telling,
+    change: &Change,
+) -> Result<(), Exit> {
+    let text = telling.text_of(alloc, change)?;
+    let line = format!(in alloc; "{prefix}{text}\n")?;
+    put_line(output, line.as_bytes())
 }
 
 // Writes the line on a capture, and returns its exit status. If the capture can't be read, or memory runs out, the line goes to
@@ -82,6 +110,7 @@ fn checked_of(telling: Telling) -> CheckedAsIs {
         format,
         place,
         fault,
+        changed,
         ..
     } = telling;
     let items = place.counted.items;
@@ -92,7 +121,7 @@ fn checked_of(telling: Telling) -> CheckedAsIs {
             bytes: place.counted.bytes,
             end: end_behind(fault, items),
         },
-        flawed: place.counted.flawed,
+        flawed: place.counted.flawed.saturating_add(changed),
         left_out: place.left_out,
     }
 }

@@ -1,6 +1,6 @@
 //! The lenient word `list`.
 
-use crate::as_is::Telling;
+use crate::as_is::{Between, Telling};
 use capcopy_run::{Exit, Uninterrupted};
 use pcapfile_as_is::{BlockPacketLines, PacketLines};
 use pcapfile_files::{AT_FAULT, Console, OUTPUT, Shown, tell_error, tell_exit, tell_unwritten};
@@ -39,8 +39,13 @@ fn list_file<W: Write>(
     if let Err(exit) = listed {
         return tell_unwritten(console, name, exit);
     }
-    let Telling { place, fault, .. } = telling;
-    let is_sound = place.counted.flawed == 0 && place.left_out == 0;
+    let Telling {
+        place,
+        fault,
+        changed,
+        ..
+    } = telling;
+    let is_sound = place.counted.flawed == 0 && place.left_out == 0 && changed == 0;
     let status = if is_sound { 0 } else { AT_FAULT };
     Ok(match fault {
         None => status,
@@ -57,13 +62,19 @@ fn list_packets<W: Write>(
 ) -> Result<(), Exit> {
     let alloc = console.alloc();
     for _ in 0..u64::MAX {
-        let gap = telling.tell_row(alloc, &mut PacketLines, &mut BlockPacketLines, output)?;
-        let Some(gap) = gap else {
+        let between = telling.tell_row(alloc, &mut PacketLines, &mut BlockPacketLines, output)?;
+        let Some(between) = between else {
             break;
         };
         output.flush()?;
         let shown = Shown(name);
-        eprintln!(console.for_line(); "pcapfile: {shown}: {gap}")?;
+        match between {
+            Between::Gap(gap) => eprintln!(console.for_line(); "pcapfile: {shown}: {gap}")?,
+            Between::Change(change) => {
+                let text = telling.text_of(alloc, &change)?;
+                eprintln!(console.for_line(); "pcapfile: {shown}: {text}")?;
+            }
+        }
     }
     Ok(())
 }

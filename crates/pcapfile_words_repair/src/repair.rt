@@ -1,7 +1,7 @@
 //! The word `repair`.
 
 use pcapfile_files::{Console, OUTPUT, open_watched, tell_error, tell_io, write_named};
-use pcapfile_lenient::Repaired;
+use pcapfile_lenient::{Opening, Repaired};
 use std::io;
 use std::io::{BufWriter, Write};
 
@@ -12,6 +12,8 @@ pub struct Repair<'a> {
     pub from: &'a str,
     /// The name of the repaired capture.
     pub out: &'a str,
+    /// Where the header of a classic capture comes from.
+    pub opening: Opening,
 }
 
 /// Writes a capture that breaks no rule from what can be read of another one, and returns the exit status.
@@ -26,7 +28,7 @@ fn repair_to<W: Write + Drop>(console: &Console, asked: &Repair, output: W) -> i
         Ok(stream) => stream,
         Err(error) => return tell_io(console, asked.from, &error),
     };
-    let mut repaired = match Repaired::new(console, asked.from, stream) {
+    let mut repaired = match Repaired::opened_as(console, asked.from, stream, asked.opening) {
         Ok(repaired) => repaired,
         Err(error) => return tell_error(console, asked.from, &error),
     };

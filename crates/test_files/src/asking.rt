@@ -1,6 +1,6 @@
 //! Counts how often a check reads its input, and how often a cut writes its output.
 
-use pcapfile_cut::{Opening, Wanted, cut_part};
+use pcapfile_cut::{Opening, Range, Selection, Wanted, cut_part};
 use pcapfile_run::{check_blocks, check_packets};
 use std::alloc::Global;
 use std::io::BufReader;
@@ -44,10 +44,14 @@ fn calls_of_a_cut(alloc: Global) -> Result<(u64, usize), Fail> {
     let mut input = Halting::new(alloc, six_packets(alloc)?.as_slice(), 65536)?;
     let mut output = Narrow::new(alloc, 1000, false);
     let opening = Opening::read(&mut input, &mut false)?;
-    let wanted = Wanted::Times {
+    let selection = Selection {
+        numbers: &[Range::ALL],
         from: 1_000_000_000,
         until: 2_000_000_000,
+        lengths: Range::ALL,
+        filter: None,
     };
+    let wanted = Wanted::Selected(&selection);
     let outcome = cut_part(alloc, &opening, &mut input, &mut output, wanted);
     if outcome.fault.is_some() || output.out.len() != 24 + 3 * 16 {
         return Err(Fail::new(format_args!("{outcome:?}")));

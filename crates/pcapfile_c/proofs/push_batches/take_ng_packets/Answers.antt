@@ -39,7 +39,7 @@ returns-then-status-ne0-clause-taken c q shows =
     let step = here.ensures.taken (behind q so_far.0.0) so_far.0.2 in
     let z = here.result in
     let same : to_z w32 (of_z w32 z) ≡ z = search rules in
-    rw same (none_fills q c.args.left.now.bytes.now l.left.bytes.now here.new.left.bytes.now l.section here.new.section l.interfaces here.new.interfaces l.packets l.taken _ here.new.packet l.error here.new.error z so_far.0 step c.args.packets.now _ c.args.error.now c.if-status-ne0.true c.loop-taken-test.true (λ is. ap (slice_set l.packets l.taken) is ∙ set-get_or l.packets l.taken _) l.invariant.others so_far.2)
+    rw same (none_fills q c.args.left.now.bytes.now l.left.bytes.now here.new.left.bytes.now l.section here.new.section l.interfaces here.new.interfaces l.packets l.taken _ here.new.packet l.error here.new.error z so_far.0 step c.args.section.now c.args.interfaces.now c.args.packets.now _ c.args.error.now c.if-status-ne0.true c.loop-taken-test.true (λ is. ap (slice_set l.packets l.taken) is ∙ set-get_or l.packets l.taken _) l.invariant.others so_far.2)
 
 pub returns-then-status-ne0-clause-others : goal.returns-then-status-ne0-clause-others
 returns-then-status-ne0-clause-others c q shows =

@@ -26,7 +26,7 @@ returns-in-Some-clause-taken c q shows =
     let step = c.in-Some.ensures.taken (state_after block_format q so_far.0.0) so_far.0.3 in
     let z = c.in-Some.status in
     let same : to_z w32 (of_z w32 z) ≡ z = search rules in
-    rw same (walk_done q l.section c.take_block.new.section l.interfaces c.take_block.new.interfaces c.args.left.now.bytes.now l.left.bytes.now c.take_block.new.left.bytes.now c.args.packet.now l.packet c.take_block.new.packet c.args.error.now l.error c.take_block.new.error z so_far.1 so_far.2 so_far.0 step)
+    rw same (walk_done q c.args.section.now l.section c.take_block.new.section c.args.interfaces.now l.interfaces c.take_block.new.interfaces c.args.left.now.bytes.now l.left.bytes.now c.take_block.new.left.bytes.now c.args.packet.now l.packet c.take_block.new.packet c.args.error.now l.error c.take_block.new.error z so_far.1 so_far.2 so_far.0 step)
 
 pub returns-in-Some-clause-bases : goal.returns-in-Some-clause-bases
 returns-in-Some-clause-bases c had = c.in-Some.ensures.bases (c.loop-status.invariant.bases had)

@@ -10,6 +10,7 @@ use Rattle.pcapfile_values.specs.declared.reasons.Reason.TheVariants.{Breaks}
 use Rattle.pcapfile_values.specs.BlockTexts.{PutsAt, section_block}
 use Rattle.pcapfile_values.proofs.Parts.{section_text_long}
 use Rattle.pcapfile_c.specs.Putting.{PutsBlock, SectionFlaw, a_section}
+use Rattle.pcapfile_c.specs.Readers.{block_writer}
 use Rattle.pcapfile_c.proofs.Fitting.{puts_whole, puts_nothing, puts_refused, section_is_text}
 use Rattle.pcapfile_c.proofs.putting.pcapfile_put_section.Goals as goal
 
@@ -37,4 +38,4 @@ returns c =
     subst (λ (o : PcapfileSection). PutsAt 0 (text_of (number_bytes e) (section_block o)) c.args.room.now c.put_section.new.room) shown c.put_section.ensures in
     let whole = puts_whole (SectionFlaw s) (a_section s) s (record s { interfaces = 0 }) (text_of (number_bytes e) (section_block s)) c.args.room.now c.put_section.new.room 28 c.args.written.now c.args.error.now
     (section_is_text e s order c.without_interfaces-opened.ensures.major c.without_interfaces-opened.ensures.minor) (sym (section_text_long (number_bytes e) (codec e).wide s)) put in
-    subst (λ (next : PcapfileSection). PutsBlock (SectionFlaw s) (a_section s) s next c.args.room.now c.put_section.new.room c.args.written.now 28 c.args.error.now c.args.error.now (pos 0)) (sym shown) whole
+    subst (λ (next : PcapfileSection). PutsBlock (SectionFlaw s) (a_section s) (block_writer s c.args.room.now c.args.written.now c.args.error.now) (block_writer next c.put_section.new.room 28 c.args.error.now) (pos 0)) (sym shown) whole

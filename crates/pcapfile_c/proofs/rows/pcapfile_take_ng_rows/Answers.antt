@@ -4,6 +4,7 @@ use Rattle.std.proofs.lemmas.Option.{same_Some}
 use Rattle.pcap_core.specs.declared.rules.Rule.TheVariants.{SectionMagic}
 use Rattle.pcapfile_c.specs.Batches.{PacketText, OtherText, PacketMayGrow, PassageSays}
 use Rattle.pcapfile_c.specs.Rows.{ShowsNgRow, TakesNgRows}
+use Rattle.pcapfile_c.specs.Readers.{reader}
 use Rattle.pcapfile_c.proofs.Many.{others_kept}
 use Rattle.pcapfile_c.proofs.Passages.{passage_shorter, somes_other, filled, packet_last}
 use Rattle.pcapfile_c.proofs.Refused.{tells_named, tells_refusal_where}
@@ -118,7 +119,7 @@ returns-in-Err-clause-taken c e names =
     let so_far = inv.passed in
     let some : 0 < length s = search rules in
     let refused = tells_refusal_where (PacketMayGrow o s) (PassageSays o s) c.in-Err.e c.tell-in-Err.new.told c.tell-in-Err.result c.in-Err.ensures c.tell-in-Err.ensures in
-    let all : TakesNgRows o c.args.left.now c.loop-taken.left c.args.rows.now c.loop-taken.rows c.loop-taken.taken c.args.error.now c.tell-in-Err.new.told (to_z w32 (of_z w32 c.tell-in-Err.result)) =
+    let all : TakesNgRows o (reader c.args.left.now c.args.rows.now c.args.error.now) (reader c.loop-taken.left c.loop-taken.rows c.tell-in-Err.new.told) c.loop-taken.taken (to_z w32 (of_z w32 c.tell-in-Err.result)) =
     record {
       found = so_far.0;
       within = inv.within;

@@ -1,4 +1,4 @@
-use Rattle.std.proofs.Common.{◌∙◌, ◌≡◌, refl, inl, inr, [], List, ℕ, Bool, true, Err, rules, subst}
+use Rattle.std.proofs.Common.{◌∙◌, ◌≡◌, ◌+◌, ap, drop, refl, inl, inr, [], List, ℕ, Bool, true, Err, rules, subst}
 use Rattle.std.proofs.lemmas.Result.{err_from_is_err_and}
 use Rattle.std.proofs.KnownBytes.{Keeps-refl}
 use Rattle.pcap_items.specs.Held.{held_bytes}
@@ -13,7 +13,8 @@ use Rattle.pcap_classic.proofs.StatedPackets.{shown_stands}
 use Rattle.std.specs.Prelude.{if◌then◌else◌}
 use Rattle.std.specs.Io.KnownBytes.{Appends}
 use Rattle.pcap_items.specs.Writing.{WritesAll}
-use Rattle.pcapfile_cut.specs.Choice.{Stored}
+use Rattle.pcapfile_cut.specs.Choice.{Stored, takes}
+use Rattle.pcapfile_cut.specs.Selections.{captured}
 use Rattle.pcapfile_cut.proofs.cutting.cut_next.Goals as goal
 
 pub fill_item-requires-clause-lawful : goal.fill_item-requires-clause-lawful
@@ -38,14 +39,17 @@ returns-in_err-put_if-clause-steps g c =
     let filled = rw c.in-Some.is at c.in_ok-head.ensures.fills in
     let held = held_bytes c.fill_item.new.held in
     let stored : Stored = record { packet = held_packet held c.in-Some.head; text = held } in
+    let same : c.data_of.result.now ≡ drop 16 held = c.data_of.ensures ∙ ap (drop 16) c.as_slice-text.ensures in
+    let takes_it : c.takes-is_wanted.result ≡ takes c.args.wanted (c.args.outcome.now.packets + 1) stored.packet =
+    c.takes-is_wanted.ensures ∙ ap (λ (bytes : List ℕ). takes c.args.wanted (c.args.outcome.now.packets + 1) (captured c.in-Some.head bytes)) same in
     let p = err_from_is_err_and c.from_residual-in_err-put_if.result c.from_residual-in_err-put_if.ensures.1 in
     let out = g.W.Write.contents c.args.output.now in
     let out_now = g.W.Write.contents c.put_if.new.output in
     let e = c.in_err-put_if.field-0.0 in
     let is : c.takes-is_wanted.result ≡ true = c.in_err-put_if.ensures.wanted in
-    let went : WritesAll out out_now (if c.takes-is_wanted.result then c.as_slice.result.now else []) (Err e) = c.in_err-put_if.ensures.out in
-    let all_went : WritesAll out out_now c.as_slice.result.now (Err e) = subst (λ (b : Bool). WritesAll out out_now (if b then c.as_slice.result.now else []) (Err e)) is went in
-    let part = torn_write held out out_now e (subst (λ (s : List ℕ). WritesAll out out_now s (Err e)) c.as_slice.ensures all_went) in
+    let went : WritesAll out out_now (if c.takes-is_wanted.result then c.as_slice-text.result.now else []) (Err e) = c.in_err-put_if.ensures.out in
+    let all_went : WritesAll out out_now c.as_slice-text.result.now (Err e) = subst (λ (b : Bool). WritesAll out out_now (if b then c.as_slice-text.result.now else []) (Err e)) is went in
+    let part = torn_write held out out_now e (subst (λ (s : List ℕ). WritesAll out out_now s (Err e)) c.as_slice-text.ensures all_went) in
     rw (p.1, p.2) (
       refl,
       refl,
@@ -53,7 +57,7 @@ returns-in_err-put_if-clause-steps g c =
         stored = stored;
         is_stored = (reader_whole packet_limit c.args.header.now held [] stored.packet (shown_stands c.args.header.now c.in-Some.head held filled.1)).1;
         took = filled.4;
-        is_wanted = subst (λ (b : Bool). b ≡ true) c.takes-is_wanted.ensures is;
+        is_wanted = subst (λ (b : Bool). b ≡ true) takes_it is;
         refused = part.0;
         no_read_failed = filled.0;
         write_failed = c.in_err-put_if.ensures.told;
@@ -66,15 +70,18 @@ returns-clause-steps g c =
     let filled = rw c.in-Some.is at c.in_ok-head.ensures.fills in
     let held = held_bytes c.fill_item.new.held in
     let stored : Stored = record { packet = held_packet held c.in-Some.head; text = held } in
+    let same : c.data_of.result.now ≡ drop 16 held = c.data_of.ensures ∙ ap (drop 16) c.as_slice-text.ensures in
+    let takes_it : c.takes-is_wanted.result ≡ takes c.args.wanted (c.args.outcome.now.packets + 1) stored.packet =
+    c.takes-is_wanted.ensures ∙ ap (λ (bytes : List ℕ). takes c.args.wanted (c.args.outcome.now.packets + 1) (captured c.in-Some.head bytes)) same in
     let out = g.W.Write.contents c.args.output.now in
     let out_now = g.W.Write.contents c.put_if.new.output in
-    let went : Appends out out_now (if c.takes-is_wanted.result then c.as_slice.result.now else []) = c.in_ok-put_if.ensures.out in
-    let went_held : Appends out out_now (if c.takes-is_wanted.result then held else []) = subst (λ (s : List ℕ). Appends out out_now (if c.takes-is_wanted.result then s else [])) c.as_slice.ensures went in
+    let went : Appends out out_now (if c.takes-is_wanted.result then c.as_slice-text.result.now else []) = c.in_ok-put_if.ensures.out in
+    let went_held : Appends out out_now (if c.takes-is_wanted.result then held else []) = subst (λ (s : List ℕ). Appends out out_now (if c.takes-is_wanted.result then s else [])) c.as_slice-text.ensures went in
     record {
       stored = stored;
       is_stored = (reader_whole packet_limit c.args.header.now held [] stored.packet (shown_stands c.args.header.now c.in-Some.head held filled.1)).1;
       took = filled.4;
-      went = subst (λ (b : Bool). Appends out out_now (if b then held else [])) c.takes-is_wanted.ensures went_held;
+      went = subst (λ (b : Bool). Appends out out_now (if b then held else [])) takes_it went_held;
       packets = refl;
       bytes = search rules;
       no_read_failed = filled.0;

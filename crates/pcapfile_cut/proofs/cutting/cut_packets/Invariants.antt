@@ -4,8 +4,8 @@ use Rattle.pcapfile_cut.specs.Choice.{Stored}
 use Rattle.pcapfile_cut.specs.Cuts.{Passes}
 use Rattle.pcapfile_cut.proofs.cutting.cut_packets.Given as goal
 
-abbrev pub invariant-loop-wanted : goal.invariant-loop-wanted
-invariant-loop-wanted g l = record {
+abbrev pub invariant-loop-input : goal.invariant-loop-input
+invariant-loop-input g l = record {
   packets : List Stored;
   passes : Passes l.header l.wanted packets (g.R.Read.remaining l.fn.input) (g.R.Read.remaining l.input) (g.W.Write.contents l.fn.output) (g.W.Write.contents l.output) l.outcome;
   between : held_bytes l.held ≡ [];
@@ -13,5 +13,5 @@ invariant-loop-wanted g l = record {
   wrote : l.outcome.write_failed ≡ false;
 }
 
-abbrev pub decreases-loop-wanted : goal.decreases-loop-wanted
-decreases-loop-wanted g l = 2 ^ 64 - l.outcome.packets
+abbrev pub decreases-loop-input : goal.decreases-loop-input
+decreases-loop-input g l = 2 ^ 64 - l.outcome.packets

@@ -11,8 +11,8 @@ use Rattle.pcapfile_as_is.proofs.block_flaws.BlockFlawLinesBlockTeller.put.Goals
 pub returns-in_err-put_flaws-clause-writes : goal.returns-in_err-put_flaws-clause-writes
 returns-in_err-put_flaws-clause-writes g c =
     let prefix = c.args.self.now.prefix.now in
-    let number = c.args.number in
-    let place = c.args.place in
+    let number = c.args.at.number in
+    let place = c.args.at.place in
     let item = lent_item c.args.reader.now c.args.lent.now in
     let before = g.W.Write.contents c.args.output.now in
     let after = g.W.Write.contents c.put_flaws.new.output in

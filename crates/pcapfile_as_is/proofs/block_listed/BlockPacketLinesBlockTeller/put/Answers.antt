@@ -21,7 +21,7 @@ returns-in-None-clause-writes g c =
     let item = lent_item c.args.reader.now c.args.lent.now in
     let none = rw c.in-None.is at c.in_ok-body_lent.ensures in
     let count = ap (λ l. not (length l == 0)) c.as_slice.ensures.value ∙ ap (λ n. not (n == 0)) (sym (length-map c.args.lent.now.flaws.items said_of)) in
-    ([], no_packet c.args.number c.args.place item _ none (ap unnumbered (ap not c.is_empty.ensures ∙ count)), Appends-nil (g.W.Write.contents c.args.output.now))
+    ([], no_packet c.args.at.number c.args.at.place item _ none (ap unnumbered (ap not c.is_empty.ensures ∙ count)), Appends-nil (g.W.Write.contents c.args.output.now))
 
 pub returns-in-Some-clause-writes : goal.returns-in-Some-clause-writes
 returns-in-Some-clause-writes g c =
@@ -30,5 +30,5 @@ returns-in-Some-clause-writes g c =
     let body = option_map body_shown held.body in
     let flaws = map said_of held.flaws.items in
     let holds = rw c.in-Some.is at c.in_ok-body_lent.ensures in
-    told_as (IsListedBody (described (state_of c.args.reader.now)) c.args.number body flaws) (IsListed c.args.number c.args.place item) (one_packet c.args.number c.args.place item body flaws holds)
+    told_as (IsListedBody (described (state_of c.args.reader.now)) c.args.at.number body flaws) (IsListed c.args.at.number c.args.at.place item) (one_packet c.args.at.number c.args.at.place item body flaws holds)
     (g.W.Write.contents c.args.output.now) (g.W.Write.contents c.put_held.new.output) c.put_held.result c.put_held.ensures

@@ -1,0 +1,171 @@
+//! Files that are not captures.
+
+use crate::walk::begins_capture;
+use std::fmt;
+
+/// The number of first bytes by which a text is recognized.
+const SAMPLE: usize = 512;
+
+/// The length of a record's header in an ERF file, in bytes.
+const ERF_HEADER: usize = 16;
+
+/// The first second of 1990, since 1970. Earlier times are taken for other bytes.
+const YEAR_1990: u32 = 631_152_000;
+
+/// What a message says of a capture of the program snoop.
+const SNOOP: &str =
+    "is a capture in the format snoop; 'editcap FILE OUT' of Wireshark converts it to PcapNg";
+
+/// What a message says of an ERF file.
+const ERF: &str =
+    "is a capture in the format ERF; 'editcap FILE OUT' of Wireshark converts it to PcapNg";
+
+/// What a file is that doesn't begin like a capture.
+#[derive(Clone, Copy)]
+pub(crate) enum Foreign {
+    /// It has no bytes.
+    Empty,
+    /// It is compressed.
+    Packed(Packing),
+    /// It is a capture of the program snoop.
+    Snoop,
+    /// It is a capture in the extensible record format.
+    Erf,
+    /// It is a page of the web.
+    Page,
+    /// It is a text.
+    Text,
+    /// It is something else.
+    Unknown,
+}
+
+/// A way to compress files.
+#[derive(Clone, Copy)]
+pub(crate) enum Packing {
+    Gzip,
+    Zstd,
+    Lz4,
+    Xz,
+    Bzip2,
+}
+
+impl Packing {
+    /// Each way that is recognized.
+    const EACH: [Packing; 5] = [
+        Packing::Gzip,
+        Packing::Zstd,
+        Packing::Lz4,
+        Packing::Xz,
+        Packing::Bzip2,
+    ];
+
+    // Returns whether a file with these first bytes is compressed in this way.
+    fn begins(self, bytes: &[u8]) -> bool {
+        match self {
+            Packing::Gzip => bytes.starts_with(b"\x1f\x8b"),
+            Packing::Zstd => bytes.starts_with(b"\x28\xb5\x2f\xfd"),
+            Packing::Lz4 => bytes.starts_with(b"\x04\x22\x4d\x18"),
+            Packing::Xz => bytes.starts_with(b"\xfd7zXZ\0"),
+            Packing::Bzip2 => bytes.starts_with(b"BZh"),
+        }
+    }
+
+    // Returns the name of the format, with its article.
+    fn name(self) -> &'static str {
+        match self {
+            Packing::Gzip => "a gzip",
+            Packing::Zstd => "a zstd",
+            Packing::Lz4 => "an lz4",
+            Packing::Xz => "an xz",
+            Packing::Bzip2 => "a bzip2",
+        }
+    }
+
+    // Returns the command that decompresses a file into a pipe.
+    fn command(self) -> &'static str {
+        match self {
+            Packing::Gzip => "zcat",
+            Packing::Zstd => "zstdcat",
+            Packing::Lz4 => "lz4cat",
+            Packing::Xz => "xzcat",
+            Packing::Bzip2 => "bzcat",
+        }
+    }
+}
+
+impl Foreign {
+    /// Returns what a file with these first bytes is, or `None` if it begins like a capture.
+    pub(crate) fn of_front(bytes: &[u8]) -> Option<Foreign> {
+        if bytes.is_empty() {
+            return Some(Foreign::Empty);
+        }
+        if begins_capture(bytes) {
+            return None;
+        }
+        for packing in Packing::EACH {
+            if packing.begins(bytes) {
+                return Some(Foreign::Packed(packing));
+            }
+        }
+        Some(if bytes.starts_with(b"snoop\0\0\0") {
+            Foreign::Snoop
+        } else if is_page(bytes) {
+            Foreign::Page
+        } else if is_text(bytes) {
+            Foreign::Text
+        } else if is_erf(bytes) {
+            Foreign::Erf
+        } else {
+            Foreign::Unknown
+        })
+    }
+}
+
+impl fmt::Display for Foreign {
+    fn fmt<W: fmt::Write>(&self, f: &mut fmt::Formatter<W>) -> fmt::Result {
+        match self {
+            Foreign::Empty => f.write_str("is empty"),
+            Foreign::Packed(packing) => write!(
+                f,
+                "is {} file, and no capture; '{} FILE | pcapfile info -' reads it",
+                packing.name(),
+                packing.command()
+            ),
+            Foreign::Snoop => f.write_str(SNOOP),
+            Foreign::Erf => f.write_str(ERF),
+            Foreign::Page => f.write_str("is an HTML page, and no capture"),
+            Foreign::Text => f.write_str("is a text, and no capture"),
+            Foreign::Unknown => f.write_str("is no capture"),
+        }
+    }
+}
+
+// Returns whether the bytes begin like a page of the web, behind white space.
+fn is_page(bytes: &[u8]) -> bool {
+    let front = bytes.trim_ascii_start();
+    ["<!doctype html", "<html"]
+        .iter()
+        .any(|start| match front.get(..start.len()) {
+            Some(front) => front.eq_ignore_ascii_case(start.as_bytes()),
+            None => false,
+        })
+}
+
+// Returns whether the first bytes are those of an ASCII text.
+fn is_text(bytes: &[u8]) -> bool {
+    let sample = bytes.get(..SAMPLE).unwrap_or(bytes);
+    sample.iter().all(|byte| byte.is_ascii_graphic()
+        || matches!(*byte, b' ' | b'\t' | b'\r' | b'\n'))
+}
+
+// Returns whether the bytes begin with a record of an ERF file: a plausible time, a known type, and a length that holds the header.
+fn is_erf(bytes: &[u8]) -> bool {
+    let Some(head) = bytes.get(..ERF_HEADER) else {
+        return false;
+    };
+    let seconds = u32::from_le_bytes([head[4], head[5], head[6], head[7]]);
+    let length = u16::from_be_bytes([head[10], head[11]]);
+    seconds >= YEAR_1990
+        && (1..=48).contains(&(head[8] & 0x7F))
+        && usize::from(length) >= ERF_HEADER
+}

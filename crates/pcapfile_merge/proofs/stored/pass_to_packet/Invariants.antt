@@ -1,6 +1,0 @@
-use Rattle.pcap_file.specs.Placing.{source_of}
-use Rattle.pcapfile_merge.proofs.Turning.{Passed}
-use Rattle.pcapfile_merge.proofs.stored.pass_to_packet.Given as goal
-
-abbrev pub invariant-loop-turn : goal.invariant-loop-turn
-invariant-loop-turn g l = Passed l.fn.interfaces (source_of g.R.Read.remaining l.fn.reader) (source_of g.R.Read.remaining l.reader) l.turn

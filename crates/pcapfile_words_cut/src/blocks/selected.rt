@@ -1,0 +1,202 @@
+//! The selected packets of a PcapNg capture.
+
+use super::{Blocks, pass_text};
+use crate::selecting::Tests;
+use pcap_file::pcapng::{BlockHeader, InterfaceDescriptionBlock, ParsedBlock, Timestamp};
+use pcap_file::{PcapError, ResultParsing};
+use pcap_items::stream::put;
+use pcapfile_cut::{Outcome, Selection};
+use pcapfile_run::{BlockPacket, holds_packet, interface_at, packet_in_body};
+use std::alloc::Global;
+use std::io::{Read, Write};
+
+/// The time of the first packet in tests that depend on no time.
+const NO_TIME: Timestamp = Timestamp {
+    seconds: 0,
+    nanoseconds: 0,
+};
+
+/// Whether a packet is selected, or why no test applies to it.
+#[derive(Clone, Copy)]
+enum Verdict {
+    Selected,
+    Rejected,
+    Malformed,
+    WithoutTime,
+}
+
+impl<R: Read + Drop> Blocks<R> {
+    // Writes the section header and the interfaces in force before the first number, and then all blocks up to the last number,
+    // except packets that are not selected.
+    pub(super) fn put_selected<W: Write>(
+        &mut self,
+        alloc: Global,
+        output: &mut W,
+        tests: Tests<'_>,
+        outcome: &mut Outcome,
+    ) -> ResultParsing<()> {
+        let selection = tests.selection(NO_TIME);
+        if tests.first() > 1 {
+            self.pass_to(alloc, tests, outcome)?;
+        }
+        put(output, &mut outcome.write_failed, self.in_force())?;
+        for _ in 0..u64::MAX {
+            if !selection.has_more(outcome.packets) {
+                break;
+            }
+            let Some(header) = self.blocks.pass()? else {
+                break;
+            };
+            if self.is_kept(alloc, header, tests, outcome)? {
+                self.put_block(output, outcome)?;
+            } else {
+                pass_text(self.blocks.reader().text(), outcome);
+            }
+        }
+        Ok(())
+    }
+
+    // Skips blocks until the reader lends the packet of the first number.
+    fn pass_to(
+        &mut self,
+        alloc: Global,
+        tests: Tests<'_>,
+        outcome: &mut Outcome,
+    ) -> ResultParsing<()> {
+        for _ in 0..u64::MAX {
+            let Some(header) = self.blocks.peek()? else {
+                break;
+            };
+            if holds_packet(header.type_) {
+                if outcome.packets.saturating_add(1) >= tests.first() {
+                    break;
+                }
+                self.note_first(alloc, header, tests)?;
+                outcome.packets = outcome.packets.saturating_add(1);
+            }
+            pass_text(self.blocks.reader().text(), outcome);
+            let _ = self.blocks.pass()?;
+        }
+        Ok(())
+    }
+
+    // Returns whether the lent block is written: it holds no packet, or a selected one. Counts its packet.
+    fn is_kept(
+        &mut self,
+        alloc: Global,
+        header: BlockHeader,
+        tests: Tests<'_>,
+        outcome: &mut Outcome,
+    ) -> ResultParsing<bool> {
+        if !holds_packet(header.type_) {
+            return Ok(true);
+        }
+        outcome.packets = outcome.packets.saturating_add(1);
+        self.note_first(alloc, header, tests)?;
+        let selection = tests.selection(NO_TIME);
+        if !selection.has_number(outcome.packets) {
+            return Ok(false);
+        }
+        if !tests.reads_packets() {
+            return Ok(true);
+        }
+        let verdict = self.verdict(alloc, header, tests, &selection)?;
+        self.untimed.add(verdict);
+        Ok(matches!(verdict, Verdict::Selected))
+    }
+
+    // Keeps the time of the packet in the lent block, if a test depends on the first time and this is the first one.
+    fn note_first(
+        &mut self,
+        alloc: Global,
+        header: BlockHeader,
+        tests: Tests<'_>,
+    ) -> ResultParsing<()> {
+        if self.first.is_some() || !tests.is_relative() {
+            return Ok(());
+        }
+        let reader = self.blocks.reader();
+        let block = reader.block(header);
+        let parsed = match block.parsed(alloc) {
+            Ok(parsed) => parsed,
+            Err(PcapError::OutOfMemory(error)) => return Err(PcapError::OutOfMemory(error)),
+            Err(_) => return Ok(()),
+        };
+        let first = time_in(reader.interfaces(), &parsed);
+        self.first = first;
+        Ok(())
+    }
+
+    // Returns whether the packet of the lent block passes all tests except that of its number.
+    fn verdict(
+        &self,
+        alloc: Global,
+        header: BlockHeader,
+        tests: Tests<'_>,
+        selection: &Selection<'_>,
+    ) -> ResultParsing<Verdict> {
+        let reader = self.blocks.reader();
+        let block = reader.block(header);
+        let parsed = match block.parsed(alloc) {
+            Ok(parsed) => parsed,
+            Err(PcapError::OutOfMemory(error)) => return Err(PcapError::OutOfMemory(error)),
+            Err(_) => return Ok(Verdict::Malformed),
+        };
+        let interfaces = reader.interfaces();
+        let Some(packet) = packet_in_body(interfaces, &parsed) else {
+            return Ok(Verdict::Malformed);
+        };
+        if !passes(&packet, tests, selection) {
+            return Ok(Verdict::Rejected);
+        }
+        Ok(time_verdict(time_of(interfaces, &packet), tests, self.first))
+    }
+}
+
+impl crate::source::Untimed {
+    // Counts a packet to which a test doesn't apply.
+    fn add(&mut self, verdict: Verdict) {
+        match verdict {
+            Verdict::Malformed => self.malformed = self.malformed.saturating_add(1),
+            Verdict::WithoutTime => self.without_time = self.without_time.saturating_add(1),
+            Verdict::Selected | Verdict::Rejected => {}
+        }
+    }
+}
+
+// Returns whether the packet passes the tests of interface, length and bytes.
+fn passes(packet: &BlockPacket<'_>, tests: Tests<'_>, selection: &Selection<'_>) -> bool {
+    tests.has_interface(packet.interface)
+        && selection.lengths.holds(u64::from(packet.original_len))
+        && selection.accepts(packet.bytes, packet.original_len)
+}
+
+// Returns the verdict of the tests of time.
+fn time_verdict(time: Option<Timestamp>, tests: Tests<'_>, first: Option<Timestamp>) -> Verdict {
+    if !tests.has_times() {
+        return Verdict::Selected;
+    }
+    match time {
+        None => Verdict::WithoutTime,
+        Some(time) if tests.has_time(time, first.unwrap_or(time)) => Verdict::Selected,
+        Some(_) => Verdict::Rejected,
+    }
+}
+
+// Returns the time of the packet in a body, if it has one.
+fn time_in(
+    interfaces: &[InterfaceDescriptionBlock<'static>],
+    parsed: &ParsedBlock<'_>,
+) -> Option<Timestamp> {
+    let packet = packet_in_body(interfaces, parsed)?;
+    time_of(interfaces, &packet)
+}
+
+// Returns the time of a packet, if it has one.
+fn time_of(
+    interfaces: &[InterfaceDescriptionBlock<'static>],
+    packet: &BlockPacket<'_>,
+) -> Option<Timestamp> {
+    let interface = interface_at(interfaces, packet.interface)?;
+    Some(interface.timestamp(packet.units?))
+}

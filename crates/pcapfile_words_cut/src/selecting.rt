@@ -1,0 +1,94 @@
+//! The packets that a user selects.
+
+use crate::times::{Moment, nanoseconds_of};
+use pcap_file::pcapng::Timestamp;
+use pcap_filter::Filter;
+use pcapfile_cut::{Range, Selection};
+
+/// The tests that a user names. A packet is selected if it passes all of them.
+#[derive(Drop)]
+pub struct Selecting {
+    /// The ranges of the packets' numbers.
+    pub numbers: Vec<Range>,
+    /// The earliest time.
+    pub from: Option<Moment>,
+    /// The end of the times: packets are before it.
+    pub until: Option<Moment>,
+    /// The lengths that packets had on the wire.
+    pub lengths: Range,
+    /// The number of the packets' interface in their section.
+    pub interface: Option<u32>,
+}
+
+/// The tests that a user names, and the filter that was read from a file.
+#[derive(Clone, Copy)]
+pub(crate) struct Tests<'a> {
+    /// The tests that the user names.
+    pub(crate) asked: &'a Selecting,
+    /// The program that accepts the packets. `None` accepts all.
+    pub(crate) filter: Option<&'a Filter>,
+}
+
+impl<'a> Tests<'a> {
+    /// Returns whether a test depends on the time of the first packet.
+    pub(crate) fn is_relative(self) -> bool {
+        let Selecting { from, until, .. } = self.asked;
+        [*from, *until]
+            .iter()
+            .any(|moment| matches!(moment, Some(Moment::AfterFirst(_))))
+    }
+
+    /// Returns whether a test depends on a packet's time.
+    pub(crate) fn has_times(self) -> bool {
+        self.asked.from.is_some() || self.asked.until.is_some()
+    }
+
+    /// Returns whether a test depends on more than a packet's number.
+    pub(crate) fn reads_packets(self) -> bool {
+        self.has_times()
+            || self.filter.is_some()
+            || self.asked.interface.is_some()
+            || self.asked.lengths != Range::ALL
+    }
+
+    /// Returns whether packets of this interface may be selected. All packets of a classic capture are of interface 0.
+    pub(crate) fn has_interface(self, number: u32) -> bool {
+        self.asked.interface.is_none_or(|it| it == number)
+    }
+
+    /// Returns the first number of the ranges, or 1 if there are none.
+    pub(crate) fn first(self) -> u64 {
+        self.asked
+            .numbers
+            .as_slice()
+            .iter()
+            .map(|range| range.first)
+            .min()
+            .unwrap_or(1)
+    }
+
+    /// Returns whether this time is selected if the first packet has the time `first`.
+    pub(crate) fn has_time(self, time: Timestamp, first: Timestamp) -> bool {
+        let Selecting { from, until, .. } = self.asked;
+        from.is_none_or(|from| from.after(first) <= time)
+            && until.is_none_or(|until| time < until.after(first))
+    }
+
+    /// Returns the tests of a classic capture's packets if the first one has this time.
+    pub(crate) fn selection(self, first: Timestamp) -> Selection<'a> {
+        let Selecting {
+            numbers,
+            from,
+            until,
+            lengths,
+            ..
+        } = self.asked;
+        Selection {
+            numbers: numbers.as_slice(),
+            from: from.map_or(0, |from| nanoseconds_of(from.after(first))),
+            until: until.map_or(u64::MAX, |until| nanoseconds_of(until.after(first))),
+            lengths: *lengths,
+            filter: self.filter,
+        }
+    }
+}
