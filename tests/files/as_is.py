@@ -6,6 +6,8 @@ import random
 import struct
 import tempfile
 
+import lenient
+
 DONE, AT_FAULT, FAILED = 0, 1, 3
 LONGEST, MOST = 262144, 16777216
 BILLION = 10**9
@@ -54,8 +56,8 @@ LENGTHS = {
 class Packet:
     """A packet as it is: its number, its offset, its time, its lengths, and the rules that it breaks."""
 
-    def __init__(self, number, place, unit, numbers):
-        self.number, self.place = number, place
+    def __init__(self, number, place, unit, numbers, stated=None, is_guess=False):
+        self.number, self.place, self.stated, self.is_guess = number, place, stated, is_guess
         self.seconds, self.fraction, self.stored, self.wire = numbers
         self.time = self.seconds * BILLION + self.fraction * unit
         broken = self.fraction * unit > 0xFFFFFFFF, self.stored > LONGEST, self.wire > LONGEST, self.stored > self.wire
@@ -77,20 +79,22 @@ Gap = collections.namedtuple("Gap", "place size what rule")
 
 def packets_and_gaps(capture, kind):
     """Yields the packets of a classic capture, and the gaps between them."""
-    (order, unit), at, count = kind, 24, 0
+    reading, at, count, time = lenient.Reading(capture, *kind), 24, 0, None
     while at < len(capture):
-        left, packet = len(capture) - at, None
-        if left >= 16:
-            packet = Packet(count + 1, at, unit, struct.unpack_from(order + "IIII", capture, at))
-        if packet and packet.stored <= MOST and left - 16 >= packet.stored:
-            yield packet
-            count, at = count + 1, at + 16 + packet.stored
-        elif packet and packet.flaws:
-            found = next((it for it in range(at, len(capture)) if stands(capture, kind, it)), len(capture))
-            yield Gap(at, found - at, "no packets", 3 if packet.stored > MOST else packet.flaws[0])
-            at = found
+        numbers = struct.unpack_from(kind[0] + "IIII", capture, at) if len(capture) - at >= 16 else None
+        size, way = reading.size_at(at, time)
+        if size is not None:
+            stated, count, time = numbers[2], count + 1, numbers[0]
+            if size != stated:
+                numbers = *numbers[:2], size, size if numbers[3] > LONGEST else max(numbers[3], size)
+            yield Packet(count, at, kind[1], numbers, stated, way)
+            at += 16 + size
+        elif way is not None:
+            flaws = Packet(0, at, kind[1], numbers).flaws
+            yield Gap(at, way - at, "no packets", 3 if numbers[2] > MOST else next(iter(flaws), None))
+            at = way
         else:
-            yield Gap(at, left, "of a packet that is cut short", None)
+            yield Gap(at, len(capture) - at, "of a packet that is cut short", None)
             break
 
 
@@ -124,12 +128,21 @@ def left_out(gap):
     return f"{gap.size} bytes at byte {gap.place} are {gap.what}, and are left out"
 
 
+def changed_length(packet):
+    """Returns the message on the changed length of a packet, if it has one."""
+    if packet.stated in (None, packet.stored):
+        return []
+    guess = ", by a guess" * packet.is_guess
+    return [f"packet {packet.number} at byte {packet.place}: its stored length is {packet.stored} and not {packet.stated}{guess}"]
+
+
 def flaw_lines(name, item):
     """Returns the lines for the flaws of a packet or a block, or for a gap."""
     if isinstance(item, Gap):
         return [] if is_torn(item) else [f"{name}: {left_out(item)}{by_rule(item.rule)}\n"]
     if isinstance(item, Packet):
-        return [f"{name}: packet {item.number} at byte {item.place} breaks rule {it}: {MESSAGES[it]}\n" for it in item.flaws]
+        broken = [f"packet {item.number} at byte {item.place} breaks rule {it}: {MESSAGES[it]}" for it in item.flaws]
+        return [f"{name}: {it}\n" for it in (*changed_length(item), *broken)]
     return [flaw_line(name, item.number, item.place, code, flaw) for code, flaw in item.flaws]
 
 
@@ -140,6 +153,7 @@ def checked(name, capture):
     found = [it for it in items if not isinstance(it, Gap)]
     gone = sum(it.size for it in items if isinstance(it, Gap) and not is_torn(it))
     flawed, torn = sum(bool(it.flaws) for it in found), next(filter(is_torn, items), None)
+    flawed += sum(bool(changed_length(it)) for it in found if isinstance(it, Packet))
     if refused:
         end = f"{CUT} at byte 0" if refused == CUT else f"refused at byte 0{by_rule(refused)}"
     else:
@@ -280,7 +294,7 @@ def listed(name, capture):
     lines = [packet_line(it) for it in found if isinstance(it, Packet)]
     if any(isinstance(it, Block) for it in found):
         lines, flawed = block_lines(found)
-    said = [CUT if is_torn(it) else left_out(it) for it in items if isinstance(it, Gap)]
+    said = [line for it in items for line in ([CUT if is_torn(it) else left_out(it)] if isinstance(it, Gap) else changed_length(it) if isinstance(it, Packet) else [])]
     if refused:
         said.append(refused if refused == CUT else f"Invalid field value: {MESSAGES[refused]}")
     return "".join(lines), "".join(f"pcapfile: {name}: {it}\n" for it in said), AT_FAULT if said or flawed else DONE
@@ -365,20 +379,6 @@ def mended(packet, unit, data):
     return (seconds, nanoseconds // unit, len(kept), wire), kept, changes
 
 
-def stands(capture, kind, at):
-    """Returns whether two packets in a row that have data and break no rule are at this offset, or one that reaches to the end."""
-    for _ in range(2):
-        if len(capture) - at < 16 or not 0 < struct.unpack_from(kind[0] + "I", capture, at + 8)[0] <= LONGEST:
-            return False
-        packet = Packet(0, at, kind[1], struct.unpack_from(kind[0] + "IIII", capture, at))
-        if packet.flaws or len(capture) - at - 16 < packet.stored:
-            return False
-        at += 16 + packet.stored
-        if at == len(capture):
-            return True
-    return True
-
-
 def repaired(name, capture):
     """Returns the repaired classic capture, or None, the messages, and the status."""
     prefix = f"pcapfile: {name}: "
@@ -390,6 +390,7 @@ def repaired(name, capture):
         if isinstance(it, Gap):
             said.append(left_out(it))
             continue
+        said += changed_length(it)
         numbers, data, changes = mended(it, unit, capture[it.place + 16 : it.place + 16 + it.stored])
         out.append(struct.pack(order + "IIII", *numbers) + data)
         said += [f"packet {it.number} at byte {it.place}: {change}" for change in changes]

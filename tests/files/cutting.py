@@ -99,7 +99,7 @@ def try_sizes(tally, help):
     for size, count in (("2000", 2000), ("2K", 2048), ("2KB", 2000), ("1M", 1 << 20), ("1GB", 10**9), ("1T", 1 << 40)):
         wanted = numbered(heaped(header, texts, count))
         expects(tally, help, f"parts of {size}", {"in": capture}, ["cut", "in", "--bytes", size, "-w", "out.pcap"], wanted)
-    said = "error: the value of --bytes is not understood; 'pcapfile cut --help' has the forms\n"
+    said = "error: the value of --bytes is not understood: it has the form 5000, 100K, 1M or 2GB\nFor more information, try 'pcapfile cut --help'.\n"
     for size in ("", "0", "0K", "K", "1k", "1KiB", "+1", "1.5K", "1 K", "18446744073709551616", "18014398509481984K"):
         expects(tally, help, f"no size: {size!r}", {"in": capture}, ["cut", "in", f"--bytes={size}", "-o", "out.pcap"], {}, USAGE, said)
 
@@ -159,7 +159,7 @@ def try_faults(tally, help):
         if at in ends:
             continue
         before = [it for it in ends if it < at]
-        said = f"pcapfile: in: cut short at byte {before[-1]}\n" if before else "pcapfile: in: cut short\n"
+        said = f"pcapfile: in: cut short at byte {before[-1]}\n" if before else "pcapfile: in: cut short\n" if at else "pcapfile: in: is empty\n"
         held = {"in": capture[:at], "out": b"old"}
         expects(tally, help, f"{at} bytes", held, ["cut", "in", "-o", "out"], {}, AT_FAULT, said)
         wanted = numbered([header + it for it in texts[: len(before) - 1]]) if before else {}
@@ -173,7 +173,7 @@ def try_faults(tally, help):
     rule = "pcapfile: in: refused at byte {} by rule ".format(ends[1])
     for name, before, words, status, said in (
         ("a rule", {"in": broken}, ["cut", "in", "-o", "out"], AT_FAULT, rule),
-        ("no capture", {"in": b"these are 24 or more bytes"}, ["cut", "in", "-o", "out"], AT_FAULT, "pcapfile: in: Invalid field value: PcapHeader wrong"),
+        ("no capture", {"in": b"\1these are 24 or more bytes"}, ["cut", "in", "-o", "out"], AT_FAULT, "pcapfile: in: Invalid field value: PcapHeader wrong"),
         ("no input", {}, in_range, FAILED, "pcapfile: in: "),
         ("no folder", held, ["cut", "in", "-o", "no/out"], FAILED, "pcapfile: no/out.part: "),
         ("a folder where the part stands", {**held, "out.part": None}, in_range, FAILED, "pcapfile: out.part: "),
@@ -185,7 +185,7 @@ def try_faults(tally, help):
         ("two ways", held, ["cut", "in", "--every", "2", "--parts", "2", "-o", "out"], USAGE, "error: "),
         ("parts of no packet", held, ["cut", "in", "--every", "0", "-o", "out"], USAGE, "error: "),
         ("another header", {**held, "b": other}, ["join", "in", "b", "-o", "all"], AT_FAULT, "pcapfile: b: its header is not that of the first part\n"),
-        ("a part that is none", {**held, "b": b""}, ["join", "in", "b", "-o", "all"], AT_FAULT, "pcapfile: b: cut short"),
+        ("a part that is none", {**held, "b": b""}, ["join", "in", "b", "-o", "all"], AT_FAULT, "pcapfile: b: is empty\n"),
         ("no part", held, ["join", "in", "b", "-o", "all"], FAILED, "pcapfile: b: "),
         ("a part for the whole", held, ["join", "in", "-o", "in"], FAILED, "pcapfile: in: is a capture that is read\n"),
     ):
@@ -270,11 +270,14 @@ def try_special(tally, help):
         )
 
 
-SECTION, INTERFACE, SIMPLE, NAMES, STATISTICS, PACKET = 0x0A0D0D0A, 1, 3, 4, 5, 6
+SECTION, INTERFACE, SIMPLE, NAMES, STATISTICS, PACKET, SECRETS, CUSTOM = 0x0A0D0D0A, 1, 3, 4, 5, 6, 10, 0xBAD
+# The blocks that packets after them may need.
+REPEATED = (SECTION, INTERFACE, NAMES, SECRETS)
 
 
 def sections(help, order, count):
-    """Returns a capture of blocks as (number, text): two sections, interfaces between packets, names, and statistics at the end."""
+    """Returns a capture of blocks as (number, text): two sections, interfaces, names and decryption secrets between packets, custom blocks,
+    and statistics at the end."""
     def one(number, body):
         return number, help.block(order, number, body)
 
@@ -282,12 +285,18 @@ def sections(help, order, count):
         return one(*help.enhanced(order, k % 2, 1700000000250000 + k * 500000, 60, bytes([k]) * k))
 
     head = struct.pack(order + "IHHq", 0x1A2B3C4D, 1, 0, -1)
+    secrets = struct.pack(order + "II", 0x544C534B, 12) + b"CLIENT_RANDO"
+    custom = one(CUSTOM, struct.pack(order + "I", 32473) + b"any data")
     found = [one(SECTION, head), one(*help.interface(order, 1)), one(NAMES, bytes(4)), one(*help.interface(order, 1))]
     for k in range(count):
+        if k == 1:
+            found += [one(SECRETS, secrets), custom]
         if k == 3:
             found += [one(SECTION, head + bytes(4)), one(*help.interface(order, 1, 96)), one(*help.interface(order, 101))]
         if k == 5:
             found.append(one(*help.interface(order, 105)))
+        if k == 6:
+            found += [one(NAMES, bytes(4)), one(SECRETS, secrets[:8] + b"SERVER_RANDO"), custom, one(STATISTICS, bytes(12))]
         found.append(packet(k))
     return [*found, one(STATISTICS, bytes(12))]
 
@@ -306,7 +315,7 @@ def block_parts(found, is_enough):
         passed, size = passed + len(text), size + len(text)
         if number == SECTION:
             in_force = []
-        if number in (SECTION, INTERFACE):
+        if number in REPEATED:
             in_force.append(text)
     return parts
 
@@ -340,7 +349,7 @@ def try_block_ranges(tally, help, found):
         for last in range(first, 9):
             start = places[first - 1] if first > 1 else 1
             opens = max(at for at in range(start) if found[at][0] == SECTION)
-            opening = [text for number, text in found[opens:start] if number in (SECTION, INTERFACE)]
+            opening = [text for number, text in found[opens:start] if number in REPEATED]
             end = places[last - 1] + 1 if last <= 7 else len(found)
             wanted = b"".join([*opening, *(text for _, text in found[start:end])])
             expects(tally, help, f"blocks of packets {first}-{last}", {"in": capture}, ["cut", "in", "--packets", f"{first}-{last}", "-o", "out"], {"out": wanted})

@@ -236,7 +236,7 @@ def try_times(tally):
     sound = block(6, struct.pack("<IIIII", 0, 0, 5, 4, 4) + b"data")
     refused = block(6, struct.pack("<IIIII", 0, 0, 5, 400, 400) + b"data")
     simple = block(3, struct.pack("<I", 4) + b"data")
-    malformed, timeless = "1 packet with a malformed body, which has no known time", "2 packets without a time"
+    malformed, timeless = "1 packet with a malformed body", "2 packets without a time"
     for times in (["--from", "0"], ["--until", "9"], ["--from", "0", "--until", "9"]):
         with Folder(tally.program, **{"in": section + sound + refused + simple + sound + simple}) as folder:
             checked = folder.run("check", "in")[0]
@@ -248,10 +248,10 @@ def try_times(tally):
                 folder.get("out") != section + sound * 2 and "it has other packets",
             )
     with Folder(tally.program, **{"in": CAPTURE}) as folder:
-        for time in ("9999-12-31T23:59:59Z", "9999-12-31T23:59:59.999999999Z", "9999-12-31T23:59:60Z", "9999-12-31T23:59:59-23:59", "9999-12-30T22:00:01z", "2554-07-21T23:34:33Z"):
+        for time in ("9999-12-31T23:59:59Z", "9999-12-31T23:59:59.999999999Z", "9999-12-31T23:59:60Z", "9999-12-31T23:59:59-23:59", "9999-12-30T22:00:01z", "2554-07-21T23:34:33Z", "9999-12-31", "9999-12-31 23:59:59"):
             ended = folder.run("cut", "in", "--until", time, "-o", "out")
             tally.note(f"the time {time}", ended != (DONE, b"", "") and f"it ended with {ended}", folder.get("out") != CAPTURE and "it has other packets")
-        for time in ("9999-02-29T00:00:00Z", "9999-13-01T00:00:00Z", "9999-12-31", "9999-", "9999-" + "1" * 100, "10000-01-01T00:00:00Z"):
+        for time in ("9999-02-29T00:00:00Z", "9999-13-01T00:00:00Z", "9999-12-32", "9999-", "9999-" + "1" * 100, "10000-01-01T00:00:00Z"):
             status = folder.run("cut", "in", "--until", time, "-o", "none")[0]
             tally.note(f"no time {time}", status != USAGE and f"it ended with {status}")
 
