@@ -1,4 +1,4 @@
-"""What the toolchain's check says of functions whose bodies are changed."""
+"""Reads what the toolchain's check prints about functions whose bodies were changed."""
 import contextlib
 import json
 import os
@@ -11,17 +11,18 @@ from edits import changed
 
 TOP = os.path.dirname(os.path.dirname(os.path.dirname(os.path.abspath(__file__))))
 KIT = os.path.dirname(os.path.dirname(os.path.realpath(shutil.which("rt") or "rt")))
-# How the check ends where it judged the functions that were asked for.
+# The line by which a check ends that judged the functions.
 ENDED = re.compile(r"^only=\d+ (?:proved=\d+|holes=\d+)", re.M)
 FUNCTION = re.compile(r"^fn (\S+): (.*)$", re.M)
 NOT_PROVED = ("not proved", "no proof")
 UNPROVED = re.compile(r"`search` did not prove (`[^`]+`(?:, `[^`]+`)*)")
-# A message goes on in the lines below it that begin with two spaces.
+# A message includes the lines below it that begin with two spaces.
 IN_ANSWER = re.compile(r"^\./proofs/(\S+)/(?:Answers|Invariants)\.antt:\d+:\d+: error: `([^`]+)`: (.*(?:\n  .*)*)$", re.M)
-# A written answer that names what the edit took away says nothing of a contract.
-OF_A_NAME = re.compile(r"has no field|is not in scope|has no `|was not admitted|is no name|no field")
+# A message about a name that the edit removed, in a written answer. It shows nothing about a contract. A search that "takes no field" of a
+# hypothesis has failed on its goal, and is no such message.
+OF_A_NAME = re.compile(r"has no field|is not in scope|has no `|was not admitted|is no name|(?<!takes )no field")
 IN_SOURCE = re.compile(r"^(?:\./)?((?:src|specs)/\S+:\d+:\d+: error.*)$", re.M)
-# What stands for the proof of a function that isn't judged. Who calls it goes by its contract, whatever its proof.
+# The proof of a function that isn't judged. A caller is judged by the contract of the function, so it needs no other proof.
 HOLE = """use Rattle.{path}.Statement.{{statement}}
 
 pub {name}_spec : {{M : Type 1}} → statement M
@@ -30,24 +31,24 @@ pub {name}_spec : {{M : Type 1}} → statement M
 
 
 class NoVerdict(Exception):
-    """The check did not come to judge the functions."""
+    """The check ended before it judged the functions."""
 
 
 def crates(top=TOP):
-    """The libraries that each crate of the repository names in crates.txt, and whether it is a static one."""
+    """Returns the libraries that crates.txt lists for each crate, and whether the crate is a static library."""
     with open(f"{top}/crates.txt", encoding="utf-8") as lines:
         rows = [line.split(":") for line in lines if not line.startswith("#")]
     return {head.split()[0]: (named.split(), "staticlib" in head) for head, named in rows}
 
 
 def below(names, known):
-    """These libraries and all that they stand on, of the repository."""
+    """Returns these libraries and all libraries of the repository below them."""
     found = {name for name in names if name in known}
     return found.union(*(below(known[name][0], known) for name in found))
 
 
 def words_of(name, named, is_static, known):
-    """The words for the crate's check over the libraries that were proved and built in this checkout."""
+    """Returns the arguments of the crate's check over the libraries that were proved and built in this checkout."""
     words = ["--crate-name", name, "src/lib.rt", "--extern", f"std={KIT}/rlibs/std.rlib", "-L", f"dependency={KIT}/rlibs"]
     for library in sorted(below(named, known)):
         if not os.path.exists(f"{TOP}/crates/{library}/out/rlib/{library}.rlib"):
@@ -63,7 +64,8 @@ def words_of(name, named, is_static, known):
 
 
 def check(name, texts, functions, kept):
-    """What a check of these functions says, over the crate with these texts; what it checks is kept for the next one."""
+    """Checks these functions of the crate with these texts, and returns what the check prints. The folder `kept` keeps what it checked for
+    the next check."""
     with tempfile.TemporaryDirectory(prefix="refusals-") as room:
         for path, text in texts.items():
             os.makedirs(os.path.dirname(f"{room}/{path}"), exist_ok=True)
@@ -82,7 +84,7 @@ def check(name, texts, functions, kept):
 
 
 def functions_of(name):
-    """The functions of a crate whose library is built, by their paths in it, but for those that have no name of their own."""
+    """Returns the paths of the named functions of a crate, if its library is built."""
     built = f"{TOP}/crates/{name}/out/rlib/{name}.rlib/toolchain/mir.json"
     if not os.path.exists(built):
         return []
@@ -92,7 +94,7 @@ def functions_of(name):
 
 
 def with_holes(name, texts, functions):
-    """The texts with a hole in place of each proof but those of these functions, so that no other costs anything."""
+    """Returns the texts with a hole for each proof except those of these functions, so that no other proof takes time."""
     texts = dict(texts)
     for path in (function.split("::") for function in functions_of(name) if function not in functions):
         folder = "/".join(["proofs", *path])
@@ -103,8 +105,8 @@ def with_holes(name, texts, functions):
 
 
 def judged(name, texts, batch, now, kept):
-    """Each edit of the batch with why it isn't refused as it says, or None, where these texts have them all. First no other
-    function is proved; what isn't refused so is judged again beside all proofs."""
+    """Returns each edit of the batch, and why it isn't refused as it says, or None. The texts `now` have all of them. The first check proves
+    no other function. The second one judges the edits that the first did not refuse, beside all proofs."""
     functions, refused = {edit.function for edit in batch}, []
     holed = with_holes(name, now, functions)
     if holed != now:
@@ -116,7 +118,7 @@ def judged(name, texts, batch, now, kept):
 
 
 def judged_whole(name, texts, batch, now, kept):
-    """The same beside all proofs. Where the batch can't be judged, each is put into the crate's texts alone."""
+    """Returns the same as `judged`, by a check beside all proofs. If the batch can't be judged, each edit is judged alone."""
     try:
         told = check(name, now, {edit.function for edit in batch}, kept)
     except NoVerdict as why:
@@ -127,7 +129,7 @@ def judged_whole(name, texts, batch, now, kept):
 
 
 def fault_of(edit, told, name):
-    """Why the check doesn't refuse the edited function as the edit says, or None."""
+    """Returns why the check doesn't refuse the edited function as the edit says, or None."""
     said = dict(FUNCTION.findall(told)).get(f"{name}::{edit.function}")
     if said is None:
         return f"nothing is said of {edit.function}"
@@ -143,7 +145,7 @@ def fault_of(edit, told, name):
 
 
 def open_goals(told, said, function):
-    """The function's own goals that stay open, and the answers that stumble over a name."""
+    """Returns the function's own goals that stay open, and those whose answers name something that the edit removed."""
     goals = {goal for listed in UNPROVED.findall(said) for goal in re.findall(r"`([^`]+)`", listed)}
     of_names = set()
     for path, goal, why in IN_ANSWER.findall(told):

@@ -1,4 +1,4 @@
-"""Wrong bodies as they stand in files, and batches of them that one check can judge together."""
+"""Reads wrong bodies from files, and puts into batches those that one check can judge together."""
 import collections
 import glob
 import os
@@ -16,7 +16,7 @@ Change = collections.namedtuple("Change", "path old new")
 
 
 def read_edit(path):
-    """The edit in a file: the function that it turns, the goals that stay open with it, and its changes."""
+    """Returns the edit in a file: the function that it changes, the goals that stay open then, and its changes."""
     said, changes, at, old = {}, [], None, None
     with open(path, encoding="utf-8") as lines:
         for line in lines:
@@ -32,26 +32,26 @@ def read_edit(path):
                 changes.append(Change(at, old, text))
                 old = None
             elif line.strip():
-                raise BadEdit(f"a line is none of an edit's: {line.strip()[:80]}")
+                raise BadEdit(f"this line does not belong in an edit: {line.strip()[:80]}")
     if "function" not in said or "refused" not in said or not changes:
         raise BadEdit("it has no line 'function: ..', 'refused: ..', or no pair of 'old: ..' and 'new: ..'")
     return Edit(os.path.basename(path)[:-5], said["function"], said["refused"].split(), changes)
 
 
 def changed(texts, edit):
-    """The texts, by their paths, with the edit in them; each `old:` stands there exactly once."""
+    """Returns the texts by path with the edit in them. Each `old:` text must occur exactly once."""
     texts = dict(texts)
     for path, old, new in edit.changes:
         if path not in texts:
             raise BadEdit(f"there is no file {path}")
         if texts[path].count(old) != 1:
-            raise BadEdit(f"an 'old:' text stands {texts[path].count(old)} times in {path}, and not once")
+            raise BadEdit(f"an 'old:' text occurs {texts[path].count(old)} times in {path}, not once")
         texts[path] = texts[path].replace(old, new)
     return texts
 
 
 def place(text, at):
-    """The line at which the function begins that this place lies in, or None outside of functions."""
+    """Returns the line at which the function around this place begins, or None if the place is in no function."""
     begun = [head for head in HEAD.finditer(text, 0, at + 1)]
     if not begun:
         return None
@@ -60,7 +60,7 @@ def place(text, at):
 
 
 def places(texts, edit):
-    """The functions that an edit touches, each by its file and line; None for a place that is in none."""
+    """Returns the functions that an edit changes, each by its file and line, and None for a change outside of functions."""
     found = {edit.function}
     folder = f"proofs/{edit.function.replace('::', '/')}/"
     for path, old, _ in edit.changes:
@@ -73,9 +73,9 @@ def places(texts, edit):
 
 
 def batches(texts, edits):
-    """The edits in as few batches as a first fit makes, no two of a batch in one function, each batch with the texts that it
-    makes. One whose change reaches beyond functions, as a type's or a lemma's, stands alone. What earlier batches changed
-    in other functions stays so, since nothing of it has to be proved again."""
+    """Returns batches of the edits, each with the texts that it makes, as few as a first fit gives. No two edits of a batch change one
+    function. An edit that changes something outside of functions, such as a type or a lemma, is a batch of its own. The changes of earlier
+    batches in other functions stay, since the check keeps what it proved with them."""
     made = []
     for edit in edits:
         touched = places(texts, edit)
@@ -90,7 +90,7 @@ def batches(texts, edits):
 
 
 def applies(texts, edits):
-    """Whether these edits can be put in one after the other."""
+    """Returns whether these edits can be applied one after the other."""
     try:
         for edit in edits:
             texts = changed(texts, edit)
@@ -100,7 +100,7 @@ def applies(texts, edits):
 
 
 def together(texts, batch, others):
-    """The texts with the batch in them, and of the other edits those that touch no function of it."""
+    """Returns the texts with the batch in them, and with those of the other edits that change none of its functions."""
     now = texts
     for edit in batch:
         now = changed(now, edit)
@@ -114,7 +114,7 @@ def together(texts, batch, others):
 
 
 def edits_of(folder):
-    """The edits of a crate, and those that can't be tried, each with the reason."""
+    """Returns the texts of a crate, its edits, and the edits that can't be tried, each with the reason."""
     good, bad = [], {}
     texts = texts_of(folder)
     for path in sorted(glob.glob(f"{folder}/must-not-prove/*")):
@@ -128,7 +128,7 @@ def edits_of(folder):
 
 
 def texts_of(folder):
-    """The crate's files that a check reads, by their paths in it."""
+    """Returns the crate's files that a check reads, by their paths in it."""
     texts = {}
     for part in ("src", "specs", "proofs"):
         for path in glob.glob(f"{folder}/{part}/**", recursive=True):
