@@ -10,6 +10,8 @@ import lenient
 
 DONE, AT_FAULT, FAILED = 0, 1, 3
 LONGEST, MOST = 262144, 16777216
+# How far behind a block's front the program looks for blocks at most, to mend a length of the block.
+SURE = 2097152 - 524320
 BILLION = 10**9
 MAGICS = {0xA1B2C3D4: 1000, 0xA1B23C4D: 1}
 MESSAGES = {
@@ -75,6 +77,8 @@ def opened(capture):
 
 # Bytes that are left out: their offset, how many they are, what they are, and the rule that they break at their beginning.
 Gap = collections.namedtuple("Gap", "place size what rule")
+# One of the two lengths of the next block was wrong: the block's number and offset, the wrong length, and the right one.
+Mended = collections.namedtuple("Mended", "number place stated length")
 
 
 def packets_and_gaps(capture, kind):
@@ -136,8 +140,15 @@ def changed_length(packet):
     return [f"packet {packet.number} at byte {packet.place}: its stored length is {packet.stored} and not {packet.stated}{guess}"]
 
 
+def mended_length(it):
+    """Returns the message on a mended length."""
+    return f"block {it.number} at byte {it.place}: its stored length is {it.length} and not {it.stated}"
+
+
 def flaw_lines(name, item):
-    """Returns the lines for the flaws of a packet or a block, or for a gap."""
+    """Returns the lines for the flaws of a packet or a block, or for a gap or a mended length."""
+    if isinstance(item, Mended):
+        return [f"{name}: {mended_length(item)}\n"]
     if isinstance(item, Gap):
         return [] if is_torn(item) else [f"{name}: {left_out(item)}{by_rule(item.rule)}\n"]
     if isinstance(item, Packet):
@@ -150,10 +161,10 @@ def checked(name, capture):
     """Returns the lines of a check, and its status."""
     kind, items, refused = stands_in(capture)
     lines = [line for it in items for line in flaw_lines(name, it)]
-    found = [it for it in items if not isinstance(it, Gap)]
+    found = [it for it in items if not isinstance(it, (Gap, Mended))]
     gone = sum(it.size for it in items if isinstance(it, Gap) and not is_torn(it))
     flawed, torn = sum(bool(it.flaws) for it in found), next(filter(is_torn, items), None)
-    flawed += sum(bool(changed_length(it)) for it in found if isinstance(it, Packet))
+    flawed += sum(bool(changed_length(it)) for it in found if isinstance(it, Packet)) + sum(isinstance(it, Mended) for it in items)
     if refused:
         end = f"{CUT} at byte 0" if refused == CUT else f"refused at byte 0{by_rule(refused)}"
     else:
@@ -212,7 +223,7 @@ def framed(capture, at, order):
     if left < 12:
         return "cut short"
     if capture[at : at + 4] == b"\x0a\x0d\x0d\x0a":
-        order = {b"\x1a\x2b\x3c\x4d": ">", b"\x4d\x3c\x2b\x1a": "<"}.get(capture[at + 8 : at + 12])
+        order = {b"\x1a\x2b\x3c\x4d": ">", b"\x4d\x3c\x2b\x1a": "<"}.get(bytes(capture[at + 8 : at + 12]))
         if not order:
             return 6
     number, length = struct.unpack_from(order + "II", capture, at)
@@ -268,33 +279,63 @@ def may_be_cut(capture, at, order):
     return struct.unpack_from(order + "I", capture, at + 4)[0] <= MOST
 
 
+def first_stand(capture, at, order):
+    """Returns the first offset from this one on at which blocks go on, or the end."""
+    return next((it for it in range(at, len(capture)) if stand(capture, it, order)), len(capture))
+
+
+def wrong_length(capture, at, order):
+    """Returns the wrong one of the two lengths of the block at this offset, and the right one. The right one says where blocks go on behind
+    the block, or where the capture ends. Returns None if that is not so of exactly one length."""
+    length = first_stand(capture, at + 12, order) - at
+    if length % 4 or length < 12 or length > SURE:
+        return None
+    lengths = [struct.unpack_from(order + "I", capture, it)[0] for it in (at + 4, at + length - 4)]
+    return (lengths[lengths[0] == length], length) if lengths.count(length) == 1 else None
+
+
 def blocks_and_gaps(capture, at):
-    """Yields the blocks from the section header at this offset on, and the gaps between them."""
-    order, count = ">", 0
+    """Yields the blocks from the section header at this offset on, the gaps between them, and the lengths that are mended."""
+    capture, order, count = bytearray(capture), ">", 0
     while at < len(capture):
         found = framed(capture, at, order)
         if isinstance(found, tuple):
             order, count = found[0], count + 1
-            yield Block(count, at, *found)
+            yield Block(count, at, *found[:2], bytes(found[2]))
             at += len(found[2]) + 12
-        elif found == CUT and may_be_cut(capture, at, order):
+            continue
+        if found == CUT and may_be_cut(capture, at, order) and first_stand(capture, at + 1, order) == len(capture):
             yield Gap(at, len(capture) - at, "of a block that is cut short", None)
             break
-        else:
-            behind = next((it for it in range(at, len(capture)) if stand(capture, it, order)), len(capture))
-            yield Gap(at, behind - at, "no blocks", None if found == CUT else found)
-            at = behind
+        wrong = wrong_length(capture, at, order)
+        if wrong:
+            yield Mended(count + 1, at, *wrong)
+            for place in (at + 4, at + wrong[1] - 4):
+                struct.pack_into(order + "I", capture, place, wrong[1])
+            continue
+        behind = first_stand(capture, at + 1, order)
+        yield Gap(at, behind - at, "no blocks", None if found == CUT else found)
+        at = behind
+
+
+def said_by_list(item):
+    """Returns the messages of a list about an item. The list doesn't count blocks, so its message on a mended length has no number."""
+    if isinstance(item, Gap):
+        return [CUT if is_torn(item) else left_out(item)]
+    if isinstance(item, Mended):
+        return [mended_length(item).replace(f"block {item.number}", "a block")]
+    return changed_length(item) if isinstance(item, Packet) else []
 
 
 def listed(name, capture):
     """Returns the lines of a list, the messages about the capture, and the status."""
     _, items, refused = stands_in(capture)
-    found = [it for it in items if not isinstance(it, Gap)]
+    found = [it for it in items if not isinstance(it, (Gap, Mended))]
     flawed = any(it.flaws for it in found if isinstance(it, Packet))
     lines = [packet_line(it) for it in found if isinstance(it, Packet)]
     if any(isinstance(it, Block) for it in found):
         lines, flawed = block_lines(found)
-    said = [line for it in items for line in ([CUT if is_torn(it) else left_out(it)] if isinstance(it, Gap) else changed_length(it) if isinstance(it, Packet) else [])]
+    said = [line for it in items for line in said_by_list(it)]
     if refused:
         said.append(refused if refused == CUT else f"Invalid field value: {MESSAGES[refused]}")
     return "".join(lines), "".join(f"pcapfile: {name}: {it}\n" for it in said), AT_FAULT if said or flawed else DONE

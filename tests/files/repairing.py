@@ -68,6 +68,9 @@ def repaired(name, capture):
         if isinstance(it, as_is.Gap):
             said.append(as_is.left_out(it))
             continue
+        if isinstance(it, as_is.Mended):
+            said.append(as_is.mended_length(it))
+            continue
         made, change = mended(it.order, it.type, it.body)
         count, changed = count + 1, changed + bool(change)
         said += [f"block {it.number} at byte {it.place}: {change}"] * bool(change)
@@ -151,7 +154,13 @@ pcapfile: in: 1 of 6 blocks are changed or left out
 pcapfile: in: 21 bytes at byte 92 are no blocks, and are left out
 pcapfile: in: 20 bytes at byte 185 are no blocks, and are left out
 """
-    yield "a wrong length", sound[:96] + struct.pack(order + "I", 40) + sound[100:], sound[:92] + sound[128:], """\
+    yield "a wrong length", sound[:96] + struct.pack(order + "I", 40) + sound[100:], sound, """\
+pcapfile: in: block 4 at byte 92: its stored length is 36 and not 40
+"""
+    yield "another second length", sound[:124] + struct.pack(order + "I", 32) + sound[128:], sound, """\
+pcapfile: in: block 4 at byte 92: its stored length is 36 and not 32
+"""
+    yield "two wrong lengths", sound[:96] + struct.pack(order + "I", 40) + sound[100:124] + bytes(4) + sound[128:], sound[:92] + sound[128:], """\
 pcapfile: in: 36 bytes at byte 92 are no blocks, and are left out
 """
     yield "garbage before the first section", b"no" * 9 + sound, sound, "pcapfile: in: 18 bytes at byte 0 are no blocks, and are left out\n"
