@@ -1,4 +1,4 @@
-# The words of capcopy, for bash. Behind them names of files are completed, as bash does of itself.
+# The words of capcopy, for bash. After them bash completes names of files.
 _capcopy() {
     local words=
     case $COMP_CWORD,${COMP_WORDS[1]} in

@@ -37,9 +37,9 @@ impl Flaws {
 /// A packet of a classic capture, which may break rules.
 #[derive(Clone, Copy, Debug, PartialEq, Eq)]
 pub struct PacketAsIs<'a> {
-    /// The time of the packet. It is exact even if the fraction passes one second.
+    /// The time of the packet. It is exact even if the fraction is a second or more.
     pub time: Time,
-    /// The length that the packet states it had on the wire. It may be less than the number of stored bytes.
+    /// How many bytes the packet had on the wire, as its header declares. It may be less than the number of stored bytes.
     pub original_len: u32,
     /// The stored bytes.
     pub data: &'a [u8],
@@ -47,7 +47,7 @@ pub struct PacketAsIs<'a> {
     pub flaws: Flaws,
 }
 
-/// An iterator over the packets of a classic capture, which may break rules. A refusal is its last item.
+/// An iterator over the packets of a classic capture, which may break rules. If it cannot go on, the error is the last item.
 #[derive(Clone, Debug)]
 pub struct PacketsAsIs<'a> {
     capture: Capture<'a>,

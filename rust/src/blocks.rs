@@ -9,9 +9,9 @@ use crate::Error;
 pub struct Section {
     /// The magic number, read with the high byte first: 1a2b3c4d in a big-endian section, 4d3c2b1a in a little-endian one.
     pub magic_number: u32,
-    /// The major version; 1 in all captures of today.
+    /// The major version, in practice 1.
     pub version_major: u16,
-    /// The minor version; 0 in all captures of today.
+    /// The minor version, in practice 0.
     pub version_minor: u16,
     /// How many interfaces the section has so far.
     pub interfaces: u32,
@@ -42,9 +42,9 @@ pub struct Interface {
     pub link: u32,
     /// The snapshot length: the most bytes that are stored for each packet. 0 is no limit.
     pub snaplen: u32,
-    /// The unit of time in seconds is this, 10 or 2, to the power of minus `ts_exponent`.
+    /// 10 or 2. The timestamp resolution in seconds is this number to the power of minus `ts_exponent`.
     pub ts_base: u8,
-    /// The exponent of the unit of time. 6 if the capture names no unit.
+    /// The exponent of the timestamp resolution. 6 if the capture declares no resolution.
     pub ts_exponent: u8,
     /// Seconds to add to each time.
     pub ts_offset: i64,
@@ -73,7 +73,7 @@ pub struct BlockPacket<'a> {
     pub data: &'a [u8],
 }
 
-/// An option of a block, unjudged. Its value is a part of the capture.
+/// An option of a block. Its value is a part of the capture, and is not checked.
 #[derive(Clone, Copy, Debug, PartialEq, Eq)]
 pub struct BlockOption<'a> {
     /// Its code, above 0. The type of the block gives it a meaning.
@@ -109,7 +109,7 @@ impl Interface {
         Interface { link, snaplen, ts_base: 10, ts_exponent: 9, ts_offset: 0 }
     }
 
-    /// Returns the time of this many units. None if its seconds pass 64 bits.
+    /// Returns the time of a timestamp in units of the interface. None if its seconds exceed 64 bits.
     pub fn time(&self, timestamp: u64) -> Option<Time> {
         let mut time = Time::default();
         // SAFETY: each pointer points to a value of its own.
@@ -156,8 +156,8 @@ impl<'a> Block<'a> {
         }
     }
 
-    /// Returns an iterator over the options of the block, with a refusal as its last item. It is empty if the block's type has
-    /// no options.
+    /// Returns an iterator over the options of the block. If the list is malformed, the error is its last item. It is empty if
+    /// the block's type has no options.
     pub fn options(&self) -> Result<Options<'a>, Error> {
         let (mut left, mut error) = (calls::Bytes::of(b""), calls::Error::default());
         // SAFETY: each pointer points to a value of its own, and the body is a slice's.
@@ -168,8 +168,8 @@ impl<'a> Block<'a> {
         }
     }
 
-    /// Returns an iterator over the addresses of a name resolution block, with a refusal as its last item. It is empty for
-    /// another block.
+    /// Returns an iterator over the addresses of a name resolution block. If a record is malformed, the error is its last item.
+    /// It is empty for another block.
     pub fn records(&self) -> Records<'a> {
         const NAMES: u32 = 4;
         Records { section: self.section, left: self.body, is_done: self.type_ != NAMES }
@@ -275,7 +275,7 @@ impl<'a> Iterator for Names<'a> {
     }
 }
 
-/// An iterator over the blocks of a PcapNg capture. A refusal is its last item.
+/// An iterator over the blocks of a PcapNg capture. If the capture is truncated or malformed, the error is the last item.
 #[derive(Clone, Debug)]
 pub struct Blocks<'a> {
     section: Section,

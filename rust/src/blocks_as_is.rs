@@ -35,8 +35,8 @@ impl BlockFlaw {
 pub struct BlockAsIs<'a> {
     /// The block. Its body may have flaws.
     pub block: Block<'a>,
-    /// The interface that the block describes, with the first unit of time and the first offset that break no rule. None for
-    /// another block, and if the body has no room for an interface's head. The interface keeps its number then.
+    /// The interface that the block describes, with the first resolution and the first offset that break no rule. None for
+    /// another block, and if the body has no room for the fixed fields. The interface keeps its number then.
     pub interface: Option<Interface>,
     /// The packet of the block, if it is an enhanced one. None for another block, and if the body has no room for the packet.
     pub packet: Option<BlockPacket<'a>>,
@@ -64,7 +64,7 @@ impl<'a> BlockAsIs<'a> {
     }
 }
 
-/// An iterator over the blocks of a PcapNg capture, whose bodies may break rules. A refusal is its last item.
+/// An iterator over the blocks of a PcapNg capture, whose bodies may break rules. If it cannot go on, the error is the last item.
 #[derive(Clone, Debug)]
 pub struct BlocksAsIs<'a> {
     section: Section,
@@ -74,7 +74,7 @@ pub struct BlocksAsIs<'a> {
 
 impl<'a> Blocks<'a> {
     /// Reads the blocks leniently, from the next one on. It leaves out no block whose body has flaws. It refuses a block with a
-    /// malformed frame, a first block that is no section header, and a section header that gives no order of bytes.
+    /// malformed frame, a first block that is no section header, and a section header without a byte order.
     pub fn as_is(self) -> BlocksAsIs<'a> {
         BlocksAsIs { section: *self.section(), left: self.rest(), is_done: false }
     }

@@ -1,4 +1,5 @@
-//! Reads packet captures, pcap and PcapNg, from slices and streams, by a proved parser, and writes both, through its C library.
+//! Reads and writes packet captures, pcap and PcapNg, in slices and streams, with the C library `pcapfile`. The library is
+//! proved, or C that is generated from the proved code.
 //!
 //! ```
 //! # let bytes: &[u8] = b"\xd4\xc3\xb2\xa1\x02\0\x04\0\0\0\0\0\0\0\0\0\xff\xff\0\0\x01\0\0\0";
@@ -42,9 +43,9 @@ use core::fmt;
 pub struct Header {
     /// The magic number, read with the high byte first: a1b2c3d4, d4c3b2a1, a1b23c4d or 4d3cb2a1.
     pub magic_number: u32,
-    /// The major version; 2 in all captures of today.
+    /// The major version, in practice 2.
     pub version_major: u16,
-    /// The minor version; 4 in all captures of today.
+    /// The minor version, in practice 4.
     pub version_minor: u16,
     /// Seconds to add to each time for UTC; 0 in practice.
     pub ts_correction: i32,
@@ -95,7 +96,7 @@ pub fn fcs_len(number: u32) -> Option<u8> {
 pub struct Packet<'a> {
     /// The time of the packet, in seconds since 1970.
     pub seconds: u32,
-    /// Nanoseconds, whatever the capture's resolution is. They may pass one second.
+    /// Nanoseconds, whatever the capture's resolution is. They may be a second or more.
     pub nanoseconds: u32,
     /// How many bytes the packet had on the wire.
     pub original_len: u32,
@@ -152,7 +153,8 @@ impl fmt::Display for Error {
 
 impl core::error::Error for Error {}
 
-/// A capture: its header, and an iterator over its packets. A refusal is its last item.
+/// A capture: its header, and an iterator over its packets. If the capture is truncated or malformed, the error is the last
+/// item.
 #[derive(Clone, Debug)]
 pub struct Capture<'a> {
     header: Header,

@@ -18,12 +18,12 @@ const NO_PLACE: i32 = 11;
 /// A packet of a capture of either format.
 #[derive(Clone, Copy, Debug, PartialEq, Eq)]
 pub struct AnyPacket<'a> {
-    /// The number of the link type of its first layer. None if it names an interface that its section doesn't have.
+    /// The number of the packet's link type. None if the section does not have the packet's interface.
     pub link: Option<u32>,
     /// The number of its interface in its section; 0 in a classic capture.
     pub interface_id: u32,
     /// The time of the packet. None for a simple packet, which has no time, for a packet without an interface, and if the
-    /// seconds pass 64 bits. The nanoseconds of a classic packet may pass one second.
+    /// seconds exceed 64 bits. The nanoseconds of a classic packet may be a second or more.
     pub time: Option<Time>,
     /// How many bytes the packet had on the wire.
     pub original_len: u32,
@@ -32,7 +32,7 @@ pub struct AnyPacket<'a> {
 }
 
 /// Reads packets of a capture of either format from a stream, with a buffer that grows to what one packet or block needs. It
-/// reads more than a packet at once, so the stream needs no buffer of its own.
+/// reads more than one packet at a time, so the stream itself needs no buffer.
 pub struct Reader<R> {
     stream: R,
     room: Vec<u8>,
@@ -94,7 +94,7 @@ impl<R: Read> Reader<R> {
         self.take_some(BATCH)
     }
 
-    /// Returns how many bytes of the capture come before what the next call reads. After a refusal the refused item begins
+    /// Returns how many bytes of the capture are before what the next call reads. After an error the refused item begins
     /// there.
     pub fn offset(&self) -> u64 {
         self.gone + self.push.begin as u64

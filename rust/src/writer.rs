@@ -15,8 +15,8 @@ pub struct Writer<W> {
 }
 
 impl<W: Write> Writer<W> {
-    /// Makes a writer of a capture with this header, and writes the header. Its magic number gives the order of bytes and the
-    /// resolution of times.
+    /// Makes a writer of a capture with this header, and writes the header. Its magic number gives the byte order and the
+    /// timestamp resolution.
     ///
     /// It fails with `InvalidInput` over `Error::Invalid` if the magic number is none of the four. Other errors are those of
     /// the stream.
@@ -89,10 +89,10 @@ impl<W: Write> BlockWriter<W> {
         Ok(writer)
     }
 
-    /// Writes a section header without options. Its magic number gives the order of bytes from here on, and the section has no
+    /// Writes a section header without options. Its magic number gives the byte order from here on, and the section has no
     /// interface yet.
     ///
-    /// It fails with `InvalidInput` over `Error::Invalid` with `Rule::SectionMagic` if the magic number is neither order's.
+    /// It fails with `InvalidInput` over `Error::Invalid` with `Rule::SectionMagic` if the magic number is that of neither byte order.
     /// Other errors are those of the stream.
     pub fn begin_section(&mut self, section: Section) -> io::Result<()> {
         self.put(|_| section, |section, room, room_len, written, error| {
@@ -101,7 +101,7 @@ impl<W: Write> BlockWriter<W> {
         })
     }
 
-    /// Writes the description of an interface with its unit of time, and with its offset if it is not 0. Returns its number,
+    /// Writes the description of an interface with its resolution, and with its offset if it is not 0. Returns its number,
     /// for `interface_id` of its packets. Any `ts_base` except 2 means 10.
     ///
     /// It fails with `InvalidInput` over `Error::Invalid` with `Rule::LinkTooLarge`, with `Rule::InterfacesFull`, or with
