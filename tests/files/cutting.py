@@ -99,7 +99,7 @@ def try_sizes(tally, help):
     for size, count in (("2000", 2000), ("2K", 2048), ("2KB", 2000), ("1M", 1 << 20), ("1GB", 10**9), ("1T", 1 << 40)):
         wanted = numbered(heaped(header, texts, count))
         expects(tally, help, f"parts of {size}", {"in": capture}, ["cut", "in", "--bytes", size, "-w", "out.pcap"], wanted)
-    said = "error: the value of --bytes is not understood: it has the form 5000, 100K, 1M or 2GB\nFor more information, try 'pcapfile cut --help'.\n"
+    said = "error: the value of --bytes is wrong; write it as 5000, 100K, 1M or 2GB\nFor more information, try 'pcapfile cut --help'.\n"
     for size in ("", "0", "0K", "K", "1k", "1KiB", "+1", "1.5K", "1 K", "18446744073709551616", "18014398509481984K"):
         expects(tally, help, f"no size: {size!r}", {"in": capture}, ["cut", "in", f"--bytes={size}", "-o", "out.pcap"], {}, USAGE, said)
 
@@ -177,17 +177,17 @@ def try_faults(tally, help):
         ("no input", {}, in_range, FAILED, "pcapfile: in: "),
         ("no folder", held, ["cut", "in", "-o", "no/out"], FAILED, "pcapfile: no/out.part: "),
         ("a folder where the part stands", {**held, "out.part": None}, in_range, FAILED, "pcapfile: out.part: "),
-        ("the capture itself", held, ["cut", "in", "-o", "in"], FAILED, "pcapfile: in: is a capture that is read\n"),
+        ("the capture itself", held, ["cut", "in", "-o", "in"], FAILED, "pcapfile: in: is one of the inputs; choose another name for the output\n"),
         ("no range", held, ["cut", "in", "--packets", "3-2", "-o", "out"], USAGE, "error: the value of --packets"),
         ("packet 0", held, ["cut", "in", "--packets", "0", "-o", "out"], USAGE, "error: the value of --packets"),
         ("no time", held, ["cut", "in", "--from", "noon", "-o", "out"], USAGE, "error: the value of --from"),
         ("ten digits", held, ["cut", "in", "--until", "1.1234567890", "-o", "out"], USAGE, "error: the value of --until"),
         ("two ways", held, ["cut", "in", "--every", "2", "--parts", "2", "-o", "out"], USAGE, "error: "),
         ("parts of no packet", held, ["cut", "in", "--every", "0", "-o", "out"], USAGE, "error: "),
-        ("another header", {**held, "b": other}, ["join", "in", "b", "-o", "all"], AT_FAULT, "pcapfile: b: its header is not that of the first part\n"),
+        ("another header", {**held, "b": other}, ["join", "in", "b", "-o", "all"], AT_FAULT, "pcapfile: b: its header differs from that of the first part\n"),
         ("a part that is none", {**held, "b": b""}, ["join", "in", "b", "-o", "all"], AT_FAULT, "pcapfile: b: is empty\n"),
         ("no part", held, ["join", "in", "b", "-o", "all"], FAILED, "pcapfile: b: "),
-        ("a part for the whole", held, ["join", "in", "-o", "in"], FAILED, "pcapfile: in: is a capture that is read\n"),
+        ("a part for the whole", held, ["join", "in", "-o", "in"], FAILED, "pcapfile: in: is one of the inputs; choose another name for the output\n"),
     ):
         fails(tally, help, name, before, words, status, said)
     expects(tally, help, "a range before a fault", {"in": broken}, in_range, {"out": header + texts[0]})

@@ -9,7 +9,7 @@ import tempfile
 import cutting
 
 DONE, AT_FAULT, USAGE = 0, 1, 2
-READS = "is {} file, and no capture; '{} FILE | pcapfile info -' reads it"
+READS = "is {} file, not a capture; '{} FILE | pcapfile info -' reads it"
 CONVERTS = "is a capture in the format {}; 'editcap FILE OUT' of Wireshark converts it to PcapNg"
 # A record of an ERF file, of 2023, that holds an Ethernet frame.
 ERF = struct.pack("<QBB", 1700000000 << 32, 2, 4) + struct.pack(">HHH", 80, 0, 60) + bytes(64)
@@ -27,9 +27,9 @@ def files(capture):
     yield b"snoop\0\0\0" + bytes(8) + capture, CONVERTS.format("snoop")
     yield ERF * 3, CONVERTS.format("ERF")
     for page in (b"<!DOCTYPE html>\n<html>", b"  \n<HTML lang=en>", b"<!doctype HTML"):
-        yield page, "is an HTML page, and no capture"
+        yield page, "is an HTML page, not a capture"
     for text in (b"a text", b"\n\ttwo lines\r\nof it\n" * 99, b"4\n48 0 0 0\n", b"1" * 600 + b"\xff"):
-        yield text, "is a text, and no capture"
+        yield text, "is a text file, not a capture"
 
 
 def try_names(tally, help):
@@ -89,7 +89,7 @@ def try_formats(tally, help):
             code, _, told = cutting.ran(tally, folder, "convert", "in", *to, "-o", out)
             with open(f"{folder}/{out}", "rb") as it:
                 made = it.read()
-        said = f"pcapfile: {out}: has the format {'pcap' if is_pcap else 'PcapNg'}, although its name says otherwise\n" if is_told else ""
+        said = f"pcapfile: {out}: the format is {'pcap' if is_pcap else 'PcapNg'}, but the extension is that of the other format\n" if is_told else ""
         tally.note(
             f"{to} into {out}",
             (code, told) != (DONE, said) and f"it ended with {code} and said {told!r}",
@@ -100,7 +100,7 @@ def try_formats(tally, help):
     with tempfile.TemporaryDirectory() as folder:
         help.put(folder, "in", capture)
         ended = cutting.ran(tally, folder, *cutting_words)
-    tally.note("merge into .pcap", ended != (DONE, b"", "pcapfile: x.pcap: has the format PcapNg, although its name says otherwise\n") and f"it ended with {ended}")
+    tally.note("merge into .pcap", ended != (DONE, b"", "pcapfile: x.pcap: the format is PcapNg, but the extension is that of the other format\n") and f"it ended with {ended}")
 
 
 def try_all(tally, help):

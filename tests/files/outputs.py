@@ -198,7 +198,7 @@ def try_inputs(tally):
                     tally.note(
                         f"{name} into its input as {spelling}, {len(content)} bytes",
                         status != FAILED and f"it ended with {status}",
-                        said != f"pcapfile: {out}: is a capture that is read\n" and said,
+                        said != f"pcapfile: {out}: is one of the inputs; choose another name for the output\n" and said,
                         folder.get("in") != content and "the input is lost",
                         folder.names() != before and f"it left {folder.names()}",
                     )
@@ -214,7 +214,7 @@ def try_inputs(tally):
         status, _, said = folder.run("convert", "out.part", "-o", "out")
         tally.note(
             "an unfinished file that is read",
-            (status, said) != (FAILED, "pcapfile: out.part: is a capture that is read\n") and f"it ended with {status}: {said}",
+            (status, said) != (FAILED, "pcapfile: out.part: is one of the inputs; choose another name for the output\n") and f"it ended with {status}: {said}",
             folder.get("out.part") != CAPTURE and "it is lost",
         )
 
@@ -241,7 +241,7 @@ def try_parts(tally):
         status, _, said = folder.run("cut", "./x-00002.pcap", "--every", "1", "-o", "x.pcap")
         tally.note(
             "a part that is the capture itself",
-            (status, said) != (FAILED, "pcapfile: x-00002.pcap: is a capture that is read\n") and f"it ended with {status}: {said}",
+            (status, said) != (FAILED, "pcapfile: x-00002.pcap: is one of the inputs; choose another name for the output\n") and f"it ended with {status}: {said}",
             folder.get("x-00002.pcap") != CAPTURE and "the capture is lost",
         )
     with Folder(tally.program, **{"in": CAPTURE}) as folder:
@@ -282,7 +282,7 @@ def try_unfinished(tally):
             tally.note(
                 f"{name} where the unfinished file stands",
                 status != FAILED and f"it ended with {status}",
-                said != "pcapfile: out.part: is there already: move it away, since out is written as this file first\n" and said,
+                said != "pcapfile: out.part: already exists; move it away, because out is first written under this name\n" and said,
                 (folder.get("victim"), folder.get("out"), folder.names()) != (b"victim", b"old", before) and "another file was changed",
             )
     with Folder(tally.program, **{"in": CAPTURE, "out.part": b"held"}) as folder:
@@ -291,7 +291,7 @@ def try_unfinished(tally):
             status, _, said = folder.run(*COPY, "out")
         tally.note(
             "a file that another run writes",
-            (status, said) != (FAILED, "pcapfile: out.part: another run writes it\n") and f"it ended with {status}: {said}",
+            (status, said) != (FAILED, "pcapfile: out.part: another run is writing it\n") and f"it ended with {status}: {said}",
             folder.get("out.part") != b"held" and "it was changed",
         )
 
@@ -327,7 +327,7 @@ def try_ended_runs(tally):
             ended = folder.run(*COPY, "out")
             tally.note(
                 f"a run that {number.name} ends",
-                second != (FAILED, b"", "pcapfile: out.part: another run writes it\n") and f"the second run ended with {second}",
+                second != (FAILED, b"", "pcapfile: out.part: another run is writing it\n") and f"the second run ended with {second}",
                 run.returncode != -number and f"it ended with {run.returncode}",
                 spared != b"old" and "the output was changed",
                 ended != (DONE, b"", "") and f"the next one ended with {ended}",

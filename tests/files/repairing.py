@@ -325,7 +325,7 @@ def try_older_spelling(tally, help):
                     help.put(folder, name, capture)
                 ends.append((*as_is.ran(tally, folder, *words, spelling), help.files(folder)))
         (status, written, said, left), older = ends
-        notice = f"pcapfile: '{words[0]} --as-is' is now '{words[0]} --repair', and goes with version 0.3\n"
+        notice = f"pcapfile: '{words[0]} --as-is' is now '{words[0]} --repair', and will be removed in version 0.3\n"
         wanted = status, written, notice + said, left
         tally.note(f"{' '.join(words)} by the older spelling", older != wanted and f"it ended with {older}", status != DONE and f"it ended with {status}")
 

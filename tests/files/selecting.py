@@ -93,7 +93,7 @@ def try_numbers(tally, help):
         selects(tally, help, [f"--packets={text}"], lambda number, *_, numbers=numbers: number in numbers)
     selects(tally, help, ["--packets", "-3"], lambda number, *_: number <= 3)
     for text in NO_NUMBERS:
-        refuses(tally, help, [f"--packets={text}"], "error: the value of --packets is not understood: it has the form ")
+        refuses(tally, help, [f"--packets={text}"], "error: the value of --packets is wrong; write it as ")
 
 
 def try_times(tally, help):
@@ -108,7 +108,7 @@ def try_times(tally, help):
     selects(tally, help, ["--from", "-1.5", "--until", "1969-12-31 23:59:59"], lambda *_: False)
     selects(tally, help, ["--from", "1960-01-01"], lambda *_: True)
     for name, text in itertools.product(("from", "until"), NO_TIMES):
-        refuses(tally, help, [f"--{name}={text}"], f"error: the value of --{name} is not understood: it has the form ")
+        refuses(tally, help, [f"--{name}={text}"], f"error: the value of --{name} is wrong; write it as ")
 
 
 def try_early(tally, help):
@@ -169,7 +169,7 @@ def try_filters(tally, help):
     given = {"in": front + b"".join(texts), "filter": FILTERS[3][0].encode()}
     cutting.fails(tally, help, "no filter", given, ["cut", "in", "--bpf", "none", "-o", "out"], FAILED, "pcapfile: none: ")
     cutting.fails(tally, help, "a filter that is a folder", {**given, "f": None}, ["cut", "in", "--bpf", "f", "-o", "out"], FAILED, "pcapfile: f: ")
-    cutting.fails(tally, help, "the filter itself", given, ["cut", "in", "--bpf", "filter", "-o", "filter"], FAILED, "pcapfile: filter: is a capture that is read\n")
+    cutting.fails(tally, help, "the filter itself", given, ["cut", "in", "--bpf", "filter", "-o", "filter"], FAILED, "pcapfile: filter: is one of the inputs; choose another name for the output\n")
     both = "error: the capture and the filter can't both be standard input\n"
     cutting.fails(tally, help, "both from standard input", given, ["cut", "-", "--bpf", "-", "-o", "out"], USAGE, both)
     with tempfile.TemporaryDirectory() as folder:

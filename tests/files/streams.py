@@ -11,9 +11,9 @@ from outputs import CAPTURE, HEADER, SECONDS, TORN, Folder, packet
 
 DONE, AT_FAULT, USAGE, FAILED, UNREAD = 0, 1, 2, 3, 141
 REMEDIES = (
-    "pcapfile: --as-is goes on after the fault, and 'pcapfile repair' writes what can be read\n",
-    "pcapfile: --repair goes on after the fault, and 'pcapfile repair' writes what can be read\n",
-    "pcapfile: 'pcapfile repair' writes what can be read of the part at fault\n",
+    "pcapfile: --as-is reads on after the error, and 'pcapfile repair' writes a well-formed capture\n",
+    "pcapfile: --repair reads on after the error, and 'pcapfile repair' writes a well-formed capture\n",
+    "pcapfile: 'pcapfile repair' writes a well-formed capture of the malformed part\n",
 )
 FLAWED = CAPTURE + struct.pack("<IIII", 9, 0, 4, 1) + b"data"
 CAPCOPY = os.path.join(os.path.dirname(os.path.dirname(os.path.dirname(os.path.abspath(__file__)))), "crates/capcopy/out/capcopy")

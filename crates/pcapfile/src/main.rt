@@ -75,7 +75,7 @@ fn run(rt: &HostRuntime) -> io::Result<u8> {
     };
     if word.reads_repaired() && words.get_flag(words::AS_IS) {
         eprintln!(rt;
-            "pcapfile: '{name} --as-is' is now '{name} --repair', and goes with version 0.3"
+            "pcapfile: '{name} --as-is' is now '{name} --repair', and will be removed in version 0.3"
         )?;
     }
     let task = match Task::new(rt, word, words) {
@@ -99,10 +99,10 @@ fn tell_refusal(rt: &HostRuntime, word: &str, refusal: Refusal) -> io::Result<u8
     match refusal {
         Refusal::OutOfMemory(error) => return Err(io::Error::from(error)),
         Refusal::Value(argument, forms) => eprintln!(rt;
-            "error: the value of --{argument} is not understood: it has the form {forms}"
+            "error: the value of --{argument} is wrong; write it as {forms}"
         )?,
         Refusal::Zone => eprintln!(rt;
-            "error: the system's zone can't be read; TZ names one, or a time has its own"
+            "error: the system's time zone can't be read; set TZ, or give a time with its zone"
         )?,
     }
     eprintln!(rt; "For more information, try 'pcapfile {word} --help'.")?;
@@ -124,12 +124,12 @@ fn tell_misnamed(console: &Console, task: &Task) {
     };
     let out = Shown(out);
     let _ = eprintln!(console.for_line();
-        "pcapfile: {out}: has the format {format}, although its name says otherwise"
+        "pcapfile: {out}: the format is {format}, but the extension is that of the other format"
     );
 }
 
 // Reports that the arguments name no word of the program, and returns the exit status.
 fn tell_unknown(rt: &HostRuntime) -> io::Result<u8> {
-    eprintln!(rt; "error: the words are not understood; 'pcapfile --help' lists them")?;
+    eprintln!(rt; "error: unknown command; 'pcapfile --help' lists all commands")?;
     Ok(USAGE)
 }

@@ -112,15 +112,15 @@ impl<'a> Task<'a> {
     pub(crate) fn remedy(&self) -> Option<&'static str> {
         match self {
             Task::Check(_) | Task::List(_) => Some(
-                "--as-is goes on after the fault, and 'pcapfile repair' writes what can be read",
+                "--as-is reads on after the error, and 'pcapfile repair' writes a well-formed capture",
             ),
             Task::Info(Informing { as_is: false, .. })
             | Task::Convert(Conversion { as_is: false, .. })
             | Task::Cut(Cutting { as_is: false, .. })
             | Task::Merge(Merge { as_is: false, .. }) => Some(
-                "--repair goes on after the fault, and 'pcapfile repair' writes what can be read",
+                "--repair reads on after the error, and 'pcapfile repair' writes a well-formed capture",
             ),
-            Task::Join(_) => Some("'pcapfile repair' writes what can be read of the part at fault"),
+            Task::Join(_) => Some("'pcapfile repair' writes a well-formed capture of the malformed part"),
             Task::CheckAsIs(_)
             | Task::ListAsIs(_)
             | Task::Info(_)

@@ -94,37 +94,37 @@ const FORMATS: &[&str] = &["pcap", "pcapng"];
 const VERSION: &str = "0.2.0";
 
 const STATUSES: &str = "Exit status:
-  0    the work is done, and no capture is at fault
-  1    a capture is truncated or malformed
-  2    the arguments are not understood
+  0    the work is done, and no error was found
+  1    a capture is truncated or malformed, or a file is not a capture
+  2    the arguments are wrong
   3    a file can't be opened or read, or the output can't be written
   4    memory ran out
-  141  nobody reads the output any more";
+  141  the reader of the output has gone";
 
 const CHECK: &str =
     "Reports how many packets or blocks each capture has, or the byte at which a rule is broken.
 
-With --as-is the check goes on after each fault. Each flaw of a packet, a section or an interface has
-a line with the index of the packet or block and the byte where it begins. Skipped bytes have a line
-too: the check skips what can't be a packet or block, since it would have more than 16777216 bytes,
-or since the frame of the block breaks a rule. It resumes where 'pcapfile repair' resumes.";
+With --as-is the check goes on after an error. Each flaw of a packet, a section or an interface has a
+line with the index of the packet or block and the byte where it begins. Skipped bytes have a line too:
+the check skips corrupt bytes, such as blocks with a malformed frame, and packets or blocks of more than
+16777216 bytes. It goes on where 'pcapfile repair' does.";
 
 const INFO: &str =
-    "Reports what each capture holds: packets, bytes, times, rates, sizes, and packets over time.
+    "Reports what each capture contains: packets, bytes, times, rates, sizes, and packets over time.
 
 The first line is that of check. Sizes and rates are those of the packets on the wire. Each line of
-sizes has a bar. In the last line each sign is a span of time, and a higher sign means more packets.
+sizes has a bar. In the last line each sign is a span of time, and a taller sign means more packets.
 The interfaces of PcapNg follow, with figures for each where there are several. A packet with a
 malformed body is counted only as malformed. Names and comments are quoted and escaped.
 
 With --json each capture is one object on a line: file, format, check, status, bytes, packets,
-original and stored (bytes), average, sizes (packets with less than 20 bytes, 40, 80 and so on),
+original and stored (bytes), average, sizes (packets with fewer than 20 bytes, 40, 80 and so on),
 earliest, latest and duration in seconds, packets_per_second, bytes_per_second, over_time (width of a
 span in nanoseconds, number of the first span, packets of each), sections, refused, comments and
 interfaces with the same figures. Numbers with decimals are strings, and unknown values are null.";
 
 const LIST: &str =
-    "Writes a line for each packet: index, time, stored/original length, and of PcapNg the interface.
+    "Writes a line for each packet: index, time, stored/original length, and for PcapNg the interface.
 
 The time is in seconds since 1970 with nanoseconds, or - where the packet has none. A packet of PcapNg
 with a malformed body has the line 'index refused'. With several captures, the name of each is written
@@ -140,9 +140,9 @@ in PcapNg by !utf8 or !short for a value that is not UTF-8 or too short. A fract
 is too large is carried into the seconds. The list goes on where 'pcapfile repair' does, and reports
 skipped bytes on standard error before it goes on.";
 
-const QUIET_HELP: &str = "Shows no progress, which every word shows on a terminal";
+const QUIET_HELP: &str = "Shows no progress. Without it, commands show progress on a terminal";
 
-const AS_IS_HELP: &str = "Goes on after a broken rule, and reports the rule";
+const AS_IS_HELP: &str = "Goes on after an error, and reports each broken rule";
 
 const REPAIRED_HELP: &str =
     "Reads the capture as 'pcapfile repair' would write it, and reports each change";
@@ -159,13 +159,14 @@ interface. What classic captures can't hold is left out and reported on standard
 written as OUT.part, and renamed to OUT when it is complete.";
 
 const CUT: &str =
-    "Writes a part of a capture, or all of it in parts. Headers and packets keep their bytes.
+    "Copies the chosen packets of a capture, or splits all of it into parts. Headers and packets keep their
+bytes.
 
-OUT is one part, with the packets that pass all tests: --packets, --from, --until, --min-len, --max-len,
+OUT gets the packets that pass all tests: --packets, --from, --until, --min-len, --max-len,
 --interface and --bpf. With --every, --parts or --bytes the parts have a number of five digits before
 the extension of OUT, so that a shell sorts them: OUT.pcap becomes OUT-00001.pcap, OUT-00002.pcap and
 so on. 'pcapfile join' restores the capture. Each file is written as FILE.part, and renamed to FILE when
-it is complete. Where the capture is truncated or malformed, the parts before the fault remain.
+it is complete. If the capture is truncated or malformed, the parts before the error stay.
 
 A TIME is 1700000000.25 (seconds since 1970), 2023-11-14, '2023-11-14 22:13:20.25' (in UTC, or with
 --local in the system's zone), 2023-11-14T22:13:20.25+01:00, or +10s, +1.5s or '+1h 30m' after the first
@@ -179,10 +180,10 @@ It sees the stored bytes of each packet, whatever its link type is. tcpdump make
 unless -y names another link type.";
 
 const OUT_HELP: &str =
-    "The output: - for standard output; links are followed, and devices and pipes are written to";
+    "The output; - is standard output. A link is followed; a device or pipe is written to directly";
 
 const PARTS_OUT_HELP: &str =
-    "The output: - for standard output, of one part only; links are followed, devices are written to";
+    "The output; - is standard output, for one part only. A link is followed";
 
 const RANGE_HELP: &str =
     "The packets with these numbers, as list counts them: 10-20, 10-, -20, 10, or 1-5,10,100-";
@@ -202,7 +203,7 @@ const LOCAL_HELP: &str = "Reads a TIME without a zone in the system's zone";
 /// The options for several parts. None of them goes with an option that selects packets.
 const MANY: &[&str] = &[EVERY, PARTS, BYTES];
 
-const PARTS_HELP: &str = "N parts of nearly equal length, of a file, and not with --repair";
+const PARTS_HELP: &str = "N parts of nearly equal length; needs a file, and excludes --repair";
 
 const BYTES_HELP: &str =
     "Parts that end with the packet at which they reach SIZE bytes: 5000, 100K, 1M or 2G";
@@ -224,17 +225,17 @@ their capture. Of blocks that are left out, standard error says how many of each
 a capture is malformed, whose packets before that are merged. The output is written as OUT.part, and
 renamed to OUT when it is complete.";
 
-const REPAIR: &str = "Writes what can be read of a capture as one in which nothing breaks a rule.
+const REPAIR: &str = "Reads a damaged capture and writes a well-formed one.
 
 A fraction of a second that is too large is carried into the seconds, at most up to the latest time
-that the format can hold. Of a longer packet the first 262144 bytes are kept. An original length is
+that the format can hold. Only the first 262144 bytes of a longer packet are kept. An original length is
 raised to the stored one, or lowered to 262144. Options of PcapNg whose values break rules are left
-out, an interface that is too short is filled up, other blocks without room for what they declare are
+out, an interface that is too short is filled with zeros, other blocks without room for what they declare are
 left out, and sections declare no length. Everything else is unchanged.
 
-Bytes that are no packet or block are skipped up to the next section header, or up to two packets or
+Corrupt bytes are skipped up to the next section header, or up to two packets or
 blocks in a row that break no rule. A truncated last item is left out. Each change and each skip is
-reported on standard error with its byte. The output is written as OUT.part, and renamed to OUT when
+reported on standard error with its byte offset. The output is written as OUT.part, and renamed to OUT when
 it is complete.";
 
 /// A word of the program.
@@ -536,7 +537,7 @@ fn repair<'a>(alloc: Global, command: Command<'a>) -> Result<Command<'a>, AllocE
         .arg(given_header(
             alloc,
             HEADER,
-            "The header of a capture without one, as little,micro,1 or big,nano,101",
+            "The header of a capture without one, such as little,micro,1 or big,nano,101",
         )?)?
         .arg(guess)?
         .arg(link)?

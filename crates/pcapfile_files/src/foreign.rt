@@ -127,15 +127,15 @@ impl fmt::Display for Foreign {
             Foreign::Empty => f.write_str("is empty"),
             Foreign::Packed(packing) => write!(
                 f,
-                "is {} file, and no capture; '{} FILE | pcapfile info -' reads it",
+                "is {} file, not a capture; '{} FILE | pcapfile info -' reads it",
                 packing.name(),
                 packing.command()
             ),
             Foreign::Snoop => f.write_str(SNOOP),
             Foreign::Erf => f.write_str(ERF),
-            Foreign::Page => f.write_str("is an HTML page, and no capture"),
-            Foreign::Text => f.write_str("is a text, and no capture"),
-            Foreign::Unknown => f.write_str("is no capture"),
+            Foreign::Page => f.write_str("is an HTML page, not a capture"),
+            Foreign::Text => f.write_str("is a text file, not a capture"),
+            Foreign::Unknown => f.write_str("is not a capture"),
         }
     }
 }

@@ -11,7 +11,7 @@ const DEVICES: &str = "/dev";
 /// Returns the reason why no numbered files can be made from this name, or `None` if they can.
 pub fn unnumbered(console: &Console, name: &str) -> Option<&'static str> {
     if name == STANDARD {
-        return Some("parts are several files, and standard output is one");
+        return Some("several parts cannot go to standard output");
     }
     let (folder, file) = match name.rsplit_once('/') {
         Some(("", file)) => ("/", file),
@@ -19,16 +19,16 @@ pub fn unnumbered(console: &Console, name: &str) -> Option<&'static str> {
         None => (".", name),
     };
     if file.is_empty() {
-        return Some("parts have names that begin as that of a file, and this is a folder");
+        return Some("parts need the name of a file, and this is a folder");
     }
     match fs::metadata(console.rt(), name) {
         Ok(found) if !found.is_file() => {
-            return Some("parts have names that begin as that of a file, and this is none");
+            return Some("parts need the name of a file, and this is a device, a pipe or a folder");
         }
         _ => {}
     }
     if let Ok(true) = is_of_devices(console, folder) {
-        return Some("parts are files, and this folder has devices");
+        return Some("parts cannot go to a folder of devices");
     }
     None
 }

@@ -68,12 +68,12 @@ impl Unfinished<'_> {
         match refusal {
             Refusal::Io(error) => return tell_io(console, self.part.as_str(), error),
             Refusal::Held => {
-                eprintln!(console.for_line(); "pcapfile: {part}: another run writes it")?;
+                eprintln!(console.for_line(); "pcapfile: {part}: another run is writing it")?;
             }
             Refusal::InTheWay => {
                 let name = Shown(self.name);
                 eprintln!(console.for_line();
-                    "pcapfile: {part}: is there already: move it away, since {name} is written as this file first"
+                    "pcapfile: {part}: already exists; move it away, because {name} is first written under this name"
                 )?;
             }
         }
@@ -113,7 +113,7 @@ fn is_read(console: &Console, path: &str, read: &[&str]) -> bool {
 // Prints that an output is one of the captures being read, and returns the exit status.
 fn tell_read(console: &Console, name: &str) -> io::Result<u8> {
     let name = Shown(name);
-    eprintln!(console.for_line(); "pcapfile: {name}: is a capture that is read")?;
+    eprintln!(console.for_line(); "pcapfile: {name}: is one of the inputs; choose another name for the output")?;
     Ok(FAILED)
 }
 

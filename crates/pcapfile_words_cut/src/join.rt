@@ -124,7 +124,7 @@ fn join_next<W: Write>(
         Joined::OtherHeader => {
             let shown = Shown(part);
             eprintln!(console.for_line();
-                "pcapfile: {shown}: its header is not that of the first part"
+                "pcapfile: {shown}: its header differs from that of the first part"
             )?;
             Ok(AT_FAULT)
         }
