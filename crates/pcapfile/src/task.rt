@@ -120,7 +120,9 @@ impl<'a> Task<'a> {
             | Task::Merge(Merge { as_is: false, .. }) => Some(
                 "--repair reads on after the error, and 'pcapfile repair' writes a well-formed capture",
             ),
-            Task::Join(_) => Some("'pcapfile repair' writes a well-formed capture of the malformed part"),
+            Task::Join(_) => Some(
+                "'pcapfile repair' writes a well-formed capture of the malformed part",
+            ),
             Task::CheckAsIs(_)
             | Task::ListAsIs(_)
             | Task::Info(_)

@@ -158,14 +158,12 @@ PcapNg capture becomes a little-endian classic capture in nanoseconds, with the 
 interface. What classic captures can't hold is left out and reported on standard error. The output is
 written as OUT.part, and renamed to OUT when it is complete.";
 
-const CUT: &str =
-    "Copies the chosen packets of a capture, or splits all of it into parts. Headers and packets keep their
-bytes.
+const CUT: &str = "Copies the chosen packets of a capture, or splits all of it into parts.
 
-OUT gets the packets that pass all tests: --packets, --from, --until, --min-len, --max-len,
---interface and --bpf. With --every, --parts or --bytes the parts have a number of five digits before
-the extension of OUT, so that a shell sorts them: OUT.pcap becomes OUT-00001.pcap, OUT-00002.pcap and
-so on. 'pcapfile join' restores the capture. Each file is written as FILE.part, and renamed to FILE when
+Headers and packets keep their bytes. OUT gets the packets that pass all tests: --packets, --from,
+--until, --min-len, --max-len, --interface and --bpf. With --every, --parts or --bytes the parts have a
+number of five digits before the extension of OUT, so that a shell sorts them: OUT.pcap becomes
+OUT-00001.pcap, OUT-00002.pcap and so on. 'pcapfile join' restores the capture. Each file is written as FILE.part, and renamed to FILE when
 it is complete. If the capture is truncated or malformed, the parts before the error stay.
 
 A TIME is 1700000000.25 (seconds since 1970), 2023-11-14, '2023-11-14 22:13:20.25' (in UTC, or with
@@ -228,15 +226,14 @@ renamed to OUT when it is complete.";
 const REPAIR: &str = "Reads a damaged capture and writes a well-formed one.
 
 A fraction of a second that is too large is carried into the seconds, at most up to the latest time
-that the format can hold. Only the first 262144 bytes of a longer packet are kept. An original length is
-raised to the stored one, or lowered to 262144. Options of PcapNg whose values break rules are left
-out, an interface that is too short is filled with zeros, other blocks without room for what they declare are
-left out, and sections declare no length. Everything else is unchanged.
+that the format can hold. Only the first 262144 bytes of a longer packet are kept. An original length
+is raised to the stored one, or lowered to 262144. Options of PcapNg whose values break rules are left
+out. An interface that is too short is filled with zeros. Other blocks without room for what they
+declare are left out, and sections declare no length. Everything else is unchanged.
 
-Corrupt bytes are skipped up to the next section header, or up to two packets or
-blocks in a row that break no rule. A truncated last item is left out. Each change and each skip is
-reported on standard error with its byte offset. The output is written as OUT.part, and renamed to OUT when
-it is complete.";
+Corrupt bytes are skipped up to the next section header, or up to two packets or blocks in a row that
+break no rule. A truncated last item is left out. Each change and each skip is reported on standard
+error with its byte offset. The output is written as OUT.part, and renamed to OUT when it is complete.";
 
 /// A word of the program.
 #[derive(Clone, Copy)]

@@ -113,7 +113,9 @@ fn is_read(console: &Console, path: &str, read: &[&str]) -> bool {
 // Prints that an output is one of the captures being read, and returns the exit status.
 fn tell_read(console: &Console, name: &str) -> io::Result<u8> {
     let name = Shown(name);
-    eprintln!(console.for_line(); "pcapfile: {name}: is one of the inputs; choose another name for the output")?;
+    eprintln!(console.for_line();
+        "pcapfile: {name}: is one of the inputs; choose another name for the output"
+    )?;
     Ok(FAILED)
 }
 

@@ -155,7 +155,9 @@ fn plural(count: u64) -> &'static str {
 
 // Reports that `--parts` needs a file with a known length, and returns the exit status.
 fn tell_no_length(console: &Console) -> io::Result<u8> {
-    eprintln!(console.for_line(); "error: --parts needs a file, because it needs the length of the input")?;
+    eprintln!(console.for_line();
+        "error: --parts needs a file, because it needs the length of the input"
+    )?;
     Ok(USAGE)
 }
 
