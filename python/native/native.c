@@ -33,6 +33,7 @@ typedef struct {
 #include "packets.h"
 #include "walk.h"
 #include "batches.h"
+#include "one.h"
 #include "rows.h"
 #include "addresses.h"
 #include "decode.h"
@@ -194,6 +195,7 @@ static PyMethodDef methods[] = {
     { "addresses", make_addresses, METH_NOARGS, "Returns an empty table of addresses." },
     { "clocks", make_clocks, METH_NOARGS, "Returns an empty table of interfaces." },
     { "packet", make_packet, METH_VARARGS, "Returns a packet whose data is in these bytes." },
+    { "packet_at", packet_at, METH_VARARGS, "Returns the packet with which these bytes begin." },
     { NULL, NULL, 0, NULL },
 };
 static PyModuleDef_Slot slots[] = { { Py_mod_exec, module_exec }, { 0, NULL } };
