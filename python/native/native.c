@@ -9,6 +9,7 @@
  * It uses only the stable interface of Python 3.9, so one file serves 3.9 to 3.13. Every interpreter has its own types and state. */
 #include "python_buffers.h"
 
+#include <arpa/inet.h>
 #include <stddef.h>
 #include <stdint.h>
 #include <stdlib.h>
@@ -61,7 +62,7 @@ static PyType_Slot clocks_slots[] = {
     { Py_tp_new, no_new }, { Py_tp_dealloc, clocks_dealloc }, { Py_tp_methods, clocks_methods }, { 0, NULL },
 };
 static PyMethodDef addresses_methods[] = {
-    { "given", addresses_given, METH_NOARGS, "Returns the bytes of each address." },
+    { "texts", addresses_texts, METH_NOARGS, "Returns each address as a text." },
     { NULL, NULL, 0, NULL },
 };
 static PyType_Slot addresses_slots[] = {

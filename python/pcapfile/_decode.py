@@ -47,9 +47,9 @@ class _Addresses:
     def __init__(self) -> None:
         self._numbers: Dict[bytes, int] = {}
 
-    def given(self) -> List[bytes]:
-        """Returns the bytes of each address, 4 or 16."""
-        return list(self._numbers)
+    def texts(self) -> List[str]:
+        """Returns each address as a text."""
+        return [socket.inet_ntop(socket.AF_INET if len(address) == 4 else socket.AF_INET6, address) for address in self._numbers]
 
     def numbers_of(self, versions: Any, high: Any, low: Any) -> Any:
         """Returns the index of each address, or -1. It looks up equal addresses of a batch only once."""
@@ -106,8 +106,7 @@ def decoded_columns(told: Dict[str, Any]) -> Dict[str, Any]:
     columns: Dict[str, Any] = {}
     # Without packets there are no tables of addresses.
     for name, known in zip(("source", "destination"), told.get("addresses", (_Addresses(), _Addresses()))):
-        texts = [socket.inet_ntop(socket.AF_INET if len(address) == 4 else socket.AF_INET6, address) for address in known.given()]
-        columns[name] = pandas.Categorical.from_codes(told[name], texts)
+        columns[name] = pandas.Categorical.from_codes(told[name], known.texts())
     for name, missing in (("source_port", _NO_PORTS), ("destination_port", _NO_PORTS), ("protocol", _NO_PROTOCOL)):
         columns[name] = pandas.arrays.IntegerArray(told[name], (told["missing"] & missing).astype(bool))
     return columns
