@@ -190,8 +190,8 @@ def _read_ipv6(told: Any, here: Any, kinds: Any, places: Any, end: Any, data: An
     if len(some) == 0:
         return
     at, rows, end = places[some], here[some], end[some]
-    for name, place in (("source", 8), ("destination", 24)):
-        told[name + "_high"][rows], told[name][rows] = _eight(data, at + place), _eight(data, at + place + 8)
+    for name, before in (("source", 8), ("destination", 24)):
+        told[name + "_high"][rows], told[name][rows] = _eight(data, at + before), _eight(data, at + before + 8)
     told["version"][rows] = 6
     protocols, above, is_first = data[at + 6], at + 40, numpy.ones(len(at), bool)
     for _ in range(_MOST_EXTENSIONS):

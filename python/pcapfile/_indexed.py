@@ -41,7 +41,7 @@ class _State(NamedTuple):
 _NO_STATE = _State({}, 0, 0, None)
 
 
-class Indexed(Sequence):  # type: ignore[type-arg]
+class Indexed(Sequence[Any]):
     """The packets of a capture in memory or in a file, by number. Each access reads only the bytes that it needs.
 
     The constructor reads through the whole capture once, and keeps some 13 bytes a packet. If the capture is truncated or
@@ -68,7 +68,7 @@ class Indexed(Sequence):  # type: ignore[type-arg]
         self.refusal: Optional[CaptureError] = None
         self._walk = capture._walk(lends=False)
         self._pass_over(self._walk)
-        self._end = self._walk.window.offset
+        self._end: int = self._walk.window.offset
 
     def _pass_over(self, walk: Any) -> None:
         rows, taken, place = rows_of(_ROWS), ctypes.c_size_t(), 0
