@@ -44,7 +44,8 @@ _NO_STATE = _State({}, 0, 0, None)
 class Indexed(Sequence[Any]):
     """The packets of a capture in memory or in a file, by number. Each access reads only the bytes that it needs.
 
-    The constructor reads through the whole capture once, and keeps some 13 bytes a packet. If the capture is truncated or
+    The constructor reads through the whole capture once, and keeps some 13 bytes a packet. A packet that one access gives keeps
+    only its own bytes. If the capture is truncated or
     malformed, the packets before the fault have numbers, and `refusal` is the `CaptureError`; otherwise it is None. Iterating
     over all packets raises the error after the last one. The constructor raises a ValueError for a stream.
 
@@ -107,13 +108,13 @@ class Indexed(Sequence[Any]):
         return iter(self._capture)
 
     def __repr__(self) -> str:
-        return f"<{len(self)} packets by their numbers>"
+        return f"<{len(self)} packets by number{'' if self.refusal is None else f', before: {self.refusal}'}>"
 
     def __getitem__(self, number: Union[int, slice]) -> Any:
         if not isinstance(number, slice):
             at, count = _arguments.whole("number", number), len(self._offsets)
             if not -count <= at < count:
-                raise IndexError(f"the capture has {count} packets")
+                raise IndexError(f"number is {at}, and the capture has {count} packets")
             return self._one(at % count)
         begin, end, step = number.indices(len(self))
         if step < 0:

@@ -103,8 +103,7 @@ class Tables:
         `names`, `since` and `until` have the meanings that they have for `columns`.
 
         It raises an ImportError without numpy and pandas, a ValueError for `decode` with several threads or with `strict=False`,
-        and a `CaptureError`
-        for a truncated or malformed capture.
+        and a `CaptureError` for a truncated or malformed capture.
 
             >>> with pcapfile.open("capture.pcap") as capture:
             ...     int(capture.to_pandas()["len"].sum())

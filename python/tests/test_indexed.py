@@ -121,6 +121,16 @@ class Indexes(unittest.TestCase):
             self.assertEqual([(p.timestamp, p.link) for p in indexed[2990:]], [(n, 113) for n in range(2990, 3000)])
             self.assertLessEqual(len({id(state.known) for state in indexed._states}), 1)
 
+    def test_what_it_shows_and_refuses(self):
+        with pcapfile.parse(HEADER + packet(1, 0, b"abc") + packet(2, 0, b"def")[:-1]) as capture:
+            indexed = capture.indexed()
+            self.assertEqual(repr(indexed), "<1 packets by number, before: 1 bytes are missing (at byte 43)>")
+            for number in (1, -2):
+                with self.assertRaisesRegex(IndexError, f"^number is {number}, and the capture has 1 packets$"):
+                    indexed[number]
+            with self.assertRaisesRegex(TypeError, "^number is of type str, and must be a whole number$"):
+                indexed["a"]
+
     def test_streams_have_none(self):
         with self.assertRaises(ValueError):
             pcapfile.open(io.BytesIO(HEADER)).indexed()
