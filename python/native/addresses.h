@@ -16,10 +16,13 @@ typedef struct {
     PyObject_HEAD
     Address *at;
     Slot *slots;
-    size_t count, room; /* there are twice as many slots, and their number is a power of two */
+    size_t count, room; /* there are SLOTS times as many slots, and their number is a power of two */
     uint64_t seed;
     int is_used; /* by a call that released the interpreter's lock */
 } Addresses;
+
+/* With so many slots for each address, seven of eight lookups find theirs at once. */
+enum { SLOTS = 4 };
 
 static void addresses_dealloc(PyObject *self) {
     free(((Addresses *)self)->at);
@@ -39,16 +42,16 @@ static PyObject *make_addresses(PyObject *module, PyObject *unused) {
     return (PyObject *)addresses;
 }
 
-static inline size_t slot_of(const Addresses *addresses, const Address *address) {
+static inline uint64_t hash_of(const Addresses *addresses, const Address *address) {
     unsigned __int128 first = (unsigned __int128)(address->low ^ addresses->seed) * 0x9E3779B97F4A7C15u;
     uint64_t folded = (uint64_t)(first >> 64) ^ (uint64_t)first ^ (uint64_t)address->version;
     unsigned __int128 second = (unsigned __int128)(folded ^ address->high) * (addresses->seed | 1);
-    return (size_t)((uint64_t)(second >> 64) ^ (uint64_t)second) & (2 * addresses->room - 1);
+    return (uint64_t)(second >> 64) ^ (uint64_t)second;
 }
 
-/* Fetches the slot of an address into the processor's cache. */
-static inline void fetch_slot(const Addresses *addresses, Address address) {
-    if (addresses->room > 0) __builtin_prefetch(&addresses->slots[slot_of(addresses, &address)]);
+/* Fetches the first slot for a hash into the processor's cache. */
+static inline void fetch_slot(const Addresses *addresses, uint64_t hash) {
+    if (addresses->room > 0) __builtin_prefetch(&addresses->slots[hash & (SLOTS * addresses->room - 1)]);
 }
 
 /* Returns whether a slot that is not free has an address. */
@@ -58,10 +61,10 @@ static inline int has_address(const Addresses *addresses, const Slot *slot, cons
     return address->version == 4 || (there->low == address->low && there->high == address->high);
 }
 
-/* Returns the slot of an address: the one that has it, or a free one. */
-static inline Slot *find_slot(const Addresses *addresses, const Address *address) {
-    size_t at = slot_of(addresses, address);
-    while (addresses->slots[at].kind && !has_address(addresses, &addresses->slots[at], address)) at = (at + 1) & (2 * addresses->room - 1);
+/* Returns the slot of an address with this hash: the one that has it, or a free one. */
+static inline Slot *find_slot(const Addresses *addresses, const Address *address, uint64_t hash) {
+    size_t last = SLOTS * addresses->room - 1, at = hash & last;
+    while (addresses->slots[at].kind && !has_address(addresses, &addresses->slots[at], address)) at = (at + 1) & last;
     return &addresses->slots[at];
 }
 
@@ -76,18 +79,18 @@ static int addresses_grow(Addresses *addresses) {
     Address *at = realloc(addresses->at, room * sizeof *at);
     if (!at) return -1;
     addresses->at = at;
-    Slot *slots = calloc(2 * room, sizeof *slots);
+    Slot *slots = calloc(SLOTS * room, sizeof *slots);
     if (!slots) return -1;
     free(addresses->slots);
     addresses->slots = slots, addresses->room = room;
-    for (size_t i = 0; i < addresses->count; i++) fill_slot(find_slot(addresses, &at[i]), &at[i], i);
+    for (size_t i = 0; i < addresses->count; i++) fill_slot(find_slot(addresses, &at[i], hash_of(addresses, &at[i])), &at[i], i);
     return 0;
 }
 
-/* Returns the index of an address, which it adds if necessary. Returns -1 if memory or indexes are exhausted. */
-static inline int32_t number_of(Addresses *addresses, Address address) {
+/* Returns the index of an address with this hash. It adds the address if necessary. Returns -1 if memory or indexes are exhausted. */
+static inline int32_t number_of(Addresses *addresses, Address address, uint64_t hash) {
     if (addresses->count == addresses->room && addresses_grow(addresses) < 0) return -1;
-    Slot *slot = find_slot(addresses, &address);
+    Slot *slot = find_slot(addresses, &address, hash);
     if (!slot->kind) {
         addresses->at[addresses->count] = address;
         fill_slot(slot, &address, addresses->count++);
@@ -95,20 +98,39 @@ static inline int32_t number_of(Addresses *addresses, Address address) {
     return (int32_t)(slot->kind / 2 - 1);
 }
 
-/* given() returns the bytes of each address, 4 or 16. */
-static PyObject *addresses_given(PyObject *self, PyObject *unused) {
+/* Writes an IPv4 address as a text. Returns its length. */
+static size_t ipv4_text(uint32_t address, char *to) {
+    char *at = to;
+    for (int shift = 24; shift >= 0; shift -= 8) {
+        unsigned byte = address >> shift & 255;
+        if (byte >= 100) *at++ = (char)('0' + byte / 100);
+        if (byte >= 10) *at++ = (char)('0' + byte / 10 % 10);
+        *at++ = (char)('0' + byte % 10);
+        if (shift > 0) *at++ = '.';
+    }
+    return (size_t)(at - to);
+}
+
+/* Writes an address as a text. Returns its length. */
+static size_t address_text(const Address *address, char to[INET6_ADDRSTRLEN]) {
+    uint8_t bytes[16];
+    if (address->version == 4) return ipv4_text((uint32_t)address->low, to);
+    for (int k = 0; k < 8; k++) {
+        bytes[k] = (uint8_t)(address->high >> (56 - 8 * k));
+        bytes[8 + k] = (uint8_t)(address->low >> (56 - 8 * k));
+    }
+    return inet_ntop(AF_INET6, bytes, to, INET6_ADDRSTRLEN) ? strlen(to) : 0;
+}
+
+/* texts() returns each address as a text. */
+static PyObject *addresses_texts(PyObject *self, PyObject *unused) {
     const Addresses *addresses = (Addresses *)self;
     (void)unused;
     if (addresses->is_used) return PyErr_SetString(PyExc_ValueError, "addresses are in use"), NULL;
     PyObject *list = PyList_New((Py_ssize_t)addresses->count);
     for (size_t i = 0; list && i < addresses->count; i++) {
-        uint8_t bytes[16];
-        for (int k = 0; k < 8; k++) {
-            bytes[k] = (uint8_t)(addresses->at[i].high >> (56 - 8 * k));
-            bytes[8 + k] = (uint8_t)(addresses->at[i].low >> (56 - 8 * k));
-        }
-        int length = addresses->at[i].version == 4 ? 4 : 16;
-        PyObject *text = PyBytes_FromStringAndSize((const char *)bytes + 16 - length, length);
+        char to[INET6_ADDRSTRLEN];
+        PyObject *text = PyUnicode_FromStringAndSize(to, (Py_ssize_t)address_text(&addresses->at[i], to));
         if (!text) Py_CLEAR(list);
         else PyList_SetItem(list, (Py_ssize_t)i, text);
     }

@@ -151,40 +151,16 @@ static inline int is_within(const Walk *walk, int64_t time) { return time != NO_
 static inline Packet *next_classic(Walk *walk, const pcapfile_packet *given) {
     if (walk->has_times && !is_within(walk, (int64_t)given->ts_sec * 1000000000 + given->ts_nsec)) return NULL;
     if (walk->run && takes(walk, walk->header.link, given->bytes.ptr, given->orig_len, given->bytes.len) <= 0) return NULL;
-    Packet *packet = packet_alloc(walk->state, walk->state->packet);
-    if (!packet) return NULL;
-    packet->clock = NULL;
-    packet->ptr = given->bytes.ptr;
-    packet->stamp = (uint64_t)given->ts_sec << 32 | given->ts_nsec;
-    packet->len = (uint32_t)given->bytes.len;
-    packet->orig_len = given->orig_len;
-    packet->interface_id = 0;
-    packet->kind = walk->header.link;
-    return packet;
+    return classic_packet(walk->state, walk->header.link, given);
 }
 
 static inline Packet *next_ng(Walk *walk, const pcapfile_ng_packet *given) {
     Clock *clock = given->interface_id < walk->clocks->count ? walk->clocks->at[given->interface_id] : NULL;
-    size_t len = given->bytes.len;
-    if (given->type == PCAPFILE_BLOCK_SIMPLE_PACKET) { /* the bytes after the data are padding */
-        uint32_t most = clock && clock->interface.snaplen ? clock->interface.snaplen : given->orig_len;
-        if (most > given->orig_len) most = given->orig_len;
-        if (len > most) len = most;
-    }
+    size_t len = stored_len(clock, given);
     if (walk->has_times && (!clock || given->type == PCAPFILE_BLOCK_SIMPLE_PACKET || !is_within(walk, time_in_ns(clock, given->timestamp))))
         return NULL;
     if (walk->run && (!clock || takes(walk, clock->interface.link, given->bytes.ptr, given->orig_len, len) <= 0)) return NULL;
-    Packet *packet = packet_alloc(walk->state, walk->state->block_packet);
-    if (!packet) return NULL;
-    Py_XINCREF(clock);
-    packet->clock = clock;
-    packet->ptr = given->bytes.ptr;
-    packet->stamp = given->timestamp;
-    packet->len = (uint32_t)len;
-    packet->orig_len = given->orig_len;
-    packet->interface_id = given->interface_id;
-    packet->kind = given->type;
-    return packet;
+    return ng_packet(walk->state, clock, given, len);
 }
 
 /* Returns the time and the bytes of a packet instead of the packet. */

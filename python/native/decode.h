@@ -88,12 +88,19 @@ static inline Address destination_of(const Decoded *from) {
     return (Address){ from->destination_high, from->destination, from->version };
 }
 
+/* A decoded packet, with the hashes of its addresses in the tables. */
+typedef struct {
+    Decoded decoded;
+    uint64_t source, destination;
+} Hashed;
+
 /* Writes the values to a row. Returns 0, or -1 if memory is exhausted. */
-static inline int tell(const Decoded *from, Addresses *const addresses[2], Told *to) {
+static inline int tell(const Hashed *hashed, Addresses *const addresses[2], Told *to) {
+    const Decoded *from = &hashed->decoded;
     *to = (Told){ -1, -1, 0, 0, 0, NO_PORTS | NO_PROTOCOL };
     if (from->version == 0) return 0;
-    to->source = number_of(addresses[0], source_of(from));
-    to->destination = number_of(addresses[1], destination_of(from));
+    to->source = number_of(addresses[0], source_of(from), hashed->source);
+    to->destination = number_of(addresses[1], destination_of(from), hashed->destination);
     if (from->protocol >= 0) to->protocol = (uint8_t)from->protocol, to->missing &= NO_PORTS;
     if (from->source_port >= 0) {
         to->source_port = (uint16_t)from->source_port, to->destination_port = (uint16_t)from->destination_port;
@@ -120,13 +127,14 @@ static inline const uint8_t *bytes_of(const OfRows *of, const pcapfile_row *row)
 enum { GROUP = 16 };
 
 /* Decodes some packets. Returns 0, or -2 if one exceeds the bytes. */
-static int decode_group(const OfRows *of, const pcapfile_row *rows, size_t count, Decoded group[]) {
+static int decode_group(const OfRows *of, const pcapfile_row *rows, size_t count, Hashed group[]) {
     for (size_t i = 0; i < count; i++) {
         const uint8_t *bytes = bytes_of(of, &rows[i]);
         if (!bytes) return -2;
-        decode_packet(bytes, rows[i].len, rows[i].link, &group[i]);
-        fetch_slot(of->addresses[0], source_of(&group[i]));
-        fetch_slot(of->addresses[1], destination_of(&group[i]));
+        decode_packet(bytes, rows[i].len, rows[i].link, &group[i].decoded);
+        Address source = source_of(&group[i].decoded), destination = destination_of(&group[i].decoded);
+        fetch_slot(of->addresses[0], group[i].source = hash_of(of->addresses[0], &source));
+        fetch_slot(of->addresses[1], group[i].destination = hash_of(of->addresses[1], &destination));
     }
     return 0;
 }
@@ -137,7 +145,7 @@ static int decode_rows(const OfRows *of) {
     Told *to = of->to->buf;
     if ((size_t)of->to->len / sizeof *to != count) return -2;
     for (size_t begin = 0; begin < count; begin += GROUP) {
-        Decoded group[GROUP];
+        Hashed group[GROUP];
         size_t length = count - begin < GROUP ? count - begin : GROUP;
         if (decode_group(of, rows + begin, length, group) < 0) return -2;
         for (size_t i = 0; i < length; i++)

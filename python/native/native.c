@@ -9,6 +9,7 @@
  * It uses only the stable interface of Python 3.9, so one file serves 3.9 to 3.13. Every interpreter has its own types and state. */
 #include "python_buffers.h"
 
+#include <arpa/inet.h>
 #include <stddef.h>
 #include <stdint.h>
 #include <stdlib.h>
@@ -33,6 +34,7 @@ typedef struct {
 #include "packets.h"
 #include "walk.h"
 #include "batches.h"
+#include "one.h"
 #include "rows.h"
 #include "addresses.h"
 #include "decode.h"
@@ -60,7 +62,7 @@ static PyType_Slot clocks_slots[] = {
     { Py_tp_new, no_new }, { Py_tp_dealloc, clocks_dealloc }, { Py_tp_methods, clocks_methods }, { 0, NULL },
 };
 static PyMethodDef addresses_methods[] = {
-    { "given", addresses_given, METH_NOARGS, "Returns the bytes of each address." },
+    { "texts", addresses_texts, METH_NOARGS, "Returns each address as a text." },
     { NULL, NULL, 0, NULL },
 };
 static PyType_Slot addresses_slots[] = {
@@ -194,6 +196,7 @@ static PyMethodDef methods[] = {
     { "addresses", make_addresses, METH_NOARGS, "Returns an empty table of addresses." },
     { "clocks", make_clocks, METH_NOARGS, "Returns an empty table of interfaces." },
     { "packet", make_packet, METH_VARARGS, "Returns a packet whose data is in these bytes." },
+    { "packet_at", packet_at, METH_VARARGS, "Returns the packet with which these bytes begin." },
     { NULL, NULL, 0, NULL },
 };
 static PyModuleDef_Slot slots[] = { { Py_mod_exec, module_exec }, { 0, NULL } };

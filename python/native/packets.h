@@ -14,6 +14,44 @@ static inline Packet *packet_alloc(State *state, PyTypeObject *type) {
     return PyObject_New(Packet, type);
 }
 
+/* Returns a packet of a classic capture, as yet without a chunk. */
+static inline Packet *classic_packet(State *state, uint32_t link, const pcapfile_packet *given) {
+    Packet *packet = packet_alloc(state, state->packet);
+    if (!packet) return NULL;
+    packet->clock = NULL;
+    packet->ptr = given->bytes.ptr;
+    packet->stamp = (uint64_t)given->ts_sec << 32 | given->ts_nsec;
+    packet->len = (uint32_t)given->bytes.len;
+    packet->orig_len = given->orig_len;
+    packet->interface_id = 0;
+    packet->kind = link;
+    return packet;
+}
+
+/* Returns how many bytes of a PcapNg packet are data. The bytes after the data of a simple packet are padding. */
+static inline size_t stored_len(const Clock *clock, const pcapfile_ng_packet *given) {
+    size_t len = given->bytes.len;
+    if (given->type != PCAPFILE_BLOCK_SIMPLE_PACKET) return len;
+    uint32_t most = clock && clock->interface.snaplen ? clock->interface.snaplen : given->orig_len;
+    if (most > given->orig_len) most = given->orig_len;
+    return len > most ? most : len;
+}
+
+/* Returns a packet of a PcapNg capture with `len` bytes, as yet without a chunk. */
+static inline Packet *ng_packet(State *state, Clock *clock, const pcapfile_ng_packet *given, size_t len) {
+    Packet *packet = packet_alloc(state, state->block_packet);
+    if (!packet) return NULL;
+    Py_XINCREF(clock);
+    packet->clock = clock;
+    packet->ptr = given->bytes.ptr;
+    packet->stamp = given->timestamp;
+    packet->len = (uint32_t)len;
+    packet->orig_len = given->orig_len;
+    packet->interface_id = given->interface_id;
+    packet->kind = given->type;
+    return packet;
+}
+
 static void packet_dealloc(PyObject *self) {
     Packet *packet = (Packet *)self;
     PyTypeObject *type = Py_TYPE(self);

@@ -3,7 +3,7 @@
 import ctypes
 import itertools
 from array import array
-from typing import Any, Callable, Dict, Iterator, List, Optional, Tuple
+from typing import Any, Callable, Dict, Iterator, List, Optional, Tuple, TypeVar
 
 from . import _columns
 from ._columns import NO_LINK, NO_TIME
@@ -64,9 +64,13 @@ _capsules: Dict[int, Any] = {}
 _numbers = itertools.count(1)
 
 
-def _hold(struct: Any, needed: Any, release: Any) -> Any:
-    struct.private_data = number = next(_numbers)
-    struct.release = release
+_Struct = TypeVar("_Struct", bound=ctypes.Structure)
+
+
+def _hold(struct: _Struct, needed: Any, release: Any) -> _Struct:
+    fields: Any = struct
+    fields.private_data = number = next(_numbers)
+    fields.release = release
     _held[number] = needed
     return struct
 
@@ -159,14 +163,14 @@ def _array(length: int, buffers: List[Any], missing: int, children: List[Any]) -
     places = (ctypes.c_void_p * max(len(held), 1))(*(place for place, _ in held))
     pointers = _children(_Array, children)
     struct = _Array(length, missing, 0, len(held), len(children), places, pointers if children else None)
-    return _hold(struct, (held, places, pointers, children), _release_array)  # type: ignore[no-any-return]
+    return _hold(struct, (held, places, pointers, children), _release_array)
 
 
 def _schema(format: str, name: str, flags: int, children: List[Any]) -> _Schema:
     pointers = _children(_Schema, children)
     texts = format.encode(), name.encode()
     struct = _Schema(*texts, None, flags, len(children), pointers if children else None)
-    return _hold(struct, (texts, pointers, children), _release_schema)  # type: ignore[no-any-return]
+    return _hold(struct, (texts, pointers, children), _release_schema)
 
 
 class _Batches:

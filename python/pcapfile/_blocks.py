@@ -59,15 +59,17 @@ class BlockCapture(Packets):
         source, stretch, self._head = self._source, self._stretch, None
         if self._first is not None:
             return self._first
-        bytes_between = source.between if lends else source.read
+        assert not isinstance(source, Stream), "a stream keeps its walk"
+        begin, end = (0, len(source)) if stretch is None else (stretch.begin, stretch.end)
+        window = source.between(begin, end) if lends else source.read(begin, end)
         if stretch is None:
-            return self._walks(bytes_between(0, len(source)))
+            return self._walks(window)
         walk = self._walks(source.between(stretch.header))
         walk.take()
         for place in stretch.interfaces:
             walk.window = source.between(place)
             walk.take()
-        walk.window = bytes_between(stretch.begin, stretch.end)
+        walk.window = window
         return walk
 
     # Every interface has its own unit of time.
@@ -103,7 +105,7 @@ class BlockCapture(Packets):
         packets = (_library.NgPacket * BATCH)(*[_library.NgPacket(0, 0, 0, 0, _library.no_bytes())] * BATCH)
         fields = memoryview(packets).cast("B")
         window, is_open = walk.window, walk.window.open
-        for _ in walk.batches(lambda left, error: _library.take_ng_packets(walk.section, left, packets, BATCH, taken, error)):
+        for _ in walk.batches(lambda left, error: int(_library.take_ng_packets(walk.section, left, packets, BATCH, taken, error))):
             data, start, base, last = window.data, window.start, window.base, None
             for kind, number, original, units, at, length in _PACKET.iter_unpack(fields[: taken.value * _PACKET.size]):
                 if is_open.is_closed:

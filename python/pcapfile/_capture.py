@@ -192,8 +192,9 @@ class Capture(Packets):
         if self._after_header is not None:
             return Walk(self._header, self._after_header)
         begin = self._begin if self._stretch is None else self._stretch.begin
-        bytes_between = self._source.between if lends else self._source.read
-        return Walk(self._header, bytes_between(begin, self._end()))
+        assert not isinstance(self._source, Stream), "a stream keeps its window"
+        end = self._end()
+        return Walk(self._header, self._source.between(begin, end) if lends else self._source.read(begin, end))
 
     @property
     def interfaces(self) -> List[Interface]:
@@ -212,7 +213,7 @@ class Capture(Packets):
         fields = memoryview(packets).cast("B")
         taken, link = ctypes.c_size_t(), self.link
         window, is_open = walk.window, walk.window.open
-        for _ in walk.batches(lambda left, error: _library.take_packets(self._header, left, packets, BATCH, taken, error)):
+        for _ in walk.batches(lambda left, error: int(_library.take_packets(self._header, left, packets, BATCH, taken, error))):
             data, start, base = window.data, window.start, window.base
             for seconds, nanoseconds, original, at, length in _PACKET.iter_unpack(fields[: taken.value * _PACKET.size]):
                 if is_open.is_closed:
@@ -230,7 +231,7 @@ class Capture(Packets):
             status = _library.cut_packets(window.left, cuts, count, found, error)
         if status != _library.OK:
             raise error_of(status, error, 0)
-        begins = [cut.offset for cut in cuts[: found.value]]
+        begins: List[int] = [cut.offset for cut in cuts[: found.value]]
         return [Stretch(begin, end) for begin, end in zip(begins, [*begins[1:], len(window.data)])]
 
     def __enter__(self) -> "Capture":

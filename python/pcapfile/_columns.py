@@ -11,9 +11,9 @@ from ._extras import NOTHING, OFFSET, Wanted
 from ._windows import Pieces
 
 try:
-    import numpy
+    import numpy as numpy
 except ImportError:
-    numpy = None  # type: ignore[assignment]
+    numpy = None  # type: ignore[assignment]  # mypy has no optional modules
 
 # The number of packets in one batch of columns.
 COLUMNS = 65536
@@ -187,7 +187,7 @@ class _Rows:
     def given(self) -> Any:
         self.settle()
         rows = self._rows[: self.count].view(KINDS)
-        given = rows if not self._extras else _by_name(rows)
+        given: Any = rows if not self._extras else _by_name(rows)
         for extra in self._extras:
             given.update(extra.given(rows))
         return given

@@ -185,7 +185,10 @@ class Packets(Tables):
 
     def _end(self) -> int:
         """Returns the offset at which the capture or the stretch ends."""
-        return len(self._source) if self._stretch is None else self._stretch.end  # type: ignore[arg-type]
+        if self._stretch is not None:
+            return self._stretch.end
+        assert not isinstance(self._source, Stream), "a stream has no length"
+        return len(self._source)
 
     def _stretches(self, count: int, at_least: int) -> List[Stretch]:
         """Cuts the capture into at most `count` stretches. They have equal lengths, or `at_least` bytes each if that is above 0."""

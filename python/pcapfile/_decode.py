@@ -47,9 +47,9 @@ class _Addresses:
     def __init__(self) -> None:
         self._numbers: Dict[bytes, int] = {}
 
-    def given(self) -> List[bytes]:
-        """Returns the bytes of each address, 4 or 16."""
-        return list(self._numbers)
+    def texts(self) -> List[str]:
+        """Returns each address as a text."""
+        return [socket.inet_ntop(socket.AF_INET if len(address) == 4 else socket.AF_INET6, address) for address in self._numbers]
 
     def numbers_of(self, versions: Any, high: Any, low: Any) -> Any:
         """Returns the index of each address, or -1. It looks up equal addresses of a batch only once."""
@@ -106,8 +106,7 @@ def decoded_columns(told: Dict[str, Any]) -> Dict[str, Any]:
     columns: Dict[str, Any] = {}
     # Without packets there are no tables of addresses.
     for name, known in zip(("source", "destination"), told.get("addresses", (_Addresses(), _Addresses()))):
-        texts = [socket.inet_ntop(socket.AF_INET if len(address) == 4 else socket.AF_INET6, address) for address in known.given()]
-        columns[name] = pandas.Categorical.from_codes(told[name], texts)
+        columns[name] = pandas.Categorical.from_codes(told[name], known.texts())
     for name, missing in (("source_port", _NO_PORTS), ("destination_port", _NO_PORTS), ("protocol", _NO_PROTOCOL)):
         columns[name] = pandas.arrays.IntegerArray(told[name], (told["missing"] & missing).astype(bool))
     return columns
@@ -191,8 +190,8 @@ def _read_ipv6(told: Any, here: Any, kinds: Any, places: Any, end: Any, data: An
     if len(some) == 0:
         return
     at, rows, end = places[some], here[some], end[some]
-    for name, place in (("source", 8), ("destination", 24)):
-        told[name + "_high"][rows], told[name][rows] = _eight(data, at + place), _eight(data, at + place + 8)
+    for name, before in (("source", 8), ("destination", 24)):
+        told[name + "_high"][rows], told[name][rows] = _eight(data, at + before), _eight(data, at + before + 8)
     told["version"][rows] = 6
     protocols, above, is_first = data[at + 6], at + 40, numpy.ones(len(at), bool)
     for _ in range(_MOST_EXTENSIONS):

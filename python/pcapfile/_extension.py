@@ -6,7 +6,7 @@ from typing import Any
 native: Any = None
 if os.environ.get("PCAPFILE_NATIVE") != "0":
     try:
-        from . import _native as native  # type: ignore[no-redef]
+        from . import _native as native
     except ImportError:
         pass
 

@@ -8,7 +8,7 @@ from ._filter import Moment, nanoseconds_of, range_of
 try:
     import numpy
 except ImportError:
-    numpy = None  # type: ignore[assignment]
+    numpy = None  # type: ignore[assignment]  # mypy has no optional modules
 
 # The type in numpy of the places at which the bytes of packets begin and end.
 OFFSET = "i8"

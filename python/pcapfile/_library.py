@@ -158,9 +158,10 @@ cut_blocks_at_least.restype = ctypes.c_int32
 
 def _writing(name: str, *structs: Any) -> Callable[..., int]:
     """Returns a function of the library that writes these structs into a buffer."""
-    call = getattr(_library, name)
+    function = getattr(_library, name)
     room = [_to(ctypes.c_uint8), ctypes.c_size_t, _to(ctypes.c_size_t), _to(Error)]
-    call.argtypes, call.restype = [*map(_to, structs), *room], ctypes.c_int32
+    function.argtypes, function.restype = [*map(_to, structs), *room], ctypes.c_int32
+    call: Callable[..., int] = function
     return call
 
 

@@ -2,7 +2,7 @@
 
 import datetime as _datetime
 import struct
-from typing import TYPE_CHECKING, Any, Dict, List, NamedTuple, Optional, Tuple
+from typing import TYPE_CHECKING, Any, Dict, Iterator, List, NamedTuple, Optional, Protocol, Tuple, final
 
 from . import _library
 from ._extension import native
@@ -24,24 +24,41 @@ _HEAD = 28
 _FRAME = 8
 
 
+class _Shown(Protocol):
+    """What the attributes of `Told` use: the fields of a packet, and one another."""
+
+    @property
+    def _fields(self) -> Tuple[str, ...]: ...
+    @property
+    def seconds(self) -> Optional[int]: ...
+    @property
+    def nanoseconds(self) -> int: ...
+    @property
+    def original_length(self) -> int: ...
+    @property
+    def data(self) -> memoryview: ...
+    @property
+    def offset(self) -> int: ...
+    @property
+    def link(self) -> Optional[int]: ...
+    @property
+    def time(self) -> Optional[float]: ...
+    @property
+    def length(self) -> int: ...
+    @property
+    def block(self) -> Optional[Block]: ...
+    @property
+    def _around(self) -> Tuple[memoryview, int]: ...
+    def __iter__(self) -> Iterator[Any]: ...
+
+
 class Told:
     """The attributes of packets of both formats beyond their fields."""
 
     __slots__ = ()
 
-    if TYPE_CHECKING:
-        _fields: Tuple[str, ...]
-        seconds: Optional[int]
-        nanoseconds: int
-        original_length: int
-        data: memoryview
-        offset: int
-        link: Optional[int]
-
-        def __iter__(self) -> Any: ...
-
     @property
-    def time(self) -> Optional[float]:
+    def time(self: "_Shown") -> Optional[float]:
         """The time in seconds since 1970, as a float, or None if the packet has no time. `seconds` and `nanoseconds` are exact.
 
             >>> packet.time
@@ -50,7 +67,7 @@ class Told:
         return None if self.seconds is None else self.seconds + self.nanoseconds / 1e9
 
     @property
-    def time_ns(self) -> Optional[int]:
+    def time_ns(self: "_Shown") -> Optional[int]:
         """The time in nanoseconds since 1970, or None if the packet has no time.
 
             >>> packet.time_ns
@@ -59,7 +76,7 @@ class Told:
         return None if self.seconds is None else self.seconds * 1_000_000_000 + self.nanoseconds
 
     @property
-    def datetime(self) -> Optional[_datetime.datetime]:
+    def datetime(self: "_Shown") -> Optional[_datetime.datetime]:
         """The time as a datetime in UTC, in whole microseconds, or None if the packet has no time. It raises an OverflowError if
         no datetime can represent the time, for example after the year 9999.
 
@@ -71,7 +88,7 @@ class Told:
         return _EPOCH + _datetime.timedelta(seconds=self.seconds, microseconds=self.nanoseconds // 1000)
 
     @property
-    def length(self) -> int:
+    def length(self: "_Shown") -> int:
         """The number of bytes that the capture stores of the packet.
 
             >>> packet.length, packet.original_length
@@ -80,7 +97,7 @@ class Told:
         return len(self.data)
 
     @property
-    def block(self) -> Optional[Block]:
+    def block(self: "_Shown") -> Optional[Block]:
         """The `Block` that a PcapNg packet comes from. It is None for a classic packet, and for a simple packet, which has no
         options.
 
@@ -90,7 +107,7 @@ class Told:
         return _block_of(self)
 
     @property
-    def options(self) -> List[Option]:
+    def options(self: "_Shown") -> List[Option]:
         """The options of the packet. A classic packet has none.
 
             >>> [(option.code, bytes(option.value)) for option in packet.options]
@@ -100,7 +117,7 @@ class Told:
         return [] if block is None else block.options
 
     @property
-    def comment(self) -> Optional[str]:
+    def comment(self: "_Shown") -> Optional[str]:
         """The first comment on the packet, or None.
 
             >>> packet.comment
@@ -110,25 +127,25 @@ class Told:
         return None if block is None else block.comment
 
     @property
-    def _around(self) -> Tuple[memoryview, int]:
+    def _around(self: "_Shown") -> Tuple[memoryview, int]:
         """The buffer that contains the data, and the place at which the data begins in it."""
-        around = memoryview(self.data.obj).cast("B")  # type: ignore[arg-type]
+        around = memoryview(self.data.obj).cast("B")
         return around, _library.place_of(self.data) - _library.place_of(around)
 
-    def _asdict(self) -> Dict[str, Any]:
+    def _asdict(self: "_Shown") -> Dict[str, Any]:
         return dict(zip(self._fields, self))
 
-    def __bytes__(self) -> bytes:
+    def __bytes__(self: "_Shown") -> bytes:
         return bytes(self.data)
 
-    def __hash__(self) -> int:
+    def __hash__(self: "_Shown") -> int:
         return hash(tuple(bytes(field) if isinstance(field, memoryview) else field for field in self))
 
-    def __repr__(self) -> str:
+    def __repr__(self: "_Shown") -> str:
         told = f"{self.length} bytes, {self.original_length} on the wire, time {self.time}, link {self.link}"
         return f"<packet of {told}, at byte {self.offset}>"
 
-    def __reduce__(self) -> Tuple[Any, ...]:
+    def __reduce__(self: "_Shown") -> Tuple[Any, ...]:
         """Pickles the packet's data and its block with the options, and nothing else of the capture."""
         around, at = self._around
         block, end = self.block, at + self.length
@@ -139,7 +156,7 @@ class Told:
         return _restored, (type(self), bytes(around[begin:end]), at - begin, self.length, fields)
 
 
-def _block_of(packet: Told) -> Optional[Block]:
+def _block_of(packet: _Shown) -> Optional[Block]:
     """Returns the block around a packet's data, or None.
 
     Before the data of an enhanced packet there is a type that has options, in one of the byte orders, and the packet's time.
@@ -186,7 +203,7 @@ class Timed(Told):
     interface: Optional[Interface]
 
     @property
-    def link(self) -> Optional[int]:  # type: ignore[override]
+    def link(self) -> Optional[int]:
         """The number of the packet's link type, or None if its interface is unknown.
 
             >>> packet.link
@@ -195,6 +212,7 @@ class Timed(Told):
         return None if self.interface is None else self.interface.link
 
 
+@final
 class Packet(Told, _Fields):
     """A packet of a classic capture. `data` is a view of its bytes, which stay valid as long as the view exists. `link` is the
     number of its link type. `offset` is where `data` begins, in bytes from the capture's start.
@@ -210,6 +228,7 @@ class Packet(Told, _Fields):
     interface = None
 
 
+@final
 class BlockPacket(Timed, _BlockFields):
     """A packet of a PcapNg capture. `data` is a view of its bytes, which stay valid as long as the view exists. For a simple
     packet the view ends at the original length, or at the interface's snapshot length, because padding follows. `offset` is
@@ -240,7 +259,7 @@ if not TYPE_CHECKING and native is not None:
 
 def _restored(kind: Any, text: bytes, at: int, length: int, fields: Tuple[Any, ...]) -> Any:
     """Returns a packet that was pickled, with or without the extension."""
-    named = {**dict(zip(kind._fields, fields)), "data": memoryview(text)[at : at + length]}
+    named: Dict[str, Any] = {**dict(zip(kind._fields, fields)), "data": memoryview(text)[at : at + length]}
     if native is None or kind not in (native.Packet, native.BlockPacket):
         return kind(*named.values())
     offset, original = named["offset"], named["original_length"]

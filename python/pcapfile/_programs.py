@@ -51,6 +51,7 @@ class ProgramError(CaptureError):
         broken.pcap: cut short
     """
 
+    # Every other CaptureError has a place, and callers of those need not ask for None.
     offset: Optional[int]  # type: ignore[assignment]
 
     def __init__(self, message: str) -> None:

@@ -69,6 +69,7 @@ class Many:
     def text(self, at: int, head: Any, number: int) -> Tuple[int, memoryview]:
         """Returns how many rows from index `at` on can be written at once, and the bytes for them. `head` is the header of a classic
         capture, whose `number` is -1, or the section of an interface's number."""
+        assert self._table is not None, "link_at returned a number"
         rows = self._table[at : at + _ROWS]
         rows = rows[: together(rows, self._is_in_memory)]
         begin, end = int(rows["offset"].min()), int((rows["offset"].astype("i8") + rows["len"]).max())

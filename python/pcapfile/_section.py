@@ -1,6 +1,6 @@
 """The section of a PcapNg capture that a Writer writes: its interfaces, and copies of blocks."""
 
-from typing import Any, Dict, Tuple
+from typing import Any, Dict, Literal, Tuple
 
 from . import _library
 from ._interfaces import Interface
@@ -102,7 +102,7 @@ class Section:
         width = _WIDTHS[block.type]
         if number >= 1 << 8 * width:
             raise ValueError("an obsolete packet block has only 16 bits for the number of its interface")
-        body = number.to_bytes(width, block.byteorder) + bytes(block.body[width:])  # type: ignore[arg-type]
+        body = number.to_bytes(width, block.byteorder) + bytes(block.body[width:])
         self._output.packet(self._block(block.type, body), time)
 
     def _number_of(self, interface: Interface) -> int:
@@ -124,6 +124,6 @@ class Section:
 
     def _block(self, kind: int, body: bytes) -> bytes:
         """Returns a block with this body, in the section's byte order."""
-        order = "big" if self.shown.magic_number == MAGICS["big"] else "little"
-        length = (len(body) + 12).to_bytes(4, order)  # type: ignore[arg-type]
-        return kind.to_bytes(4, order) + length + body + length  # type: ignore[arg-type]
+        order: Literal["little", "big"] = "big" if self.shown.magic_number == MAGICS["big"] else "little"
+        length = (len(body) + 12).to_bytes(4, order)
+        return kind.to_bytes(4, order) + length + body + length

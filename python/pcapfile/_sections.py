@@ -40,6 +40,8 @@ class Known(Unknown):
     divides the units itself. A second then has `per_second` of them, each of `nanoseconds`. Otherwise `per_second` is 0, and the library
     computes the times."""
 
+    interface: Interface
+
     def __init__(self, shown: _library.Interface, block: Block) -> None:
         self.interface = described(block, *(getattr(shown, name) for name, _ in shown._fields_))
         self.shown = shown
@@ -89,7 +91,8 @@ class Walk:
 
     def _take(self) -> int:
         self.window.offset  # raises a ValueError if the capture is closed
-        return _library.take_block(self.section, self.window.left, self.block, self.error)
+        status: int = _library.take_block(self.section, self.window.left, self.block, self.error)
+        return status
 
     def shown(self) -> Block:
         """Returns the block that was taken last."""
@@ -144,7 +147,7 @@ class Walk:
         walk = self.over(window)
         packet, taken = _library.NgPacket(0, 0, 0, 0, _library.no_bytes()), ctypes.c_size_t()
         try:
-            for _ in walk.batches(lambda left, error: _library.take_ng_packets(walk.section, left, packet, 1, taken, error)):
+            for _ in walk.batches(lambda left, error: int(_library.take_ng_packets(walk.section, left, packet, 1, taken, error))):
                 if taken.value > 0:
                     break
         except CaptureError:

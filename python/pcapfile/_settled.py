@@ -12,6 +12,7 @@ def guess_block(data: memoryview, order: str) -> Optional[int]:
     """Returns the first place in `data` from which blocks follow one another by their lengths, or None. The first block has a
     packet."""
     words = numpy.frombuffer(data[: len(data) // 4 * 4], order + "u4")
+    first: int
     for first in numpy.flatnonzero((words == 6) | (words == 3) | (words == 2)).tolist():
         at, found = first, 0
         while found < IN_A_ROW and at + 1 < len(words):

@@ -47,6 +47,9 @@ class Memory:
         return len(self._bytes)
 
     def view(self, begin: int, end: int) -> memoryview:
+        """Returns the bytes between two offsets."""
+        if self.open.is_closed:
+            raise ValueError("the capture is closed")
         return self._bytes[begin:end]
 
     def window(self) -> Window:
@@ -86,6 +89,8 @@ class File:
         self.open = Open()
         self._stream, self._length = stream, os.fstat(stream.fileno()).st_size
         self._lock = threading.Lock()
+        # The descriptor of `view`. Duplicating one takes as long as reading a packet does.
+        self._own: Optional[Descriptor] = None
 
     def __len__(self) -> int:
         return self._length
@@ -97,8 +102,13 @@ class File:
             return Descriptor(self._stream.fileno())
 
     def view(self, begin: int, end: int) -> memoryview:
-        room = memoryview(bytearray(end - begin))
-        return room[: self.descriptor().read_into(room, begin)]
+        """Returns the bytes between two offsets, or fewer if the file has become shorter. It reads them at once."""
+        own = self._own  # another thread may close the file
+        if own is None:
+            own = self._own = self.descriptor()
+            if self.open.is_closed:
+                self._own = None
+        return memoryview(own.read(end - begin, begin))
 
     def window(self) -> Window:
         return self.between(0)
@@ -130,6 +140,7 @@ class File:
     def close(self) -> None:
         with self._lock:
             self.open.close()
+            self._own = None
             self._stream.close()
 
 

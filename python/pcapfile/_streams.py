@@ -23,7 +23,9 @@ class Stream(Window):
     def __init__(self, stream: Any, front: bytes = b"") -> None:
         super().__init__(Open(), memoryview(front))
         self._stream, self.into, self._rooms = stream, _reading_into(stream), Rooms()
-        self._lock, self._kind, self._walk = threading.Lock(), None, None  # type: Any, Any, Any
+        self._lock = threading.Lock()
+        self._kind: Any = None
+        self._walk: Optional[Iterator[Any]] = None
 
     def window(self) -> Window:
         return self
@@ -36,7 +38,7 @@ class Stream(Window):
                 self._kind, self._walk = kind, begun()
             elif self._kind != kind:
                 raise ValueError("another kind of loop reads this stream, and its packets would be lost")
-            return self._walk  # type: ignore[no-any-return]
+            return self._walk
 
     def more(self, missing: int) -> bool:
         self.check()
@@ -79,7 +81,7 @@ class Growing:
 
 def _is_over(walk: Any) -> bool:
     """Returns True if an iterator has ended. It is a generator or an iterator of the extension."""
-    return walk.is_over if hasattr(walk, "is_over") else walk.gi_frame is None
+    return bool(walk.is_over) if hasattr(walk, "is_over") else walk.gi_frame is None
 
 
 def _reading_into(stream: Any) -> Callable[[memoryview], Optional[int]]:

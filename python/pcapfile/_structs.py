@@ -1,4 +1,4 @@
-"""The structs and the statuses of pcapfile.h, by ctypes."""
+"""The structs and the statuses of pcapfile.h, by ctypes. Each class names the types that its fields have in Python."""
 
 import ctypes
 
@@ -6,10 +6,21 @@ OK, INCOMPLETE, BAD_VALUE, INVALID, NOT_UTF8, NO_MEMORY, NOTHING, NO_ROOM, NO_PL
 
 
 class Bytes(ctypes.Structure):
+    ptr: int
+    len: int
+
     _fields_ = [("ptr", ctypes.c_void_p), ("len", ctypes.c_size_t)]
 
 
 class Header(ctypes.Structure):
+    magic_number: int
+    version_major: int
+    version_minor: int
+    ts_correction: int
+    ts_accuracy: int
+    snaplen: int
+    link: int
+
     _fields_ = [
         ("magic_number", ctypes.c_uint32),
         ("version_major", ctypes.c_uint16),
@@ -22,6 +33,11 @@ class Header(ctypes.Structure):
 
 
 class Packet(ctypes.Structure):
+    ts_sec: int
+    ts_nsec: int
+    orig_len: int
+    bytes: Bytes
+
     _fields_ = [
         ("ts_sec", ctypes.c_uint32),
         ("ts_nsec", ctypes.c_uint32),
@@ -31,6 +47,11 @@ class Packet(ctypes.Structure):
 
 
 class Section(ctypes.Structure):
+    magic_number: int
+    version_major: int
+    version_minor: int
+    interfaces: int
+
     _fields_ = [
         ("magic_number", ctypes.c_uint32),
         ("version_major", ctypes.c_uint16),
@@ -40,10 +61,19 @@ class Section(ctypes.Structure):
 
 
 class Block(ctypes.Structure):
+    type: int
+    body: Bytes
+
     _fields_ = [("type", ctypes.c_uint32), ("body", Bytes)]
 
 
 class Interface(ctypes.Structure):
+    link: int
+    snaplen: int
+    ts_base: int
+    ts_exponent: int
+    ts_offset: int
+
     _fields_ = [
         ("link", ctypes.c_uint32),
         ("snaplen", ctypes.c_uint32),
@@ -54,6 +84,12 @@ class Interface(ctypes.Structure):
 
 
 class NgPacket(ctypes.Structure):
+    type: int
+    interface_id: int
+    orig_len: int
+    timestamp: int
+    bytes: Bytes
+
     _fields_ = [
         ("type", ctypes.c_uint32),
         ("interface_id", ctypes.c_uint32),
@@ -64,18 +100,37 @@ class NgPacket(ctypes.Structure):
 
 
 class Time(ctypes.Structure):
+    seconds: int
+    nanoseconds: int
+
     _fields_ = [("seconds", ctypes.c_int64), ("nanoseconds", ctypes.c_uint32)]
 
 
 class Cut(ctypes.Structure):
+    offset: int
+    before: int
+
     _fields_ = [("offset", ctypes.c_size_t), ("before", ctypes.c_size_t)]
 
 
 class NgCut(ctypes.Structure):
+    at: Cut
+    header: int
+    first: int
+    interfaces: int
+
     _fields_ = [("at", Cut), ("header", ctypes.c_size_t), ("first", ctypes.c_size_t), ("interfaces", ctypes.c_size_t)]
 
 
 class PacketAsIs(ctypes.Structure):
+    ts_sec: int
+    ts_fraction: int
+    orig_len: int
+    flaws: int
+    first_flaw: int
+    time: Time
+    bytes: Bytes
+
     _fields_ = [
         ("ts_sec", ctypes.c_uint32),
         ("ts_fraction", ctypes.c_uint32),
@@ -88,10 +143,22 @@ class PacketAsIs(ctypes.Structure):
 
 
 class BlockFlaw(ctypes.Structure):
+    status: int
+    rule: int
+    code: int
+
     _fields_ = [("status", ctypes.c_int32), ("rule", ctypes.c_uint32), ("code", ctypes.c_uint32)]
 
 
 class BlockAsIs(ctypes.Structure):
+    type: int
+    has_interface: int
+    has_packet: int
+    flaws: int
+    body: Bytes
+    interface: Interface
+    packet: NgPacket
+
     _fields_ = [
         ("type", ctypes.c_uint32),
         ("has_interface", ctypes.c_uint8),
@@ -104,12 +171,22 @@ class BlockAsIs(ctypes.Structure):
 
 
 class Option(ctypes.Structure):
+    code: int
+    value: Bytes
+
     _fields_ = [("code", ctypes.c_uint16), ("value", Bytes)]
 
 
 class Record(ctypes.Structure):
+    type: int
+    address: Bytes
+    names: Bytes
+
     _fields_ = [("type", ctypes.c_uint16), ("address", Bytes), ("names", Bytes)]
 
 
 class Error(ctypes.Structure):
+    rule: int
+    missing: int
+
     _fields_ = [("rule", ctypes.c_uint32), ("missing", ctypes.c_size_t)]

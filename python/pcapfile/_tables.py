@@ -80,7 +80,9 @@ class Tables:
     def _side_by_side(self, batch: int, threads: int, wanted: Wanted) -> Iterator[Any]:
         from ._stretches import side_by_side
 
-        return side_by_side(self._walk(lends=False), self._source, self._end(), batch, threads, wanted)
+        source = self._source
+        assert not isinstance(source, Stream), "a stream has one walk"
+        return side_by_side(self._walk(lends=False), source, self._end(), batch, threads, wanted)
 
     def to_pandas(
         self,
@@ -101,8 +103,7 @@ class Tables:
         `names`, `since` and `until` have the meanings that they have for `columns`.
 
         It raises an ImportError without numpy and pandas, a ValueError for `decode` with several threads or with `strict=False`,
-        and a `CaptureError`
-        for a truncated or malformed capture.
+        and a `CaptureError` for a truncated or malformed capture.
 
             >>> with pcapfile.open("capture.pcap") as capture:
             ...     int(capture.to_pandas()["len"].sum())

@@ -70,6 +70,10 @@ class Descriptor:
         if hasattr(self, "_number"):
             os.close(self._number)
 
+    def read(self, length: int, place: int) -> bytes:
+        """Reads at most `length` bytes of the file from an offset on."""
+        return os.pread(self._number, length, place)
+
     def read_into(self, room: memoryview, place: int) -> int:
         """Reads bytes of the file from an offset into a buffer, and returns how many they are."""
         if hasattr(os, "preadv"):

@@ -129,6 +129,19 @@ class Decoded(unittest.TestCase):
         self.assertEqual(sorted(frame["source"].cat.categories), [f"10.0.{n}.1" for n in range(7)])
         self.assertEqual(frame["source"].tolist(), [f"10.0.{n % 7}.1" for n in range(1000)])
 
+    def test_texts_of_addresses(self):
+        """Each byte of an IPv4 address is a number without leading zeros. An IPv6 address is the text that the system gives."""
+        chosen, data = random.Random(11), HEADER
+        wanted = [f"{n}.{255 - n}.{n * 7 % 256}.{n % 11}" for n in range(256)]
+        for text in wanted:
+            data += packet(1, 0, ethernet(0x0800, ipv4(17, PORTS, source=text)))
+        for n in range(256):
+            packed = bytes(byte * chosen.choice((0, 1)) for byte in chosen.randbytes(16))
+            wanted.append(socket.inet_ntop(socket.AF_INET6, packed))
+            above = ipv6(17, PORTS)
+            data += packet(1, 0, ethernet(0x86DD, above[:8] + packed + above[24:]))
+        self.assertEqual(pcapfile.parse(data).to_pandas(decode=True)["source"].tolist(), wanted)
+
     def test_many_addresses(self):
         """There are more addresses than the first tables have room for. Some of them differ only in their version."""
         chosen = random.Random(9)

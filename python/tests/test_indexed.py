@@ -7,6 +7,7 @@ import struct
 import tempfile
 import unittest
 from pathlib import Path
+from unittest.mock import patch
 
 import pcapfile
 from test_columns import option
@@ -70,20 +71,47 @@ class Indexes(unittest.TestCase):
                 self.assertEqual(told(indexed[n] for n in range(len(indexed))), wanted)
 
     def test_one_packet_reads_no_other_one(self):
-        self.path.write_bytes(HEADER + b"".join(packet(n, 0, bytes(100)) for n in range(10_000)))
-        read, preadv = [], os.preadv
+        """Each access is one read, of the packet record or block only. It duplicates no descriptor."""
+        front = SECTION + INTERFACE + NANOSECONDS
+        for data, first, length in (
+            (HEADER + b"".join(packet(n, 0, bytes(100)) for n in range(10_000)), len(HEADER) + 16, 116),
+            (front + b"".join(enhanced(n % 2, n, bytes(100)) for n in range(10_000)), len(front) + 28, 132),
+        ):
+            self.path.write_bytes(data)
+            read, pread = [], os.pread
 
-        def counting(descriptor, rooms, place):
-            read.append(sum(map(len, rooms)))
-            return preadv(descriptor, rooms, place)
+            def counting(descriptor, count, place):
+                read.append(count)
+                return pread(descriptor, count, place)
 
-        with pcapfile.open(self.path) as capture:
-            indexed, os.preadv = capture.indexed(), counting
-            try:
-                self.assertEqual(indexed[5000].seconds, 5000)
-            finally:
-                os.preadv = preadv
-        self.assertEqual(read, [116])
+            with pcapfile.open(self.path) as capture:
+                indexed = capture.indexed()
+                self.assertEqual(indexed[0].offset, first)
+                with patch("os.pread", counting), patch("os.preadv", None), patch("os.dup", None):
+                    self.assertEqual([indexed[n].offset for n in (5000, 7)], [first + 5000 * length, first + 7 * length])
+            self.assertEqual(read, [length, length])
+
+    def test_a_packet_before_its_interface(self):
+        """The interface of a packet is one that the capture describes before the packet."""
+        data = SECTION + INTERFACE + enhanced(1, 5, b"abc") + NANOSECONDS + enhanced(1, 6, b"def")
+        with pcapfile.parse(data) as capture:
+            indexed = capture.indexed()
+            self.assertEqual([(indexed[n].link, indexed[n].time_ns) for n in (1, 0)], [(p.link, p.time_ns) for p in list(capture)[::-1]])
+            self.assertIsNone(indexed[0].interface)
+
+    def test_a_file_that_becomes_shorter_is_incomplete(self):
+        for data, begin, each in (
+            (HEADER + packet(1, 0, b"abcd") * 10, len(HEADER), 20),
+            (SECTION + INTERFACE + enhanced(0, 1, b"abcd") * 10, len(SECTION + INTERFACE), 36),
+        ):
+            self.path.write_bytes(data)
+            with pcapfile.open(self.path) as capture:
+                indexed = capture.indexed()
+                os.truncate(self.path, begin + 5 * each + each - 2)
+                self.assertEqual(bytes(indexed[4]), b"abcd")
+                with self.assertRaises(pcapfile.Incomplete) as told:
+                    indexed[5]
+                self.assertEqual((told.exception.offset, told.exception.missing), (begin + 5 * each, 2))
 
     def test_many_interfaces_take_no_more_than_their_bytes_do(self):
         """The index keeps its state once for each section, and not once for each interface."""
@@ -92,6 +120,16 @@ class Indexes(unittest.TestCase):
             indexed = capture.indexed()
             self.assertEqual([(p.timestamp, p.link) for p in indexed[2990:]], [(n, 113) for n in range(2990, 3000)])
             self.assertLessEqual(len({id(state.known) for state in indexed._states}), 1)
+
+    def test_what_it_shows_and_refuses(self):
+        with pcapfile.parse(HEADER + packet(1, 0, b"abc") + packet(2, 0, b"def")[:-1]) as capture:
+            indexed = capture.indexed()
+            self.assertEqual(repr(indexed), "<1 packets by number, before: 1 bytes are missing (at byte 43)>")
+            for number in (1, -2):
+                with self.assertRaisesRegex(IndexError, f"^number is {number}, and the capture has 1 packets$"):
+                    indexed[number]
+            with self.assertRaisesRegex(TypeError, "^number is of type str, and must be a whole number$"):
+                indexed["a"]
 
     def test_streams_have_none(self):
         with self.assertRaises(ValueError):
