@@ -27,8 +27,8 @@ pub struct Gap {
     pub offset: u64,
     /// How many bytes it has.
     pub len: u64,
-    /// Why its first item is refused. None if it breaks no rule: bytes that are all zero, or a packet inside whose data other packets
-    /// follow each other.
+    /// Why its first item is refused. None if it breaks no rule: bytes that are all zero, a packet inside whose data other packets
+    /// follow each other, or the frame of a block above the limit.
     pub error: Option<Error>,
 }
 
@@ -257,9 +257,10 @@ impl Walk {
         let found = match blocks.take_one() {
             Ok(found) => found,
             Err(Error::NoMemory) => return Step::Fail(Error::NoMemory),
-            Err(Error::Incomplete(missing)) if !is_end && bytes.len() + missing <= self.block_limit() => {
-                return Step::More(missing)
+            Err(Error::Incomplete(missing)) if bytes.len().saturating_add(missing) > self.block_limit() => {
+                return Step::Corrupt(1, None, false)
             }
+            Err(Error::Incomplete(missing)) if !is_end => return Step::More(missing),
             Err(error) => return Step::Corrupt(1, Some(error), false),
         };
         let used = bytes.len() - blocks.rest().len();

@@ -293,7 +293,7 @@ impl From<AnyPacket<'_>> for OwnedPacket {
 }
 
 /// The blocks at the front of a slice that the library has accepted.
-#[derive(Clone, Copy, Debug)]
+#[derive(Clone, Debug)]
 pub(crate) struct Frames<'a> {
     pub section: Section,
     pub left: &'a [u8],

@@ -154,8 +154,9 @@ impl<R: Read> Reader<R> {
         };
         self.has_refused = false;
         let Some(block) = before.clone().next() else { return Ok(None) };
-        if let Ok(Some(interface)) = if block.type_ == 1 { block.interface() } else { Ok(None) } {
-            let number = block.section().interfaces as usize - 1;
+        let interface = if block.type_ == 1 { block.interface().ok().flatten() } else { None };
+        if let (Some(interface), Some(number)) = (interface, block.section().interfaces.checked_sub(1)) {
+            let number = number as usize;
             self.interfaces.resize(self.interfaces.len().max(number + 1), Interface::default());
             self.interfaces[number] = interface;
         }

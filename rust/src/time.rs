@@ -17,7 +17,6 @@ pub struct Time {
 
 /// The error of a conversion: the other type has no such time.
 #[derive(Clone, Copy, Debug, PartialEq, Eq)]
-#[non_exhaustive]
 pub struct OutOfRange;
 
 impl fmt::Display for OutOfRange {

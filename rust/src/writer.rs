@@ -1,6 +1,6 @@
 //! Writers of captures.
 
-use crate::{calls, AnyPacket, Block, BlockOption, BlockPacket, Error, Header, Interface, Packet, Section, Time};
+use crate::{calls, AnyPacket, Block, BlockOption, BlockPacket, Error, Header, Interface, Packet, Rule, Section, Time};
 use core::fmt;
 use std::io::{self, Write};
 use std::vec::Vec;
@@ -287,7 +287,7 @@ impl<W: Write> BlockWriter<W> {
     /// their capture declares one.
     ///
     /// It fails with `InvalidInput` over a `WriteError`: `NoTime`, `OtherLink` without a link type, `TimeOutOfRange` before 1970 and from
-    /// 2554 on, or `OtherByteOrder` for an option that is unknown and comes from a section of the other byte order. Other errors are those
+    /// 2554 on, or `OtherByteOrder` for a hash, a verdict or an unknown option that comes from a section of the other byte order. Other errors are those
     /// of `write_packet` and of the stream.
     ///
     /// ```
@@ -375,6 +375,9 @@ impl<W: Write> BlockWriter<W> {
     pub fn write_block(&mut self, block: &Block<'_>) -> io::Result<()> {
         let section = block.section();
         let is_header = block.type_ == u32::from_be_bytes([0x0a, 0x0d, 0x0d, 0x0a]);
+        if !is_header && self.section == Section::default() {
+            return Err(io::Error::new(io::ErrorKind::InvalidInput, Error::Invalid(Rule::SectionMissing)));
+        }
         if !is_header && section.is_big_endian() != self.section.is_big_endian() {
             return Err(WriteError::OtherByteOrder.into());
         }
@@ -536,9 +539,9 @@ fn encoded<'o>(section: &Section, options: impl IntoIterator<Item = BlockOption<
 
 /// Returns the value of a packet's option in the other byte order. None if numbers in it are unknown, or its length is another one.
 fn turned_value(option: &BlockOption<'_>) -> Option<Vec<u8>> {
-    // Which bytes are a number: none of a comment, a hash or a verdict. A custom option begins with the number of its enterprise.
+    // Which bytes are a number: none of a comment. A custom option begins with the number of its enterprise.
     let (number, len) = match option.code {
-        1 | 3 | 7 => (0, option.value.len()),
+        1 => (0, option.value.len()),
         2 | 6 => (4, 4),
         4 | 5 => (8, 8),
         2988 | 2989 | 19372 | 19373 => (4, option.value.len()),
