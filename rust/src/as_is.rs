@@ -69,7 +69,7 @@ impl<'a> PacketsAsIs<'a> {
         self.capture.rest()
     }
 
-    fn take(&mut self) -> Result<PacketAsIs<'a>, Error> {
+    pub(crate) fn take_one(&mut self) -> Result<PacketAsIs<'a>, Error> {
         let bytes = self.capture.rest();
         let (mut left, mut error) = (calls::Bytes::of(bytes), calls::Error::default());
         let mut packet = calls::PacketAsIs {
@@ -102,7 +102,7 @@ impl<'a> Iterator for PacketsAsIs<'a> {
         if self.is_done || self.rest().is_empty() {
             return None;
         }
-        let taken = self.take();
+        let taken = self.take_one();
         self.is_done = taken.is_err();
         Some(taken)
     }

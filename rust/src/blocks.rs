@@ -2,6 +2,7 @@
 
 use crate::calls;
 use crate::Error;
+pub use crate::time::Time;
 
 /// What applies to the blocks of a section.
 #[repr(C)]
@@ -22,6 +23,18 @@ impl Section {
     pub const LITTLE_ENDIAN: Section = Section { magic_number: 0x4d3c_2b1a, version_major: 1, version_minor: 0, interfaces: 0 };
     /// The same with the high byte first.
     pub const BIG_ENDIAN: Section = Section { magic_number: 0x1a2b_3c4d, ..Section::LITTLE_ENDIAN };
+
+    /// Returns whether its numbers have the high byte first.
+    pub fn is_big_endian(&self) -> bool {
+        self.magic_number == Section::BIG_ENDIAN.magic_number
+    }
+
+    /// Returns the number of four bytes at this place. None if the bytes end before.
+    #[cfg(feature = "std")]
+    pub(crate) fn number_at(&self, bytes: &[u8], at: usize) -> Option<u32> {
+        let bytes = bytes.get(at..)?.first_chunk()?;
+        Some(if self.is_big_endian() { u32::from_be_bytes(*bytes) } else { u32::from_le_bytes(*bytes) })
+    }
 }
 
 /// A block. Its body is a part of the capture.
@@ -48,16 +61,6 @@ pub struct Interface {
     pub ts_exponent: u8,
     /// Seconds to add to each time.
     pub ts_offset: i64,
-}
-
-/// A time.
-#[repr(C)]
-#[derive(Clone, Copy, Debug, Default, PartialEq, Eq, PartialOrd, Ord)]
-pub struct Time {
-    /// Seconds since 1970, below 0 before it.
-    pub seconds: i64,
-    /// Nanoseconds after these seconds, below 1000000000.
-    pub nanoseconds: u32,
 }
 
 /// A packet of an interface. Its bytes are a part of the capture.
@@ -95,7 +98,7 @@ pub struct NameRecord<'a> {
 const NOTHING: i32 = 8;
 
 /// Returns these bytes, which the library lends, as a part of `of`.
-pub(crate) fn lent<'a>(of: &'a [u8], bytes: calls::Bytes) -> &'a [u8] {
+pub(crate) fn lent(of: &[u8], bytes: calls::Bytes) -> &[u8] {
     if bytes.len == 0 {
         return &[];
     }
@@ -123,8 +126,14 @@ impl<'a> Block<'a> {
         Block { type_, body, section }
     }
 
+    /// Returns whether blocks of this type change what applies: section headers and interfaces.
+    #[cfg(feature = "std")]
+    pub(crate) fn changes_section(type_: u32) -> bool {
+        type_ == 0x0a0d_0d0a || type_ == 1
+    }
+
     /// Returns what applies after this block.
-    pub(crate) fn section(&self) -> Section {
+    pub fn section(&self) -> Section {
         self.section
     }
 
@@ -168,6 +177,13 @@ impl<'a> Block<'a> {
         }
     }
 
+    /// Returns an iterator over the comments of the block. A comment that is no UTF-8, or that follows a malformed option, is left
+    /// out; `options` reports it.
+    pub fn comments(&self) -> impl Iterator<Item = &'a str> + 'a {
+        let options = self.options().ok().into_iter().flatten().filter_map(Result::ok);
+        options.filter(|option| option.code == 1).filter_map(|option| core::str::from_utf8(option.value).ok())
+    }
+
     /// Returns an iterator over the addresses of a name resolution block. If a record is malformed, the error is its last item.
     /// It is empty for another block.
     pub fn records(&self) -> Records<'a> {
@@ -190,6 +206,19 @@ impl<'a> Block<'a> {
 pub struct Options<'a> {
     section: Section,
     left: &'a [u8],
+}
+
+#[cfg(feature = "std")]
+impl<'a> Options<'a> {
+    /// Reads these bytes as options, in this section.
+    pub(crate) fn of(section: Section, left: &'a [u8]) -> Options<'a> {
+        Options { section, left }
+    }
+
+    /// Returns the bytes of the options that the iterator has not returned.
+    pub(crate) fn rest(&self) -> &'a [u8] {
+        self.left
+    }
 }
 
 impl<'a> Iterator for Options<'a> {
@@ -304,7 +333,7 @@ impl<'a> Blocks<'a> {
         self.left
     }
 
-    pub(crate) fn take(&mut self) -> Result<Block<'a>, Error> {
+    pub(crate) fn take_one(&mut self) -> Result<Block<'a>, Error> {
         let mut left = calls::Bytes::of(self.left);
         let mut block = calls::Block { type_: 0, body: calls::Bytes::of(b"") };
         let mut error = calls::Error::default();
@@ -329,7 +358,7 @@ impl<'a> Iterator for Blocks<'a> {
         if self.is_done || (self.left.is_empty() && self.section != Section::default()) {
             return None;
         }
-        let taken = self.take();
+        let taken = self.take_one();
         self.is_done = taken.is_err();
         Some(taken)
     }

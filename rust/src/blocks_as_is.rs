@@ -116,7 +116,7 @@ impl<'a> BlocksAsIs<'a> {
         self.left
     }
 
-    fn take(&mut self) -> Result<BlockAsIs<'a>, Error> {
+    pub(crate) fn take_one(&mut self) -> Result<BlockAsIs<'a>, Error> {
         let (bytes, mut first) = (self.left, [BlockFlaw::default()]);
         let (rest, taken, section) = take(self.section, bytes, &mut first)?;
         let text = &bytes[..bytes.len() - rest.len()];
@@ -136,7 +136,7 @@ impl<'a> Iterator for BlocksAsIs<'a> {
         if self.is_done || (self.left.is_empty() && self.section != Section::default()) {
             return None;
         }
-        let taken = self.take();
+        let taken = self.take_one();
         self.is_done = taken.is_err();
         Some(taken)
     }

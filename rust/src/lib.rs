@@ -20,20 +20,30 @@ mod as_is;
 mod blocks;
 mod blocks_as_is;
 mod calls;
-mod rules;
+#[cfg(feature = "std")]
+mod lenient;
+#[cfg(feature = "std")]
+mod packet;
 #[cfg(feature = "std")]
 mod reader;
+mod rules;
+mod time;
 #[cfg(feature = "std")]
 mod writer;
 
 pub use as_is::{Flaws, PacketAsIs, PacketsAsIs};
-pub use blocks::{Block, BlockOption, BlockPacket, Blocks, Interface, NameRecord, Names, Options, Records, Section, Time};
+pub use blocks::{Block, BlockOption, BlockPacket, Blocks, Interface, NameRecord, Names, Options, Records, Section};
 pub use blocks_as_is::{BlockAsIs, BlockFlaw, BlocksAsIs};
 #[cfg(feature = "std")]
-pub use reader::{AnyPacket, Packets, Reader};
-pub use rules::Rule;
+pub use lenient::{Found, Gap, Lenient, LenientReader};
 #[cfg(feature = "std")]
-pub use writer::{BlockWriter, Writer};
+pub use packet::{AnyPacket, OwnedBlock, OwnedOption, OwnedPacket, PacketOptions};
+#[cfg(feature = "std")]
+pub use reader::{OwnedBlocks, Packets, Reader};
+pub use rules::Rule;
+pub use time::{OutOfRange, Time};
+#[cfg(feature = "std")]
+pub use writer::{BlockWriter, WriteError, Writer};
 
 use core::fmt;
 
@@ -104,8 +114,16 @@ pub struct Packet<'a> {
     pub data: &'a [u8],
 }
 
+impl Packet<'_> {
+    /// Returns the time of the packet, with less than a second of nanoseconds.
+    pub fn time(&self) -> Time {
+        Time { seconds: i64::from(self.seconds) + i64::from(self.nanoseconds / 1_000_000_000), nanoseconds: self.nanoseconds % 1_000_000_000 }
+    }
+}
+
 /// The reason why a capture is refused.
-#[derive(Clone, Copy, Debug, PartialEq, Eq)]
+#[derive(Clone, Copy, Debug, PartialEq, Eq, Hash)]
+#[non_exhaustive]
 pub enum Error {
     /// The bytes end inside a header, a packet or a block. At least this many more are needed.
     Incomplete(usize),
@@ -128,6 +146,19 @@ impl Error {
         }
     }
 
+    /// Returns the reason inside an error of a reader or writer. None if the stream failed.
+    ///
+    /// ```
+    /// use pcapfile::{Error, Reader};
+    ///
+    /// let failed = Reader::new(&b"\xd4\xc3"[..]).next_packet().unwrap_err();
+    /// assert_eq!(Error::of_io(&failed), Some(Error::Incomplete(22)));
+    /// ```
+    #[cfg(feature = "std")]
+    pub fn of_io(error: &std::io::Error) -> Option<Error> {
+        error.get_ref()?.downcast_ref().copied()
+    }
+
     fn of(status: i32, error: calls::Error) -> Error {
         match status {
             1 => Error::Incomplete(error.missing),
@@ -142,7 +173,8 @@ impl Error {
 impl fmt::Display for Error {
     fn fmt(&self, f: &mut fmt::Formatter<'_>) -> fmt::Result {
         match *self {
-            Error::Incomplete(missing) => write!(f, "{missing} bytes are missing"),
+            Error::Incomplete(1) => f.write_str("the capture is truncated: at least 1 byte is missing"),
+            Error::Incomplete(missing) => write!(f, "the capture is truncated: at least {missing} bytes are missing"),
             Error::Invalid(rule) => rule.fmt(f),
             Error::BadValue => f.write_str("a value in a block is too short"),
             Error::NotUtf8 => f.write_str("a string in a block is not UTF-8"),
@@ -152,6 +184,18 @@ impl fmt::Display for Error {
 }
 
 impl core::error::Error for Error {}
+
+#[cfg(feature = "std")]
+impl From<Error> for std::io::Error {
+    /// Makes an error of a stream: `UnexpectedEof` if bytes are missing, otherwise `InvalidData`.
+    fn from(error: Error) -> std::io::Error {
+        let kind = match error {
+            Error::Incomplete(_) => std::io::ErrorKind::UnexpectedEof,
+            _ => std::io::ErrorKind::InvalidData,
+        };
+        std::io::Error::new(kind, error)
+    }
+}
 
 /// A capture: its header, and an iterator over its packets. If the capture is truncated or malformed, the error is the last
 /// item.
@@ -191,7 +235,7 @@ impl<'a> Capture<'a> {
         self.left
     }
 
-    fn take(&mut self) -> Result<Packet<'a>, Error> {
+    pub(crate) fn take_one(&mut self) -> Result<Packet<'a>, Error> {
         let mut left = calls::Bytes::of(self.left);
         let mut packet = calls::Packet { ts_sec: 0, ts_nsec: 0, orig_len: 0, bytes: calls::Bytes::of(b"") };
         let mut error = calls::Error::default();
@@ -215,7 +259,7 @@ impl<'a> Iterator for Capture<'a> {
         if self.is_done || self.left.is_empty() {
             return None;
         }
-        let taken = self.take();
+        let taken = self.take_one();
         self.is_done = taken.is_err();
         Some(taken)
     }

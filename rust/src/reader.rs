@@ -1,8 +1,12 @@
 //! Captures that come from streams.
 
 use crate::calls;
-use crate::{Error, Header, Interface, Section, Time};
+use crate::packet::{Frames, Source};
+use crate::{AnyPacket, Block, Error, Header, Interface, LenientReader, Options, OwnedBlock, OwnedPacket, Rule, Section, Time};
+use core::fmt;
+use std::fs::File;
 use std::io::{self, Read};
+use std::path::Path;
 use std::vec::Vec;
 
 /// How many bytes to read from a stream at once, unless a packet needs more.
@@ -15,37 +19,47 @@ const INCOMPLETE: i32 = 1;
 const NO_MEMORY: i32 = 6;
 const NO_PLACE: i32 = 11;
 
-/// A packet of a capture of either format.
-#[derive(Clone, Copy, Debug, PartialEq, Eq)]
-pub struct AnyPacket<'a> {
-    /// The number of the packet's link type. None if the section does not have the packet's interface.
-    pub link: Option<u32>,
-    /// The number of its interface in its section; 0 in a classic capture.
-    pub interface_id: u32,
-    /// The time of the packet. None for a simple packet, which has no time, for a packet without an interface, and if the
-    /// seconds exceed 64 bits. The nanoseconds of a classic packet may be a second or more.
-    pub time: Option<Time>,
-    /// How many bytes the packet had on the wire.
-    pub original_len: u32,
-    /// The stored bytes, without padding.
-    pub data: &'a [u8],
-}
-
 /// Reads packets of a capture of either format from a stream, with a buffer that grows to what one packet or block needs. It
-/// reads more than one packet at a time, so the stream itself needs no buffer.
+/// reads more than a packet at once, so the stream needs no buffer of its own. It also keeps the options of the section in force
+/// and of its interfaces. Its memory does not grow with the number of packets.
+///
+/// It is an iterator over owned packets:
+///
+/// ```
+/// use pcapfile::Reader;
+///
+/// # let file: &[u8] = b"\xd4\xc3\xb2\xa1\x02\0\x04\0\0\0\0\0\0\0\0\0\xff\xff\0\0\x01\0\0\0\x07\0\0\0\x08\0\0\0\x02\0\0\0\x02\0\0\0ab";
+/// for packet in Reader::new(file) {
+///     let packet = packet?;
+///     println!("{:?} {:?} {} bytes", packet.link_type(), packet.system_time(), packet.data.len());
+///     for comment in packet.comments() {
+///         println!("    {comment}");
+///     }
+/// }
+/// # Ok::<(), std::io::Error>(())
+/// ```
+///
+/// An error of the stream, such as `WouldBlock`, is an item, and the next item is the packet that follows: nothing is lost. So is a
+/// PcapNg packet with a malformed body. Any other error is the last item. After `UnexpectedEof` the iterator goes on if the
+/// stream has grown.
 pub struct Reader<R> {
     stream: R,
-    room: Vec<u8>,
+    pub(crate) room: Vec<u8>,
     /// Which bytes of the buffer are held. For a classic capture it also has the header, whose magic number is 0 until the
     /// reader has read it.
-    push: calls::Push,
+    pub(crate) push: calls::Push,
     /// For a PcapNg capture the section in force, whose magic number is likewise 0 at first.
-    section: Section,
-    interfaces: Vec<Interface>,
+    pub(crate) section: Section,
+    pub(crate) interfaces: Vec<Interface>,
+    /// The options of the section in force, and of its interfaces.
+    section_options: Vec<u8>,
+    interface_options: Vec<Vec<u8>>,
     /// How many bytes of the capture came before the first byte of the buffer.
     gone: u64,
     /// Whether the library refused the item at the front of the held bytes.
     has_refused: bool,
+    /// Where the iterator reported a refusal.
+    reported: Option<u64>,
     /// What the last call took from a classic capture, and from a PcapNg one.
     packets: Vec<calls::Packet>,
     ng_packets: Vec<calls::AnyPacket>,
@@ -55,6 +69,21 @@ pub struct Reader<R> {
 unsafe impl<R: Send> Send for Reader<R> {}
 // SAFETY: nothing reads them behind a shared reference.
 unsafe impl<R: Sync> Sync for Reader<R> {}
+
+impl<R: fmt::Debug> fmt::Debug for Reader<R> {
+    fn fmt(&self, f: &mut fmt::Formatter<'_>) -> fmt::Result {
+        let mut shown = f.debug_struct("Reader");
+        shown.field("stream", &self.stream).field("offset", &(self.gone + self.push.begin as u64));
+        shown.field("header", &self.push.header).field("section", &self.section).finish_non_exhaustive()
+    }
+}
+
+impl Reader<File> {
+    /// Opens the capture in this file.
+    pub fn open(path: impl AsRef<Path>) -> io::Result<Reader<File>> {
+        Ok(Reader::new(File::open(path)?))
+    }
+}
 
 impl<R: Read> Reader<R> {
     /// Makes a reader of the capture that begins with the stream's first byte. It reads nothing yet.
@@ -70,8 +99,11 @@ impl<R: Read> Reader<R> {
             push: calls::Push::default(),
             section: Section::default(),
             interfaces: Vec::new(),
+            section_options: Vec::new(),
+            interface_options: Vec::new(),
             gone: 0,
             has_refused: false,
+            reported: None,
             packets: std::vec![none; BATCH],
             ng_packets: std::vec![none_of_any; BATCH],
         }
@@ -94,7 +126,56 @@ impl<R: Read> Reader<R> {
         self.take_some(BATCH)
     }
 
-    /// Returns how many bytes of the capture are before what the next call reads. After an error the refused item begins
+    /// Returns the next block of a PcapNg capture, of any kind. None after the last block. The calls of the block read its packet,
+    /// its interface and its options. The reader's `interfaces`, `section_options` and `interface_options` then include the block.
+    ///
+    /// Errors are those of `next_packet`, but only for the block's frame, and for the bodies of section headers and interfaces. A
+    /// classic capture is refused with `Rule::SectionMissing`.
+    pub fn next_block(&mut self) -> io::Result<Option<Block<'_>>> {
+        if self.header().is_some() {
+            return Err(Error::Invalid(Rule::SectionMissing).into());
+        }
+        let before = loop {
+            let (begin, section) = (self.push.begin, self.section);
+            let mut error = calls::Error::default();
+            match self.push_block(&mut error) {
+                OK => break Frames::new(section, &self.room[begin..self.push.begin]),
+                INCOMPLETE => {
+                    if self.read_more(error.missing)? > 0 {
+                        continue;
+                    }
+                    if self.push.begin == self.push.end && self.has_begun() {
+                        return Ok(None);
+                    }
+                    return Err(Error::of(INCOMPLETE, error).into());
+                }
+                status => return Err(Error::of(status, error).into()),
+            }
+        };
+        self.has_refused = false;
+        let Some(block) = before.clone().next() else { return Ok(None) };
+        let interface = if block.type_ == 1 { block.interface().ok().flatten() } else { None };
+        if let (Some(interface), Some(number)) = (interface, block.section().interfaces.checked_sub(1)) {
+            let number = number as usize;
+            self.interfaces.resize(self.interfaces.len().max(number + 1), Interface::default());
+            self.interfaces[number] = interface;
+        }
+        keep_options(before, &mut self.section_options, &mut self.interface_options);
+        Ok(Some(block))
+    }
+
+    /// Returns an iterator over owned blocks of a PcapNg capture, from the next one on. Errors of the stream are items between them.
+    /// Any other error is the last item.
+    pub fn blocks(&mut self) -> OwnedBlocks<'_, R> {
+        OwnedBlocks { reader: self }
+    }
+
+    /// Reads leniently, from the next packet or block on: it continues after corrupt bytes and reports each as a gap.
+    pub fn lenient(self) -> LenientReader<R> {
+        LenientReader::of(self)
+    }
+
+    /// Returns how many bytes of the capture come before what the next call reads. After a refusal the refused item begins
     /// there.
     pub fn offset(&self) -> u64 {
         self.gone + self.push.begin as u64
@@ -115,17 +196,35 @@ impl<R: Read> Reader<R> {
         &self.interfaces[..self.section.interfaces as usize]
     }
 
+    /// Returns an iterator over the options of the section in force in a PcapNg capture, as 2 for the hardware, 3 for the operating
+    /// system, and 4 for the application.
+    pub fn section_options(&self) -> Options<'_> {
+        Options::of(self.section, &self.section_options)
+    }
+
+    /// Returns an iterator over the options of an interface of the section in force, by its number. It is empty if there is no such
+    /// interface.
+    pub fn interface_options(&self, interface_id: u32) -> Options<'_> {
+        let options = self.interface_options.get(interface_id as usize);
+        Options::of(self.section, options.map_or(&[], Vec::as_slice))
+    }
+
+    /// Returns the stream, without the bytes that the reader has read from it.
+    pub fn into_inner(self) -> R {
+        self.stream
+    }
+
     /// Returns the stream. The reader may have read bytes after the returned packets from it.
     pub fn get_ref(&self) -> &R {
         &self.stream
     }
 
-    fn has_begun(&self) -> bool {
+    pub(crate) fn has_begun(&self) -> bool {
         self.header().is_some() || self.section().is_some()
     }
 
     /// Returns whether the capture is PcapNg: the header or section in force decides, or before that the first bytes.
-    fn is_ng(&self) -> bool {
+    pub(crate) fn is_ng(&self) -> bool {
         if self.has_begun() {
             return self.section().is_some();
         }
@@ -135,30 +234,35 @@ impl<R: Read> Reader<R> {
     /// Takes at most this many packets, and reads until there is one.
     fn take_some(&mut self, most: usize) -> io::Result<Packets<'_>> {
         self.pass_refused()?;
-        let taken = loop {
-            let mut error = calls::Error::default();
+        let (taken, begin, section) = loop {
+            let (mut error, begin, section) = (calls::Error::default(), self.push.begin, self.section);
             let (status, taken) = self.take(most, &mut error);
+            if self.is_ng() {
+                let frames = Frames::new(section, &self.room[begin..self.push.begin]);
+                keep_options(frames, &mut self.section_options, &mut self.interface_options);
+            }
             match status {
-                _ if taken > 0 => break taken,
+                _ if taken > 0 => break (taken, begin, section),
                 INCOMPLETE => {
                     if self.read_more(error.missing)? > 0 {
                         continue;
                     }
                     if self.push.begin == self.push.end && self.has_begun() {
-                        break 0;
+                        break (0, self.push.begin, self.section);
                     }
-                    return Err(io::Error::new(io::ErrorKind::UnexpectedEof, Error::of(status, error)));
+                    return Err(Error::of(status, error).into());
                 }
                 NO_PLACE => self.interfaces.resize(self.interfaces.len() * 2 + 1, Interface::default()),
                 _ => {
                     self.has_refused = status != NO_MEMORY;
-                    return Err(io::Error::new(io::ErrorKind::InvalidData, Error::of(status, error)));
+                    return Err(Error::of(status, error).into());
                 }
             }
         };
         let is_ng = self.is_ng();
         Ok(Packets {
             room: &self.room,
+            frames: Frames::new(section, if is_ng { &self.room[begin..self.push.begin] } else { &[] }),
             link: self.push.header.link,
             packets: if is_ng { [].iter() } else { self.packets[..taken].iter() },
             ng_packets: if is_ng { self.ng_packets[..taken].iter() } else { [].iter() },
@@ -170,23 +274,22 @@ impl<R: Read> Reader<R> {
         if !self.has_refused || !self.is_ng() {
             return Ok(());
         }
-        let mut block = calls::Block { type_: 0, body: calls::Bytes::of(b"") };
-        let (mut error, room) = (calls::Error::default(), &self.room);
-        // SAFETY: each pointer points to a value of its own, and the buffer is a slice's.
-        let status = unsafe {
-            calls::pcapfile_push_block(
-                &mut self.push,
-                &mut self.section,
-                room.as_ptr(),
-                room.len(),
-                &mut block,
-                &mut error,
-            )
-        };
+        let mut error = calls::Error::default();
+        let status = self.push_block(&mut error);
         self.has_refused = status != OK;
         match status {
             OK => Ok(()),
-            _ => Err(io::Error::new(io::ErrorKind::InvalidData, Error::of(status, error))),
+            _ => Err(Error::of(status, error).into()),
+        }
+    }
+
+    /// Takes a block from the held bytes, and returns the status of that.
+    fn push_block(&mut self, error: &mut calls::Error) -> i32 {
+        let mut block = calls::Block { type_: 0, body: calls::Bytes::of(b"") };
+        let room = &self.room;
+        // SAFETY: each pointer points to a value of its own, and the buffer is a slice's.
+        unsafe {
+            calls::pcapfile_push_block(&mut self.push, &mut self.section, room.as_ptr(), room.len(), &mut block, error)
         }
     }
 
@@ -224,7 +327,7 @@ impl<R: Read> Reader<R> {
     }
 
     /// Moves the held bytes to the front of the buffer, and reads once after them. Returns how many bytes came.
-    fn read_more(&mut self, missing: usize) -> io::Result<usize> {
+    pub(crate) fn read_more(&mut self, missing: usize) -> io::Result<usize> {
         let len = self.push.end - self.push.begin;
         self.gone += self.push.begin as u64;
         self.room.copy_within(self.push.begin..self.push.end, 0);
@@ -246,12 +349,84 @@ impl<R: Read> Reader<R> {
     }
 }
 
+impl<R: Read> Iterator for Reader<R> {
+    type Item = io::Result<OwnedPacket>;
+
+    fn next(&mut self) -> Option<io::Result<OwnedPacket>> {
+        let error = match self.next_packet() {
+            Ok(packet) => return packet.map(|packet| Ok(packet.into_owned())),
+            Err(error) => error,
+        };
+        self.is_news(&error).then_some(Err(error))
+    }
+}
+
+impl<R: Read> Reader<R> {
+    /// Returns whether an iterator has not returned this error already. An error of the stream is always news.
+    fn is_news(&mut self, error: &io::Error) -> bool {
+        if Error::of_io(error).is_none() {
+            return true;
+        }
+        let place = Some(self.offset());
+        core::mem::replace(&mut self.reported, place) != place
+    }
+}
+
+/// An iterator over owned blocks of a PcapNg capture that comes from a stream.
+#[derive(Debug)]
+pub struct OwnedBlocks<'r, R> {
+    reader: &'r mut Reader<R>,
+}
+
+impl<R: Read> Iterator for OwnedBlocks<'_, R> {
+    type Item = io::Result<OwnedBlock>;
+
+    fn next(&mut self) -> Option<io::Result<OwnedBlock>> {
+        let error = match self.reader.next_block() {
+            Ok(block) => return block.map(|block| Ok(block.into())),
+            Err(error) => error,
+        };
+        self.reader.is_news(&error).then_some(Err(error))
+    }
+}
+
+/// Keeps the options of section headers and interfaces among these blocks.
+fn keep_options(blocks: Frames<'_>, of_section: &mut Vec<u8>, of_interfaces: &mut Vec<Vec<u8>>) {
+    for block in blocks {
+        if !Block::changes_section(block.type_) {
+            continue;
+        }
+        let options = block.options().map_or(&[][..], |options| options.rest());
+        if block.section().interfaces == 0 {
+            of_interfaces.clear();
+            of_section.clear();
+            of_section.extend_from_slice(options);
+        } else {
+            of_interfaces.push(options.to_vec());
+        }
+    }
+}
+
 /// Packets of a capture, which are lent together.
+#[derive(Clone)]
 pub struct Packets<'a> {
     room: &'a [u8],
+    /// The blocks of the packets, with others between them.
+    frames: Frames<'a>,
     link: u32,
     packets: core::slice::Iter<'a, calls::Packet>,
     ng_packets: core::slice::Iter<'a, calls::AnyPacket>,
+}
+
+// SAFETY: its pointers are compared with the buffer that it borrows, and never read.
+unsafe impl Send for Packets<'_> {}
+// SAFETY: likewise.
+unsafe impl Sync for Packets<'_> {}
+
+impl fmt::Debug for Packets<'_> {
+    fn fmt(&self, f: &mut fmt::Formatter<'_>) -> fmt::Result {
+        f.debug_list().entries(self.clone()).finish()
+    }
 }
 
 impl<'a> Packets<'a> {
@@ -266,12 +441,14 @@ impl<'a> Packets<'a> {
 
     fn next_ng(&mut self) -> Option<AnyPacket<'a>> {
         let packet = self.ng_packets.next()?;
+        let block = self.frames.by_ref().find(|block| matches!(block.type_, 2 | 3 | 6));
         Some(AnyPacket {
             link: (packet.has_interface != 0).then_some(packet.link),
             interface_id: packet.interface_id,
             time: (packet.has_time != 0).then_some(packet.time),
             original_len: packet.orig_len,
             data: self.lent(packet.bytes),
+            source: block.map_or(Source::None, Source::Block),
         })
     }
 
@@ -283,6 +460,7 @@ impl<'a> Packets<'a> {
             time: Some(Time { seconds: packet.ts_sec.into(), nanoseconds: packet.ts_nsec }),
             original_len: packet.orig_len,
             data: self.lent(packet.bytes),
+            source: Source::None,
         })
     }
 }

@@ -1,0 +1,530 @@
+//! Lenient reading of damaged captures of either format, from slices and streams: packets, and gaps where bytes are corrupt.
+
+use crate::blocks::{Block, Interface, Section};
+use crate::packet::Source;
+use crate::{calls, AnyPacket, BlockAsIs, Blocks, Capture, Error, Header, OwnedPacket, Reader, Time};
+use core::ops::Range;
+use std::io::{self, Read};
+use std::vec::Vec;
+
+const MAGIC_OF_SECTION: [u8; 4] = [0x0a, 0x0d, 0x0d, 0x0a];
+/// How many packets or blocks must follow each other where reading goes on after corrupt bytes, unless they reach the end.
+const ROW: usize = 3;
+/// The longest packet that breaks no rule, with its header.
+const LONGEST_PACKET: usize = 262_144 + 16;
+/// The longest block at which reading goes on after corrupt bytes.
+const LONGEST_BLOCK: usize = LONGEST_PACKET + 65_536;
+/// The longest block that is read, unless the limit is larger.
+const BLOCK_LIMIT: usize = 1 << 24;
+/// How many bytes are searched at once, in items of the longest kind.
+const WINDOW: usize = 8;
+
+/// A part of a capture that has no packets: it is corrupt or truncated, or it is a packet's block whose body has no room for a packet.
+#[derive(Clone, Copy, Debug, PartialEq, Eq)]
+#[non_exhaustive]
+pub struct Gap {
+    /// How many bytes of the capture are before it.
+    pub offset: u64,
+    /// How many bytes it has.
+    pub len: u64,
+    /// Why its first item is refused. None if it breaks no rule: bytes that are all zero, a packet inside whose data other packets
+    /// follow each other, or the frame of a block above the limit.
+    pub error: Option<Error>,
+}
+
+/// What lenient reading finds: a packet or a gap. More kinds may come.
+#[derive(Clone, Copy, Debug, PartialEq, Eq)]
+#[non_exhaustive]
+pub enum Found<P> {
+    /// A packet, and its first flaw, by which strict reading refuses it. None if it has no flaw.
+    Packet {
+        /// The packet.
+        packet: P,
+        /// Why strict reading refuses it.
+        flaw: Option<Error>,
+    },
+    /// A gap.
+    Gap(Gap),
+}
+
+impl<P> Found<P> {
+    /// Returns the packet. None for a gap.
+    pub fn packet(self) -> Option<P> {
+        match self {
+            Found::Packet { packet, .. } => Some(packet),
+            Found::Gap(_) => None,
+        }
+    }
+
+    /// Returns the gap. None for a packet.
+    pub fn gap(&self) -> Option<Gap> {
+        match *self {
+            Found::Gap(gap) => Some(gap),
+            Found::Packet { .. } => None,
+        }
+    }
+}
+
+impl Found<AnyPacket<'_>> {
+    /// Copies the packet with its bytes and options.
+    pub fn into_owned(self) -> Found<OwnedPacket> {
+        match self {
+            Found::Packet { packet, flaw } => Found::Packet { packet: packet.into_owned(), flaw },
+            Found::Gap(gap) => Found::Gap(gap),
+        }
+    }
+}
+
+/// A packet at the front of some bytes, and where its bytes are.
+#[derive(Clone, Debug)]
+struct Taken {
+    used: usize,
+    flaw: Option<Error>,
+    link: Option<u32>,
+    interface_id: u32,
+    time: Option<Time>,
+    original_len: u32,
+    data: Range<usize>,
+    /// The type of its block, and what applies to it. The body is the block without its first 8 bytes and its last 4.
+    block: Option<(u32, Section)>,
+}
+
+impl Taken {
+    fn packet<'b>(&self, bytes: &'b [u8]) -> AnyPacket<'b> {
+        let block = |(type_, section)| Source::Block(Block::of(type_, &bytes[8..self.used - 4], section));
+        AnyPacket {
+            link: self.link,
+            interface_id: self.interface_id,
+            time: self.time,
+            original_len: self.original_len,
+            data: &bytes[self.data.clone()],
+            source: self.block.map_or(Source::None, block),
+        }
+    }
+}
+
+/// What is at the front of some bytes.
+enum Step {
+    /// A packet.
+    Packet(Taken),
+    /// So many bytes without a packet, which are as they should be.
+    Skip(usize),
+    /// So many corrupt bytes, and whether reading goes on after them.
+    Corrupt(usize, Option<Error>, bool),
+    /// At least so many more bytes are needed.
+    More(usize),
+    End,
+    Fail(Error),
+}
+
+/// What is known of a capture between two steps.
+#[derive(Clone, Debug, Default)]
+struct Walk {
+    /// The header of a classic capture. Its magic number is 0 before it was read.
+    header: Header,
+    section: Section,
+    is_ng: bool,
+    /// The interfaces by number. None for one whose body has no room for its numbers.
+    interfaces: Vec<Option<Interface>>,
+    limit: u32,
+    /// A gap whose end is not known yet.
+    gap: Option<Gap>,
+    is_done: bool,
+}
+
+impl Walk {
+    /// Takes what is at the front of these bytes, which end the capture if `is_end`.
+    fn step(&mut self, bytes: &[u8], is_end: bool) -> Step {
+        if !self.is_ng && self.header.magic_number == 0 {
+            return self.begin(bytes, is_end);
+        }
+        match (bytes.is_empty(), is_end) {
+            (true, true) => Step::End,
+            _ if self.gap.is_some() => self.search(bytes, is_end),
+            _ if self.is_ng => self.step_ng(bytes, is_end),
+            _ => self.step_classic(bytes, is_end),
+        }
+    }
+
+    /// Reads the header of a classic capture, or finds that the capture is PcapNg.
+    fn begin(&mut self, bytes: &[u8], is_end: bool) -> Step {
+        if bytes.len() >= 4 && bytes.starts_with(&MAGIC_OF_SECTION) {
+            self.is_ng = true;
+            return Step::Skip(0);
+        }
+        match Capture::parse(bytes) {
+            Ok(capture) => {
+                self.header = *capture.header();
+                Step::Skip(bytes.len() - capture.rest().len())
+            }
+            Err(Error::Incomplete(missing)) if !is_end => Step::More(missing),
+            Err(error) => Step::Fail(error),
+        }
+    }
+
+    fn step_classic(&self, bytes: &[u8], is_end: bool) -> Step {
+        let mut packets = Capture::at(self.header, bytes).as_is(self.limit);
+        let found = match packets.take_one() {
+            Ok(found) => found,
+            Err(Error::Incomplete(missing)) if !is_end => return Step::More(missing),
+            Err(error) => return Step::Corrupt(1, Some(error), false),
+        };
+        let used = bytes.len() - packets.rest().len();
+        if is_zero(&bytes[..16]) {
+            return Step::Corrupt(1, None, false);
+        }
+        match self.place_inside(bytes, used, is_end) {
+            Err(missing) => return Step::More(missing),
+            Ok(Some(place)) => return Step::Corrupt(place, found.flaws.first().map(Error::Invalid), true),
+            Ok(None) => {}
+        }
+        Step::Packet(Taken {
+            used,
+            flaw: found.flaws.first().map(Error::Invalid),
+            link: Some(self.header.link),
+            interface_id: 0,
+            time: Some(found.time),
+            original_len: found.original_len,
+            data: 16..used,
+            block: None,
+        })
+    }
+
+    /// Returns where packets go on inside the first packet, which then has a wrong length. It is asked only if what follows the packet
+    /// is no packet without a flaw. Fails with the number of bytes that are missing to decide.
+    fn place_inside(&self, bytes: &[u8], used: usize, is_end: bool) -> Result<Option<usize>, usize> {
+        let rest = &bytes[used..];
+        if rest.is_empty() && is_end {
+            return Ok(None);
+        }
+        match Capture::at(self.header, rest).as_is(self.limit).take_one() {
+            Ok(next) if next.flaws.is_empty() && !is_zero(&rest[..16]) => return Ok(None),
+            Err(Error::Incomplete(missing)) if !is_end => return Err(missing),
+            _ => {}
+        }
+        let wanted = used + ROW * LONGEST_PACKET;
+        if bytes.len() < wanted && !is_end {
+            return Err(wanted - bytes.len());
+        }
+        Ok((1..used).find(|&place| self.is_row(&bytes[place..])))
+    }
+
+    /// Returns whether packets with data follow each other at the front of these bytes, or fewer to their end.
+    fn is_row(&self, bytes: &[u8]) -> bool {
+        let mut capture = Capture::at(self.header, bytes);
+        for _ in 0..ROW {
+            match capture.take_one() {
+                Ok(packet) if !packet.data.is_empty() => {}
+                _ => return false,
+            }
+            if capture.rest().is_empty() {
+                return true;
+            }
+        }
+        true
+    }
+
+    /// Finds where packets or blocks go on.
+    fn search(&self, bytes: &[u8], is_end: bool) -> Step {
+        let longest = if self.is_ng { LONGEST_BLOCK } else { LONGEST_PACKET };
+        if bytes.len() < WINDOW * longest && !is_end {
+            return Step::More(WINDOW * longest - bytes.len());
+        }
+        // At a place before the bound, more bytes change nothing.
+        let bound = if is_end { bytes.len() } else { bytes.len() - ROW * longest };
+        let place = if self.is_ng { self.place_of_blocks(bytes, bound) } else { self.place_of_packets(bytes) };
+        match place.filter(|&place| place < bound) {
+            Some(place) => Step::Corrupt(place, None, true),
+            None => Step::Corrupt(bound, None, is_end),
+        }
+    }
+
+    fn place_of_packets(&self, bytes: &[u8]) -> Option<usize> {
+        let (mut place, mut error) = (0, calls::Error::default());
+        // SAFETY: each pointer points to a value of its own, and the bytes are a slice's.
+        let status = unsafe {
+            calls::pcapfile_resync(&self.header, &calls::Bytes::of(bytes), ROW, &mut place, &mut error)
+        };
+        (status == 0).then_some(place)
+    }
+
+    fn place_of_blocks(&self, bytes: &[u8], bound: usize) -> Option<usize> {
+        (0..bound).find(|&place| is_row_of_blocks(self.section, &bytes[place..]))
+    }
+
+    fn step_ng(&mut self, bytes: &[u8], is_end: bool) -> Step {
+        let mut blocks = Blocks::at(self.section, bytes).as_is();
+        let found = match blocks.take_one() {
+            Ok(found) => found,
+            Err(Error::NoMemory) => return Step::Fail(Error::NoMemory),
+            Err(Error::Incomplete(missing)) if bytes.len().saturating_add(missing) > self.block_limit() => {
+                return Step::Corrupt(1, None, false)
+            }
+            Err(Error::Incomplete(missing)) if !is_end => return Step::More(missing),
+            Err(error) => return Step::Corrupt(1, Some(error), false),
+        };
+        let used = bytes.len() - blocks.rest().len();
+        self.section = *blocks.section();
+        match found.block.type_ {
+            0x0a0d_0d0a => self.interfaces.clear(),
+            1 => self.interfaces.push(found.interface),
+            2 | 3 | 6 => return self.packet_of(&found, bytes, used),
+            _ => {}
+        }
+        Step::Skip(used)
+    }
+
+    fn block_limit(&self) -> usize {
+        BLOCK_LIMIT.max(self.limit as usize)
+    }
+
+    /// Returns the packet of a block. A block without room for it is a gap.
+    fn packet_of(&self, found: &BlockAsIs<'_>, bytes: &[u8], used: usize) -> Step {
+        let block = found.block;
+        let packet = match found.packet.map_or_else(|| block.packet(), |packet| Ok(Some(packet))) {
+            Ok(Some(packet)) => packet,
+            Ok(None) => return Step::Skip(used),
+            Err(Error::NoMemory) => return Step::Fail(Error::NoMemory),
+            Err(error) => return Step::Corrupt(used, Some(error), true),
+        };
+        let interface = self.interfaces.get(packet.interface_id as usize).copied().flatten();
+        let is_simple = block.type_ == 3;
+        let mut len = packet.data.len();
+        if is_simple {
+            let snaplen = interface.map_or(0, |it| it.snaplen as usize);
+            len = len.min(packet.original_len as usize).min(if snaplen == 0 { usize::MAX } else { snaplen });
+        }
+        let begin = if len == 0 { 0 } else { packet.data.as_ptr() as usize - bytes.as_ptr() as usize };
+        Step::Packet(Taken {
+            used,
+            flaw: found.first_flaw().and_then(|flaw| flaw.error()),
+            link: interface.map(|it| it.link),
+            interface_id: packet.interface_id,
+            time: interface.filter(|_| !is_simple).and_then(|it| it.time(packet.timestamp)),
+            original_len: packet.original_len,
+            data: begin..begin + len,
+            block: Some((block.type_, block.section())),
+        })
+    }
+
+    /// Adds corrupt bytes to the gap. Returns the gap if it has ended.
+    fn add_to_gap(&mut self, offset: u64, len: usize, error: Option<Error>, has_ended: bool) -> Option<Gap> {
+        let mut gap = self.gap.take().unwrap_or(Gap { offset, len: 0, error });
+        gap.len += len as u64;
+        if has_ended {
+            return Some(gap);
+        }
+        self.gap = Some(gap);
+        None
+    }
+}
+
+fn is_zero(bytes: &[u8]) -> bool {
+    bytes.iter().all(|&byte| byte == 0)
+}
+
+/// Returns the length of the block whose frame is at the front of these bytes, and the section that then applies.
+fn frame(section: Section, bytes: &[u8]) -> Option<(usize, Section)> {
+    let mut section = section;
+    let is_header = bytes.starts_with(&MAGIC_OF_SECTION);
+    if is_header {
+        section = match section.number_at(bytes, 8)? {
+            0x1a2b_3c4d => section,
+            0x4d3c_2b1a => if section.is_big_endian() { Section::LITTLE_ENDIAN } else { Section::BIG_ENDIAN },
+            _ => return None,
+        };
+    }
+    let len = section.number_at(bytes, 4)? as usize;
+    let is_possible = len % 4 == 0 && (if is_header { 28 } else { 12 }..=LONGEST_BLOCK).contains(&len);
+    let is_framed = is_possible && section.number_at(bytes, len - 4)? as usize == len;
+    (is_framed && section != Section::default()).then_some((len, section))
+}
+
+/// Returns whether these bytes begin with a section header, or with some blocks that follow each other, or with fewer to their end.
+fn is_row_of_blocks(section: Section, bytes: &[u8]) -> bool {
+    let (mut section, mut left) = (section, bytes);
+    for _ in 0..ROW {
+        let Some((len, after)) = frame(section, left) else { return false };
+        if left.starts_with(&MAGIC_OF_SECTION) {
+            return true;
+        }
+        (section, left) = (after, &left[len..]);
+        if left.is_empty() {
+            return true;
+        }
+    }
+    true
+}
+
+/// Reads a damaged capture of either format in memory: an iterator over packets that borrow from it, and gaps. Every byte after the
+/// capture's header is in a packet or a gap, or in a block of another kind.
+///
+/// ```
+/// use pcapfile::{Found, Lenient};
+///
+/// # let bytes: &[u8] = b"\xd4\xc3\xb2\xa1\x02\0\x04\0\0\0\0\0\0\0\0\0\xff\xff\0\0\x01\0\0\0\xff\xff\xff";
+/// for found in Lenient::parse(bytes) {
+///     match found? {
+///         Found::Packet { packet, flaw } => println!("{} bytes, flaw {flaw:?}", packet.data.len()),
+///         Found::Gap(gap) => println!("{} bytes from {} on are no packets", gap.len, gap.offset),
+///         _ => {}
+///     }
+/// }
+/// # assert_eq!(Lenient::parse(bytes).next().unwrap()?.gap().map(|gap| (gap.offset, gap.len)), Some((24, 3)));
+/// # Ok::<(), pcapfile::Error>(())
+/// ```
+///
+/// Packets that break a rule are returned with it. A packet of a classic capture is a gap if its header is all zero, or if what
+/// follows it is malformed and three packets follow each other inside its data: then its length is wrong. Where packets go on after
+/// corrupt bytes is a guess, since corrupt bytes may look like packets.
+///
+/// An error is the last item: the bytes do not begin a capture, or an allocation failed.
+#[derive(Clone, Debug)]
+pub struct Lenient<'a> {
+    walk: Walk,
+    bytes: &'a [u8],
+    at: usize,
+}
+
+impl<'a> Lenient<'a> {
+    /// Reads these bytes as a capture.
+    pub fn parse(bytes: &'a [u8]) -> Lenient<'a> {
+        Lenient { walk: Walk::default(), bytes, at: 0 }
+    }
+
+    /// Sets the most bytes that a packet of a classic capture may store. Below 262144 it means 262144. A block of PcapNg may have 16 MiB,
+    /// or the limit if that is more.
+    pub fn limit(mut self, limit: u32) -> Lenient<'a> {
+        self.walk.limit = limit;
+        self
+    }
+
+    /// Returns how many bytes of the capture come before what the iterator returns next.
+    pub fn offset(&self) -> u64 {
+        self.at as u64
+    }
+}
+
+impl<'a> Iterator for Lenient<'a> {
+    type Item = Result<Found<AnyPacket<'a>>, Error>;
+
+    fn next(&mut self) -> Option<Self::Item> {
+        while !self.walk.is_done {
+            let left = &self.bytes[self.at..];
+            let offset = self.at as u64;
+            match self.walk.step(left, true) {
+                Step::Packet(taken) => {
+                    self.at += taken.used;
+                    return Some(Ok(Found::Packet { packet: taken.packet(left), flaw: taken.flaw }));
+                }
+                Step::Corrupt(len, error, has_ended) => {
+                    self.at += len;
+                    if let Some(gap) = self.walk.add_to_gap(offset, len, error, has_ended) {
+                        return Some(Ok(Found::Gap(gap)));
+                    }
+                }
+                Step::Skip(len) => self.at += len,
+                Step::Fail(error) => {
+                    self.walk.is_done = true;
+                    return Some(Err(error));
+                }
+                Step::End | Step::More(_) => {
+                    self.walk.is_done = true;
+                    return self.walk.gap.take().map(|gap| Ok(Found::Gap(gap)));
+                }
+            }
+        }
+        None
+    }
+}
+
+/// Reads a damaged capture of either format from a stream, as `Lenient` reads one in memory. `Reader::lenient` makes it.
+///
+/// It needs at most some megabytes, or twice the longest packet or block. It returns a packet after the next one has arrived, by which
+/// it judges the first.
+///
+/// ```
+/// use pcapfile::{Found, Reader};
+///
+/// # let file: &[u8] = b"\xd4\xc3\xb2\xa1\x02\0\x04\0\0\0\0\0\0\0\0\0\xff\xff\0\0\x01\0\0\0\xff\xff\xff";
+/// for found in Reader::new(file).lenient() {
+///     if let Found::Gap(gap) = found? {
+///         println!("{} bytes from {} on are no packets", gap.len, gap.offset);
+///     }
+/// }
+/// # Ok::<(), std::io::Error>(())
+/// ```
+///
+/// An error of the stream, such as `WouldBlock`, is an item, and reading goes on after it: nothing is lost. Another error is the last item:
+/// the stream does not begin with a capture, or an allocation failed.
+#[derive(Debug)]
+pub struct LenientReader<R> {
+    reader: Reader<R>,
+    walk: Walk,
+}
+
+impl<R: Read> LenientReader<R> {
+    pub(crate) fn of(reader: Reader<R>) -> LenientReader<R> {
+        let walk = Walk {
+            header: reader.push.header,
+            section: reader.section,
+            is_ng: reader.section().is_some(),
+            interfaces: reader.interfaces().iter().copied().map(Some).collect(),
+            ..Walk::default()
+        };
+        LenientReader { reader, walk }
+    }
+
+    /// Sets the limit, as `Lenient::limit` does.
+    pub fn limit(mut self, limit: u32) -> LenientReader<R> {
+        self.walk.limit = limit;
+        self
+    }
+
+    /// Returns how many bytes of the capture come before what the next call returns.
+    pub fn offset(&self) -> u64 {
+        self.reader.offset()
+    }
+
+    /// Returns the stream, without the bytes that were read from it.
+    pub fn into_inner(self) -> R {
+        self.reader.into_inner()
+    }
+
+    /// Returns the next packet, lent from the buffer, or the next gap. None after the last one.
+    pub fn next_found(&mut self) -> io::Result<Option<Found<AnyPacket<'_>>>> {
+        let mut is_end = false;
+        let (taken, begin) = loop {
+            if self.walk.is_done {
+                return Ok(None);
+            }
+            let (offset, begin) = (self.reader.offset(), self.reader.push.begin);
+            match self.walk.step(&self.reader.room[begin..self.reader.push.end], is_end) {
+                Step::Packet(taken) => break (taken, begin),
+                Step::Corrupt(len, error, has_ended) => {
+                    self.reader.push.begin += len;
+                    if let Some(gap) = self.walk.add_to_gap(offset, len, error, has_ended) {
+                        return Ok(Some(Found::Gap(gap)));
+                    }
+                }
+                Step::Skip(len) => self.reader.push.begin += len,
+                Step::More(missing) => is_end = self.reader.read_more(missing)? == 0,
+                Step::End => return Ok(self.walk.gap.take().map(Found::Gap)),
+                Step::Fail(error) => {
+                    self.walk.is_done = true;
+                    return Err(error.into());
+                }
+            }
+        };
+        self.reader.push.begin += taken.used;
+        Ok(Some(Found::Packet { packet: taken.packet(&self.reader.room[begin..]), flaw: taken.flaw }))
+    }
+}
+
+impl<R: Read> Iterator for LenientReader<R> {
+    type Item = io::Result<Found<OwnedPacket>>;
+
+    fn next(&mut self) -> Option<Self::Item> {
+        self.next_found().map(|found| found.map(Found::into_owned)).transpose()
+    }
+}
