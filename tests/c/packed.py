@@ -19,7 +19,7 @@ PROGRAM, FOLDER, CAPTURES, KINDS = sys.argv[1].split(" "), Path(sys.argv[2]), Pa
 WAYS = (("-b", "5"), ("-r", "1"), ("-h", "7"), ("-k", "7"))
 ENDED_EARLY, BAD = 3, 1
 IS_GZIP, IS_ZSTD, IS_XZ, IS_BZIP2, IS_LZ4, BAD_COMPRESSION = 19, 20, 21, 22, 23, 24
-SMALL = 1000
+SMALL, LONGEST = 1000, 1 << 20
 
 
 def run(path, *way):
@@ -152,14 +152,15 @@ def is_sound(path):
 
 
 def main():
-    paths = [path for path in sorted(CAPTURES.rglob("*")) if path.is_file() and path.suffix != ".packets"]
+    files = (path for path in sorted(CAPTURES.rglob("*")) if path.is_file() and path.suffix != ".packets")
+    paths = [path for path in files if path.stat().st_size < LONGEST]
     small = [path for path in paths if check_whole(path) < SMALL and is_sound(path)]
-    for path in (small[0], small[-1]):
+    for path in small[:1] + small[1:][-1:]:
         if "gzip" in KINDS:
             check_damages(path)
         if "zstd" in KINDS:
             check_zstd_damages(path)
-    check_named(small[0].read_bytes())
+    check_named(bytes.fromhex("a1b2c3d4") + bytes(60))
 
 
 main()
