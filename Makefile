@@ -163,7 +163,7 @@ amalgamation:
 	mkdir -p out/$(AMALGAMATION)
 	cp portable/pcapfile.c include/pcapfile.h include/pcapfile_open.h c/open.c packages/pcapfile.pc.in LICENSE NOTICE out/$(AMALGAMATION)
 	cp $(wildcard $(addprefix portable/licences/LICENSE.,$(call crates_of,pcapfile_c))) out/$(AMALGAMATION)
-	for it in CMakeLists.txt meson.build README.md.in; do \
+	for it in CMakeLists.txt meson.build meson_options.txt README.md.in; do \
 	    sed 's|@VERSION@|$(VERSION)|; s|@ABI@|$(ABI)|' packages/amalgamation/$$it >out/$(AMALGAMATION)/$${it%.in} || exit 1; done
 	$(TAR) -C out -f out/$(AMALGAMATION).tar.gz $(AMALGAMATION)
 	rm -rf out/$(AMALGAMATION)

@@ -7,7 +7,15 @@
  *   open -p FILE           the same for standard input
  *   open -q                counts the packets of standard input, and prints how many KiB were resident at most
  *   open -m LEN FILE       checks that a limit one byte below the first packet's LEN is reported, and that the list goes on under LEN
- *   open -x FILE           each read and each allocation fails in turn, and is repeated: the lines remain the same
+ *   open -h [BYTES] FILE   before the packets what pcapfile_head gives: `pcap` and the fields of the header, or `pcapng`, the fields of the
+ *                          section, and a line for each interface; or `no head STATUS`
+ *   open -k [BYTES] FILE   the blocks: type, magic number, version and interfaces of the section, and bytes; after an interface its line
+ *   open -t STATUS         the text of this status
+ *   open -s FILE           the status after the last packet
+ *   open -x FILE           each read and each allocation fails in turn, and is repeated: the lines of packets, of the head and of blocks
+ *                          remain the same
+ *
+ * If PCAPFILE_ZLIB or PCAPFILE_ZSTD is defined, FILE may be compressed.
  */
 #include "any.h"
 
@@ -18,6 +26,12 @@
 #include <stdlib.h>
 #include <string.h>
 #include <unistd.h>
+#ifdef PCAPFILE_ZLIB
+#include <zlib.h>
+#endif
+#ifdef PCAPFILE_ZSTD
+#include <zstd.h>
+#endif
 
 enum { NEVER = -1 };
 static long allocations, reads, failing_allocation = NEVER, failing_read = NEVER;
@@ -51,10 +65,12 @@ static ssize_t test_read(int descriptor, void *room, size_t len) {
 
 enum { MOST_BATCH = 16, REFUSED = 1, USAGE = 2, ENDED_EARLY = 3, NO_MEMORY = 4, DIFFERS = 5 };
 static size_t batch;
+static enum { PACKETS, HEAD, BLOCKS } what;
 
 static int status_of(int32_t status) {
     switch (status) {
     case PCAPFILE_END: return 0;
+    case PCAPFILE_NOTHING: return what == BLOCKS ? 0 : REFUSED;
     case PCAPFILE_INCOMPLETE:
     case PCAPFILE_BAD_VALUE: return ENDED_EARLY;
     case PCAPFILE_NO_MEMORY: return NO_MEMORY;
@@ -72,18 +88,90 @@ static int32_t next(FILE *out, pcapfile_reader *reader, pcapfile_error *error) {
     return status;
 }
 
+static void print_interface(FILE *out, const pcapfile_interface *it) {
+    fprintf(out, "interface %" PRIu32 " %" PRIu32 " %u %u %" PRId64 "\n", it->link, it->snaplen, it->ts_base, it->ts_exponent,
+            it->ts_offset);
+}
+
+static void print_section(FILE *out, const pcapfile_section *it) {
+    fprintf(out, "%08" PRIx32 " %u %u %" PRIu32, it->magic_number, it->version_major, it->version_minor, it->interfaces);
+}
+
+/* Prints the head. Whatever fails leaves it unchanged. */
+static int32_t print_head(FILE *out, pcapfile_reader *reader, pcapfile_error *error) {
+    pcapfile_capture head = PCAPFILE_CAPTURE_INIT;
+    const pcapfile_interface *interfaces = NULL;
+    int32_t status = pcapfile_head(reader, &head, &interfaces, error);
+    const pcapfile_header *it = &head.header;
+    if (status != PCAPFILE_OK) {
+        if (interfaces || it->magic_number != 0 || head.section.magic_number != 0) abort();
+        return status;
+    }
+    if (head.section.magic_number == 0) {
+        fprintf(out, "pcap %08" PRIx32 " %u %u %" PRId32 " %" PRIu32 " %" PRIu32 " %" PRIu32 "\n", it->magic_number, it->version_major,
+                it->version_minor, it->ts_correction, it->ts_accuracy, it->snaplen, it->link);
+        return status;
+    }
+    if (it->magic_number != 0) abort();
+    fprintf(out, "pcapng ");
+    print_section(out, &head.section);
+    fprintf(out, "\n");
+    for (uint32_t i = 0; i < head.section.interfaces; i++) print_interface(out, &interfaces[i]);
+    return status;
+}
+
+/* Prints the next block. The interface that it may describe must also be the last one of the section. */
+static int32_t print_block(FILE *out, pcapfile_reader *reader, pcapfile_error *error) {
+    pcapfile_section section = PCAPFILE_SECTION_INIT;
+    pcapfile_block block = PCAPFILE_BLOCK_INIT;
+    pcapfile_capture head = PCAPFILE_CAPTURE_INIT;
+    pcapfile_interface interface = PCAPFILE_INTERFACE_INIT;
+    const pcapfile_interface *interfaces = NULL, *last;
+    int32_t status = pcapfile_next_block(reader, &section, &block, error);
+    if (status != PCAPFILE_OK) {
+        if (section.magic_number != 0 || block.type != 0 || block.body.len != 0) abort();
+        return status;
+    }
+    fprintf(out, "block %" PRIu32 " ", block.type);
+    print_section(out, &section);
+    fprintf(out, " ");
+    for (size_t i = 0; i < block.body.len; i++) fprintf(out, "%02x", block.body.ptr[i]);
+    fprintf(out, "\n");
+    if (block.type != PCAPFILE_BLOCK_INTERFACE) return status;
+    if (pcapfile_read_interface(&section, &block, &interface, error) != PCAPFILE_OK) abort();
+    if (pcapfile_head(reader, &head, &interfaces, error) != PCAPFILE_OK) abort();
+    last = &interfaces[head.section.interfaces - 1];
+    if (head.section.interfaces != section.interfaces || head.section.magic_number != section.magic_number) abort();
+    if (last->link != interface.link || last->snaplen != interface.snaplen || last->ts_offset != interface.ts_offset) abort();
+    if (last->ts_base != interface.ts_base || last->ts_exponent != interface.ts_exponent) abort();
+    print_interface(out, &interface);
+    return status;
+}
+
+/* Prints what comes next: the head once, and then packets; or a block. */
+static int32_t print_next(FILE *out, pcapfile_reader *reader, int *has_head, pcapfile_error *error) {
+    if (what == BLOCKS) return print_block(out, reader, error);
+    if (what == PACKETS || *has_head) return next(out, reader, error);
+    int32_t status = print_head(out, reader, error);
+    *has_head = status != PCAPFILE_NO_MEMORY && status != PCAPFILE_SYSTEM;
+    if (!*has_head || status == PCAPFILE_OK) return status;
+    fprintf(out, "no head %" PRId32 "\n", status);
+    return PCAPFILE_OK;
+}
+
 /* Prints all packets. Repeats a call that failed, and counts the failures. Repeats a call that refused a packet too: if it refuses at
  * the same place again, nothing follows. */
 static int list(FILE *out, pcapfile_reader *reader, int *failed) {
     pcapfile_error error = PCAPFILE_ERROR_INIT;
     uint64_t refused = UINT64_MAX;
+    int has_head = 0;
     for (;;) {
-        int32_t status = next(out, reader, &error);
+        int32_t status = print_next(out, reader, &has_head, &error);
         if (status == PCAPFILE_NO_MEMORY || status == PCAPFILE_SYSTEM) {
             if (status == PCAPFILE_SYSTEM && errno != read_error) return DIFFERS;
             if (++*failed > 1) return DIFFERS;
         } else if (status != PCAPFILE_OK) {
-            if (status == PCAPFILE_END || pcapfile_offset(reader) == refused) return status_of(status);
+            if (status == PCAPFILE_END || status == PCAPFILE_NOTHING || pcapfile_offset(reader) == refused) return status_of(status);
             refused = pcapfile_offset(reader);
             fprintf(out, "refused\n");
         }
@@ -126,7 +214,7 @@ static int fails(const char *path, const char *wanted, long *failing, int error,
     return is_same;
 }
 
-static int fail_each(const char *path) {
+static int fail_each_of(const char *path) {
     int failed = 0;
     char *wanted = told(path, &failed);
     if (!wanted) return NO_MEMORY;
@@ -135,6 +223,13 @@ static int fail_each(const char *path) {
     if (!is_same) fprintf(stderr, "open: %s: another list where a call fails\n", path);
     free(wanted);
     return is_same ? 0 : DIFFERS;
+}
+
+/* Fails each call of each way to read the capture. */
+static int fail_each(const char *path) {
+    int status = 0;
+    for (what = PACKETS; status == 0 && what <= BLOCKS; what++) status = fail_each_of(path);
+    return status;
 }
 
 /* Checks that a limit below the next packet is reported, with what is missing, and that a higher limit goes on. */
@@ -183,14 +278,33 @@ static int count_packets(pcapfile_reader *reader) {
     return status_of(status);
 }
 
+/* Prints the status after the last packet. Each further call must return it too. */
+static int print_status(const char *path) {
+    pcapfile_reader *reader = pcapfile_open(path);
+    pcapfile_any_packet packet = PCAPFILE_ANY_PACKET_INIT;
+    pcapfile_error error = PCAPFILE_ERROR_INIT;
+    int32_t status;
+    if (!reader) return NO_MEMORY;
+    while ((status = pcapfile_next(reader, &packet, &error)) == PCAPFILE_OK) continue;
+    if (pcapfile_next(reader, &packet, &error) != status || pcapfile_next(reader, &packet, &error) != status) return DIFFERS;
+    printf("%" PRId32 " %" PRIu32 "\n", status, error.rule);
+    pcapfile_close(reader);
+    return 0;
+}
+
 int main(int argc, char **argv) {
     const char *way = argc > 1 && argv[1][0] == '-' ? argv[1] : "", *file = argv[argc - 1];
     if (argc < 2) return USAGE;
     if (!strcmp(way, "-p")) return list_reader(pcapfile_fdopen(0));
     if (!strcmp(way, "-q")) return count_packets(pcapfile_fdopen(0));
     if (!strcmp(way, "-x")) return fail_each(file);
+    if (!strcmp(way, "-s")) return print_status(file);
+    if (!strcmp(way, "-t")) return printf("%s\n", pcapfile_status_text((int32_t)strtol(file, NULL, 10))) < 0;
     if (!strcmp(way, "-m") && argc == 4) return stops_at_the_limit(file, strtoul(argv[2], NULL, 10));
     if (!strcmp(way, "-b") && argc == 4) batch = strtoul(argv[2], NULL, 10);
     if (!strcmp(way, "-r") && argc == 4) most_read = strtoul(argv[2], NULL, 10);
+    if (!strcmp(way, "-h")) what = HEAD;
+    if (!strcmp(way, "-k")) what = BLOCKS;
+    if ((!strcmp(way, "-h") || !strcmp(way, "-k")) && argc == 4) most_read = strtoul(argv[2], NULL, 10);
     return batch > MOST_BATCH ? USAGE : list_reader(pcapfile_open(file));
 }

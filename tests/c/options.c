@@ -6,9 +6,14 @@
  *   refused REASON             if a record, an option or what comes before the options is refused
  *
  * with addresses, names and values as hexadecimal digits. The program copies what it reads to the end of a block of memory, so that a
- * read past its end is seen.
+ * read past its end is seen. If OPEN_C is the path of c/open.c, the blocks are those that pcapfile_next_block gives.
  */
+#ifdef OPEN_C
+#include OPEN_C
+#include <stdio.h>
+#else
 #include "file.h"
+#endif
 
 #include <inttypes.h>
 #include <string.h>
@@ -89,6 +94,27 @@ static int print_block(const pcapfile_section *section, const pcapfile_block *bl
     return 0;
 }
 
+#ifdef OPEN_C
+static int print_opened(const char *path) {
+    pcapfile_reader *reader = pcapfile_open(path);
+    pcapfile_section section = PCAPFILE_SECTION_INIT;
+    pcapfile_block block = PCAPFILE_BLOCK_INIT;
+    pcapfile_error error = PCAPFILE_ERROR_INIT;
+    int32_t status = PCAPFILE_OK;
+    int printed = 0;
+    if (!reader) return NO_FILE;
+    for (uint64_t index = 1; printed == 0 && (status = pcapfile_next_block(reader, &section, &block, &error)) == PCAPFILE_OK; index++) {
+        printf("%" PRIu64 " %" PRIu32 "\n", index, block.type);
+        printed = print_block(&section, &block);
+    }
+    pcapfile_close(reader);
+    return printed != 0 ? printed : status == PCAPFILE_END ? 0 : REFUSED;
+}
+
+int main(int argc, char **argv) {
+    return argc == 2 ? print_opened(argv[1]) : USAGE;
+}
+#else
 static int print_blocks(pcapfile_bytes left) {
     pcapfile_section section = PCAPFILE_SECTION_INIT;
     pcapfile_block block = PCAPFILE_BLOCK_INIT;
@@ -109,3 +135,4 @@ int main(int argc, char **argv) {
     free((void *)(uintptr_t)all.ptr);
     return status;
 }
+#endif
