@@ -54,10 +54,11 @@ LENGTHS = {
 
 
 class Packet:
-    """A packet as it is: its number, its offset, its time, its lengths, and the rules that it breaks."""
+    """A packet as it is: its number, its offset, its time, its lengths, and the rules that it breaks. It may be one of a short run behind
+    corrupt bytes (`is_found`), or nothing may confirm where it ends."""
 
     def __init__(self, number, place, unit, numbers, stated=None, is_guess=False):
-        self.number, self.place, self.stated, self.is_guess = number, place, stated, is_guess
+        self.number, self.place, self.stated, self.is_guess, self.is_found, self.is_unconfirmed = number, place, stated, is_guess, False, False
         self.seconds, self.fraction, self.stored, self.wire = numbers
         self.time = self.seconds * BILLION + self.fraction * unit
         broken = self.fraction * unit > 0xFFFFFFFF, self.stored > LONGEST, self.wire > LONGEST, self.stored > self.wire
@@ -77,25 +78,55 @@ def opened(capture):
 Gap = collections.namedtuple("Gap", "place size what rule")
 
 
-def packets_and_gaps(capture, kind):
-    """Yields the packets of a classic capture, and the gaps between them."""
-    reading, at, count, time = lenient.Reading(capture, *kind), 24, 0, None
-    while at < len(capture):
-        numbers = struct.unpack_from(kind[0] + "IIII", capture, at) if len(capture) - at >= 16 else None
-        size, way = reading.size_at(at, time)
+class Packets:
+    """Finds the packets of a classic capture, and the gaps between them."""
+
+    def __init__(self, capture, kind):
+        self.capture, self.kind, self.reading = capture, kind, lenient.Reading(capture, *kind)
+        self.items, self.time, self.longest = [], None, lenient.USUAL
+        # Whether the next packet was found behind corrupt bytes, the end of a short run of packets there, and the last packet's number.
+        self.is_found, self.end_of_run, self.count = False, 0, 0
+
+    def packet_at(self, at, numbers, size, is_confirmed, is_guess):
+        self.count, stored = self.count + 1, numbers[2]
+        if size != stored:
+            numbers = *numbers[:2], size, size if numbers[3] > LONGEST else max(numbers[3], size)
+        packet = Packet(self.count, at, self.kind[1], numbers, stored, is_guess)
+        packet.is_found = at < self.end_of_run
+        packet.is_unconfirmed = is_confirmed is False and not packet.is_found
+        self.time, self.longest = numbers[0], max(self.longest, size)
+        self.is_found = is_guess and is_confirmed is None
+        return packet
+
+    def item_at(self, at):
+        """Returns the item at this offset and where the next one is."""
+        numbers = struct.unpack_from(self.kind[0] + "IIII", self.capture, at) if len(self.capture) - at >= 16 else None
+        if numbers and self.is_found:
+            self.time, self.is_found = numbers[0], False
+            self.end_of_run = at + self.reading.short_run(at, self.longest)
+        size, way, is_guess = self.reading.size_at(at, self.time)
         if size is not None:
-            stated, count, time = numbers[2], count + 1, numbers[0]
-            if size != stated:
-                numbers = *numbers[:2], size, size if numbers[3] > LONGEST else max(numbers[3], size)
-            yield Packet(count, at, kind[1], numbers, stated, way)
-            at += 16 + size
-        elif way is not None:
-            flaws = Packet(0, at, kind[1], numbers).flaws
-            yield Gap(at, way - at, "no packets", 3 if numbers[2] > MOST else next(iter(flaws), None))
-            at = way
-        else:
-            yield Gap(at, len(capture) - at, "of a packet that is cut short", None)
-            break
+            return self.packet_at(at, numbers, size, way, is_guess), at + 16 + size
+        if way is None:
+            return Gap(at, len(self.capture) - at, "of a packet that is cut short", None), len(self.capture)
+        self.is_found = True
+        flaws = Packet(0, at, self.kind[1], numbers).flaws
+        return Gap(at, way - at, "no packets", 3 if numbers[2] > MOST else next(iter(flaws), None)), way
+
+    def all(self):
+        at = 24
+        while at < len(self.capture):
+            item, at = self.item_at(at)
+            self.items.append(item)
+        for item, behind in zip(self.items, [*self.items[1:], None]):
+            if isinstance(item, Packet):
+                item.is_unconfirmed &= isinstance(behind, Gap) and CUT not in behind.what
+        return self.items
+
+
+def packets_and_gaps(capture, kind):
+    """Returns the packets of a classic capture, and the gaps between them."""
+    return Packets(capture, kind).all()
 
 
 @functools.lru_cache(2)
@@ -104,7 +135,7 @@ def stands_in(capture):
     the rule, or that the capture is truncated."""
     kind = opened(capture) if len(capture) >= 24 else None
     if kind:
-        return "pcap", list(packets_and_gaps(capture, kind)), None
+        return "pcap", packets_and_gaps(capture, kind), None
     at = next((it for it in range(len(capture)) if is_section(capture, it)), None)
     if at is None and capture[:1] != b"\n":
         return "pcap", [], CUT if len(capture) < 24 else 1
@@ -136,13 +167,29 @@ def changed_length(packet):
     return [f"packet {packet.number} at byte {packet.place}: its stored length is {packet.stored} and not {packet.stated}{guess}"]
 
 
+def said_before(packet):
+    """Returns the messages on a packet before those on its flaws."""
+    return [f"packet {packet.number} at byte {packet.place}: kept, a guess: it may lie inside another packet"] * packet.is_found + changed_length(packet)
+
+
+def said_behind(packet):
+    return [f"packet {packet.number} at byte {packet.place}: kept, a guess: nothing confirms where it ends"] * packet.is_unconfirmed
+
+
+def said_on(item):
+    """Returns the messages of a list on a packet, a block or a gap."""
+    if isinstance(item, Gap):
+        return [CUT if is_torn(item) else left_out(item)]
+    return [*said_before(item), *said_behind(item)] if isinstance(item, Packet) else []
+
+
 def flaw_lines(name, item):
     """Returns the lines for the flaws of a packet or a block, or for a gap."""
     if isinstance(item, Gap):
         return [] if is_torn(item) else [f"{name}: {left_out(item)}{by_rule(item.rule)}\n"]
     if isinstance(item, Packet):
         broken = [f"packet {item.number} at byte {item.place} breaks rule {it}: {MESSAGES[it]}" for it in item.flaws]
-        return [f"{name}: {it}\n" for it in (*changed_length(item), *broken)]
+        return [f"{name}: {it}\n" for it in (*said_before(item), *broken, *said_behind(item))]
     return [flaw_line(name, item.number, item.place, code, flaw) for code, flaw in item.flaws]
 
 
@@ -294,7 +341,7 @@ def listed(name, capture):
     lines = [packet_line(it) for it in found if isinstance(it, Packet)]
     if any(isinstance(it, Block) for it in found):
         lines, flawed = block_lines(found)
-    said = [line for it in items for line in ([CUT if is_torn(it) else left_out(it)] if isinstance(it, Gap) else changed_length(it) if isinstance(it, Packet) else [])]
+    said = [line for it in items for line in said_on(it)]
     if refused:
         said.append(refused if refused == CUT else f"Invalid field value: {MESSAGES[refused]}")
     return "".join(lines), "".join(f"pcapfile: {name}: {it}\n" for it in said), AT_FAULT if said or flawed else DONE
@@ -390,10 +437,10 @@ def repaired(name, capture):
         if isinstance(it, Gap):
             said.append(left_out(it))
             continue
-        said += changed_length(it)
+        said += said_before(it)
         numbers, data, changes = mended(it, unit, capture[it.place + 16 : it.place + 16 + it.stored])
         out.append(struct.pack(order + "IIII", *numbers) + data)
-        said += [f"packet {it.number} at byte {it.place}: {change}" for change in changes]
+        said += [f"packet {it.number} at byte {it.place}: {change}" for change in changes] + said_behind(it)
         packets, flawed = packets + 1, flawed + bool(it.flaws)
     said += [f"{flawed} of {packets} packets are changed"] * (flawed > 0)
     return b"".join(out), "".join(f"{prefix}{it}\n" for it in said), DONE
