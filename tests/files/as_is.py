@@ -76,6 +76,8 @@ def opened(capture):
 
 # Bytes that are left out: their offset, how many they are, what they are, and the rule that they break at their beginning.
 Gap = collections.namedtuple("Gap", "place size what rule")
+# A changed length of the block with this number at this offset.
+Mending = collections.namedtuple("Mending", "number place length stated is_guess")
 
 
 class Packets:
@@ -176,10 +178,17 @@ def said_behind(packet):
     return [f"packet {packet.number} at byte {packet.place}: kept, a guess: nothing confirms where it ends"] * packet.is_unconfirmed
 
 
+def mending(it):
+    """Returns the message on a changed length of a block."""
+    return f"block {it.number} at byte {it.place}: its stored length is {it.length} and not {it.stated}{', by a guess' * it.is_guess}"
+
+
 def said_on(item):
-    """Returns the messages of a list on a packet, a block or a gap."""
+    """Returns the messages of a list on a packet, a block, a changed length or a gap."""
     if isinstance(item, Gap):
         return [CUT if is_torn(item) else left_out(item)]
+    if isinstance(item, Mending):
+        return [mending(item)]
     return [*said_before(item), *said_behind(item)] if isinstance(item, Packet) else []
 
 
@@ -187,6 +196,8 @@ def flaw_lines(name, item):
     """Returns the lines for the flaws of a packet or a block, or for a gap."""
     if isinstance(item, Gap):
         return [] if is_torn(item) else [f"{name}: {left_out(item)}{by_rule(item.rule)}\n"]
+    if isinstance(item, Mending):
+        return [f"{name}: {mending(item)}\n"]
     if isinstance(item, Packet):
         broken = [f"packet {item.number} at byte {item.place} breaks rule {it}: {MESSAGES[it]}" for it in item.flaws]
         return [f"{name}: {it}\n" for it in (*said_before(item), *broken, *said_behind(item))]
@@ -197,10 +208,10 @@ def checked(name, capture):
     """Returns the lines of a check, and its status."""
     kind, items, refused = stands_in(capture)
     lines = [line for it in items for line in flaw_lines(name, it)]
-    found = [it for it in items if not isinstance(it, Gap)]
+    found = [it for it in items if not isinstance(it, (Gap, Mending))]
     gone = sum(it.size for it in items if isinstance(it, Gap) and not is_torn(it))
     flawed, torn = sum(bool(it.flaws) for it in found), next(filter(is_torn, items), None)
-    flawed += sum(bool(changed_length(it)) for it in found if isinstance(it, Packet))
+    flawed += sum(bool(changed_length(it)) for it in found if isinstance(it, Packet)) + sum(isinstance(it, Mending) for it in items)
     if refused:
         end = f"{CUT} at byte 0" if refused == CUT else f"refused at byte 0{by_rule(refused)}"
     else:
@@ -259,7 +270,7 @@ def framed(capture, at, order):
     if left < 12:
         return "cut short"
     if capture[at : at + 4] == b"\x0a\x0d\x0d\x0a":
-        order = {b"\x1a\x2b\x3c\x4d": ">", b"\x4d\x3c\x2b\x1a": "<"}.get(capture[at + 8 : at + 12])
+        order = {b"\x1a\x2b\x3c\x4d": ">", b"\x4d\x3c\x2b\x1a": "<"}.get(bytes(capture[at + 8 : at + 12]))
         if not order:
             return 6
     number, length = struct.unpack_from(order + "II", capture, at)
@@ -270,7 +281,7 @@ def framed(capture, at, order):
     end = at + length
     if capture[end - 4 : end] != capture[at + 4 : at + 8]:
         return 9
-    return 11 if number == SECTION and length < 28 else (order, number, capture[at + 8 : end - 4])
+    return 11 if number == SECTION and length < 28 else (order, number, bytes(capture[at + 8 : end - 4]))
 
 
 def flaw_line(name, count, at, code, flaw):
@@ -306,8 +317,15 @@ def stand(capture, at, order):
     return True
 
 
+def stands_behind(capture, start, order):
+    """Returns the first offset from this one on at which blocks go on, or None."""
+    return next((it for it in range(start, len(capture)) if stand(capture, it, order)), None)
+
+
 def may_be_cut(capture, at, order):
-    """Returns whether the truncated block at this offset states no length that is too large."""
+    """Returns whether the truncated block at this offset states no length that is too large, and no blocks go on inside it."""
+    if stands_behind(capture, at + 1, order) is not None:
+        return False
     if len(capture) - at < 12:
         return True
     if capture.startswith(MAGIC, at):
@@ -315,20 +333,65 @@ def may_be_cut(capture, at, order):
     return struct.unpack_from(order + "I", capture, at + 4)[0] <= MOST
 
 
-def blocks_and_gaps(capture, at):
-    """Yields the blocks from the section header at this offset on, and the gaps between them."""
-    order, count = ">", 0
+def mended_frame(capture, number, at, order):
+    """Puts the right length into the block at this offset, if one of its two lengths says where the next blocks begin, and returns the change."""
+    end = stands_behind(capture, at + 12, order) or len(capture)
+    size = end - at
+    if size % 4 or size < 8:
+        return None
+    lengths = [struct.unpack_from(order + "I", capture, it)[0] for it in (at + 4, end - 4)]
+    if lengths.count(size) != 1:
+        return None
+    for it in (at + 4, end - 4):
+        struct.pack_into(order + "I", capture, it, size)
+    return Mending(number, at, size, next(it for it in lengths if it != size), False)
+
+
+def fits(order, rest, size):
+    """Returns whether data of this size, its padding and well-formed options fill the rest of a body."""
+    end = size + -size % 4
+    return end <= len(rest) and options_in(order, rest[end:])[1] is None
+
+
+def mended_stored(capture, number, at, found, interfaces):
+    """Puts the right stored length into the enhanced packet at this offset, if its own one fits its block badly, and returns the change."""
+    order, type_, body = found
+    if type_ != ENHANCED or len(body) < 20:
+        return None
+    interface, _, _, stored, wire = struct.unpack_from(order + "IIIII", body)
+    snaplen = interfaces[interface][0] if interface < len(interfaces) and interfaces[interface] else 0
+    whole, rest = min(wire, snaplen or wire), body[20:]
+    if fits(order, rest, stored):
+        return None
+    is_guess = not (whole and fits(order, rest, whole))
+    if is_guess and (stored <= len(rest) or not whole or not rest):
+        return None
+    size = min(whole, len(rest)) if is_guess else whole
+    struct.pack_into(order + "I", capture, at + 20, size)
+    return Mending(number, at, size, stored, is_guess)
+
+
+def blocks_and_gaps(whole, at):
+    """Yields the blocks from the section header at this offset on, their changed lengths, and the gaps between them."""
+    capture, order, count, interfaces = bytearray(whole), ">", 0, []
     while at < len(capture):
         found = framed(capture, at, order)
         if isinstance(found, tuple):
-            order, count = found[0], count + 1
-            yield Block(count, at, *found)
-            at += len(found[2]) + 12
+            change = mended_stored(capture, count + 1, at, found, interfaces)
         elif found == CUT and may_be_cut(capture, at, order):
             yield Gap(at, len(capture) - at, "of a block that is cut short", None)
             break
         else:
-            behind = next((it for it in range(at, len(capture)) if stand(capture, it, order)), len(capture))
+            change = mended_frame(capture, count + 1, at, order)
+        if change:
+            yield change
+        elif isinstance(found, tuple):
+            order, count = found[0], count + 1
+            interfaces = [] if found[1] == SECTION else [*interfaces, interface_in(order, found[2])] if found[1] == INTERFACE else interfaces
+            yield Block(count, at, *found)
+            at += len(found[2]) + 12
+        else:
+            behind = stands_behind(capture, at + 1, order) or len(capture)
             yield Gap(at, behind - at, "no blocks", None if found == CUT else found)
             at = behind
 
@@ -336,7 +399,7 @@ def blocks_and_gaps(capture, at):
 def listed(name, capture):
     """Returns the lines of a list, the messages about the capture, and the status."""
     _, items, refused = stands_in(capture)
-    found = [it for it in items if not isinstance(it, Gap)]
+    found = [it for it in items if not isinstance(it, (Gap, Mending))]
     flawed = any(it.flaws for it in found if isinstance(it, Packet))
     lines = [packet_line(it) for it in found if isinstance(it, Packet)]
     if any(isinstance(it, Block) for it in found):
@@ -580,10 +643,16 @@ def by_hand(help):
     """Yields captures with bytes between packets or blocks, the lines of their check, the lines of their list, and the messages."""
     few = capture_of("<", 0xA1B2C3D4, [((k, 5, 4, 4), b"data") for k in range(3)])
     yield few + b"\xff" * 30 + few[24:44] + few[24:44] + few[24:30], """\
+in: packet 3 at byte 64: kept, a guess: nothing confirms where it ends
 in: 30 bytes at byte 84 are no packets, and are left out by rule 3: PacketHeader incl_len > 0x40000
+in: packet 4 at byte 114: kept, a guess: it may lie inside another packet
+in: packet 5 at byte 134: kept, a guess: it may lie inside another packet
 in: pcap, 5 packets, cut short at byte 154; 0 with flaws, 30 bytes left out
 """, "".join(f"{k + 1} {k % 3}.000005000 4/4\n" for k in range(3)) + "4 0.000005000 4/4\n5 0.000005000 4/4\n", """\
+pcapfile: in: packet 3 at byte 64: kept, a guess: nothing confirms where it ends
 pcapfile: in: 30 bytes at byte 84 are no packets, and are left out
+pcapfile: in: packet 4 at byte 114: kept, a guess: it may lie inside another packet
+pcapfile: in: packet 5 at byte 134: kept, a guess: it may lie inside another packet
 pcapfile: in: cut short
 """
     section = help.block("<", SECTION, struct.pack("<IHHq", 0x1A2B3C4D, 1, 0, -1))

@@ -115,9 +115,11 @@ class Reading:
         start, bound = at, min(longest, self.limit)
         while at - start <= bound:
             head = self.head(at)
-            if not head or not self.ends_well(at, head.stored, head.seconds):
+            behind = at + 16 + head.stored if head else 0
+            is_last = len(self.capture) - 16 < behind <= len(self.capture)
+            if not head or not (is_last or self.ends_well(at, head.stored, head.seconds)):
                 return at - start
-            at += 16 + head.stored
+            at = behind
         return 0
 
     def size_at(self, at, time):

@@ -227,7 +227,8 @@ impl Packets {
             let Some(behind) = left.get(end..) else {
                 return Ok(at);
             };
-            if !follows(&self.parser, head.seconds, behind) {
+            let is_last = behind.len() < HEAD;
+            if !is_last && !follows(&self.parser, head.seconds, behind) {
                 return Ok(at);
             }
             at = at.saturating_add(end);
