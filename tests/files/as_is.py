@@ -396,6 +396,14 @@ def blocks_and_gaps(whole, at):
             at = behind
 
 
+def refusal(capture, refused):
+    """Returns the message on a file that is no capture."""
+    if refused == CUT:
+        return CUT if capture else "is empty"
+    is_text = all(it in b" \t\r\n" or 33 <= it < 127 for it in capture[:512])
+    return "is a text, and no capture" if is_text and capture[:4] != MAGIC[: len(capture)] else f"Invalid field value: {MESSAGES[refused]}"
+
+
 def listed(name, capture):
     """Returns the lines of a list, the messages about the capture, and the status."""
     _, items, refused = stands_in(capture)
@@ -406,7 +414,7 @@ def listed(name, capture):
         lines, flawed = block_lines(found)
     said = [line for it in items for line in said_on(it)]
     if refused:
-        said.append(refused if refused == CUT else f"Invalid field value: {MESSAGES[refused]}")
+        said.append(refusal(capture, refused))
     return "".join(lines), "".join(f"pcapfile: {name}: {it}\n" for it in said), AT_FAULT if said or flawed else DONE
 
 
@@ -494,7 +502,7 @@ def repaired(name, capture):
     prefix = f"pcapfile: {name}: "
     _, items, refused = stands_in(capture)
     if refused:
-        return None, f"{prefix}{refused if refused == CUT else f'Invalid field value: {MESSAGES[refused]}'}\n", AT_FAULT
+        return None, f"{prefix}{refusal(capture, refused)}\n", AT_FAULT
     (order, unit), out, said, packets, flawed = opened(capture), [capture[:24]], [], 0, 0
     for it in items:
         if isinstance(it, Gap):
