@@ -50,12 +50,39 @@ def place_in(draw, it):
     return draw.randrange(it.places[0].start, len(it.bytes))
 
 
+def padded(size):
+    return size + -size % 4
+
+
+def are_options(order, left):
+    """Returns whether bytes have the form of a block's options."""
+    while left:
+        code, size = struct.unpack_from(order + "HH", left) if len(left) >= 4 else (1, len(left))
+        if code == 0:
+            return True
+        if 4 + padded(size) > len(left):
+            return False
+        left = left[4 + padded(size) :]
+    return True
+
+
+def is_sound(capture, place, offset, value):
+    """Returns whether a block breaks no rule if its packet has this stored length at this offset. No reader can find such damage: the
+    packet is one of fewer bytes, and what follows them is padding or options."""
+    if not capture.is_blocks or offset != place.start + 20:
+        return False
+    end = place.data + padded(value)
+    return end <= place.end - 4 and are_options(capture.order, bytes(capture.bytes[end : place.end - 4]))
+
+
 def wrong_lengths(draw, capture, values):
     """Puts wrong values into the lengths of some packets."""
     it = Damaged(capture)
     lengths = capture.lengths()
     for at in draw.sample(range(len(lengths)), draw.randrange(1, 4)):
-        struct.pack_into(capture.order + "I", it.bytes, draw.choice(lengths[at]), values(draw, len(capture.packets[at].data)) & 0xFFFFFFFF)
+        offset, value = draw.choice(lengths[at]), values(draw, len(capture.packets[at].data)) & 0xFFFFFFFF
+        if not is_sound(capture, capture.places[at], offset, value):
+            struct.pack_into(capture.order + "I", it.bytes, offset, value)
     return it
 
 
@@ -165,3 +192,5 @@ KINDS = {
     "LF to CRLF": lines_of_text,
 }
 CLASSIC_ONLY = {"header lost"}
+# `repair` does not undo these.
+NOT_UNDONE = {"LF to CRLF"}

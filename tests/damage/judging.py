@@ -9,6 +9,8 @@ from captures import BILLION, INTERFACE, MAGICS, PACKET, SECTION
 # those of the latter that the program calls guesses.
 Judged = collections.namedtuple("Judged", "exist kept altered false guessed")
 GUESSED = re.compile(r"packet (\d+) at byte \d+.*guess")
+BLOCK_GUESSED = re.compile(r"block (\d+) at byte \d+.*guess")
+BLOCK_LEFT_OUT = re.compile(r"block (\d+) at byte \d+.*it is left out")
 
 
 def classic_packets(capture):
@@ -59,9 +61,20 @@ def packets_of(capture):
     return list((blocks_packets if capture[:4] == b"\n\r\r\n" else classic_packets)(capture))
 
 
+def labelled_in(written, said):
+    """Returns the numbers of the packets that the messages call guesses. A message on a block has its number among those before the repair."""
+    labelled = {int(it) for it in GUESSED.findall(said)}
+    guesses, gone = ({int(it) for it in what.findall(said)} for what in (BLOCK_GUESSED, BLOCK_LEFT_OUT))
+    types = [number for _, number, _ in blocks(written)] if guesses else []
+    for guess in guesses:
+        at = guess - sum(it < guess for it in gone)
+        labelled.add(types[:at].count(PACKET))
+    return labelled
+
+
 def judged(damaged, written, said=""):
     """Compares the packets of a repaired capture with those of the damaged one."""
-    labelled = {int(it) for it in GUESSED.findall(said)}
+    labelled = labelled_in(written, said)
     exists = collections.Counter((it.time, it.data) for it in damaged.exists)
     dead = [packet for packet, is_there in zip(damaged.was, damaged.alive) if not is_there]
     by_time, by_data = collections.Counter((it.time, len(it.data)) for it in dead), collections.Counter(it.data for it in dead)

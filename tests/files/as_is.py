@@ -10,8 +10,6 @@ import lenient
 
 DONE, AT_FAULT, FAILED = 0, 1, 3
 LONGEST, MOST = 262144, 16777216
-# How far behind a block's front the program looks for blocks at most, to mend a length of the block.
-SURE = 2097152 - 524320
 BILLION = 10**9
 MAGICS = {0xA1B2C3D4: 1000, 0xA1B23C4D: 1}
 MESSAGES = {
@@ -56,10 +54,11 @@ LENGTHS = {
 
 
 class Packet:
-    """A packet as it is: its number, its offset, its time, its lengths, and the rules that it breaks."""
+    """A packet as it is: its number, its offset, its time, its lengths, and the rules that it breaks. It may be one of a short run behind
+    corrupt bytes (`is_found`), or nothing may confirm where it ends."""
 
     def __init__(self, number, place, unit, numbers, stated=None, is_guess=False):
-        self.number, self.place, self.stated, self.is_guess = number, place, stated, is_guess
+        self.number, self.place, self.stated, self.is_guess, self.is_found, self.is_unconfirmed = number, place, stated, is_guess, False, False
         self.seconds, self.fraction, self.stored, self.wire = numbers
         self.time = self.seconds * BILLION + self.fraction * unit
         broken = self.fraction * unit > 0xFFFFFFFF, self.stored > LONGEST, self.wire > LONGEST, self.stored > self.wire
@@ -77,29 +76,59 @@ def opened(capture):
 
 # Bytes that are left out: their offset, how many they are, what they are, and the rule that they break at their beginning.
 Gap = collections.namedtuple("Gap", "place size what rule")
-# One of the two lengths of the next block was wrong: the block's number and offset, the wrong length, and the right one.
-Mended = collections.namedtuple("Mended", "number place stated length")
+# A changed length of the block with this number at this offset.
+Mending = collections.namedtuple("Mending", "number place length stated is_guess")
+
+
+class Packets:
+    """Finds the packets of a classic capture, and the gaps between them."""
+
+    def __init__(self, capture, kind):
+        self.capture, self.kind, self.reading = capture, kind, lenient.Reading(capture, *kind)
+        self.items, self.time, self.longest = [], None, lenient.USUAL
+        # Whether the next packet was found behind corrupt bytes, the end of a short run of packets there, and the last packet's number.
+        self.is_found, self.end_of_run, self.count = False, 0, 0
+
+    def packet_at(self, at, numbers, size, is_confirmed, is_guess):
+        self.count, stored = self.count + 1, numbers[2]
+        if size != stored:
+            numbers = *numbers[:2], size, size if numbers[3] > LONGEST else max(numbers[3], size)
+        packet = Packet(self.count, at, self.kind[1], numbers, stored, is_guess)
+        packet.is_found = at < self.end_of_run
+        packet.is_unconfirmed = is_confirmed is False and not packet.is_found
+        self.time, self.longest = numbers[0], max(self.longest, size)
+        self.is_found = is_guess and is_confirmed is None
+        return packet
+
+    def item_at(self, at):
+        """Returns the item at this offset and where the next one is."""
+        numbers = struct.unpack_from(self.kind[0] + "IIII", self.capture, at) if len(self.capture) - at >= 16 else None
+        if numbers and self.is_found:
+            self.time, self.is_found = numbers[0], False
+            self.end_of_run = at + self.reading.short_run(at, self.longest)
+        size, way, is_guess = self.reading.size_at(at, self.time)
+        if size is not None:
+            return self.packet_at(at, numbers, size, way, is_guess), at + 16 + size
+        if way is None:
+            return Gap(at, len(self.capture) - at, "of a packet that is cut short", None), len(self.capture)
+        self.is_found = True
+        flaws = Packet(0, at, self.kind[1], numbers).flaws
+        return Gap(at, way - at, "no packets", 3 if numbers[2] > MOST else next(iter(flaws), None)), way
+
+    def all(self):
+        at = 24
+        while at < len(self.capture):
+            item, at = self.item_at(at)
+            self.items.append(item)
+        for item, behind in zip(self.items, [*self.items[1:], None]):
+            if isinstance(item, Packet):
+                item.is_unconfirmed &= isinstance(behind, Gap) and CUT not in behind.what
+        return self.items
 
 
 def packets_and_gaps(capture, kind):
-    """Yields the packets of a classic capture, and the gaps between them."""
-    reading, at, count, time = lenient.Reading(capture, *kind), 24, 0, None
-    while at < len(capture):
-        numbers = struct.unpack_from(kind[0] + "IIII", capture, at) if len(capture) - at >= 16 else None
-        size, way = reading.size_at(at, time)
-        if size is not None:
-            stated, count, time = numbers[2], count + 1, numbers[0]
-            if size != stated:
-                numbers = *numbers[:2], size, size if numbers[3] > LONGEST else max(numbers[3], size)
-            yield Packet(count, at, kind[1], numbers, stated, way)
-            at += 16 + size
-        elif way is not None:
-            flaws = Packet(0, at, kind[1], numbers).flaws
-            yield Gap(at, way - at, "no packets", 3 if numbers[2] > MOST else next(iter(flaws), None))
-            at = way
-        else:
-            yield Gap(at, len(capture) - at, "of a packet that is cut short", None)
-            break
+    """Returns the packets of a classic capture, and the gaps between them."""
+    return Packets(capture, kind).all()
 
 
 @functools.lru_cache(2)
@@ -108,7 +137,7 @@ def stands_in(capture):
     the rule, or that the capture is truncated."""
     kind = opened(capture) if len(capture) >= 24 else None
     if kind:
-        return "pcap", list(packets_and_gaps(capture, kind)), None
+        return "pcap", packets_and_gaps(capture, kind), None
     at = next((it for it in range(len(capture)) if is_section(capture, it)), None)
     if at is None and capture[:1] != b"\n":
         return "pcap", [], CUT if len(capture) < 24 else 1
@@ -140,20 +169,38 @@ def changed_length(packet):
     return [f"packet {packet.number} at byte {packet.place}: its stored length is {packet.stored} and not {packet.stated}{guess}"]
 
 
-def mended_length(it):
-    """Returns the message on a mended length."""
-    return f"block {it.number} at byte {it.place}: its stored length is {it.length} and not {it.stated}"
+def said_before(packet):
+    """Returns the messages on a packet before those on its flaws."""
+    return [f"packet {packet.number} at byte {packet.place}: kept, a guess: it may lie inside another packet"] * packet.is_found + changed_length(packet)
+
+
+def said_behind(packet):
+    return [f"packet {packet.number} at byte {packet.place}: kept, a guess: nothing confirms where it ends"] * packet.is_unconfirmed
+
+
+def mending(it):
+    """Returns the message on a changed length of a block."""
+    return f"block {it.number} at byte {it.place}: its stored length is {it.length} and not {it.stated}{', by a guess' * it.is_guess}"
+
+
+def said_on(item):
+    """Returns the messages of a list on a packet, a block, a changed length or a gap."""
+    if isinstance(item, Gap):
+        return [CUT if is_torn(item) else left_out(item)]
+    if isinstance(item, Mending):
+        return [mending(item)]
+    return [*said_before(item), *said_behind(item)] if isinstance(item, Packet) else []
 
 
 def flaw_lines(name, item):
-    """Returns the lines for the flaws of a packet or a block, or for a gap or a mended length."""
-    if isinstance(item, Mended):
-        return [f"{name}: {mended_length(item)}\n"]
+    """Returns the lines for the flaws of a packet or a block, or for a gap."""
     if isinstance(item, Gap):
         return [] if is_torn(item) else [f"{name}: {left_out(item)}{by_rule(item.rule)}\n"]
+    if isinstance(item, Mending):
+        return [f"{name}: {mending(item)}\n"]
     if isinstance(item, Packet):
         broken = [f"packet {item.number} at byte {item.place} breaks rule {it}: {MESSAGES[it]}" for it in item.flaws]
-        return [f"{name}: {it}\n" for it in (*changed_length(item), *broken)]
+        return [f"{name}: {it}\n" for it in (*said_before(item), *broken, *said_behind(item))]
     return [flaw_line(name, item.number, item.place, code, flaw) for code, flaw in item.flaws]
 
 
@@ -161,10 +208,10 @@ def checked(name, capture):
     """Returns the lines of a check, and its status."""
     kind, items, refused = stands_in(capture)
     lines = [line for it in items for line in flaw_lines(name, it)]
-    found = [it for it in items if not isinstance(it, (Gap, Mended))]
+    found = [it for it in items if not isinstance(it, (Gap, Mending))]
     gone = sum(it.size for it in items if isinstance(it, Gap) and not is_torn(it))
     flawed, torn = sum(bool(it.flaws) for it in found), next(filter(is_torn, items), None)
-    flawed += sum(bool(changed_length(it)) for it in found if isinstance(it, Packet)) + sum(isinstance(it, Mended) for it in items)
+    flawed += sum(bool(changed_length(it)) for it in found if isinstance(it, Packet)) + sum(isinstance(it, Mending) for it in items)
     if refused:
         end = f"{CUT} at byte 0" if refused == CUT else f"refused at byte 0{by_rule(refused)}"
     else:
@@ -234,7 +281,7 @@ def framed(capture, at, order):
     end = at + length
     if capture[end - 4 : end] != capture[at + 4 : at + 8]:
         return 9
-    return 11 if number == SECTION and length < 28 else (order, number, capture[at + 8 : end - 4])
+    return 11 if number == SECTION and length < 28 else (order, number, bytes(capture[at + 8 : end - 4]))
 
 
 def flaw_line(name, count, at, code, flaw):
@@ -270,8 +317,15 @@ def stand(capture, at, order):
     return True
 
 
+def stands_behind(capture, start, order):
+    """Returns the first offset from this one on at which blocks go on, or None."""
+    return next((it for it in range(start, len(capture)) if stand(capture, it, order)), None)
+
+
 def may_be_cut(capture, at, order):
-    """Returns whether the truncated block at this offset states no length that is too large."""
+    """Returns whether the truncated block at this offset states no length that is too large, and no blocks go on inside it."""
+    if stands_behind(capture, at + 1, order) is not None:
+        return False
     if len(capture) - at < 12:
         return True
     if capture.startswith(MAGIC, at):
@@ -279,65 +333,88 @@ def may_be_cut(capture, at, order):
     return struct.unpack_from(order + "I", capture, at + 4)[0] <= MOST
 
 
-def first_stand(capture, at, order):
-    """Returns the first offset from this one on at which blocks go on, or the end."""
-    return next((it for it in range(at, len(capture)) if stand(capture, it, order)), len(capture))
-
-
-def wrong_length(capture, at, order):
-    """Returns the wrong one of the two lengths of the block at this offset, and the right one. The right one says where blocks go on behind
-    the block, or where the capture ends. Returns None if that is not so of exactly one length."""
-    length = first_stand(capture, at + 12, order) - at
-    if length % 4 or length < 12 or length > SURE:
+def mended_frame(capture, number, at, order):
+    """Puts the right length into the block at this offset, if one of its two lengths says where the next blocks begin, and returns the change."""
+    end = stands_behind(capture, at + 12, order) or len(capture)
+    size = end - at
+    if size % 4 or size < 8:
         return None
-    lengths = [struct.unpack_from(order + "I", capture, it)[0] for it in (at + 4, at + length - 4)]
-    return (lengths[lengths[0] == length], length) if lengths.count(length) == 1 else None
+    lengths = [struct.unpack_from(order + "I", capture, it)[0] for it in (at + 4, end - 4)]
+    if lengths.count(size) != 1:
+        return None
+    for it in (at + 4, end - 4):
+        struct.pack_into(order + "I", capture, it, size)
+    return Mending(number, at, size, next(it for it in lengths if it != size), False)
 
 
-def blocks_and_gaps(capture, at):
-    """Yields the blocks from the section header at this offset on, the gaps between them, and the lengths that are mended."""
-    capture, order, count = bytearray(capture), ">", 0
+def fits(order, rest, size):
+    """Returns whether data of this size, its padding and well-formed options fill the rest of a body."""
+    end = size + -size % 4
+    return end <= len(rest) and options_in(order, rest[end:])[1] is None
+
+
+def mended_stored(capture, number, at, found, interfaces):
+    """Puts the right stored length into the enhanced packet at this offset, if its own one fits its block badly, and returns the change."""
+    order, type_, body = found
+    if type_ != ENHANCED or len(body) < 20:
+        return None
+    interface, _, _, stored, wire = struct.unpack_from(order + "IIIII", body)
+    snaplen = interfaces[interface][0] if interface < len(interfaces) and interfaces[interface] else 0
+    whole, rest = min(wire, snaplen or wire), body[20:]
+    if fits(order, rest, stored):
+        return None
+    is_guess = not (whole and fits(order, rest, whole))
+    if is_guess and (stored <= len(rest) or not whole or not rest):
+        return None
+    size = min(whole, len(rest)) if is_guess else whole
+    struct.pack_into(order + "I", capture, at + 20, size)
+    return Mending(number, at, size, stored, is_guess)
+
+
+def blocks_and_gaps(whole, at):
+    """Yields the blocks from the section header at this offset on, their changed lengths, and the gaps between them."""
+    capture, order, count, interfaces = bytearray(whole), ">", 0, []
     while at < len(capture):
         found = framed(capture, at, order)
         if isinstance(found, tuple):
-            order, count = found[0], count + 1
-            yield Block(count, at, *found[:2], bytes(found[2]))
-            at += len(found[2]) + 12
-            continue
-        if found == CUT and may_be_cut(capture, at, order) and first_stand(capture, at + 1, order) == len(capture):
+            change = mended_stored(capture, count + 1, at, found, interfaces)
+        elif found == CUT and may_be_cut(capture, at, order):
             yield Gap(at, len(capture) - at, "of a block that is cut short", None)
             break
-        wrong = wrong_length(capture, at, order)
-        if wrong:
-            yield Mended(count + 1, at, *wrong)
-            for place in (at + 4, at + wrong[1] - 4):
-                struct.pack_into(order + "I", capture, place, wrong[1])
-            continue
-        behind = first_stand(capture, at + 1, order)
-        yield Gap(at, behind - at, "no blocks", None if found == CUT else found)
-        at = behind
+        else:
+            change = mended_frame(capture, count + 1, at, order)
+        if change:
+            yield change
+        elif isinstance(found, tuple):
+            order, count = found[0], count + 1
+            interfaces = [] if found[1] == SECTION else [*interfaces, interface_in(order, found[2])] if found[1] == INTERFACE else interfaces
+            yield Block(count, at, *found)
+            at += len(found[2]) + 12
+        else:
+            behind = stands_behind(capture, at + 1, order) or len(capture)
+            yield Gap(at, behind - at, "no blocks", None if found == CUT else found)
+            at = behind
 
 
-def said_by_list(item):
-    """Returns the messages of a list about an item. The list doesn't count blocks, so its message on a mended length has no number."""
-    if isinstance(item, Gap):
-        return [CUT if is_torn(item) else left_out(item)]
-    if isinstance(item, Mended):
-        return [mended_length(item).replace(f"block {item.number}", "a block")]
-    return changed_length(item) if isinstance(item, Packet) else []
+def refusal(capture, refused):
+    """Returns the message on a file that is no capture."""
+    if refused == CUT:
+        return CUT if capture else "is empty"
+    is_text = all(it in b" \t\r\n" or 33 <= it < 127 for it in capture[:512])
+    return "is a text file, not a capture" if is_text and capture[:4] != MAGIC[: len(capture)] else f"Invalid field value: {MESSAGES[refused]}"
 
 
 def listed(name, capture):
     """Returns the lines of a list, the messages about the capture, and the status."""
     _, items, refused = stands_in(capture)
-    found = [it for it in items if not isinstance(it, (Gap, Mended))]
+    found = [it for it in items if not isinstance(it, (Gap, Mending))]
     flawed = any(it.flaws for it in found if isinstance(it, Packet))
     lines = [packet_line(it) for it in found if isinstance(it, Packet)]
     if any(isinstance(it, Block) for it in found):
         lines, flawed = block_lines(found)
-    said = [line for it in items for line in said_by_list(it)]
+    said = [line for it in items for line in said_on(it)]
     if refused:
-        said.append(refused if refused == CUT else f"Invalid field value: {MESSAGES[refused]}")
+        said.append(refusal(capture, refused))
     return "".join(lines), "".join(f"pcapfile: {name}: {it}\n" for it in said), AT_FAULT if said or flawed else DONE
 
 
@@ -425,16 +502,16 @@ def repaired(name, capture):
     prefix = f"pcapfile: {name}: "
     _, items, refused = stands_in(capture)
     if refused:
-        return None, f"{prefix}{refused if refused == CUT else f'Invalid field value: {MESSAGES[refused]}'}\n", AT_FAULT
+        return None, f"{prefix}{refusal(capture, refused)}\n", AT_FAULT
     (order, unit), out, said, packets, flawed = opened(capture), [capture[:24]], [], 0, 0
     for it in items:
         if isinstance(it, Gap):
             said.append(left_out(it))
             continue
-        said += changed_length(it)
+        said += said_before(it)
         numbers, data, changes = mended(it, unit, capture[it.place + 16 : it.place + 16 + it.stored])
         out.append(struct.pack(order + "IIII", *numbers) + data)
-        said += [f"packet {it.number} at byte {it.place}: {change}" for change in changes]
+        said += [f"packet {it.number} at byte {it.place}: {change}" for change in changes] + said_behind(it)
         packets, flawed = packets + 1, flawed + bool(it.flaws)
     said += [f"{flawed} of {packets} packets are changed"] * (flawed > 0)
     return b"".join(out), "".join(f"{prefix}{it}\n" for it in said), DONE
@@ -574,10 +651,16 @@ def by_hand(help):
     """Yields captures with bytes between packets or blocks, the lines of their check, the lines of their list, and the messages."""
     few = capture_of("<", 0xA1B2C3D4, [((k, 5, 4, 4), b"data") for k in range(3)])
     yield few + b"\xff" * 30 + few[24:44] + few[24:44] + few[24:30], """\
+in: packet 3 at byte 64: kept, a guess: nothing confirms where it ends
 in: 30 bytes at byte 84 are no packets, and are left out by rule 3: PacketHeader incl_len > 0x40000
+in: packet 4 at byte 114: kept, a guess: it may lie inside another packet
+in: packet 5 at byte 134: kept, a guess: it may lie inside another packet
 in: pcap, 5 packets, cut short at byte 154; 0 with flaws, 30 bytes left out
 """, "".join(f"{k + 1} {k % 3}.000005000 4/4\n" for k in range(3)) + "4 0.000005000 4/4\n5 0.000005000 4/4\n", """\
+pcapfile: in: packet 3 at byte 64: kept, a guess: nothing confirms where it ends
 pcapfile: in: 30 bytes at byte 84 are no packets, and are left out
+pcapfile: in: packet 4 at byte 114: kept, a guess: it may lie inside another packet
+pcapfile: in: packet 5 at byte 134: kept, a guess: it may lie inside another packet
 pcapfile: in: cut short
 """
     section = help.block("<", SECTION, struct.pack("<IHHq", 0x1A2B3C4D, 1, 0, -1))

@@ -2,6 +2,9 @@
 import struct
 
 LONGEST, DAY, BILLION = 262144, 86400, 10**9
+# The longest packet that is usual on networks, and how many packets must stand behind one whose time is far from the one before.
+USUAL, BEHIND = 1518, 3
+STANDS, LENGTH, WRONG, SHORT = range(4)
 MAGICS = {0xA1B2C3D4: 1000, 0xA1B23C4D: 1}
 HEADERS = [struct.pack(order + "IHH", magic, 2, 4) for magic in MAGICS for order in "<>"]
 
@@ -68,23 +71,87 @@ class Reading:
             return True
         return self.first(at + 16, at + 16 + head.stored, time) is not None
 
+    def weight(self, at, time):
+        """Returns what the head at this offset is worth by the bytes behind it."""
+        head = self.head(at)
+        if not head:
+            return SHORT
+        if self.ends_well(at, head.stored, time):
+            return STANDS
+        if self.can_be(head, head.wire, time) and self.ends_well(at, head.wire, time):
+            return LENGTH
+        if self.is_opposed(at, head, time):
+            return WRONG
+        return STANDS if at + 16 + head.stored <= len(self.capture) else SHORT
+
+    def stand_behind(self, at):
+        """Returns whether the packets behind the one at this offset stand too, as far as there are any."""
+        for _ in range(BEHIND):
+            head = self.head(at)
+            at += 16 + head.stored
+            weight = self.weight(at, head.seconds)
+            if weight != STANDS:
+                return weight != WRONG or self.begins_capture(at)
+        return True
+
+    def whole_length(self, at, time):
+        """Returns the length of the whole packet, or of what the capture stores of it, and whether it is a guess, if packets go on there."""
+        head = self.head(at)
+        size = min(head.wire, self.limit)
+        if size == head.stored or not self.can_be(head, size, time):
+            return None
+        if self.ends_well(at, size, time):
+            return size, True, False
+        return (size, True, True) if self.is_misstated(at + 16 + size, time) else None
+
+    def is_misstated(self, at, time):
+        """Returns whether a packet near this time is at this offset whose stored length is wrong, but not its original one."""
+        head = self.head(at)
+        size = min(head.wire, self.limit) if head else 0
+        return bool(head) and self.can_be(head, size, time) and self.ends_well(at, size, head.seconds)
+
+    def short_run(self, at, longest):
+        """Returns the number of bytes of the run of packets at this offset, or 0 if it is longer than a packet."""
+        start, bound = at, min(longest, self.limit)
+        while at - start <= bound:
+            head = self.head(at)
+            behind = at + 16 + head.stored if head else 0
+            is_last = len(self.capture) - 16 < behind <= len(self.capture)
+            if not head or not (is_last or self.ends_well(at, head.stored, head.seconds)):
+                return at - start
+            at = behind
+        return 0
+
     def size_at(self, at, time):
-        """Returns the size of the packet at this offset and whether it is a guess, None and where packets go on behind corrupt bytes, or
-        None and None for a truncated packet."""
+        """Returns the size of the packet at this offset, whether something confirms it, and whether it is a guess. The first is None for
+        corrupt bytes, and the second is then where packets go on. All are None for a truncated packet."""
         head, before = self.head(at), time or 0
         if not head:
-            return None, None
+            return None, None, None
         time = head.seconds if time is None else time
-        if self.ends_well(at, head.stored, time):
-            return head.stored, False
-        if self.can_be(head, head.wire, time) and self.ends_well(at, head.wire, time):
-            return head.wire, False
-        if not self.is_opposed(at, head, time):
-            return (head.stored, False) if at + 16 + head.stored <= len(self.capture) else (None, None)
+        weight = self.weight(at, time)
+        if weight == SHORT:
+            return None, None, None
+        if weight == LENGTH:
+            return head.wire, True, False
+        if weight == STANDS:
+            if self.ends_well(at, head.stored, time):
+                return head.stored, True, False
+            whole = self.whole_length(at, time)
+            if whole:
+                return whole
+            if self.can_be(head, head.stored, time) or self.stand_behind(at):
+                return head.stored, False, False
+        if self.can_be(head, head.stored, time) and self.is_misstated(at + 16 + head.stored, time):
+            return head.stored, True, False
+        return self.whole_length(at, time) or self.size_by_search(at, head, time, before)
+
+    def size_by_search(self, at, head, time, before):
+        """Returns the same if neither the stored length is right nor the original one."""
         behind = self.first(at + 16, at + 17 + LONGEST, time)
         if behind is not None and self.can_be(head, behind - at - 16, time):
-            return behind - at - 16, True
-        return None, self.corrupt_until(at, before)
+            return behind - at - 16, None, True
+        return None, self.corrupt_until(at, before), None
 
     def corrupt_until(self, at, time):
         found = self.first(at + 1, len(self.capture), time)

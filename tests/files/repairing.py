@@ -68,8 +68,8 @@ def repaired(name, capture):
         if isinstance(it, as_is.Gap):
             said.append(as_is.left_out(it))
             continue
-        if isinstance(it, as_is.Mended):
-            said.append(as_is.mended_length(it))
+        if isinstance(it, as_is.Mending):
+            said.append(as_is.mending(it))
             continue
         made, change = mended(it.order, it.type, it.body)
         count, changed = count + 1, changed + bool(change)
@@ -129,6 +129,7 @@ def by_hand(order):
     packets = [enhanced(order, 0, 1700000000000000001 + k, bytes([k] * (k + 1))) for k in range(4)]
     sound = section(order) + interface + b"".join(packets)
     other = enhanced(order, 1, 5, b"data")
+    packet = enhanced(order, 0, 5, b"datadata", option(order, 1, b"text"))
     yield "a sound capture", sound, sound, ""
     yield "a packet of an unknown interface", sound + other, sound + other, ""
     past, kept = (sound + enhanced(order, 0, 5, b"data", it) for it in (struct.pack(order + "HH", 1, 5) + b"1234", b""))
@@ -157,11 +158,17 @@ pcapfile: in: 20 bytes at byte 185 are no blocks, and are left out
     yield "a wrong length", sound[:96] + struct.pack(order + "I", 40) + sound[100:], sound, """\
 pcapfile: in: block 4 at byte 92: its stored length is 36 and not 40
 """
-    yield "another second length", sound[:124] + struct.pack(order + "I", 32) + sound[128:], sound, """\
-pcapfile: in: block 4 at byte 92: its stored length is 36 and not 32
+    for name, place, length in (("long", 20, 300), ("short", 20, 1), ("huge", 20, 0xFFFFFFFF)):
+        broken = sound[:200] + packet + sound[200:]
+        at = 200 + place
+        yield f"a stored length that is too {name}", broken[:at] + struct.pack(order + "I", length) + broken[at + 4 :], broken, f"""\
+pcapfile: in: block 7 at byte 200: its stored length is 8 and not {length}
 """
-    yield "two wrong lengths", sound[:96] + struct.pack(order + "I", 40) + sound[100:124] + bytes(4) + sound[128:], sound[:92] + sound[128:], """\
-pcapfile: in: 36 bytes at byte 92 are no blocks, and are left out
+    at = 200 + 20
+    longer = sound + enhanced(order, 0, 5, b"data", option(order, 1, b"text"))
+    broken, guess = (longer[:at] + struct.pack(order + "II", it, 999) + longer[at + 8 :] for it in (99, 12))
+    yield "a stored length that nothing replaces", broken, guess, """\
+pcapfile: in: block 7 at byte 200: its stored length is 12 and not 99, by a guess
 """
     yield "garbage before the first section", b"no" * 9 + sound, sound, "pcapfile: in: 18 bytes at byte 0 are no blocks, and are left out\n"
     yield "garbage at the end", sound + bytes(40), sound, "pcapfile: in: 40 bytes at byte 200 are no blocks, and are left out\n"

@@ -50,15 +50,15 @@ pub(crate) fn mend_frame(
     };
     window.put(LENGTH, &number);
     window.put(last, &number);
-    Ok(Some(Change {
+    Ok(Some(Change::Length {
         stated,
         length,
         is_guess: false,
     }))
 }
 
-// Returns the number at this offset.
-fn number_at(order: Endianness, bytes: &[u8], offset: usize) -> Option<u32> {
+/// Returns the number at this offset.
+pub(crate) fn number_at(order: Endianness, bytes: &[u8], offset: usize) -> Option<u32> {
     let end = offset.saturating_add(LENGTH);
     let mut high_first: u32 = 0;
     for byte in bytes.get(offset..end)? {

@@ -9,6 +9,7 @@ mod packets;
 mod repaired;
 mod rows;
 mod standing;
+mod stored;
 mod window;
 
 pub use captured::Captured;

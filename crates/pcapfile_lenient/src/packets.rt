@@ -2,10 +2,11 @@
 
 use crate::window::Window;
 use pcap_damaged::{
-    Numbers, Weight, begins_capture, begins_near, can_be_this_long, head_at, resync, weigh,
+    Numbers, Weight, begins_capture, begins_near, can_be_this_long, follows, head_at, resync, weigh,
 };
 use pcap_file::pcap::PcapHeader;
 use pcap_file::{Endianness, PcapParser, ResultParsing, Rule, TsResolution};
+use pcapfile_as_is::Counted;
 use std::alloc::{AllocError, Global};
 use std::io;
 
@@ -30,6 +31,12 @@ const SECOND: u32 = 1_000_000;
 /// The most bytes needed to be sure that packets go on at a place: four packets that break no rule have no more.
 pub(crate) const ROW: usize = 1_048_640;
 
+/// The length of the longest packet that is usual on networks, in bytes.
+const USUAL: u32 = 1_518;
+
+/// The number of packets that must stand behind one whose time is far from the one before.
+const BEHIND: usize = 3;
+
 /// The packets of a capture, as far as they are read.
 #[derive(Drop)]
 pub(crate) struct Packets {
@@ -39,6 +46,18 @@ pub(crate) struct Packets {
     first: PcapParser,
     /// The time of the packet before in seconds, if there is one.
     time: Option<u32>,
+    /// The stored length of the longest packet so far.
+    longest: u32,
+    /// Whether the next packet was found by resynchronization.
+    is_found: bool,
+    /// The number of bytes left in a short run of packets, which may lie inside another packet.
+    run: usize,
+    /// Whether the next packet was reported as one of such a run.
+    is_reported: bool,
+    /// Whether the length of the next packet was changed, and is right.
+    is_settled: bool,
+    /// The number of bytes of the last packet, if nothing confirms where it ends.
+    unconfirmed: Option<usize>,
 }
 
 /// What is at the front of the window.
@@ -58,31 +77,50 @@ pub(crate) enum Here {
     Torn,
 }
 
-/// A changed length of a packet or a block.
+/// What the reader reports about a packet or a block that it returns.
 #[derive(Clone, Copy)]
-pub struct Change {
-    /// The length that it had.
-    pub stated: u32,
-    /// The length that it has now.
-    pub length: u32,
-    /// Whether the new length is a guess.
-    pub is_guess: bool,
+pub enum Change {
+    /// The length of the next packet or block is changed.
+    Length {
+        /// The length that it had.
+        stated: u32,
+        /// The length that it has now.
+        length: u32,
+        /// Whether the new length is a guess.
+        is_guess: bool,
+    },
+    /// The next packet is a guess: it is one of a short run behind corrupt bytes.
+    Found,
+    /// The last packet, of this many bytes, is a guess: nothing confirms where it ends.
+    Unconfirmed(usize),
 }
 
 impl Change {
-    /// Returns the message on the packet or block, as `item` says, with this number at this offset.
-    pub fn text(
-        &self,
-        alloc: Global,
-        item: &str,
-        number: u64,
-        place: u64,
-    ) -> Result<String, AllocError> {
-        let (length, stated) = (self.length, self.stated);
-        let how = if self.is_guess { ", by a guess" } else { "" };
-        format!(in alloc;
-            "{item} {number} at byte {place}: its stored length is {length} and not {stated}{how}"
-        )
+    /// Returns the message on the packet or block, as `item` says, when the reader is behind what is counted.
+    pub fn text(&self, alloc: Global, item: &str, counted: &Counted) -> Result<String, AllocError> {
+        let (last, place) = (counted.items, counted.bytes);
+        let number = last.saturating_add(1);
+        match *self {
+            Change::Length {
+                stated,
+                length,
+                is_guess,
+            } => {
+                let how = if is_guess { ", by a guess" } else { "" };
+                format!(in alloc;
+                    "{item} {number} at byte {place}: its stored length is {length} and not {stated}{how}"
+                )
+            }
+            Change::Found => format!(in alloc;
+                "{item} {number} at byte {place}: kept, a guess: it may lie inside another packet"
+            ),
+            Change::Unconfirmed(len) => {
+                let start = place.saturating_sub(len as u64);
+                format!(in alloc;
+                    "{item} {last} at byte {start}: kept, a guess: nothing confirms where it ends"
+                )
+            }
+        }
     }
 }
 
@@ -93,6 +131,12 @@ impl Packets {
             parser: PcapParser::with_header(header)?,
             first: PcapParser::with_header(header)?,
             time: None,
+            longest: USUAL,
+            is_found: false,
+            run: 0,
+            is_reported: false,
+            is_settled: false,
+            unconfirmed: None,
         })
     }
 
@@ -101,7 +145,19 @@ impl Packets {
         if let Ok((_rest, parser)) = PcapParser::new(bytes) {
             self.parser = parser;
             self.time = None;
+            self.unconfirmed = None;
         }
+    }
+
+    /// Notes that the next packet was found by resynchronization.
+    pub(crate) fn find(&mut self) {
+        self.is_found = true;
+        self.run = 0;
+    }
+
+    /// Returns whether the packets have the link type of the capture, so that they are kept.
+    pub(crate) fn is_kept(&self) -> bool {
+        self.first.header().datalink == self.parser.header().datalink
     }
 
     /// Returns the parser of the header in force.
@@ -127,33 +183,200 @@ impl Packets {
         let Some(head) = self.head(window.shown()) else {
             return Ok(Here::Torn);
         };
+        if self.is_settled {
+            self.is_settled = false;
+            return Ok(self.take(window, head));
+        }
+        if self.is_in_a_short_run(window, head)? {
+            return Ok(Here::Changed(Change::Found));
+        }
+        let here = self.judge(window, head)?;
+        Ok(self.after_doubt(here))
+    }
+
+    // Returns whether the next packet must be reported as one of a short run.
+    fn is_in_a_short_run(&mut self, window: &mut Window, head: Numbers) -> io::Result<bool> {
+        if self.is_found {
+            self.is_found = false;
+            self.is_reported = false;
+            self.time = Some(head.seconds);
+            self.run = self.short_run(window)?;
+        }
+        if self.run == 0 || self.is_reported {
+            return Ok(false);
+        }
+        self.is_reported = true;
+        Ok(true)
+    }
+
+    // Returns the number of bytes in the run of packets at the front of the window, if it may lie inside a packet, and otherwise 0.
+    fn short_run(&self, window: &mut Window) -> io::Result<usize> {
+        let bound = self.longest.min(self.limit()) as usize;
+        window.reach(bound.saturating_add(HEAD + PACKET_LIMIT as usize + ROW))?;
+        let bytes = window.shown();
+        let mut at: usize = 0;
+        for _ in 0..u64::MAX {
+            if at > bound {
+                break;
+            }
+            let left = bytes.get(at..).unwrap_or_default();
+            let Some((head, _data)) = head_at(&self.parser, left) else {
+                return Ok(at);
+            };
+            let end = HEAD.saturating_add(head.included as usize);
+            let Some(behind) = left.get(end..) else {
+                return Ok(at);
+            };
+            let is_last = behind.len() < HEAD;
+            if !is_last && !follows(&self.parser, head.seconds, behind) {
+                return Ok(at);
+            }
+            at = at.saturating_add(end);
+        }
+        Ok(0)
+    }
+
+    // Reports the last packet before corrupt bytes, if nothing confirms where it ends.
+    fn after_doubt(&mut self, here: Here) -> Here {
+        match (here, self.unconfirmed) {
+            (Here::Garbage(_), Some(len)) => {
+                self.unconfirmed = None;
+                Here::Changed(Change::Unconfirmed(len))
+            }
+            _ => here,
+        }
+    }
+
+    // Finds out whether the head at the front of the window is that of a packet.
+    fn judge(&mut self, window: &mut Window, head: Numbers) -> io::Result<Here> {
         let time = self.time_by(Some(head));
         let end = HEAD.saturating_add(head.included as usize);
         if head.included <= LIMIT && window.reach(end.saturating_add(HEAD))? {
             let behind = window.shown().get(end..).unwrap_or_default();
             if begins_near(&self.parser, time, behind) {
-                return Ok(self.take(window, head, end));
+                return Ok(self.take(window, head));
             }
         }
         window.reach(end.min(HEAD + LIMIT as usize).saturating_add(ROW))?;
         match weigh(&self.parser, time, window.shown()) {
-            Weight::Stands => Ok(self.take(window, head, end)),
-            Weight::Length(length) => {
-                let change = self.change(window, head, length, false);
-                Ok(Here::Changed(change))
-            }
+            Weight::Stands => self.stand(window, head, time),
+            Weight::Length(length) => Ok(self.change(window, head, length, false)),
             Weight::Wrong => self.look_on(window, head, time),
             Weight::Short => Ok(Here::Torn),
         }
     }
 
-    // Takes the packet of this head, which has this many bytes, and puts its head in the form of the first header.
-    fn take(&mut self, window: &mut Window, head: Numbers, end: usize) -> Here {
+    // Takes a packet whose length nothing speaks against, unless a better length is found, or its time is far from the one before and
+    // no packets go on behind it.
+    fn stand(&mut self, window: &mut Window, head: Numbers, time: u32) -> io::Result<Here> {
+        let end = HEAD.saturating_add(head.included as usize);
+        let behind = window.shown().get(end..).unwrap_or_default();
+        if follows(&self.parser, time, behind) {
+            return Ok(self.take(window, head));
+        }
+        if let Some((length, is_guess)) = self.whole_length(window, head, time) {
+            return Ok(self.change(window, head, length, is_guess));
+        }
+        if !can_be_this_long(&self.parser, time, window.shown(), head.included)
+            && !self.stand_behind(window, head)?
+        {
+            return self.look_on(window, head, time);
+        }
+        let was_reported = self.is_reported;
+        let here = self.take(window, head);
+        if !was_reported {
+            self.unconfirmed = Some(end);
+        }
+        Ok(here)
+    }
+
+    // Returns whether the next packets behind the one of this head stand too, as far as there are any.
+    fn stand_behind(&self, window: &mut Window, head: Numbers) -> io::Result<bool> {
+        let most = (BEHIND + 1) * (HEAD + PACKET_LIMIT as usize);
+        window.reach(most.saturating_add(ROW))?;
+        let mut here = head;
+        let mut left = window.shown();
+        for _ in 0..BEHIND {
+            let end = HEAD.saturating_add(here.included as usize);
+            left = left.get(end..).unwrap_or_default();
+            let Some((next, _data)) = head_at(&self.parser, left) else {
+                return Ok(true);
+            };
+            match weigh(&self.parser, here.seconds, left) {
+                Weight::Stands => {}
+                Weight::Wrong => return Ok(begins_capture(left)),
+                _ => return Ok(true),
+            }
+            here = next;
+        }
+        Ok(true)
+    }
+
+    // Returns the longest data that a packet of the capture may have.
+    fn limit(&self) -> u32 {
+        match self.parser.header().snaplen {
+            0 => PACKET_LIMIT,
+            snaplen => snaplen.min(PACKET_LIMIT),
+        }
+    }
+
+    // Returns the length of the whole packet, or of as much of it as the capture stores, if packets go on there, and whether that is
+    // a guess.
+    fn whole_length(&self, window: &Window, head: Numbers, time: u32) -> Option<(u32, bool)> {
+        let bytes = window.shown();
+        let length = head.original.min(self.limit());
+        if length == head.included || !can_be_this_long(&self.parser, time, bytes, length) {
+            return None;
+        }
+        let behind = bytes.get(HEAD.saturating_add(length as usize)..)?;
+        if follows(&self.parser, time, behind) {
+            return Some((length, false));
+        }
+        if self.is_misstated(time, behind) {
+            return Some((length, true));
+        }
+        None
+    }
+
+    // Returns whether a packet of this head, with its stored length, is before one whose stored length is wrong.
+    fn is_before_misstated(&self, window: &Window, head: Numbers, time: u32) -> bool {
+        let bytes = window.shown();
+        if !can_be_this_long(&self.parser, time, bytes, head.included) {
+            return false;
+        }
+        match bytes.get(HEAD.saturating_add(head.included as usize)..) {
+            Some(behind) => self.is_misstated(time, behind),
+            None => false,
+        }
+    }
+
+    // Returns whether the bytes begin with a packet near this time whose stored length is wrong, but not its original one.
+    fn is_misstated(&self, time: u32, bytes: &[u8]) -> bool {
+        let Some((head, data)) = head_at(&self.parser, bytes) else {
+            return false;
+        };
+        let length = head.original.min(self.limit());
+        if !can_be_this_long(&self.parser, time, bytes, length) {
+            return false;
+        }
+        match data.get(length as usize..) {
+            Some(behind) => follows(&self.parser, head.seconds, behind),
+            None => false,
+        }
+    }
+
+    // Takes the packet of this head, and puts its head in the form of the first header.
+    fn take(&mut self, window: &mut Window, head: Numbers) -> Here {
+        let end = HEAD.saturating_add(head.included as usize);
         self.time = Some(head.seconds);
-        let (first, here) = (self.first.header(), self.parser.header());
-        if first.datalink != here.datalink {
+        self.longest = self.longest.max(head.included);
+        self.run = self.run.saturating_sub(end);
+        self.is_reported = false;
+        self.unconfirmed = None;
+        if !self.is_kept() {
             return Here::OtherLink(end);
         }
+        let (first, here) = (self.first.header(), self.parser.header());
         if first.magic_number != here.magic_number {
             let numbers = in_units_of(first.ts_resolution(), here.ts_resolution(), head);
             window.put(0, &bytes_of(&self.first, numbers));
@@ -164,13 +387,19 @@ impl Packets {
     // Finds out whether packets go on behind a head whose length is wrong, so that the bytes between may be its data.
     fn look_on(&mut self, window: &mut Window, head: Numbers, time: u32) -> io::Result<Here> {
         let sure = window.reach_row()?;
+        if self.is_before_misstated(window, head, time) {
+            return Ok(self.take(window, head));
+        }
+        if let Some((length, is_guess)) = self.whole_length(window, head, time) {
+            return Ok(self.change(window, head, length, is_guess));
+        }
         let behind = window.shown().get(HEAD..).unwrap_or_default();
         let bound = sure.saturating_sub(HEAD).min(PACKET_LIMIT as usize + 1);
         if let Some(length) = resync(&self.parser, time, behind, bound) {
             let length = length as u32;
             if can_be_this_long(&self.parser, time, window.shown(), length) {
-                let change = self.change(window, head, length, true);
-                return Ok(Here::Changed(change));
+                self.find();
+                return Ok(self.change(window, head, length, true));
             }
         }
         if head.included > LIMIT {
@@ -180,7 +409,7 @@ impl Packets {
     }
 
     // Puts another length into the head at the front of the window.
-    fn change(&self, window: &mut Window, head: Numbers, length: u32, is_guess: bool) -> Change {
+    fn change(&mut self, window: &mut Window, head: Numbers, length: u32, is_guess: bool) -> Here {
         let original = if head.original > PACKET_LIMIT {
             length
         } else {
@@ -193,11 +422,12 @@ impl Packets {
         };
         let bytes = bytes_of(&self.parser, numbers);
         window.put(0, &bytes);
-        Change {
+        self.is_settled = true;
+        Here::Changed(Change::Length {
             stated: head.included,
             length,
             is_guess,
-        }
+        })
     }
 
     fn head(&self, bytes: &[u8]) -> Option<Numbers> {

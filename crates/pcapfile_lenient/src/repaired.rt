@@ -53,7 +53,7 @@ pub struct Repaired {
     given: usize,
     /// The position in the original capture, and the number of left-out bytes that were reported.
     place: Place,
-    /// The number of changed lengths that were reported.
+    /// The number of changes that were reported.
     changed: u64,
 }
 
@@ -126,8 +126,8 @@ impl Making {
         };
     }
 
-    // Reports the changed length of the next packet or block.
-    fn say_length(&mut self, alloc: Global, change: Option<Change>, counted: &Counted) {
+    // Reports what became of a packet or block.
+    fn say_change(&mut self, alloc: Global, change: Option<Change>, counted: &Counted) {
         let Some(change) = change else {
             return;
         };
@@ -135,8 +135,7 @@ impl Making {
             Making::Packets(_) => "packet",
             Making::Blocks(_) => "block",
         };
-        let number = counted.items.saturating_add(1);
-        let Ok(text) = change.text(alloc, item, number, counted.bytes) else {
+        let Ok(text) = change.text(alloc, item, counted) else {
             return;
         };
         // A failed message doesn't stop the repair.
@@ -273,7 +272,7 @@ impl Repaired {
             }
             let changed = making.rows().changed();
             if changed.count > self.changed {
-                making.say_length(self.alloc, changed.last, &self.place.counted);
+                making.say_change(self.alloc, changed.last, &self.place.counted);
                 self.changed = changed.count;
             }
             if making.rows().is_at_end() {

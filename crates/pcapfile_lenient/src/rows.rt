@@ -4,6 +4,7 @@ ghost use Rattle.std.specs.Prelude.{None};
 
 use crate::frames::mend_frame;
 use crate::packets::{Change, HEADER, Here, LIMIT, Packets};
+use crate::stored::mend_stored;
 use crate::window::{IN_A_ROW, Sought, Window};
 use pcap_file::pcap::PcapHeader;
 use pcap_file::{PcapError, ResultParsing, Rule};
@@ -55,7 +56,7 @@ pub struct Rows {
     /// The number of buffered bytes that belong to a packet or block.
     ready: usize,
     left_out: LeftOut,
-    /// The last changed length, and how many there are so far.
+    /// The last change, and how many there are so far.
     changed: Changed,
     /// Whether the last packets were left out for their link type.
     is_leaving_out: bool,
@@ -63,10 +64,10 @@ pub struct Rows {
     is_at_end: bool,
 }
 
-/// The last changed length, and how many lengths were changed so far.
+/// The last report on a packet or block, and how many there were so far.
 #[derive(Clone, Copy)]
 pub struct Changed {
-    /// The number of changed lengths.
+    /// The number of reports.
     pub count: u64,
     /// The last of them.
     pub last: Option<Change>,
@@ -154,7 +155,7 @@ impl Rows {
         self.is_at_end
     }
 
-    /// Returns the changed lengths so far.
+    /// Returns the reports so far.
     pub fn changed(&self) -> Changed {
         self.changed
     }
@@ -187,6 +188,11 @@ impl Rows {
             self.is_leaving_out = true;
             return Ok(Step::Further);
         }
+        if let Here::Changed(_) = here {
+            if !self.keeps_packets() {
+                return Ok(Step::Further);
+            }
+        }
         if self.is_leaving_out {
             self.is_leaving_out = false;
             return Ok(Step::Done);
@@ -208,10 +214,18 @@ impl Rows {
         Ok(Step::Done)
     }
 
+    // Returns whether the packets have the link type of the capture.
+    fn keeps_packets(&self) -> bool {
+        match &self.kind {
+            Kind::Packets(packets) => packets.is_kept(),
+            Kind::Blocks(_) => true,
+        }
+    }
+
     // Takes a step before a block, or before other bytes of a PcapNg capture.
     fn step_before(&mut self, front: Front) -> io::Result<Step> {
         match front {
-            Front::Block(len) => self.ready = len,
+            Front::Block(len) => self.pass_block(len),
             Front::Garbage(rule) => self.pass_blocks(rule)?,
             Front::Missing(n) => {
                 if self.window.show(n)? {
@@ -223,12 +237,24 @@ impl Rows {
         Ok(Step::Done)
     }
 
-    // Notes a changed length.
+    // Notes a report.
     fn note(&mut self, change: Change) {
         self.changed = Changed {
             count: self.changed.count.saturating_add(1),
             last: Some(change),
         };
+    }
+
+    // Takes a block of this many bytes, or mends the stored length of its packet first.
+    fn pass_block(&mut self, len: usize) {
+        let change = match &self.kind {
+            Kind::Packets(_) => None,
+            Kind::Blocks(parser) => mend_stored(parser, &mut self.window, len),
+        };
+        match change {
+            Some(change) => self.note(change),
+            None => self.ready = len,
+        }
     }
 
     // Mends the frame of a block, or skips corrupt bytes that break this rule, if any.
@@ -248,6 +274,9 @@ impl Rows {
     fn pass_garbage(&mut self, rule: Option<Rule>) -> io::Result<()> {
         self.window.pass(1);
         let passed = self.window.pass_to(self.kind.sought())?;
+        if let Kind::Packets(packets) = &mut self.kind {
+            packets.find();
+        }
         let scrap = self.kind.garbage();
         self.leave_out(passed.bytes.saturating_add(1), scrap, rule);
         self.is_at_end = !passed.is_found;

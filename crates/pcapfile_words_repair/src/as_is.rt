@@ -25,6 +25,8 @@ pub(crate) struct Telling {
     pub(crate) fault: Option<PcapError>,
     /// The number of packets or blocks whose length was changed.
     pub(crate) changed: u64,
+    /// The number of reports on packets or blocks.
+    reported: u64,
 }
 
 /// What is between two rows.
@@ -32,7 +34,7 @@ pub(crate) struct Telling {
 pub(crate) enum Between {
     /// A gap.
     Gap(Gap),
-    /// A changed length of the next packet or block.
+    /// A report on the next packet or block, or on the last packet.
     Change(Change),
 }
 
@@ -47,20 +49,20 @@ impl Telling {
             place: Place::new(bytes),
             fault: None,
             changed: 0,
+            reported: 0,
         })
     }
 
-    /// Returns the message on a changed length of the next packet or block.
+    /// Returns the message of a report.
     pub(crate) fn text_of(&self, alloc: Global, change: &Change) -> Result<String, AllocError> {
         let item = match self.format {
             Format::Pcap => "packet",
             Format::PcapNg => "block",
         };
-        let counted = &self.place.counted;
-        change.text(alloc, item, counted.items.saturating_add(1), counted.bytes)
+        change.text(alloc, item, &self.place.counted)
     }
 
-    /// Reports the packets or blocks before the next gap or changed length, and returns that. `None` after the end. It returns
+    /// Reports the packets or blocks before the next gap or report, and returns that. `None` after the end. It returns
     /// the errors of the teller.
     pub(crate) fn tell_row<P: Teller, B: BlockTeller, W: Write>(
         &mut self,
@@ -89,17 +91,21 @@ impl Telling {
         Ok(None)
     }
 
-    // Returns the gap or the changed length that ended a row, if that is new.
+    // Returns the gap or the report that ended a row, if that is new.
     fn between(&mut self, rows: &Rows) -> Option<Between> {
         if let Some(gap) = self.pass(rows.left_out()) {
             return Some(Between::Gap(gap));
         }
         let changed = rows.changed();
-        if changed.count == self.changed {
+        if changed.count == self.reported {
             return None;
         }
-        self.changed = changed.count;
-        Some(Between::Change(changed.last?))
+        self.reported = changed.count;
+        let last = changed.last?;
+        if let Change::Length { .. } = last {
+            self.changed = self.changed.saturating_add(1);
+        }
+        Some(Between::Change(last))
     }
 
     // Counts a gap and returns it. `None` for a truncated packet or block, which is no gap and ends the capture.

@@ -1,0 +1,114 @@
+//! Packets of a PcapNg capture whose stored length is wrong, although the lengths of their block are right.
+
+use crate::frames::number_at;
+use crate::packets::Change;
+use crate::window::Window;
+use pcap_file::Endianness;
+use pcap_tolerant_captures::PcapNgParserAsIs;
+
+/// The type of an enhanced packet.
+const ENHANCED: u32 = 6;
+
+/// The offset of an enhanced packet's interface in its block.
+const INTERFACE: usize = 8;
+
+/// The offset of its stored length.
+const STORED: usize = 20;
+
+/// The offset of its original length.
+const ORIGINAL: usize = 24;
+
+/// The offset of its data.
+const DATA: usize = 28;
+
+/// The length of what is behind the body of a block, in bytes.
+const TRAILER: usize = 4;
+
+/// The length of an option's head, in bytes.
+const OPTION: usize = 4;
+
+/// Puts another stored length into the enhanced packet at the front of the window, whose block has this many bytes, if data of the
+/// stored length and well-formed options do not fill the block. It is the original length, or the snapshot length, if that does;
+/// and otherwise, if the data would go on past the block, up to the end of the block, by a guess.
+pub(crate) fn mend_stored(
+    parser: &PcapNgParserAsIs,
+    window: &mut Window,
+    len: usize,
+) -> Option<Change> {
+    let order = parser.section().endianness();
+    let bytes = window.shown().get(..len)?;
+    if number_at(order, bytes, 0)? != ENHANCED {
+        return None;
+    }
+    let stated = number_at(order, bytes, STORED)?;
+    let original = number_at(order, bytes, ORIGINAL)?;
+    let whole = original.min(limit(parser, number_at(order, bytes, INTERFACE)?));
+    let data = bytes.get(DATA..len.saturating_sub(TRAILER))?;
+    let (length, is_guess) = length_in(order, data, stated, whole)?;
+    let number = match order {
+        Endianness::Big => length.to_be_bytes(),
+        Endianness::Little => length.to_le_bytes(),
+    };
+    window.put(STORED, &number);
+    Some(Change::Length {
+        stated,
+        length,
+        is_guess,
+    })
+}
+
+// Returns the snapshot length of an interface, or the largest number.
+fn limit(parser: &PcapNgParserAsIs, interface: u32) -> u32 {
+    match parser.interface(interface) {
+        Some(found) if found.snaplen > 0 => found.snaplen,
+        _ => u32::MAX,
+    }
+}
+
+// Returns the length of the data in the rest of a body, and whether that is a guess, if the stated length is wrong and another is right.
+fn length_in(order: Endianness, rest: &[u8], stated: u32, whole: u32) -> Option<(u32, bool)> {
+    if fits(order, rest, stated) {
+        return None;
+    }
+    if whole > 0 && fits(order, rest, whole) {
+        return Some((whole, false));
+    }
+    let room = u32::try_from(rest.len()).ok()?;
+    if stated <= room || whole == 0 || room == 0 {
+        return None;
+    }
+    Some((whole.min(room), true))
+}
+
+// Returns whether data of this length, its padding, and well-formed options fill these bytes.
+fn fits(order: Endianness, bytes: &[u8], length: u32) -> bool {
+    let end = padded(length as usize);
+    let Some(mut left) = bytes.get(end..) else {
+        return false;
+    };
+    for _ in 0..u64::MAX {
+        if left.is_empty() {
+            break;
+        }
+        let Some(number) = number_at(order, left, 0) else {
+            return false;
+        };
+        let (code, size) = match order {
+            Endianness::Big => (number >> 16, number & 0xFFFF),
+            Endianness::Little => (number & 0xFFFF, number >> 16),
+        };
+        if code == 0 {
+            break;
+        }
+        let Some(more) = left.get(padded(size as usize).saturating_add(OPTION)..) else {
+            return false;
+        };
+        left = more;
+    }
+    true
+}
+
+// Returns a length with its padding to a multiple of four.
+fn padded(length: usize) -> usize {
+    length.saturating_add((4 - length % 4) % 4)
+}
