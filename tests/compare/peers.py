@@ -57,7 +57,6 @@ MEANT = {
     "empty": "a capture without a packet is one part; editcap writes none",
     "simple": "a simple packet has no time; editcap and mergecap give it the first second of 1970",
     "tie": "of packets of one time those of the first capture go first; mergecap gives those of the last",
-    "behind": "an interface or a section behind packets ends the capture; mergecap reads on",
     "repaired": "a packet with flaws has lengths that keep the rules",
 }
 
@@ -393,7 +392,7 @@ def merge_verdict(capture, ours, theirs, ran):
     rest.subtract(map(unnumbered, ours))
     if any(count < 0 for count in rest.values()):
         return DIFFERENT
-    return capture.means("behind") if b"behind packets" in ran.stderr else capture.refusal()
+    return capture.refusal()
 
 
 def unnumbered(row):

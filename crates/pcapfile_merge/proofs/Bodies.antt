@@ -1,6 +1,6 @@
 -- Where the bytes of a packet are in the body of its block.
-use Rattle.std.proofs.Common.{◌≡◌, ◌+◌, ℕ, List, [], ◌∷◌, ◌++◌, take, drop, length, Bool, true, false, Option, None, Some, Ok, Err, sym, ap, ◌∙◌, subst, append_assoc, inl, inr}
-use Rattle.std.specs.Prelude.{Result, if◌then◌else◌, unwrap_or}
+use Rattle.std.proofs.Common.{◌≡◌, ℕ, List, ◌++◌, take, drop, length, Bool, true, false, Option, None, Some, Ok, Err, refl, sym, ap, ◌∙◌, subst, append_assoc, inl, inr}
+use Rattle.std.specs.Prelude.{◌||◌, Result, if◌then◌else◌, unwrap_or}
 use Rattle.std.specs.List.{slice_get}
 use Rattle.std.proofs.Math.Seq.{drop-append_seam, take-append_seam, take-length}
 use Rattle.std.proofs.lemmas.Bool.{true≢false}
@@ -19,6 +19,7 @@ use Rattle.pcap_blocks.specs.ParsedBlock.{Body, BodySays, EnhancedBody}
 use Rattle.pcap_blocks.specs.StoredBytes.{stored_len}
 use Rattle.pcap_blocks.specs.StoredPacket.{Stored, StoredText}
 use Rattle.pcap_options.specs.Values.{Kind}
+use Rattle.pcap_ng.specs.Bodies.{SaysOfBody}
 use Rattle.pcap_ng.specs.Frames.{Framed}
 use Rattle.pcap_written.specs.Plain.{plain_packet}
 use Rattle.pcap_file.specs.Converted.{little_text}
@@ -27,12 +28,12 @@ use Rattle.pcapfile_run.specs.BlockPackets.{HoldsPacket, InBlock, packet_in as p
 use Rattle.pcapfile_merge.specs.declared.made.Made.{Made}
 use Rattle.pcapfile_merge.specs.declared.packet.Pending.{Pending}
 use Rattle.pcapfile_merge.specs.BufferedBlocks.{lent_by}
-use Rattle.pcapfile_merge.specs.Keeping.{carried, is_carried}
-use Rattle.pcapfile_merge.specs.Making.{IsMade, KeepsText, MakesText}
+use Rattle.pcapfile_merge.specs.Keeping.{CarriedBy, IsNumbered, carried_with, first_number, gives, is_carried, is_interface, is_statistics, with_number}
+use Rattle.pcapfile_merge.specs.Making.{DescribesText, IsMade, KeepsText, MakesText, PutsNumbered, PutsText, PutsWhole, made_as}
 use Rattle.pcapfile_merge.specs.Packets.{Packet, plain_text}
 use Rattle.pcapfile_merge.specs.Passing.{IsSaid, TellsPending, bytes_within, start_of}
 use Rattle.pcapfile_merge.specs.Taking.{packet_in, text_by}
-use Rattle.pcapfile_merge.specs.TakingBlocks.{EndsBlock, GivesOf, IsTimeBy, IsUnmade, block_under, block_unkept, enhanced_in, numbered, packet_unmade}
+use Rattle.pcapfile_merge.specs.TakingBlocks.{EndsBlock, GivesOf, IsUnmade, block_under, block_unkept, described_as, enhanced_in, interface_unmade, packet_unmade}
 
 dropped : (n : ℕ) (s rest : List ℕ) → Behind n s rest → drop n s ≡ rest
 dropped n s rest behind = ap (drop n) behind.text ∙ ap (λ (k : ℕ). drop k (behind.bytes ++ rest)) (sym behind.length_is) ∙ drop-append_seam behind.bytes rest
@@ -108,78 +109,123 @@ nothing_made made body none = ap (λ (b : Bool). if b then made.text.items else 
 pub made_lent : (made : Made) (body : List ℕ) → made.is_lent ≡ true → lent_by made body ≡ made.text.items
 made_lent made body is = ap (λ (b : Bool). if b then made.text.items else body) is
 
-module _ (base : ℕ) (interfaces : List Interface) (block : Framed) (packet : InBlock) (is : is_packet block.type_ ≡ true) (holds : HoldsPacket interfaces block packet) where
+-- A block that was made is what is held.
+made_packet : (p : Packet) (made : Made) (pending : Pending) (body : List ℕ) → IsMade p made pending → packet_in (bytes_within (lent_by made body) pending) pending ≡ p
+made_packet p made pending body makes =
+    let items = made.text.items in
+    let lent = bytes_within (lent_by made body) pending in
+    let all : lent ≡ items =
+    ap (λ (l : List ℕ). bytes_within l pending) (made_lent made body makes.is_lent) ∙ ap (λ (n : ℕ). take n (drop pending.start items)) makes.len ∙ ap (λ (n : ℕ). take (length items) (drop n items)) makes.start ∙ take-length items in
+    let text : text_by pending.is_made pending lent ≡ p.text = ap (λ (b : Bool). text_by b pending lent) makes.is_made ∙ all ∙ makes.text in
+    ap (λ (t : Option Timestamp). record { time = t; text = text_by pending.is_made pending lent; is_interface = pending.is_interface }) makes.time
+    ∙ ap (λ (l : List ℕ). record { time = p.time; text = l; is_interface = pending.is_interface }) text
+    ∙ ap (λ (b : Bool). record { time = p.time; text = p.text; is_interface = b }) makes.is_interface
+
+module _ (numbers : List ℕ) (interfaces : List Interface) (block : Framed) (packet : InBlock) (is : is_packet block.type_ ≡ true) (holds : HoldsPacket interfaces block packet) where
   -- The case of a packet whose block is made from its bytes.
-  pub plain_given : (pending : Pending) (body : List ℕ) → body ≡ block.body → IsSaid base interfaces packet pending
-      → block_under block.endianness (base + packet.interface) pending.units packet (enhanced_in holds.body) ≡ EnhancedBody (plain_packet (base + packet.interface) pending.units packet.original_len packet.bytes)
-      → GivesOf base interfaces block (Some (packet_in (bytes_within body pending) pending))
+  pub plain_given : (pending : Pending) (body : List ℕ) → body ≡ block.body → IsSaid numbers interfaces packet pending
+      → block_under block.endianness pending.number pending.units packet (enhanced_in holds.body) ≡ EnhancedBody (plain_packet pending.number pending.units packet.original_len packet.bytes)
+      → GivesOf numbers interfaces block (Some (packet_in (bytes_within body pending) pending))
   unfolding AreThere
   plain_given pending body same said plain =
       let there = body_bytes (number_in block.endianness) block.type_ interfaces block.body holds.rest holds.body packet holds.says holds.packet_is in
-      let number = base + packet.interface in
+      let number = pending.number in
       let bytes : bytes_within body pending ≡ packet.bytes =
       ap (λ (l : List ℕ). bytes_within l pending) same ∙ ap (λ (n : ℕ). take n (drop pending.start block.body)) said.len ∙ ap (λ (n : ℕ). take (length packet.bytes) (drop n block.body)) said.start ∙ there in
       let text : text_by pending.is_made pending (bytes_within body pending) ≡ little_text (block_under block.endianness number pending.units packet (enhanced_in holds.body)) =
       ap (λ (b : Bool). text_by b pending (bytes_within body pending)) said.unmade
       ∙ ap (λ (l : List ℕ). plain_text pending.number pending.units pending.original_len l) bytes
-      ∙ ap (λ (n : ℕ). plain_text n pending.units pending.original_len packet.bytes) said.number
       ∙ ap (λ (n : ℕ). plain_text number pending.units n packet.bytes) said.original_len
       ∙ ap little_text (sym plain) in
-      inl (is, packet, holds, record { by = said.by; described = said.described; units = pending.units; time = said.time; text = text })
+      inl (is, packet, holds, record { by = said.by; described = said.described; number = number; is_numbered = said.number; units = pending.units; time = said.time; text = text; no_interface = said.no_interface })
 
   -- The case of a packet whose own block was made.
-  made_given : (said pending : Pending) (made : Made) (enhanced : Enhanced) → IsSaid base interfaces packet said → enhanced_in holds.body ≡ Some enhanced → IsMade block.endianness said enhanced made pending
-      → GivesOf base interfaces block (Some (packet_in (bytes_within (lent_by made block.body) pending) pending))
+  made_given : (said pending : Pending) (made : Made) (enhanced : Enhanced) → IsSaid numbers interfaces packet said → enhanced_in holds.body ≡ Some enhanced → IsMade (made_as block.endianness said enhanced) made pending
+      → GivesOf numbers interfaces block (Some (packet_in (bytes_within (lent_by made block.body) pending) pending))
   made_given said pending made enhanced tells is_one makes =
-      let number = base + packet.interface in
-      let items = made.text.items in
-      let all : bytes_within (lent_by made block.body) pending ≡ items =
-      ap (λ (l : List ℕ). bytes_within l pending) (made_lent made block.body makes.is_lent) ∙ ap (λ (n : ℕ). take n (drop pending.start items)) makes.len ∙ ap (λ (n : ℕ). take (length items) (drop n items)) makes.start ∙ take-length items in
-      let text : text_by pending.is_made pending (bytes_within (lent_by made block.body) pending) ≡ little_text (block_under block.endianness number said.units packet (enhanced_in holds.body)) =
-      ap (λ (b : Bool). text_by b pending (bytes_within (lent_by made block.body) pending)) makes.is_made
-      ∙ all
-      ∙ makes.text
-      ∙ ap (λ (n : ℕ). little_text (EnhancedBody (numbered block.endianness n enhanced))) tells.number
-      ∙ ap (λ (o : Option Enhanced). little_text (block_under block.endianness number said.units packet o)) (sym is_one) in inl (
+      let p = made_as block.endianness said enhanced in
+      let gives : GivesOf numbers interfaces block (Some p) = inl (
         is,
         packet,
         holds,
         record {
           by = tells.by;
           described = tells.described;
+          number = said.number;
+          is_numbered = tells.number;
           units = said.units;
-          time = subst (λ (t : Option Timestamp). IsTimeBy tells.by packet.units t said.units) (sym makes.time) tells.time;
-          text = text;
+          time = tells.time;
+          text = ap (λ (o : Option Enhanced). little_text (block_under block.endianness said.number said.units packet o)) (sym is_one);
+          no_interface = refl;
         },
-      )
+      ) in
+      subst (λ (q : Packet). GivesOf numbers interfaces block (Some q)) (sym (made_packet p made pending block.body makes)) gives
 
   -- The case of a packet whose own block was not made.
-  unmade_ends : (said : Pending) (enhanced : Enhanced) (e : PcapError) → IsSaid base interfaces packet said → enhanced_in holds.body ≡ Some enhanced → IsUnmade block.endianness said.number enhanced e → EndsBlock ⊥ base interfaces block e
-  unmade_ends said enhanced e tells is_one unmade = packet_unmade packet holds enhanced is_one (subst (λ (n : ℕ). IsUnmade block.endianness n enhanced e) tells.number unmade)
+  unmade_ends : (said : Pending) (enhanced : Enhanced) (e : PcapError) → IsSaid numbers interfaces packet said → enhanced_in holds.body ≡ Some enhanced → IsUnmade block.endianness said.number enhanced e → EndsBlock numbers interfaces block e
+  unmade_ends said enhanced e tells is_one unmade = packet_unmade packet holds enhanced is_one said.number tells.number unmade
 
-  made_or_ends_there : (said : Pending) (made : Made) (enhanced : Enhanced) (result : Result Pending PcapError) → IsSaid base interfaces packet said → enhanced_in holds.body ≡ Some enhanced → MakesText block.endianness said enhanced made result
-      → TellsPending base interfaces block made result
+  made_or_ends_there : (said : Pending) (made : Made) (enhanced : Enhanced) (result : Result Pending PcapError) → IsSaid numbers interfaces packet said → enhanced_in holds.body ≡ Some enhanced → MakesText block.endianness said enhanced made result
+      → TellsPending numbers interfaces block made result
   made_or_ends_there said made enhanced (Ok pending) tells is_one makes = made_given said pending made enhanced tells is_one makes
   made_or_ends_there said made enhanced (Err e) tells is_one makes = unmade_ends said enhanced e tells is_one makes
 
   -- The block of an enhanced packet was made, or it ended the capture.
-  pub made_or_ends : (order : Endianness) (said : Pending) (made : Made) (enhanced : Enhanced) (result : Result Pending PcapError) → order ≡ block.endianness → IsSaid base interfaces packet said
-      → enhanced_in holds.body ≡ Some enhanced → MakesText order said enhanced made result → TellsPending base interfaces block made result
+  pub made_or_ends : (order : Endianness) (said : Pending) (made : Made) (enhanced : Enhanced) (result : Result Pending PcapError) → order ≡ block.endianness → IsSaid numbers interfaces packet said
+      → enhanced_in holds.body ≡ Some enhanced → MakesText order said enhanced made result → TellsPending numbers interfaces block made result
   made_or_ends order said made enhanced result same tells is_one makes =
       made_or_ends_there said made enhanced result tells is_one (subst (λ (e : Endianness). MakesText e said enhanced made result) same makes)
 
+-- The block of an interface was made, or it ended the capture.
+pub described_or_ends : (numbers : List ℕ) (interfaces : List Interface) (block : Framed) (body : Body) (rest : List ℕ) (made : Made) (result : Result Pending PcapError) → is_interface block.type_ ≡ true → SaysOfBody block (whole body rest)
+    → DescribesText body made result → TellsPending numbers interfaces block made result
+described_or_ends numbers interfaces block body rest made (Err e) is says why = interface_unmade is body rest says why
+described_or_ends numbers interfaces block body rest made (Ok pending) is says makes = inr (inl (is, body, rest, says, made_packet (described_as body) made pending block.body makes))
+
 -- A block that is kept was made, or it ended the capture.
-pub kept_or_ends : (base : ℕ) (interfaces : List Interface) (block : Framed) (made : Made) (result : Result Pending PcapError) → is_carried block ≡ true → KeepsText block made result → TellsPending base interfaces block made result
-kept_or_ends base interfaces block made (Err e) is why = block_unkept is why
-kept_or_ends base interfaces block made (Ok pending) is keeps =
-    let items = made.text.items in
-    let lent = bytes_within (lent_by made block.body) pending in
-    let all : lent ≡ items =
-    ap (λ (l : List ℕ). bytes_within l pending) (made_lent made block.body keeps.is_lent) ∙ ap (λ (n : ℕ). take n (drop pending.start items)) keeps.len ∙ ap (λ (n : ℕ). take (length items) (drop n items)) keeps.start ∙ take-length items in
-    let text : text_by pending.is_made pending lent ≡ (carried block).text = ap (λ (b : Bool). text_by b pending lent) keeps.is_made ∙ all ∙ keeps.text in
-    let same : carried block ≡ packet_in lent pending =
-    ap (λ (t : Option Timestamp). record { time = t; text = (carried block).text }) (sym keeps.time) ∙ ap (λ (l : List ℕ). record { time = pending.time; text = l }) (sym text) in
-    inr (ap (λ (b : Bool). if b then carried block ∷ [] else []) is ∙ ap (λ (p : Packet). p ∷ []) same)
+pub kept_or_ends : (numbers : List ℕ) (interfaces : List Interface) (block : Framed) (made : Made) (result : Result Pending PcapError) → is_carried interfaces block ≡ true → KeepsText numbers block made result
+    → TellsPending numbers interfaces block made result
+kept_or_ends numbers interfaces block made (Err e) is why = block_unkept is why
+kept_or_ends numbers interfaces block made (Ok pending) is keeps = inr (inr (is, subst (λ (q : Packet). CarriedBy block.type_ numbers block q) (sym (made_packet keeps.0 made pending block.body keeps.2)) keeps.1))
+
+whole_kept : (type : BlockType) (numbers : List ℕ) (block : Framed) → is_statistics type ≡ false → CarriedBy type numbers block (carried_with block.body block)
+whole_kept types.InterfaceStatistics numbers block is = absurd (true≢false is)
+whole_kept types.SectionHeader numbers block is = refl
+whole_kept types.InterfaceDescription numbers block is = refl
+whole_kept types.Packet numbers block is = refl
+whole_kept types.SimplePacket numbers block is = refl
+whole_kept types.NameResolution numbers block is = refl
+whole_kept types.EnhancedPacket numbers block is = refl
+whole_kept types.SystemdJournalExport numbers block is = refl
+whole_kept (types.Unknown n) numbers block is = refl
+
+numbered_kept : (type : BlockType) (numbers : List ℕ) (block : Framed) (own number : ℕ) → is_statistics type ≡ true → first_number block.body ≡ Some own → IsNumbered numbers own number
+    → CarriedBy type numbers block (carried_with (with_number number block.body) block)
+numbered_kept types.InterfaceStatistics numbers block own number is first numbered = (own, first, number, numbered, refl)
+numbered_kept types.SectionHeader numbers block own number is first numbered = absurd (true≢false (sym is))
+numbered_kept types.InterfaceDescription numbers block own number is first numbered = absurd (true≢false (sym is))
+numbered_kept types.Packet numbers block own number is first numbered = absurd (true≢false (sym is))
+numbered_kept types.SimplePacket numbers block own number is first numbered = absurd (true≢false (sym is))
+numbered_kept types.NameResolution numbers block own number is first numbered = absurd (true≢false (sym is))
+numbered_kept types.EnhancedPacket numbers block own number is first numbered = absurd (true≢false (sym is))
+numbered_kept types.SystemdJournalExport numbers block own number is first numbered = absurd (true≢false (sym is))
+numbered_kept (types.Unknown n) numbers block own number is first numbered = absurd (true≢false (sym is))
+
+-- The text of a block that is kept as it is was made.
+pub puts_whole : (numbers : List ℕ) (block : Framed) (made : Made) (result : Result (Unit {0}) PcapError) → is_statistics block.type_ ≡ false → PutsWhole block made result → PutsText numbers block made result
+puts_whole numbers block made (Ok done) is puts = (carried_with block.body block, whole_kept block.type_ numbers block is, puts.0, puts.1, puts.2)
+puts_whole numbers block made (Err e) is puts = inl puts
+
+-- The text of statistics was made.
+pub puts_numbered : (numbers : List ℕ) (block : Framed) (made : Made) (result : Result (Unit {0}) PcapError) → is_statistics block.type_ ≡ true → PutsNumbered numbers block made result → PutsText numbers block made result
+puts_numbered numbers block made (Ok done) is puts =
+    (carried_with (with_number puts.2 block.body) block, numbered_kept block.type_ numbers block puts.0 puts.2 is puts.1 puts.3, puts.4, puts.5, puts.6)
+puts_numbered numbers block made (Err e) is puts = puts
+
+-- A block that gives something without a packet and an interface is kept.
+pub gives_kept : (interfaces : List Interface) (block : Framed) → gives interfaces block ≡ true → is_packet block.type_ ≡ false → is_interface block.type_ ≡ false → is_carried interfaces block ≡ true
+gives_kept interfaces block some no_packet no_interface =
+    sym (ap (λ (b : Bool). b || (is_interface block.type_ || is_carried interfaces block)) no_packet ∙ ap (λ (b : Bool). b || is_carried interfaces block) no_interface) ∙ some
 
 -- If a body is no enhanced packet, the block is made from the packet's bytes.
 pub none_plain : (packet : InBlock) (found : Option Enhanced) → found ≡ None → (order : Endianness) (number units : ℕ) → block_under order number units packet found ≡ EnhancedBody (plain_packet number units packet.original_len packet.bytes)

@@ -13,12 +13,12 @@ use Rattle.pcapfile_merge.specs.Keeping.{Progress}
 use Rattle.pcapfile_merge.specs.Packets.{Packet}
 use Rattle.pcapfile_merge.specs.Sources.{BlocksGave}
 
-module _ (base : ℕ) (a b : Progress) (given : List Packet) (s : List ℕ) (gave : BlocksGave base a b given) where
+module _ (numbers : List ℕ) (a b : Progress) (given : List Packet) (s : List ℕ) (gave : BlocksGave numbers a b given) where
   texts_known : (after : List ℕ) → Consumes (Some s) (Some after) gave.took.bytes → Texts block_format a.source.state gave.items s after
   texts_known after took =
       subst (λ (l : List ℕ). Texts block_format a.source.state gave.items l after) (sym took) (texts_more block_format blocks_lawful a.source.state gave.items gave.took.bytes [] after gave.took.texts)
 
-  first_of : (left : Option (List ℕ)) → Consumes (Some s) left gave.took.bytes → AreOfFirst base a.source.state s given
+  first_of : (left : Option (List ℕ)) → Consumes (Some s) left gave.took.bytes → AreOfFirst numbers a s given
   first_of None took = absurd took
   first_of (Some after) took =
       let front = has_front block_format blocks_lawful a.source.state s in
@@ -34,7 +34,7 @@ module _ (base : ℕ) (a b : Progress) (given : List Packet) (s : List ℕ) (gav
         },
       )
 
-  all_of : (left : Option (List ℕ)) → Consumes (Some s) left gave.took.bytes → IsAtEnd left → AreOfAll base a.source.state s given
+  all_of : (left : Option (List ℕ)) → Consumes (Some s) left gave.took.bytes → IsAtEnd left → AreOfAll numbers a s given
   all_of None took end = absurd took
   all_of (Some after) took end =
       let texts = subst (λ (l : List ℕ). Texts block_format a.source.state gave.items s l) end (texts_known after took) in
@@ -48,10 +48,10 @@ module _ (base : ℕ) (a b : Progress) (given : List Packet) (s : List ℕ) (gav
         given_are = gave.given_are;
       }
 
-  pub first_given : a.source.left ≡ Some s → AreOfFirst base a.source.state s given
+  pub first_given : a.source.left ≡ Some s → AreOfFirst numbers a s given
   first_given is = first_of b.source.left (subst (λ (l : Option (List ℕ)). Consumes l b.source.left gave.took.bytes) is gave.took.took)
 
-  pub all_given : (now : Progress) → TakesNone b.source now.source → a.source.left ≡ Some s → AreOfAll base a.source.state s given
+  pub all_given : (now : Progress) → TakesNone b.source now.source → a.source.left ≡ Some s → AreOfAll numbers a s given
   all_given now none is =
       let took = subst (λ (l : Option (List ℕ)). Consumes l b.source.left gave.took.bytes) is gave.took.took in
       elim none.why [ inl end ↦ all_of b.source.left took end | inr done ↦ absurd (true≢false (sym done ∙ gave.goes_on.0)) ]

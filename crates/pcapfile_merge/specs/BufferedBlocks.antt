@@ -34,7 +34,7 @@ source_at remaining shown reader = record {
   done = readers.is_done reader;
 }
 
--- How far the reader is, with the blocks that it kept or left out.
+-- How far the reader is, with what it counted.
 abbrev pub progress_at : {R A : Type 0} → (R → Option (List ℕ)) → Option ℕ → PcapNgReader (BufReader R A) → Kept → Progress
 progress_at remaining shown reader kept = progress_with kept (source_at remaining shown reader)
 
@@ -64,10 +64,6 @@ module _ {R : Type 0} where
   -- The counts of the blocks that were left out so far.
   abbrev pub left_out_of : BufferedBlocks R → LeftOut
   left_out_of blocks = blocks.kept.left_out
-
-  -- The text of the blocks that were kept from before the first packet.
-  abbrev pub leading_of : BufferedBlocks R → List ℕ
-  leading_of blocks = blocks.kept.leading.items
 
   -- Whether the reader has refused something.
   abbrev pub is_done : BufferedBlocks R → Bool

@@ -1,16 +1,16 @@
 -- The packet that a reader of either format holds, and the packets that it takes.
-use Rattle.std.specs.Prelude.{◌≡◌, ◌≤◌, ℕ, List, [], ◌∷◌, length, take, drop, Bool, false, Option, None, Some}
+use Rattle.std.specs.Prelude.{◌≡◌, ◌≤◌, ℕ, List, [], ◌∷◌, length, take, drop, Bool, true, false, Option, None, Some}
 use Rattle.pcap_core.specs.declared.errors.PcapError.{PcapError}
 use Rattle.pcapfile_merge.specs.declared.buffered.BufferedPackets.{BufferedPackets}
 use Rattle.pcapfile_merge.specs.declared.buffered_blocks.BufferedBlocks.{BufferedBlocks}
 use Rattle.pcapfile_merge.specs.declared.packet.Pending.{Pending}
-use Rattle.pcapfile_merge.specs.declared.reader.Interfaces.{Interfaces}
 use Rattle.pcapfile_merge.specs.declared.reader.Reader.{Reader}
 use Rattle.pcapfile_merge.specs.declared.reader.Reader.TheVariants.{Packets, Blocks}
 use Rattle.pcapfile_merge.specs.declared.reader.Taken.{Taken}
 use Rattle.pcapfile_merge.specs.Buffered as packets
 use Rattle.pcapfile_merge.specs.BufferedBlocks as blocks
 use Rattle.pcapfile_merge.specs.BufferedBlocks.{progress_of}
+use Rattle.pcapfile_merge.specs.Keeping.{is_there}
 use Rattle.pcapfile_merge.specs.Packets.{Packet}
 use Rattle.pcapfile_merge.specs.Taking.{TakesPacket, packet_in}
 use Rattle.pcapfile_merge.specs.TakingBlocks.{TakesStored}
@@ -63,14 +63,15 @@ abbrev pub Holds : Option Pending → Type 0
 Holds next = (pending : Pending) × (next ≡ Some pending)
 
 -- A reader of blocks took the next packet, or took none for the stated reason.
-abbrev pub TakesBlocks : {R : Type 0} → (R → Option (List ℕ)) → Interfaces → ℕ → BufferedBlocks R → BufferedBlocks R → Taken → Type 0
-TakesBlocks remaining choice base old new taken = TakesStored choice base (progress_of remaining old) (progress_of remaining new) (bytes_in (Blocks new)) taken.next taken.fault
+abbrev pub TakesBlocks : {R : Type 0} → (R → Option (List ℕ)) → List ℕ → BufferedBlocks R → BufferedBlocks R → Taken → Type 0
+TakesBlocks remaining numbers old new taken = TakesStored numbers (progress_of remaining old) (progress_of remaining new) (bytes_in (Blocks new)) taken.next taken.fault
 
--- A reader took the next packet, or took none for the stated reason.
-abbrev pub TakesNext : {R : Type 0} → (R → Option (List ℕ)) → Interfaces → ℕ → Reader R → Reader R → Taken → Type 0
-TakesNext remaining choice base (Packets old) (Packets new) taken = TakesPacket remaining base old new taken
-TakesNext remaining choice base (Blocks old) (Blocks new) taken = TakesBlocks remaining choice base old new taken
-TakesNext remaining choice base _ _ taken = ⊥
+-- A reader took the next packet, or took none for the stated reason. In the output, the interface of a classic capture has the number
+-- `base`, and those of a PcapNg capture have `numbers`.
+abbrev pub TakesNext : {R : Type 0} → (R → Option (List ℕ)) → ℕ → List ℕ → Reader R → Reader R → Taken → Type 0
+TakesNext remaining base numbers (Packets old) (Packets new) taken = TakesPacket remaining base old new taken
+TakesNext remaining base numbers (Blocks old) (Blocks new) taken = TakesBlocks remaining numbers old new taken
+TakesNext remaining base numbers _ _ taken = ⊥
 
 -- A packet taken without an error.
 abbrev pub alone : Pending → Taken
@@ -82,15 +83,15 @@ PacketThere remaining number old new None = (packets.header_of new ≡ packets.h
 PacketThere remaining number old new (Some pending) = TakesPacket remaining number old new (alone pending)
 
 -- The reader of a PcapNg capture took the packet in its buffer, or only removed the lent block.
-abbrev pub BlockThere : {R : Type 0} → (R → Option (List ℕ)) → ℕ → BufferedBlocks R → BufferedBlocks R → Option Pending → Type 0
-BlockThere remaining base old new None = blocks.StaysAt remaining old new
-BlockThere remaining base old new (Some pending) = (choice : Interfaces) → TakesBlocks remaining choice base old new (alone pending)
+abbrev pub BlockThere : {R : Type 0} → (R → Option (List ℕ)) → List ℕ → BufferedBlocks R → BufferedBlocks R → Option Pending → Type 0
+BlockThere remaining numbers old new None = blocks.StaysAt remaining old new
+BlockThere remaining numbers old new (Some pending) = TakesBlocks remaining numbers old new (alone pending)
 
 -- The reader of either format took the packet in its buffer, or only removed what it had lent.
-abbrev pub TakesThere : {R : Type 0} → (R → Option (List ℕ)) → ℕ → Reader R → Reader R → Option Pending → Type 0
-TakesThere remaining base (Packets old) (Packets new) next = PacketThere remaining base old new next
-TakesThere remaining base (Blocks old) (Blocks new) next = BlockThere remaining base old new next
-TakesThere remaining base _ _ next = ⊥
+abbrev pub TakesThere : {R : Type 0} → (R → Option (List ℕ)) → ℕ → List ℕ → Reader R → Reader R → Option Pending → Type 0
+TakesThere remaining base numbers (Packets old) (Packets new) next = PacketThere remaining base old new next
+TakesThere remaining base numbers (Blocks old) (Blocks new) next = BlockThere remaining numbers old new next
+TakesThere remaining base numbers _ _ next = ⊥
 
 abbrev pub HoldsFewPackets : {R : Type 0} → BufferedPackets R → Option Pending → Type 0
 HoldsFewPackets reader next = HoldsFew (Packets reader) next
@@ -103,3 +104,18 @@ fault_beside (Some pending) fault = fault
 -- If a packet was taken, it came without an error.
 abbrev pub IsWhole : Taken → Type 0
 IsWhole taken = fault_beside taken.next taken.fault ≡ None
+
+-- An interface is held.
+abbrev pub holds_interface : Option Pending → Bool
+holds_interface None = false
+holds_interface (Some pending) = pending.is_interface
+
+-- Whether there is no value.
+abbrev pub lacks_time : Bool → Bool
+lacks_time true = false
+lacks_time false = true
+
+-- Something without a time is held.
+abbrev pub holds_untimed : Option Pending → Bool
+holds_untimed None = false
+holds_untimed (Some pending) = lacks_time (is_there pending.time)

@@ -1,81 +1,134 @@
 -- Blocks without a packet that a merge keeps ('General Block Structure').
-use Rattle.std.specs.Prelude.{◌≡◌, ◌⊎◌, ◌<◌, ◌==◌, ◌&&◌, ◌++◌, not, if◌then◌else◌, ℕ, List, [], ◌∷◌, length, Bool, true, false, None, codes}
-use Rattle.std.specs.List.{flat_map}
+use Rattle.std.specs.Prelude.{◌≡◌, ◌⊎◌, ◌<◌, ◌+◌, ◌^◌, ◌==◌, ◌||◌, ◌++◌, not, if◌then◌else◌, ℕ, List, [], ◌∷◌, length, take, drop, Bool, true, false, Option, None, Some, codes}
+use Rattle.std.specs.List.{slice_get}
+use Rattle.byteorder.specs.Endian.{little_number}
 use Rattle.pcap_core.specs.declared.common.Endianness.{Endianness}
 use Rattle.pcap_core.specs.declared.common.Endianness.TheVariants.{Big, Little}
 use Rattle.pcap_core.specs.declared.errors.PcapError.{PcapError}
+use Rattle.pcap_core.specs.Codec.{number_bytes}
 use Rattle.pcap_core.specs.Errors.{IsMemory}
 use Rattle.pcap_blocks.specs.declared.block_type.BlockType.{BlockType}
 use Rattle.pcap_blocks.specs.declared.block_type.BlockType.TheVariants as types
+use Rattle.pcap_blocks.specs.InterfaceDescription.{Interface}
 use Rattle.pcap_written.specs.Raw.{raw_text}
+use Rattle.pcap_file.specs.Placed.{is_packet}
 use Rattle.pcap_file.specs.Placing.{HasMessage, Source}
 use Rattle.pcap_ng.specs.Blocks.{Item}
 use Rattle.pcap_ng.specs.Frames.{Framed}
-use Rattle.pcap_ng.specs.RawBlocks.{raw_in}
+use Rattle.pcap_ng.specs.State.{interfaces_at}
+use Rattle.pcapfile_run.specs.Passing.{counted}
 use Rattle.pcapfile_merge.specs.declared.kept.Kept.{Kept}
 use Rattle.pcapfile_merge.specs.declared.left_out.LeftOut.{LeftOut}
 use Rattle.pcapfile_merge.specs.LeavingOut.{with_block}
-use Rattle.pcapfile_merge.specs.Packets.{Packet, texts}
+use Rattle.pcapfile_merge.specs.Packets.{Packet}
 
--- Blocks of this type are copied. A custom block of the type 0x40000BAD is not to be copied into another capture ('Custom Block').
-abbrev pub is_copied : BlockType → Bool
-is_copied types.NameResolution = true
-is_copied types.SystemdJournalExport = true
-is_copied (types.Unknown number) = not (number == 0x40000BAD)
-is_copied _ = false
+-- Whether there is a value.
+abbrev pub is_there : {X : Type 0} → Option X → Bool
+is_there None = false
+is_there (Some x) = true
 
--- The numbers of a section of this order are as in the output, which is little-endian.
-abbrev pub is_little : Endianness → Bool
-is_little Big = false
-is_little Little = true
+-- The number in the first 4 bytes of a little-endian body, if it has as many.
+abbrev pub first_number : List ℕ → Option ℕ
+first_number body = if length (take 4 body) == 4 then Some (little_number 4 (take 4 body)) else None
 
--- A merge keeps this block without a packet.
-abbrev pub is_carried : Framed → Bool
-is_carried block = is_little block.endianness && is_copied block.type_
+-- One of these interfaces has this number.
+abbrev pub is_among : List Interface → Option ℕ → Bool
+is_among interfaces None = false
+is_among interfaces (Some number) = is_there (slice_get interfaces number)
 
--- The block as the output has it: it goes before the next packet, since it has no time.
-abbrev pub carried : Framed → Packet
-carried block = record { time = None; text = raw_text (raw_in block) }
+-- Blocks of this type are copied, and statistics are if their interface is described. A custom block of the type 0x40000BAD is not to be
+-- copied into another capture ('Custom Block').
+abbrev pub is_copied : List Interface → BlockType → List ℕ → Bool
+is_copied interfaces types.NameResolution body = true
+is_copied interfaces types.SystemdJournalExport body = true
+is_copied interfaces types.InterfaceStatistics body = is_among interfaces (first_number body)
+is_copied interfaces (types.Unknown number) body = not (number == 0x40000BAD)
+is_copied interfaces _ body = false
 
--- The block, if it is kept.
-abbrev pub kept_list : Framed → List Packet
-kept_list block = if is_carried block then carried block ∷ [] else []
+-- The output is little-endian, so only blocks of little-endian sections can be copied.
+abbrev pub carried_in : Endianness → List Interface → Framed → Bool
+carried_in Big interfaces block = false
+carried_in Little interfaces block = is_copied interfaces block.type_ block.body
 
--- Those of these blocks that are kept.
-abbrev pub kept_blocks : List Item → List Packet
-kept_blocks = flat_map (λ (item : Item). kept_list item.block)
+-- A merge keeps this block without a packet, whose section has these interfaces so far.
+abbrev pub is_carried : List Interface → Framed → Bool
+is_carried interfaces block = carried_in block.endianness interfaces block
+
+-- Blocks of this type hold interface statistics.
+abbrev pub is_statistics : BlockType → Bool
+is_statistics types.InterfaceStatistics = true
+is_statistics _ = false
+
+-- Blocks of this type describe an interface.
+abbrev pub is_interface : BlockType → Bool
+is_interface types.InterfaceDescription = true
+is_interface _ = false
+
+-- A block gives something to a merge: it holds a packet, describes an interface, or is kept.
+abbrev pub gives : List Interface → Framed → Bool
+gives interfaces block = is_packet block.type_ || (is_interface block.type_ || is_carried interfaces block)
+
+-- A kept block with this body, as the output has it. It goes before the next packet, since it has no time.
+abbrev pub carried_with : List ℕ → Framed → Packet
+carried_with body block = record { time = None; text = raw_text (record { type_ = block.type_; endianness = block.endianness; body = body }); is_interface = false }
+
+-- The interface of a section that has the index `own` has this number in the output.
+abbrev pub IsNumbered : List ℕ → ℕ → ℕ → Type 0
+IsNumbered numbers own number = (slice_get numbers own ≡ Some number) × (number < 2 ^ 32)
+
+-- The body of statistics of another interface: the first 4 bytes are its number.
+abbrev pub with_number : ℕ → List ℕ → List ℕ
+with_number number body = number_bytes Little 4 number ++ drop 4 body
+
+-- A kept block of this type becomes this one. Statistics get the output's number of their interface, and all other blocks stay as they are.
+abbrev pub CarriedBy : BlockType → List ℕ → Framed → Packet → Type 0
+CarriedBy types.InterfaceStatistics numbers block p =
+    (own : ℕ) × (first_number block.body ≡ Some own) × (number : ℕ) × IsNumbered numbers own number × (p ≡ carried_with (with_number number block.body) block)
+CarriedBy _ numbers block p = p ≡ carried_with block.body block
+
+-- A block is kept as this one, where the interfaces of its section have these numbers in the output.
+abbrev pub IsKeptAs : List ℕ → List Interface → Framed → Packet → Type 0
+IsKeptAs numbers interfaces block p = (is_carried interfaces block ≡ true) × CarriedBy block.type_ numbers block p
 
 -- The counts after one more block. A block that is kept isn't counted.
-abbrev pub with_framed : Framed → LeftOut → LeftOut
-with_framed block left_out = if is_carried block then left_out else with_block block.type_ left_out
+abbrev pub with_framed : List Interface → Framed → LeftOut → LeftOut
+with_framed interfaces block left_out = if is_carried interfaces block then left_out else with_block block.type_ left_out
+
+-- How many interfaces came before the current section, after one more block of this type.
+abbrev pub before_with : BlockType → Kept → ℕ
+before_with types.SectionHeader kept = kept.all
+before_with _ kept = kept.before
+
+-- How many interfaces there were, after one more block of this type.
+abbrev pub all_with : BlockType → ℕ → ℕ
+all_with types.InterfaceDescription all = counted (all + 1)
+all_with _ all = all
+
+-- The counts after one more block of a section with these interfaces.
+abbrev pub kept_with : List Interface → Framed → Kept → Kept
+kept_with interfaces block kept =
+    record { left_out = with_framed interfaces block kept.left_out; before = before_with block.type_ kept; all = all_with block.type_ kept.all }
+
+abbrev pub with_item : Item → Kept → Kept
+with_item item = kept_with (interfaces_at item.after) item.block
 
 -- The counts after these blocks.
-abbrev pub with_items : List Item → LeftOut → LeftOut
-with_items [] left_out = left_out
-with_items (item ∷ items) left_out = with_items items (with_framed item.block left_out)
+abbrev pub with_items : List Item → Kept → Kept
+with_items [] kept = kept
+with_items (item ∷ items) kept = with_items items (with_item item kept)
+
+-- The output's numbers of the interfaces of the current section, among those of all interfaces of an input.
+abbrev pub of_section : Kept → List ℕ → List ℕ
+of_section kept numbers = drop kept.before numbers
 
 -- Why a block can't be kept: there is no memory for it, or it is too long.
 abbrev pub IsUnkept : Framed → PcapError → Type 0
 IsUnkept block e = IsMemory e ⊎ ((4294967248 < length block.body) × HasMessage (codes "Block: a block that is too long") e)
 
--- How far a reader of blocks is: its source, the text of the blocks that it kept from before its first packet, and the counts of the blocks
--- that it left out.
+-- How far a reader of blocks is: its source, and what it counted.
 pub record Progress : Type 0 where
   pub source : Source
-  pub leading : List ℕ
-  pub left_out : LeftOut
+  pub kept : Kept
 
 abbrev pub progress_with : Kept → Source → Progress
-progress_with kept source = record { source = source; leading = kept.leading.items; left_out = kept.left_out }
-
--- No further block was kept or left out.
-abbrev pub IsBeside : Progress → Progress → Type 0
-IsBeside a b = (b.leading ≡ a.leading) × (b.left_out ≡ a.left_out)
-
--- KeepsBlock block old new: the block was kept, or it was counted as left out.
-abbrev pub KeepsBlock : Framed → Kept → Kept → Type 0
-KeepsBlock block old new = (new.leading.items ≡ old.leading.items ++ texts (kept_list block)) × (new.left_out ≡ with_framed block old.left_out)
-
--- FailsToKeep block old new e: the block can't be kept, and nothing changed.
-abbrev pub FailsToKeep : Framed → Kept → Kept → PcapError → Type 0
-FailsToKeep block old new e = (new.leading.items ≡ old.leading.items) × (new.left_out ≡ old.left_out) × (is_carried block ≡ true) × IsUnkept block e
+progress_with kept source = record { source = source; kept = kept }

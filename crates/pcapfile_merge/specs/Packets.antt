@@ -8,10 +8,12 @@ use Rattle.pcap_blocks.specs.ParsedBlock.{EnhancedBody}
 use Rattle.pcap_written.specs.Plain.{plain_packet}
 use Rattle.pcap_file.specs.Converted.{little_text, time_of}
 
--- A packet that is merged, or another block: its time, if it has one, and the text of the block that is written.
+-- A packet that is merged, or another block: its time, if it has one, the text of the block that is written, and whether it describes an
+-- interface.
 pub record Packet : Type 0 where
   pub time : Option Timestamp
   pub text : List ℕ
+  pub is_interface : Bool
 
 -- The text of a packet's block, and the texts of several packets in a row.
 abbrev pub text_of : Packet → List ℕ
@@ -49,4 +51,5 @@ abbrev pub packet_of : ℕ → Captured → Packet
 packet_of number captured = record {
   time = Some (exact_time captured);
   text = plain_text number (time_of captured) captured.header.orig_len captured.bytes;
+  is_interface = false;
 }

@@ -1,11 +1,11 @@
 //! Blocks of a PcapNg capture, lent from the reader's buffer without a copy.
 
-ghost use Rattle.std.specs.Prelude.{◌≡◌, [], false, map, None, IfSome};
+ghost use Rattle.std.specs.Prelude.{◌≡◌, false, map, None, IfSome};
 ghost use Rattle.std.specs.Io.Buffered.{reader_remaining};
 ghost use Rattle.pcap_core.specs.Answer.{number_in};
 ghost use Rattle.pcap_blocks.specs.InterfaceDescription.{interface_of};
 ghost use Rattle.pcap_file.specs.Placing as readers;
-ghost use Rattle.pcapfile_merge.specs.BufferedBlocks.{LiesThere, PlainText, body_of, interfaces_of, leading_of, left_out_of, progress_of};
+ghost use Rattle.pcapfile_merge.specs.BufferedBlocks.{LiesThere, PlainText, body_of, interfaces_of, left_out_of, progress_of};
 ghost use Rattle.pcapfile_merge.specs.LeavingOut.{nothing};
 
 use crate::kept::Kept;
@@ -49,25 +49,18 @@ impl<R> BufferedBlocks<R> {
     {
         self.kept.left_out
     }
-
-    /// Returns the text of the blocks without a packet that were kept from before the first packet. They are little-endian.
-    pub fn leading(&self) -> &[u8]
-        ensures { result.now ≡ leading_of self.now }
-    {
-        self.kept.leading.as_slice()
-    }
 }
 
 impl<R: Read + Drop> BufferedBlocks<R> {
     /// Makes a reader of the blocks after those that `reader` took.
     pub fn new(alloc: Global, reader: PcapNgReader<BufReader<R>>) -> BufferedBlocks<R>
-        ensures { progress_of R.remaining result ≡ record { source = readers.source_of (reader_remaining R.remaining) reader; leading = []; left_out = nothing } }
+        ensures { progress_of R.remaining result ≡ record { source = readers.source_of (reader_remaining R.remaining) reader; kept = record { left_out = nothing; before = 0; all = 0 } } }
     {
         BufferedBlocks {
             reader,
             shown: None,
             made: Made::new(alloc),
-            kept: Kept::new(alloc),
+            kept: Kept::new(),
         }
     }
 

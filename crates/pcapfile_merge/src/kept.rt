@@ -1,16 +1,20 @@
 //! Blocks without a packet, which a merge keeps or leaves out.
 
-ghost use Rattle.std.specs.Prelude.{◌≡◌, ◌≤◌, [], length, IfOk, MatchResult};
+ghost use Rattle.std.specs.Prelude.{◌≡◌, ◌≤◌, length, map, IfOk, MatchResult};
+ghost use Rattle.pcap_core.specs.Errors.{IsMemory};
+ghost use Rattle.pcap_blocks.specs.InterfaceDescription.{interface_of};
 ghost use Rattle.pcap_ng.specs.Frames.{framed_of};
 ghost use Rattle.pcapfile_merge.specs.LeavingOut.{nothing};
 ghost use Rattle.pcapfile_merge.specs.Keeping as keeping;
-ghost use Rattle.pcapfile_merge.specs.Keeping.{FailsToKeep, IsUnkept, KeepsBlock, carried};
+ghost use Rattle.pcapfile_merge.specs.Keeping.{IsUnkept, carried_with, kept_with, with_number};
 
 use crate::left_out::LeftOut;
-use pcap_file::pcapng::{Block, BlockType};
+use crate::parts::{behind, front};
+use byteorder::{ByteOrder, LittleEndian};
+use pcap_file::pcapng::{Block, BlockType, InterfaceDescriptionBlock};
 use pcap_file::{Endianness, PcapError, ResultParsing};
-use pcap_written::{RawPcapNgBlock, frame};
-use std::alloc::Global;
+use pcap_written::{RawBlock, RawPcapNgBlock, frame};
+use pcapfile_run::interface_at;
 
 /// The most bytes of a body that is kept.
 const LONGEST: usize = 4_294_967_248;
@@ -18,47 +22,52 @@ const LONGEST: usize = 4_294_967_248;
 /// The type of custom blocks that are not to be copied into another capture.
 const NOT_COPIED: u32 = 0x4000_0BAD;
 
-/// What a reader made of the blocks without a packet that it skipped.
-#[derive(Drop)]
+/// The size of the number of an interface, in bytes.
+const NUMBER: usize = 4;
+
+/// What a reader counted in the blocks that it took.
+#[derive(Clone, Copy)]
 pub(crate) struct Kept {
-    /// The text of those that it kept.
-    pub(crate) leading: Vec<u8>,
-    /// How many it left out.
+    /// How many blocks without a packet it left out.
     pub(crate) left_out: LeftOut,
-    text: Vec<u8>,
+    /// How many interfaces came before the current section.
+    pub(crate) before: usize,
+    /// How many interfaces there were.
+    pub(crate) all: usize,
 }
 
 impl Kept {
-    // Returns what there is before any block.
-    pub(crate) fn new(alloc: Global) -> Kept
-        ensures leading { result.leading.items ≡ [] }
-        ensures left_out { result.left_out ≡ nothing }
+    // Returns the counts before any block.
+    pub(crate) fn new() -> Kept
+        ensures { result ≡ record { left_out = nothing; before = 0; all = 0 } }
     {
         Kept {
-            leading: Vec::new(alloc),
             left_out: LeftOut::nothing(),
-            text: Vec::new(alloc),
+            before: 0,
+            all: 0,
         }
     }
 
-    // Keeps a block without a packet, or counts it as left out.
-    pub(crate) fn pass(&mut self, block: &Block) -> ResultParsing<()>
-        ensures { MatchResult result (λ done. KeepsBlock (framed_of block.now) self.old self.new) (FailsToKeep (framed_of block.now) self.old self.new) }
+    // Counts a block of a section that has these interfaces with it.
+    pub(crate) fn pass(&mut self, interfaces: &[InterfaceDescriptionBlock<'static>], block: &Block)
+        ensures { self.new ≡ kept_with (map interface_of interfaces.now) (framed_of block.now) self.old }
     {
-        if !is_carried(block) {
+        if !is_carried(interfaces, block) {
             self.left_out.count(block.type_);
-            return Ok(());
         }
-        put_kept(block, &mut self.text)?;
-        self.leading.extend_from_slice(self.text.as_slice())?;
-        Ok(())
+        match block.type_ {
+            BlockType::SectionHeader => self.before = self.all,
+            BlockType::InterfaceDescription => self.all = self.all.saturating_add(1),
+            _ => (),
+        }
     }
 }
 
-// Replaces `text` by the text of a block that is kept.
+// Replaces `text` by the text of a block that is kept as it is.
 #[tactic(auto, using(crate::proofs::Keeping::kept_length))]
 pub(crate) fn put_kept(block: &Block, text: &mut Vec<u8>) -> ResultParsing<()>
-    ensures put { MatchResult result (λ done. text.new.items ≡ (carried (framed_of block.now)).text) (IsUnkept (framed_of block.now)) }
+    ensures put { MatchResult result (λ done. text.new.items ≡ (carried_with (framed_of block.now).body (framed_of block.now)).text)
+        (IsUnkept (framed_of block.now)) }
     ensures few { IfOk result (λ done. length text.new.items ≤ 4294967260) }
 {
     if block.body.as_slice().len() > LONGEST {
@@ -68,23 +77,102 @@ pub(crate) fn put_kept(block: &Block, text: &mut Vec<u8>) -> ResultParsing<()>
     Ok(())
 }
 
-// Returns whether a merge keeps this block without a packet.
-pub(crate) fn is_carried(block: &Block) -> bool
-    ensures { result ≡ keeping.is_carried (framed_of block.now) }
+// Replaces `text` by the text of statistics that are kept, with another interface number. The function uses `body` as a buffer.
+#[tactic(auto, using(crate::proofs::Keeping::numbered_length, crate::proofs::Keeping::same_length))]
+pub(crate) fn put_statistics(
+    block: &Block,
+    number: u32,
+    body: &mut Vec<u8>,
+    text: &mut Vec<u8>,
+) -> ResultParsing<()>
+    requires { 4 ≤ length (framed_of block.now).body }
+    ensures put { MatchResult result (λ done. text.new.items ≡ (carried_with (with_number number (framed_of block.now).body) (framed_of block.now)).text)
+        (IsUnkept (framed_of block.now)) }
+    ensures few { IfOk result (λ done. length text.new.items ≤ 4294967260) }
+{
+    let old = block.body.as_slice();
+    if old.len() > LONGEST {
+        return Err(PcapError::InvalidField("Block: a block that is too long"));
+    }
+    put_number(number, old, body)?;
+    let raw = RawBlock {
+        type_: block.type_,
+        endianness: block.endianness(),
+        body: body.as_slice(),
+    };
+    frame(text, raw)?;
+    Ok(())
+}
+
+// Replaces `body` by another body of statistics, with another interface number.
+fn put_number(number: u32, old: &[u8], body: &mut Vec<u8>) -> ResultParsing<()>
+    ensures { MatchResult result (λ done. body.new.items ≡ with_number number old.now) IsMemory }
+{
+    let mut bytes = [0; NUMBER];
+    LittleEndian::write_u32(&mut bytes, number);
+    body.clear();
+    body.extend_from_slice(&bytes)?;
+    body.extend_from_slice(behind(old, NUMBER))?;
+    Ok(())
+}
+
+// Returns whether a merge keeps this block without a packet, whose section has these interfaces so far.
+pub(crate) fn is_carried(interfaces: &[InterfaceDescriptionBlock<'static>], block: &Block) -> bool
+    ensures { result ≡ keeping.is_carried (map interface_of interfaces.now) (framed_of block.now) }
 {
     match block.endianness() {
         Endianness::Big => false,
-        Endianness::Little => is_copied(block.type_),
+        Endianness::Little => is_copied(interfaces, block.type_, block.body.as_slice()),
     }
 }
 
-// Returns whether blocks of this type are copied.
-fn is_copied(type_: BlockType) -> bool
-    ensures { result ≡ keeping.is_copied type_ }
+// Returns whether blocks of this type are copied, or statistics with this body.
+fn is_copied(
+    interfaces: &[InterfaceDescriptionBlock<'static>],
+    type_: BlockType,
+    body: &[u8],
+) -> bool
+    ensures { result ≡ keeping.is_copied (map interface_of interfaces.now) type_ body.now }
 {
     match type_ {
         BlockType::NameResolution | BlockType::SystemdJournalExport => true,
+        BlockType::InterfaceStatistics => is_among(interfaces, first_number(body)),
         BlockType::Unknown(number) => number != NOT_COPIED,
         _ => false,
     }
+}
+
+// Returns whether one of these interfaces has this number.
+fn is_among(interfaces: &[InterfaceDescriptionBlock<'static>], number: Option<u32>) -> bool
+    ensures { result ≡ keeping.is_among (map interface_of interfaces.now) number }
+{
+    match number {
+        None => false,
+        Some(number) => interface_at(interfaces, number).is_some(),
+    }
+}
+
+// Returns the number in the first 4 bytes of a little-endian body, if it has as many.
+pub(crate) fn first_number(body: &[u8]) -> Option<u32>
+    ensures { result ≡ keeping.first_number body.now }
+{
+    let first = front(body, NUMBER);
+    if first.len() != NUMBER {
+        return None;
+    }
+    Some(LittleEndian::read_u32(first))
+}
+
+// Returns whether blocks of this type hold interface statistics.
+pub(crate) fn is_statistics(type_: BlockType) -> bool
+    ensures { result ≡ keeping.is_statistics type_ }
+{
+    matches!(type_, BlockType::InterfaceStatistics)
+}
+
+// Returns whether blocks of this type describe an interface.
+pub(crate) fn is_interface(type_: BlockType) -> bool
+    ensures { result ≡ keeping.is_interface type_ }
+{
+    matches!(type_, BlockType::InterfaceDescription)
 }

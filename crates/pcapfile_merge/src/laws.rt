@@ -22,16 +22,16 @@ pub fn merges_of_sorted_inputs_are_sorted()
         IsSorted IsEarlier (map (λ (given : ℕ × Packet). given.1) out) }
 {}
 
-/// If the bytes of the stream are known, the packets and kept blocks that a source of blocks gave are those of the first blocks of their
-/// front.
+/// If the bytes of the stream are known, the packets, interfaces and kept blocks that a source of blocks gave are those of the first
+/// blocks of their front.
 pub fn blocks_give_their_front()
-    ensures { (base : ℕ) (a b : Progress) (given : List Packet) (s : List ℕ) → BlocksGave base a b given → a.source.left ≡ Some s
-        → AreOfFirst base a.source.state s given }
+    ensures { (numbers : List ℕ) (a b : Progress) (given : List Packet) (s : List ℕ) → BlocksGave numbers a b given → a.source.left ≡ Some s
+        → AreOfFirst numbers a s given }
 {}
 
-/// If a source of blocks reached the end of its stream, its packets and kept blocks are those of all blocks of the front, and nothing is
-/// left.
+/// If a source of blocks reached the end of its stream, its packets, interfaces and kept blocks are those of all blocks of the front, and
+/// nothing is left.
 pub fn blocks_give_all_at_the_end()
-    ensures { (base : ℕ) (a b now : Progress) (given : List Packet) (s : List ℕ) → BlocksGave base a b given → TakesNone b.source now.source → a.source.left ≡ Some s
-        → AreOfAll base a.source.state s given }
+    ensures { (numbers : List ℕ) (a b now : Progress) (given : List Packet) (s : List ℕ) → BlocksGave numbers a b given → TakesNone b.source now.source → a.source.left ≡ Some s
+        → AreOfAll numbers a s given }
 {}

@@ -9,6 +9,7 @@ pub mod laws;
 mod left_out;
 mod made;
 mod merging;
+mod numbers;
 mod packet;
 mod parts;
 mod reader;

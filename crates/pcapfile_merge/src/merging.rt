@@ -4,7 +4,7 @@ ghost use Rattle.std.specs.Prelude.{◌≡◌, ◌≤◌, ◌<◌, length, Some}
 ghost use Rattle.pcap_items.specs.Writing.{WritesAll};
 ghost use Rattle.pcapfile_merge.specs.Choosing.{Chooses};
 ghost use Rattle.pcapfile_merge.specs.Holding.{Holds};
-ghost use Rattle.pcapfile_merge.specs.Merging.{MergesAt, MergesNext, MergesRun, outcome_of};
+ghost use Rattle.pcapfile_merge.specs.Merging.{MergesAt, MergesNext, MergesRun, next_number, outcome_of, output_of};
 ghost use Rattle.pcapfile_merge.specs.Packets.{texts};
 ghost use Rattle.pcapfile_merge.specs.Sources.{pending_of};
 
@@ -21,75 +21,105 @@ use std::io::{Read, Write};
 pub struct Merged {
     /// How many packets and other blocks were written.
     pub packets: u64,
+    /// The number that the output's next interface gets.
+    pub interfaces: u64,
     /// The error with which writing failed, if it did.
     pub fault: Option<PcapError>,
 }
 
-/// Writes the packets and the other blocks of the sources, merged by time, and at most `most` of them.
+/// Writes the packets and the other blocks of the sources, merged by time, and at most `most` of them. The interfaces among them get the
+/// numbers from `interfaces` on, in the order of the output.
 pub fn merge_packets<R: Read + Drop, W: Write>(
     sources: &mut [Source<R>],
     writer: &mut W,
     most: u64,
+    interfaces: u64,
 ) -> Merged
     ensures most { result.packets ≤ most }
-    ensures run { MergesRun R.remaining sources.old sources.new (W.contents writer.old) (W.contents writer.new) most result }
+    ensures run { MergesRun R.remaining sources.old sources.new (output_of (W.contents writer.old) interfaces)
+        (output_of (W.contents writer.new) result.interfaces) most result }
 {
-    let mut merged = Merged {
-        packets: 0,
-        fault: None,
-    };
-    merged.fault = merge_sources(sources, writer, most, &mut merged.packets).err();
-    merged
+    let mut packets = 0;
+    let mut next = interfaces;
+    let ended = merge_sources(sources, writer, most, &mut packets, &mut next);
+    Merged {
+        packets,
+        interfaces: next,
+        fault: ended.err(),
+    }
 }
 
-// Writes the packets of the sources, merged by time, and counts them.
+// Writes what the sources give, merged by time, counts it, and numbers the interfaces.
 fn merge_sources<R: Read + Drop, W: Write>(
     sources: &mut [Source<R>],
     writer: &mut W,
     most: u64,
     packets: &mut u64,
+    interfaces: &mut u64,
 ) -> ResultParsing<()>
     requires { packets.old ≡ 0 }
     ensures most { packets.new ≤ most }
-    ensures run { MergesRun R.remaining sources.old sources.new (W.contents writer.old) (W.contents writer.new) most (outcome_of packets.new result) }
+    ensures run { MergesRun R.remaining sources.old sources.new (output_of (W.contents writer.old) interfaces.old)
+        (output_of (W.contents writer.new) interfaces.new) most (outcome_of packets.new interfaces.new result) }
 {
     while *packets < most {
         let place = match earliest(sources) {
             None => return Ok(()),
             Some(place) => place,
         };
-        merge_at(sources, place, writer)?;
+        merge_at(sources, place, writer, interfaces)?;
         *packets += 1;
     }
     Ok(())
 }
 
-// Writes the packet of the chosen source, and takes its next one.
+// Writes what the chosen source gives, and takes what it gives next.
 #[inline(always)]
 fn merge_at<R: Read + Drop, W: Write>(
     sources: &mut [Source<R>],
     place: usize,
     writer: &mut W,
+    interfaces: &mut u64,
 ) -> ResultParsing<()>
     requires chosen { Chooses sources.old (Some place) }
     requires within { place < length sources.old }
-    ensures { MergesAt R.remaining place sources.old sources.new (W.contents writer.old) (W.contents writer.new) result }
+    ensures { MergesAt R.remaining place sources.old sources.new (output_of (W.contents writer.old) interfaces.old)
+        (output_of (W.contents writer.new) interfaces.new) result }
 {
-    merge_next(&mut sources[place], writer)
+    merge_next(&mut sources[place], writer, interfaces)
 }
 
-// Writes the packet that a source holds, and takes its next one.
+// Writes what a source gives, numbers it if it is an interface, and takes what the source gives next.
 #[inline(always)]
-fn merge_next<R: Read + Drop, W: Write>(source: &mut Source<R>, writer: &mut W) -> ResultParsing<()>
+fn merge_next<R: Read + Drop, W: Write>(
+    source: &mut Source<R>,
+    writer: &mut W,
+    interfaces: &mut u64,
+) -> ResultParsing<()>
     requires { Holds source.old.taken.next }
-    ensures { MergesNext R.remaining source.old source.new (W.contents writer.old) (W.contents writer.new) result }
+    ensures { MergesNext R.remaining source.old source.new (output_of (W.contents writer.old) interfaces.old)
+        (output_of (W.contents writer.new) interfaces.new) result }
 {
     put_held(source, writer)?;
-    source.advance();
+    let number = *interfaces;
+    *interfaces = next_number(source.holds_interface(), number);
+    source.advance(number);
     Ok(())
 }
 
-// Writes the packet that a source holds.
+// Returns the number of the output's next interface, after one more packet, or after one more interface with this number.
+#[inline(always)]
+fn next_number(is_interface: bool, number: u64) -> u64
+    ensures { result ≡ next_number is_interface number }
+{
+    if is_interface {
+        number.saturating_add(1)
+    } else {
+        number
+    }
+}
+
+// Writes what a source holds.
 #[inline(always)]
 fn put_held<R: Read + Drop, W: Write>(source: &Source<R>, writer: &mut W) -> ResultParsing<()>
     ensures { WritesAll (W.contents writer.old) (W.contents writer.new) (texts (pending_of source.now)) result }

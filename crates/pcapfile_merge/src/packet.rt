@@ -25,6 +25,8 @@ pub(crate) struct Pending {
     pub(crate) len: usize,
     /// Whether its block is made for the output.
     pub(crate) is_made: bool,
+    /// Whether it is no packet but the description of an interface.
+    pub(crate) is_interface: bool,
 }
 
 /// Returns whether a packet of the first time goes before one of the second. A packet without a time goes before each that has one.

@@ -52,41 +52,35 @@ pub(crate) struct Taken {
 impl<R: Read + Drop> Reader<R> {
     ghost use Rattle.pcapfile_merge.specs.Holding.{IsReady, IsReadyIf, IsWhole, HoldsFew, TakesNext, TakesThere};
 
-    // Takes the next packet if it is whole in the buffer. `base` is the number of its interface, or of the capture's first. Otherwise it
-    // returns None and only removes the lent packet.
+    // Takes the next packet if it is whole in the buffer. In the output, the interface of a classic capture has the number `base`, and
+    // those of a PcapNg capture have `numbers`. Otherwise the call returns None and only removes the lent packet.
     #[inline(always)]
-    pub(crate) fn next_there(&mut self, base: u32) -> Option<Pending>
+    pub(crate) fn next_there(&mut self, base: u32, numbers: &[u64]) -> Option<Pending>
         requires { IsReady self.old }
-        ensures there { TakesThere R.remaining base self.old self.new result }
+        ensures there { TakesThere R.remaining base numbers.now self.old self.new result }
         ensures few { HoldsFew self.new result }
         ensures ready { IsReady self.new }
     {
         match self {
             Reader::Packets(packets) => take_packet_there(packets, base),
-            Reader::Blocks(blocks) => take_there(blocks, base),
+            Reader::Blocks(blocks) => take_there(blocks, numbers),
         }
     }
 
-    // Takes the next packet. `base` is the number of its interface, or of the first interface of its capture.
-    pub(crate) fn take_next(&mut self, alloc: Global, base: u32, interfaces: Interfaces) -> Taken
+    // Takes the next packet. In the output, the interface of a classic capture has the number `base`, and those of a PcapNg capture have
+    // `numbers`.
+    pub(crate) fn take_next(&mut self, alloc: Global, base: u32, numbers: &[u64]) -> Taken
         requires { IsReady self.old }
-        ensures takes { TakesNext R.remaining interfaces base self.old self.new result }
+        ensures takes { TakesNext R.remaining base numbers.now self.old self.new result }
         ensures few { HoldsFew self.new result.next }
         ensures ready { IsReadyIf self.new result.next }
         ensures whole { IsWhole result }
     {
         match self {
             Reader::Packets(reader) => take_packet(reader, base),
-            Reader::Blocks(reader) => take_blocks(alloc, reader, base, interfaces),
+            Reader::Blocks(reader) => take_blocks(alloc, reader, numbers),
         }
     }
-}
-
-/// Whether a capture may describe further interfaces.
-#[derive(Clone, Copy)]
-pub(crate) enum Interfaces {
-    Open,
-    Closed,
 }
 
 // Takes the next packet of a classic capture if it is whole in the buffer. Otherwise it returns None and lends nothing.
@@ -148,5 +142,6 @@ fn pending_of_header(header: PacketHeader, number: u32) -> Pending
         start: 0,
         len: incl_len as usize,
         is_made: false,
+        is_interface: false,
     }
 }

@@ -1,32 +1,32 @@
 //! The packets of a PcapNg capture that is merged.
 
-ghost use Rattle.std.specs.Prelude.{◌≡◌, ◌⊎◌, ◌≤◌, ℕ, List, length, false, true, map, Some, IfOk, IfSome, MatchResult};
+ghost use Rattle.std.specs.Prelude.{◌≡◌, ◌≤◌, ℕ, List, length, drop, false, true, map, IfOk, IfSome};
 ghost use Rattle.std.specs.Option.{option_map};
 ghost use Rattle.pcap_blocks.specs.EnhancedPacket.{enhanced_of};
-ghost use Rattle.pcap_blocks.specs.InterfaceDescription.{interface_of};
+ghost use Rattle.pcap_blocks.specs.InterfaceDescription.{Interface, interface_of};
 ghost use Rattle.pcap_ng.specs.Frames.{framed_of};
 ghost use Rattle.pcap_blocks.specs.ParsedBlock as bodies;
 ghost use Rattle.pcap_file.specs.Placed.{is_packet};
 ghost use Rattle.pcap_file.specs.Placing.{source_of};
 ghost use Rattle.pcap_ng.specs.Reader.{body_of, is_done, lent_item};
-ghost use Rattle.pcap_ng.specs.State.{is_kept};
 ghost use Rattle.pcapfile_run.specs.BlockPackets.{in_block};
-ghost use Rattle.pcapfile_merge.specs.Keeping.{progress_with};
-ghost use Rattle.pcapfile_merge.specs.Passing.{BarsType, IsGiver, PassesOne, PassesTo, TellsBody, TellsGiver, TellsPending, TellsStored, TellsTaken};
+ghost use Rattle.pcapfile_merge.specs.Keeping as keeping;
+ghost use Rattle.pcapfile_merge.specs.Keeping.{gives, progress_with};
+ghost use Rattle.pcapfile_merge.specs.Passing.{PassesTo, TellsBody, TellsPending, TellsStored, TellsTaken};
 ghost use Rattle.pcapfile_merge.specs.Passing.{bytes_before, in_said};
 ghost use Rattle.pcapfile_merge.specs.BufferedBlocks as buffered;
 ghost use Rattle.pcapfile_merge.specs.Holding.{BlockThere, HoldsFewBlocks, IsReadyBlocks, IsWhole, TakesBlocks};
 ghost use Rattle.pcapfile_merge.specs.TakingBlocks.{IsTimeBy, enhanced_in};
 
 use crate::buffered_blocks::BufferedBlocks;
-use crate::kept::{Kept, is_carried};
+use crate::kept::{Kept, is_carried, is_interface};
 use crate::made::Made;
+use crate::numbers::{number_of, numbers_behind};
 use crate::packet::{MOST, Pending};
-use crate::reader::{Interfaces, Taken};
+use crate::reader::Taken;
 use pcap_file::pcapng::enhanced::EnhancedNumbers;
 use pcap_file::pcapng::{
-    Block, BlockHeader, BlockType, EnhancedPacketBlock, InterfaceDescriptionBlock, ParsedBlock,
-    Timestamp,
+    Block, BlockHeader, EnhancedPacketBlock, InterfaceDescriptionBlock, ParsedBlock, Timestamp,
 };
 use pcap_file::run::Unplaced;
 use pcap_file::{PcapError, PcapNgReader, ResultParsing};
@@ -40,20 +40,19 @@ const TIMED: usize = 20;
 /// The bytes of a body before those of its packet, if the block has no time.
 const SIMPLE: usize = 4;
 
-// Takes the next packet of a PcapNg capture whose interfaces are numbered from `base` on, or reports why it can't.
+// Takes the next packet of a PcapNg capture whose interfaces have these numbers in the output, or reports why it can't.
 pub(crate) fn take_blocks<R: Read + Drop>(
     alloc: Global,
     blocks: &mut BufferedBlocks<R>,
-    base: u32,
-    interfaces: Interfaces,
+    numbers: &[u64],
 ) -> Taken
     requires { buffered.is_done blocks.old ≡ false }
-    ensures takes { TakesBlocks R.remaining interfaces base blocks.old blocks.new result }
+    ensures takes { TakesBlocks R.remaining numbers.now blocks.old blocks.new result }
     ensures few { HoldsFewBlocks blocks.new result.next }
     ensures ready { IsReadyBlocks blocks.new result.next }
     ensures whole { IsWhole result }
 {
-    match take_shown(alloc, blocks, base, interfaces) {
+    match take_shown(alloc, blocks, numbers) {
         Ok(next) => Taken { next, fault: None },
         Err(error) => Taken {
             next: None,
@@ -62,28 +61,25 @@ pub(crate) fn take_blocks<R: Read + Drop>(
     }
 }
 
-// Takes the next packet of a PcapNg capture whose interfaces are numbered from `base` on: from the buffer if it is whole there, or else
-// by holding its block.
+// Takes the next packet of a PcapNg capture: from the buffer if it is whole there, or else by holding its block.
 fn take_shown<R: Read + Drop>(
     alloc: Global,
     blocks: &mut BufferedBlocks<R>,
-    base: u32,
-    interfaces: Interfaces,
+    numbers: &[u64],
 ) -> ResultParsing<Option<Pending>>
     requires { buffered.is_done blocks.old ≡ false }
-    ensures takes { TellsTaken interfaces base (buffered.progress_of R.remaining blocks.old) (buffered.progress_of R.remaining blocks.new)
+    ensures takes { TellsTaken numbers.now (buffered.progress_of R.remaining blocks.old) (buffered.progress_of R.remaining blocks.new)
         (buffered.body_of blocks.new) result }
     ensures few { IfOk result (λ next. IfSome next (λ pending. pending.len ≤ 4294967260)) }
 {
-    match take_there(blocks, base) {
+    match take_there(blocks, numbers) {
         Some(pending) => Ok(Some(pending)),
         None => take_block(
             alloc,
             &mut blocks.reader,
             &mut blocks.made,
             &mut blocks.kept,
-            base,
-            interfaces,
+            numbers,
         ),
     }
 }
@@ -92,17 +88,18 @@ fn take_shown<R: Read + Drop>(
 #[inline(always)]
 pub(crate) fn take_there<R: Read + Drop>(
     blocks: &mut BufferedBlocks<R>,
-    base: u32,
+    numbers: &[u64],
 ) -> Option<Pending>
     requires { buffered.is_done blocks.old ≡ false }
     ensures few { IfSome result (λ pending. pending.len ≤ 4294967260) }
     ensures ready { buffered.is_done blocks.new ≡ false }
     ensures unmade { blocks.new.made.is_lent ≡ false }
-    ensures there { BlockThere R.remaining base blocks.old blocks.new result }
+    ensures there { BlockThere R.remaining numbers.now blocks.old blocks.new result }
 {
     blocks.let_go();
     let (packet, used) = blocks.packet_there()?;
-    let Ok(pending) = pending_of(blocks.interfaces(), base, said_there(packet)) else {
+    let numbers = numbers_behind(numbers, blocks.kept.before);
+    let Ok(pending) = pending_of(blocks.interfaces(), numbers, said_there(packet)) else {
         return None;
     };
     blocks.shown = Some(used);
@@ -117,30 +114,29 @@ fn take_block<R: Read + Drop>(
     reader: &mut PcapNgReader<R>,
     made: &mut Made,
     kept: &mut Kept,
-    base: u32,
-    interfaces: Interfaces,
+    numbers: &[u64],
 ) -> ResultParsing<Option<Pending>>
     requires ready { is_done reader.old ≡ false }
     requires unmade { made.old.is_lent ≡ false }
-    ensures takes { TellsTaken interfaces base (progress_with kept.old (source_of R.remaining reader.old)) (progress_with kept.new (source_of R.remaining reader.new))
+    ensures takes { TellsTaken numbers.now (progress_with kept.old (source_of R.remaining reader.old)) (progress_with kept.new (source_of R.remaining reader.new))
         (buffered.lent_by made.new (body_of reader.new)) result }
     ensures few { IfOk result (λ next. IfSome next (λ pending. pending.len ≤ 4294967260)) }
 {
-    let Some(header) = pass_to_giver(reader, interfaces, kept)? else {
+    let Some(header) = pass_to_giver(reader, kept)? else {
         return Ok(None);
     };
     let block = reader.block(header);
-    Ok(Some(pending_in_giver(alloc, reader.interfaces(), &block, base, made)?))
+    let numbers = numbers_behind(numbers, kept.before);
+    Ok(Some(pending_in_giver(alloc, reader.interfaces(), &block, numbers, made)?))
 }
 
-// Skips blocks up to one that gives something next, and keeps or counts them.
+// Skips blocks up to one that gives something next, and counts them.
 fn pass_to_giver<R: Read + Drop>(
     reader: &mut PcapNgReader<R>,
-    interfaces: Interfaces,
     kept: &mut Kept,
 ) -> ResultParsing<Option<BlockHeader>>
     requires { is_done reader.old ≡ false }
-    ensures { PassesTo interfaces (progress_with kept.old (source_of R.remaining reader.old)) (progress_with kept.new (source_of R.remaining reader.new))
+    ensures { PassesTo (progress_with kept.old (source_of R.remaining reader.old)) (progress_with kept.new (source_of R.remaining reader.new))
         (lent_item reader.new) result }
 {
     for turn in 0..u64::MAX {
@@ -150,72 +146,63 @@ fn pass_to_giver<R: Read + Drop>(
             Some(Ok(header)) => header,
         };
         let block = reader.block(header);
-        if pass_one(&block, interfaces, kept)? {
+        if pass_one(reader.interfaces(), &block, kept) {
             return Ok(Some(header));
         }
     }
     Ok(None)
 }
 
-// Returns whether a block gives something next. If it doesn't, the block is kept or counted.
-fn pass_one(block: &Block, interfaces: Interfaces, kept: &mut Kept) -> ResultParsing<bool>
-    ensures { PassesOne interfaces (framed_of block.now) kept.old kept.new result }
+// Counts a block of a section that has these interfaces with it, and returns whether it gives something next.
+fn pass_one(
+    interfaces: &[InterfaceDescriptionBlock<'static>],
+    block: &Block,
+    kept: &mut Kept,
+) -> bool
+    ensures counts { kept.new ≡ keeping.kept_with (map interface_of interfaces.now) (framed_of block.now) kept.old }
+    ensures gives { result ≡ gives (map interface_of interfaces.now) (framed_of block.now) }
 {
-    if gives_next(block, interfaces)? {
-        return Ok(true);
-    }
-    kept.pass(block)?;
-    Ok(false)
+    kept.pass(interfaces, block);
+    gives_next(interfaces, block)
 }
 
-// Returns whether a block gives something next: it holds a packet, or it comes after packets and is kept. Refuses a block that begins a
-// section or describes an interface after packets.
-fn gives_next(block: &Block, interfaces: Interfaces) -> ResultParsing<bool>
-    ensures { MatchResult result (TellsGiver interfaces (framed_of block.now)) (BarsType interfaces (framed_of block.now).type_) }
+// Returns whether a block gives something next: it holds a packet, describes an interface, or is kept.
+fn gives_next(interfaces: &[InterfaceDescriptionBlock<'static>], block: &Block) -> bool
+    ensures { result ≡ gives (map interface_of interfaces.now) (framed_of block.now) }
 {
-    if holds_packet(block.type_) {
-        return Ok(true);
-    }
-    match interfaces {
-        Interfaces::Open => Ok(false),
-        Interfaces::Closed => {
-            if stays_in_force(block.type_) {
-                return Err(PcapError::InvalidField(
-                    "Block: an interface or a section behind packets",
-                ));
-            }
-            Ok(is_carried(block))
-        }
-    }
+    holds_packet(block.type_) || is_interface(block.type_) || is_carried(interfaces, block)
 }
 
-// Returns whether blocks of this type begin a section or describe an interface.
-fn stays_in_force(type_: BlockType) -> bool
-    ensures { result ≡ is_kept type_ }
-{
-    matches!(
-        type_,
-        BlockType::SectionHeader | BlockType::InterfaceDescription
-    )
-}
-
-// Returns the facts about the packet in a block, or about a block that is kept.
+// Returns the facts about what a block gives: its packet, an interface, or itself. The interfaces of its section have these numbers.
 fn pending_in_giver(
     alloc: Global,
     interfaces: &[InterfaceDescriptionBlock<'static>],
     block: &Block,
-    base: u32,
+    numbers: &[u64],
     made: &mut Made,
 ) -> ResultParsing<Pending>
-    requires gives { IsGiver (framed_of block.now) }
+    requires gives { gives (map interface_of interfaces.now) (framed_of block.now) ≡ true }
     requires unmade { made.old.is_lent ≡ false }
-    ensures tells { TellsPending base (map interface_of interfaces.now) (framed_of block.now) made.new result }
+    ensures tells { TellsPending numbers.now (map interface_of interfaces.now) (framed_of block.now) made.new result }
     ensures few { IfOk result (λ pending. pending.len ≤ 4294967260) }
 {
     if holds_packet(block.type_) {
-        return pending_in_block(alloc, interfaces, block, base, made);
+        return pending_in_block(alloc, interfaces, block, numbers, made);
     }
-    made.keep(block)
+    if is_interface(block.type_) {
+        return pending_in_interface(alloc, block, made);
+    }
+    made.keep(numbers, block)
+}
+
+// Returns the facts about an interface, whose block is made for the output.
+fn pending_in_interface(alloc: Global, block: &Block, made: &mut Made) -> ResultParsing<Pending>
+    requires { keeping.is_interface (framed_of block.now).type_ ≡ true }
+    ensures tells { (numbers : List ℕ) (interfaces : List Interface) → TellsPending numbers interfaces (framed_of block.now) made.new result }
+    ensures few { IfOk result (λ pending. pending.len ≤ 4294967260) }
+{
+    let parsed = block.parsed(alloc)?;
+    made.describe(&parsed)
 }
 
 // Returns the facts about the packet in a block. If it is an enhanced packet, its block is made for the output.
@@ -223,16 +210,16 @@ fn pending_in_block(
     alloc: Global,
     interfaces: &[InterfaceDescriptionBlock<'static>],
     block: &Block,
-    base: u32,
+    numbers: &[u64],
     made: &mut Made,
 ) -> ResultParsing<Pending>
     requires packet { is_packet (framed_of block.now).type_ ≡ true }
     requires unmade { made.old.is_lent ≡ false }
-    ensures tells { TellsPending base (map interface_of interfaces.now) (framed_of block.now) made.new result }
+    ensures tells { TellsPending numbers.now (map interface_of interfaces.now) (framed_of block.now) made.new result }
     ensures few { IfOk result (λ pending. pending.len ≤ 4294967260) }
 {
     let parsed = block.parsed(alloc)?;
-    let pending = pending_in_body(interfaces, base, &parsed)?;
+    let pending = pending_in_body(interfaces, numbers, &parsed)?;
     match enhanced_of_body(parsed) {
         None => Ok(pending),
         Some(packet) => made.put(alloc, block.endianness(), packet, pending),
@@ -242,14 +229,14 @@ fn pending_in_block(
 // Returns the facts about the packet in a parsed body.
 fn pending_in_body(
     interfaces: &[InterfaceDescriptionBlock<'static>],
-    base: u32,
+    numbers: &[u64],
     parsed: &ParsedBlock<'_>,
 ) -> ResultParsing<Pending>
-    ensures tells { TellsBody base (map interface_of interfaces.now) (bodies.body_of parsed.now) result }
+    ensures tells { TellsBody numbers.now (map interface_of interfaces.now) (bodies.body_of parsed.now) result }
     ensures few { IfOk result (λ pending. pending.len ≤ 4294967260) }
 {
     match packet_in_body(interfaces, parsed) {
-        Some(packet) => pending_of_packet(interfaces, base, packet),
+        Some(packet) => pending_of_packet(interfaces, numbers, packet),
         None => Err(PcapError::InvalidField("Block: no packet")),
     }
 }
@@ -293,10 +280,10 @@ fn said_there(packet: EnhancedNumbers) -> Said
 // Returns the facts about a packet that a block holds.
 fn pending_of_packet(
     interfaces: &[InterfaceDescriptionBlock<'static>],
-    base: u32,
+    numbers: &[u64],
     packet: BlockPacket,
 ) -> ResultParsing<Pending>
-    ensures tells { TellsStored base (map interface_of interfaces.now) (in_block packet.entry) result }
+    ensures tells { TellsStored numbers.now (map interface_of interfaces.now) (in_block packet.entry) result }
     ensures few { IfOk result (λ pending. pending.len ≤ 4294967260) }
 {
     let said = Said {
@@ -305,23 +292,23 @@ fn pending_of_packet(
         original_len: packet.original_len,
         len: packet.bytes.len(),
     };
-    pending_of(interfaces, base, said)
+    pending_of(interfaces, numbers, said)
 }
 
 // Returns the facts about a packet from what its block says.
 #[inline(always)]
 fn pending_of(
     interfaces: &[InterfaceDescriptionBlock<'static>],
-    base: u32,
+    numbers: &[u64],
     said: Said,
 ) -> ResultParsing<Pending>
-    ensures tells { (bytes : List ℕ) → said.len ≡ length bytes → TellsStored base (map interface_of interfaces.now) (in_said said bytes) result }
+    ensures tells { (bytes : List ℕ) → said.len ≡ length bytes → TellsStored numbers.now (map interface_of interfaces.now) (in_said said bytes) result }
     ensures few { IfOk result (λ pending. pending.len ≤ 4294967260) }
 {
     let Some(interface) = interface_at(interfaces, said.interface) else {
         return Err(PcapError::InvalidField(Unplaced::InterfaceMissing.message()));
     };
-    let Some(number) = base.checked_add(said.interface) else {
+    let Some(number) = number_of(numbers, said.interface) else {
         return Err(PcapError::InvalidField("Block: too many interfaces"));
     };
     if said.len > MOST {
@@ -336,6 +323,7 @@ fn pending_of(
         start: start_behind(said.units),
         len: said.len,
         is_made: false,
+        is_interface: false,
     })
 }
 

@@ -3,7 +3,7 @@
 ghost use Rattle.std.specs.Prelude.{IfOk};
 ghost use Rattle.pcapfile_merge.specs.Holding.{IsReady};
 
-use crate::opening::{interfaces_of, put_opening};
+use crate::opening::{Opened, put_opening};
 use capcopy_run::Uninterrupted;
 use pcap_file::{PcapNgReader, PcapReader, ResultParsing};
 use pcapfile_files::{
@@ -62,9 +62,8 @@ pub fn merge_files(console: &Console, asked: &Merge) -> io::Result<u8> {
 }
 
 fn merge_to<W: Write + Drop>(console: &Console, asked: &Merge, output: W) -> io::Result<Ended> {
-    let mut sources = Vec::new(console.alloc());
+    let mut readers = Vec::new(console.alloc());
     let mut opened = Vec::new(console.alloc());
-    let mut interfaces: u32 = 0;
     let mut status = 0;
     console.begin();
     for name in asked.names {
@@ -74,9 +73,7 @@ fn merge_to<W: Write + Drop>(console: &Console, asked: &Merge, output: W) -> io:
         };
         match open_reader(console, name, stream, asked.as_is) {
             Ok(reader) => {
-                let source = Source::new(console.alloc(), reader, interfaces);
-                interfaces = interfaces.saturating_add(interfaces_of(source.reader()));
-                sources.push(source)?;
+                readers.push(Opened::new(reader))?;
                 opened.push(*name)?;
             }
             Err(error) => status = tell_error(console, name, &error)?.max(status),
@@ -85,11 +82,12 @@ fn merge_to<W: Write + Drop>(console: &Console, asked: &Merge, output: W) -> io:
             return Ok(Ended::given_up(status));
         }
     }
-    if sources.is_empty() {
+    if readers.is_empty() {
         return Ok(Ended::given_up(AT_FAULT.max(status)));
     }
     let output = BufWriter::with_capacity(console.alloc(), OUTPUT, output)?;
-    if let Err(error) = write_merged(console.alloc(), sources.as_mut_slice(), output) {
+    let mut sources = Vec::new(console.alloc());
+    if let Err(error) = write_merged(console.alloc(), readers, &mut sources, output) {
         return Ok(Ended::given_up(tell_error(console, asked.out, &error)?));
     }
     tell_left_out(console, opened.as_slice(), sources.as_slice())?;
@@ -159,11 +157,12 @@ fn open_reader(
 
 fn write_merged<W: Write + Drop>(
     alloc: Global,
-    sources: &mut [Source<Input>],
+    readers: Vec<Opened<Input>>,
+    sources: &mut Vec<Source<Input>>,
     output: W,
 ) -> ResultParsing<()> {
-    let mut output = put_opening(alloc, sources, output)?;
-    let merged = merge_packets(sources, &mut output, u64::MAX);
+    let (mut output, interfaces) = put_opening(alloc, readers, sources, output)?;
+    let merged = merge_packets(sources.as_mut_slice(), &mut output, u64::MAX, interfaces);
     if let Some(error) = merged.fault {
         return Err(error);
     }

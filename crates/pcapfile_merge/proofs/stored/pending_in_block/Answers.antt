@@ -1,4 +1,4 @@
-use Rattle.std.proofs.Common.{map, subst, sym, Ok, Err}
+use Rattle.std.proofs.Common.{map, subst, sym, Ok, Err, inl}
 use Rattle.std.specs.Prelude.{Option}
 use Rattle.std.proofs.lemmas.Result.{err_from_is_err_and}
 use Rattle.pcap_core.specs.Answer.{number_in}
@@ -15,7 +15,7 @@ use Rattle.pcapfile_merge.proofs.stored.pending_in_block.Goals as goal
 pub returns-in_err-parsed-clause-tells : goal.returns-in_err-parsed-clause-tells
 returns-in_err-parsed-clause-tells c =
     let p = err_from_is_err_and c.from_residual.result c.from_residual.ensures.1 in
-    rw (p.1, p.2) (body_refused c.requires.packet c.in_err-parsed.ensures.tells)
+    rw (p.1, p.2) (body_refused (inl c.requires.packet) c.in_err-parsed.ensures.tells)
 
 pub returns-in_err-pending-clause-tells : goal.returns-in_err-pending-clause-tells
 returns-in_err-pending-clause-tells c =
@@ -26,7 +26,7 @@ returns-in_err-pending-clause-tells c =
     let says = c.in_ok-parsed.ensures.tells in
     let there = packet_there (number_in block.endianness) block.type_ interfaces block.body says.0 body c.requires.packet says.1 in
     let holds : HoldsPacket interfaces block there.0 = record { body = body; rest = says.0; says = says.1; packet_is = there.1 } in
-    let tells = subst (λ (o : Option InBlock). TellsIfPacket c.args.base interfaces o (Err c.in_err-pending.field-0.0)) there.1 c.in_err-pending.ensures.tells in
+    let tells = subst (λ (o : Option InBlock). TellsIfPacket c.args.numbers.now interfaces o (Err c.in_err-pending.field-0.0)) there.1 c.in_err-pending.ensures.tells in
     rw (p.1, p.2) (packet_unfit there.0 holds tells)
 
 pub returns-in-None-clause-tells : goal.returns-in-None-clause-tells
@@ -38,8 +38,8 @@ returns-in-None-clause-tells c =
     let says = c.in_ok-parsed.ensures.tells in
     let there = packet_there (number_in block.endianness) block.type_ interfaces block.body says.0 body c.requires.packet says.1 in
     let holds : HoldsPacket interfaces block there.0 = record { body = body; rest = says.0; says = says.1; packet_is = there.1 } in
-    let said = subst (λ (o : Option InBlock). TellsIfPacket c.args.base interfaces o (Ok pending)) there.1 c.in_ok-pending.ensures.tells in
-    plain_given c.args.base interfaces block there.0 c.requires.packet holds pending _ (nothing_made c.args.made.now block.body c.requires.unmade) said (none_plain there.0 _ (sym c.in-None.ensures) _ _ _)
+    let said = subst (λ (o : Option InBlock). TellsIfPacket c.args.numbers.now interfaces o (Ok pending)) there.1 c.in_ok-pending.ensures.tells in
+    plain_given c.args.numbers.now interfaces block there.0 c.requires.packet holds pending _ (nothing_made c.args.made.now block.body c.requires.unmade) said (none_plain there.0 _ (sym c.in-None.ensures) _ _ _)
 
 pub returns-in-Some-clause-tells : goal.returns-in-Some-clause-tells
 returns-in-Some-clause-tells c =
@@ -50,5 +50,5 @@ returns-in-Some-clause-tells c =
     let says = c.in_ok-parsed.ensures.tells in
     let there = packet_there (number_in block.endianness) block.type_ interfaces block.body says.0 body c.requires.packet says.1 in
     let holds : HoldsPacket interfaces block there.0 = record { body = body; rest = says.0; says = says.1; packet_is = there.1 } in
-    let said = subst (λ (o : Option InBlock). TellsIfPacket c.args.base interfaces o (Ok pending)) there.1 c.in_ok-pending.ensures.tells in
-    made_or_ends c.args.base interfaces block there.0 c.requires.packet holds c.endianness.result pending c.put.new.self (enhanced_of c.in-Some.packet) c.put.result c.endianness.ensures said (sym c.in-Some.ensures) c.put.ensures.makes
+    let said = subst (λ (o : Option InBlock). TellsIfPacket c.args.numbers.now interfaces o (Ok pending)) there.1 c.in_ok-pending.ensures.tells in
+    made_or_ends c.args.numbers.now interfaces block there.0 c.requires.packet holds c.endianness.result pending c.put.new.self (enhanced_of c.in-Some.packet) c.put.result c.endianness.ensures said (sym c.in-Some.ensures) c.put.ensures.makes

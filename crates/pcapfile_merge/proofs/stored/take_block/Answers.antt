@@ -1,18 +1,14 @@
-use Rattle.std.proofs.Common.{◌≡◌, Err, Ok, inr, subst, sym}
+use Rattle.std.proofs.Common.{Err, Ok, true, inl, inr}
 use Rattle.std.proofs.lemmas.Result.{err_from_is_err_and}
-use Rattle.pcap_file.specs.Placing.{source_of}
 use Rattle.pcap_ng.specs.Reader.{interfaces_in_force, lent_item}
-use Rattle.pcapfile_merge.specs.declared.reader.Interfaces.TheVariants.{Closed}
-use Rattle.pcapfile_merge.specs.Keeping.{progress_with}
-use Rattle.pcapfile_merge.specs.Passing.{IsGiver}
-use Rattle.pcapfile_merge.proofs.Turning.{barred, ends_wherever, tells_there}
+use Rattle.pcapfile_merge.proofs.Turning.{given_here, tells_there}
 use Rattle.pcapfile_merge.proofs.stored.take_block.Goals as goal
 
 pub returns-in_err-header-clause-takes : goal.returns-in_err-header-clause-takes
 returns-in_err-header-clause-takes g c =
     let p = err_from_is_err_and c.from_residual.result c.from_residual.ensures.1 in
     let passes = c.in_err-header.ensures in
-    rw (p.1, p.2) (passes.0, passes.1, barred c.args.interfaces c.args.base passes.0 (progress_with c.pass_to_giver.new.kept (source_of g.R.Read.remaining c.pass_to_giver.new.reader)) _ passes.2 passes.3)
+    rw (p.1, p.2) (passes.0, passes.1, inl (passes.2, passes.3))
 
 pub returns-in_err-pending_in_giver-clause-takes : goal.returns-in_err-pending_in_giver-clause-takes
 returns-in_err-pending_in_giver-clause-takes g c =
@@ -20,18 +16,19 @@ returns-in_err-pending_in_giver-clause-takes g c =
     let reader = c.pass_to_giver.new.reader in
     let item = lent_item reader c.in-Some.header in
     let passes = rw c.in-Some.is at c.in_ok-header.ensures in
-    let tells = tells_there c.args.base _ (interfaces_in_force reader) _ item.block c.pending_in_giver.new.made (Err c.in_err-pending_in_giver.field-0.0) c.interfaces.ensures c.block-block.ensures.block c.in_err-pending_in_giver.ensures.tells in
-    rw (p.1, p.2) (passes.0, passes.1, (passes.2.0, inr (item, passes.2.1, ends_wherever (c.args.interfaces ≡ Closed) c.args.base (interfaces_in_force reader) item.block _ tells)))
+    let tells = tells_there _ _ _ (interfaces_in_force reader) _ item.block c.pending_in_giver.new.made (Err c.in_err-pending_in_giver.field-0.0) c.numbers_behind-numbers.ensures c.interfaces.ensures c.block-block.ensures.block c.in_err-pending_in_giver.ensures.tells in
+    rw (p.1, p.2) (passes.0, passes.1, inr (item, passes.2, tells))
 
 pub returns-clause-takes : goal.returns-clause-takes
 returns-clause-takes g c =
     let reader = c.pass_to_giver.new.reader in
     let item = lent_item reader c.in-Some.header in
     let passes = rw c.in-Some.is at c.in_ok-header.ensures in
-    let tells = tells_there c.args.base _ (interfaces_in_force reader) _ item.block c.pending_in_giver.new.made (Ok c.in_ok-pending_in_giver.field-0) c.interfaces.ensures c.block-block.ensures.block c.in_ok-pending_in_giver.ensures.tells in
+    let tells = tells_there _ _ _ (interfaces_in_force reader) _ item.block c.pending_in_giver.new.made (Ok c.in_ok-pending_in_giver.field-0) c.numbers_behind-numbers.ensures c.interfaces.ensures c.block-block.ensures.block c.in_ok-pending_in_giver.ensures.tells in
     (passes.0, passes.1, item, passes.2, tells)
 
 pub pending_in_giver-requires-clause-gives : goal.pending_in_giver-requires-clause-gives
 pending_in_giver-requires-clause-gives g c =
+    let reader = c.pass_to_giver.new.reader in
     let passes = rw c.in-Some.is at c.in_ok-header.ensures in
-    subst IsGiver (sym c.block-block.ensures.block) passes.3
+    given_here _ _ (lent_item reader c.in-Some.header) true c.interfaces.ensures c.block-block.ensures.block passes.3

@@ -8,4 +8,4 @@ returns-in-Ok-clause-few g c = blocks_few c.take_shown.new.blocks c.in-Ok.next c
 
 pub returns-in-Ok-clause-ready : goal.returns-in-Ok-clause-ready
 returns-in-Ok-clause-ready g c =
-    blocks_ready g.R.Read.remaining c.args.interfaces c.args.base (progress_of g.R.Read.remaining c.args.blocks.now) c.take_shown.new.blocks (bytes_within (body_of c.take_shown.new.blocks)) c.in-Ok.next _ c.in-Ok.ensures.takes
+    blocks_ready g.R.Read.remaining c.args.numbers.now (progress_of g.R.Read.remaining c.args.blocks.now) c.take_shown.new.blocks (bytes_within (body_of c.take_shown.new.blocks)) c.in-Ok.next _ c.in-Ok.ensures.takes
