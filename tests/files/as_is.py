@@ -184,11 +184,12 @@ def mending(it):
 
 
 def said_on(item):
-    """Returns the messages of a list on a packet, a block, a changed length or a gap."""
+    """Returns the messages of a list on a packet, a block, a changed length or a gap. A list doesn't count blocks, and names no number of
+    one."""
     if isinstance(item, Gap):
         return [CUT if is_torn(item) else left_out(item)]
     if isinstance(item, Mending):
-        return [mending(item)]
+        return [mending(item).replace(f"block {item.number} ", "a block ")]
     return [*said_before(item), *said_behind(item)] if isinstance(item, Packet) else []
 
 

@@ -218,10 +218,10 @@ const MERGE: &str =
 The next packet is always the earliest among the next packets of all captures. Of equal times, the
 earlier capture on the command line goes first, and a packet without a time goes before all others.
 Each interface of each capture gets an interface of its own, and each packet keeps its comments and
-other options. Names, secrets and other blocks of little-endian captures go before the next packet of
-their capture. Of blocks that are left out, standard error says how many of each kind. It also says why
-a capture is malformed, whose packets before that are merged. The output is written as OUT.part, and
-renamed to OUT when it is complete.";
+other options. Names, statistics, secrets and other blocks of little-endian captures go before the next
+packet of their capture. Standard error says how many blocks of each kind are left out. If a capture is
+malformed, its packets before the error are merged, and standard error gives the reason. The output is
+written as OUT.part, and renamed to OUT when it is complete.";
 
 const REPAIR: &str = "Reads a damaged capture and writes a well-formed one.
 

@@ -14,7 +14,7 @@ mod window;
 
 pub use captured::Captured;
 pub use opening::{Guessed, Opening, header_with, magic_of};
-pub use packets::Change;
+pub use packets::{Change, Named};
 pub use repaired::Repaired;
 pub use rows::{Changed, Rows};
 pub use standing::{BlockRows, HEADER, PacketRows, Standing, Stop};

@@ -95,11 +95,42 @@ pub enum Change {
     Unconfirmed(usize),
 }
 
+/// How a message names a packet or a block.
+#[derive(Clone, Copy)]
+pub enum Named {
+    /// A packet, by its number.
+    Packet,
+    /// A block, by its number.
+    Block,
+    /// A block where only packets are counted.
+    AnyBlock,
+}
+
+impl Named {
+    // Returns the name of the packet or block with this number.
+    fn name(self, alloc: Global, number: u64) -> Result<String, AllocError> {
+        match self {
+            Named::Packet => format!(in alloc; "packet {number}"),
+            Named::Block => format!(in alloc; "block {number}"),
+            Named::AnyBlock => format!(in alloc; "a block"),
+        }
+    }
+}
+
 impl Change {
-    /// Returns the message on the packet or block, as `item` says, when the reader is behind what is counted.
-    pub fn text(&self, alloc: Global, item: &str, counted: &Counted) -> Result<String, AllocError> {
-        let (last, place) = (counted.items, counted.bytes);
-        let number = last.saturating_add(1);
+    /// Returns the message on a packet or block, when the reader is behind what is counted.
+    pub fn text(
+        &self,
+        alloc: Global,
+        named: Named,
+        counted: &Counted,
+    ) -> Result<String, AllocError> {
+        let (number, place) = match *self {
+            Change::Unconfirmed(len) => (counted.items, counted.bytes.saturating_sub(len as u64)),
+            _ => (counted.items.saturating_add(1), counted.bytes),
+        };
+        let item = named.name(alloc, number)?;
+        let item = item.as_str();
         match *self {
             Change::Length {
                 stated,
@@ -108,18 +139,15 @@ impl Change {
             } => {
                 let how = if is_guess { ", by a guess" } else { "" };
                 format!(in alloc;
-                    "{item} {number} at byte {place}: its stored length is {length} and not {stated}{how}"
+                    "{item} at byte {place}: its stored length is {length} and not {stated}{how}"
                 )
             }
             Change::Found => format!(in alloc;
-                "{item} {number} at byte {place}: kept, a guess: it may lie inside another packet"
+                "{item} at byte {place}: kept, a guess: it may lie inside another packet"
             ),
-            Change::Unconfirmed(len) => {
-                let start = place.saturating_sub(len as u64);
-                format!(in alloc;
-                    "{item} {last} at byte {start}: kept, a guess: nothing confirms where it ends"
-                )
-            }
+            Change::Unconfirmed(_) => format!(in alloc;
+                "{item} at byte {place}: kept, a guess: nothing confirms where it ends"
+            ),
         }
     }
 }

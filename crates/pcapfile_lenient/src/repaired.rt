@@ -3,7 +3,7 @@
 ghost use Rattle.std.specs.Prelude.{None};
 
 use crate::opening::{Guessed, Opening};
-use crate::packets::Change;
+use crate::packets::{Change, Named};
 use crate::rows::Rows;
 use crate::standing::{BlockRows, HEADER, PacketRows, Standing, Stop};
 use capcopy_run::Exit;
@@ -131,11 +131,11 @@ impl Making {
         let Some(change) = change else {
             return;
         };
-        let item = match self {
-            Making::Packets(_) => "packet",
-            Making::Blocks(_) => "block",
+        let named = match self {
+            Making::Packets(_) => Named::Packet,
+            Making::Blocks(_) => Named::Block,
         };
-        let Ok(text) = change.text(alloc, item, counted) else {
+        let Ok(text) = change.text(alloc, named, counted) else {
             return;
         };
         // A failed message doesn't stop the repair.

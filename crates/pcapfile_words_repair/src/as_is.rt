@@ -4,7 +4,7 @@ use capcopy_run::Exit;
 use pcap_file::{PcapError, ResultParsing};
 use pcapfile_as_is::{BlockTeller, Counted, Gap, LeftOut, Place, Scrap, Teller};
 use pcapfile_files::{Console, open_watched};
-use pcapfile_lenient::{Change, HEADER, Rows, Standing, Stop};
+use pcapfile_lenient::{Change, HEADER, Named, Rows, Standing, Stop};
 use pcapfile_run::Format;
 use std::alloc::{AllocError, Global};
 use std::io::Write;
@@ -53,13 +53,19 @@ impl Telling {
         })
     }
 
-    /// Returns the message of a report.
-    pub(crate) fn text_of(&self, alloc: Global, change: &Change) -> Result<String, AllocError> {
-        let item = match self.format {
-            Format::Pcap => "packet",
-            Format::PcapNg => "block",
+    /// Returns the message of a report. A caller that counts only packets names no number of a block.
+    pub(crate) fn text_of(
+        &self,
+        alloc: Global,
+        change: &Change,
+        counts_blocks: bool,
+    ) -> Result<String, AllocError> {
+        let named = match self.format {
+            Format::Pcap => Named::Packet,
+            Format::PcapNg if counts_blocks => Named::Block,
+            Format::PcapNg => Named::AnyBlock,
         };
-        change.text(alloc, item, &self.place.counted)
+        change.text(alloc, named, &self.place.counted)
     }
 
     /// Reports the packets or blocks before the next gap or report, and returns that. `None` after the end. It returns

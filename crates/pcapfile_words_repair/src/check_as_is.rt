@@ -79,7 +79,7 @@ fn put_change<W: Write>(
     telling: &Telling,
     change: &Change,
 ) -> Result<(), Exit> {
-    let text = telling.text_of(alloc, change)?;
+    let text = telling.text_of(alloc, change, true)?;
     let line = format!(in alloc; "{prefix}{text}\n")?;
     put_line(output, line.as_bytes())
 }

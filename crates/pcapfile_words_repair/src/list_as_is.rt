@@ -71,7 +71,7 @@ fn list_packets<W: Write>(
         match between {
             Between::Gap(gap) => eprintln!(console.for_line(); "pcapfile: {shown}: {gap}")?,
             Between::Change(change) => {
-                let text = telling.text_of(alloc, &change)?;
+                let text = telling.text_of(alloc, &change, false)?;
                 eprintln!(console.for_line(); "pcapfile: {shown}: {text}")?;
             }
         }
