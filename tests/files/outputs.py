@@ -250,7 +250,7 @@ def try_parts(tally):
                 os.mkfifo(folder.at("pipe"))
                 subprocess.Popen(["sh", "-c", "cat in > pipe"], cwd=folder.path, stderr=subprocess.DEVNULL)
             status, _, said = folder.run("cut", given, "--parts", "2", "-o", "x.pcap", **({"input": CAPTURE} if given != "pipe" else {}))
-            tally.note(f"parts of equal length of {given}", status != USAGE and f"it ended with {status}", "length is known" not in said and said)
+            tally.note(f"parts of equal length of {given}", status != USAGE and f"it ended with {status}", "--parts needs a file" not in said and said)
             tally.note(f"no parts of {given}", any(it.startswith("x") for it in folder.names()) and f"it left {folder.names()}")
 
 
