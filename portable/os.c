@@ -21,6 +21,9 @@
 #include <sys/stat.h>
 #include <time.h>
 #include <unistd.h>
+#ifdef __linux__
+#include <sys/syscall.h>
+#endif
 
 typedef uint8_t *ptr;
 
@@ -31,6 +34,7 @@ typedef uint8_t *ptr;
 #define os_env_at rattle_env_at
 #define os_errno rattle_errno
 #define os_set_errno rattle_set_errno
+#define os_open_dir_at rattle_open_dir_at
 #endif
 
 int32_t program_main(void);
@@ -138,6 +142,23 @@ uint32_t os_open(ptr path, uint32_t wanted, uint32_t mode) {
         return (uint32_t)-1;
     }
     return (uint32_t)open((char *)path, flags, (mode_t)mode);
+}
+
+/* Opens the folder that a path reaches from another folder, and follows no link at its end. */
+uint32_t os_open_dir_at(uint32_t folder, ptr path) {
+    return (uint32_t)openat((int)folder == -100 ? AT_FDCWD : (int)folder, (char *)path, O_RDONLY | O_CLOEXEC | O_DIRECTORY | O_NOFOLLOW);
+}
+
+/* Reads the next entries of a folder, in Linux's layout. On another system a program lists no folder, and finds a time zone only by the
+ * name of its file. */
+uint64_t os_getdents64(uint32_t folder, ptr to, uint64_t room) {
+#ifdef __linux__
+    return (uint64_t)syscall(SYS_getdents64, (int)folder, to, room);
+#else
+    (void)folder, (void)to, (void)room;
+    errno = ENOSYS;
+    return (uint64_t)-1;
+#endif
 }
 
 /* Clock 0 is that of the day, and any other never goes back. Seconds and nanoseconds are 8 bytes each. */

@@ -26,7 +26,7 @@ int run(void) { return (int)program_main(); }
 
 /* Errors: the script returns a negative number, whose absolute value is Linux's number. */
 
-enum { EINVAL = 22 };
+enum { ENOENT = 2, EINVAL = 22 };
 
 static uint32_t last_error;
 
@@ -93,6 +93,8 @@ uint32_t os_fchown(uint32_t file, uint32_t owner, uint32_t group) { return (void
 uint32_t os_fsync(uint32_t file) { return (void)file, 0; }
 uint32_t os_fdatasync(uint32_t file) { return (void)file, 0; }
 uint32_t os_ftruncate(uint32_t file, uint64_t length) { return (void)file, (void)length, 0; }
+uint32_t os_open_dir_at(uint32_t folder, ptr path) { return (void)folder, (void)path, (uint32_t)checked(-ENOENT); }
+uint64_t os_getdents64(uint32_t folder, ptr to, uint64_t room) { return (void)folder, (void)to, (void)room, checked(-EINVAL); }
 uint64_t os_readlink(ptr path, ptr to, uint64_t room) { return (void)path, (void)to, (void)room, checked(-EINVAL); }
 
 /* Returns the path itself, in a buffer of its own if the caller gives none. */
