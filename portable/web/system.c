@@ -70,6 +70,9 @@ static double length_of(ptr text) {
 
 uint64_t os_arg(uint64_t index, ptr to, uint64_t room) { return (uint64_t)(int64_t)host_argument((double)index, place(to), (double)room); }
 
+/* The page has no environment. */
+uint64_t os_env(ptr name, ptr to, uint64_t room) { return (void)name, (void)to, (void)room, (uint64_t)-1; }
+
 uint32_t os_open(ptr path, uint32_t flags, uint32_t mode) { return (void)mode, (uint32_t)checked(host_open(place(path), length_of(path), (int)flags)); }
 uint64_t os_read(uint32_t file, ptr to, uint64_t room) { return checked(host_read((int)file, place(to), (double)room)); }
 uint64_t os_write(uint32_t file, ptr from, uint64_t length) { return checked(host_write((int)file, place(from), (double)length)); }
