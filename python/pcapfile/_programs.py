@@ -24,7 +24,7 @@ _CARRIED = Path(__file__).parent / "bin" / "pcapfile"
 _REFUSED, _NOT_UNDERSTOOD, _NO_MEMORY = 1, 2, 4
 
 # The beginning of each line that the program prints, and the beginning of its hint for users of the command line.
-_HEAD, _HINT = "pcapfile: ", "--repair goes on"
+_HEAD, _HINT = "pcapfile: ", "--repair reads on"
 
 # The most lines that a warning shows.
 _SHOWN = 10
