@@ -37,16 +37,23 @@ def recorded(name):
     """Returns the path of a crate's module, and the line with which its proof ended. It records them again only if sources changed."""
     os.makedirs(OUT, exist_ok=True)
     module, note = f"{OUT}/{name}.bc", f"{OUT}/{name}.json"
-    key = hashlib.sha256(repr((crates.checksum(name), kit_line(), libraries_of(name))).encode()).hexdigest()
+    key = key_of(name)
     with contextlib.suppress(OSError, ValueError):
         with open(note, encoding="utf-8") as it:
             kept = json.load(it)
         if kept["key"] == key and kept["module"] == sum_of(module):
             return module, kept["verdict"]
     verdict = record(name, module)
+    if key_of(name) != key:
+        raise Stopped(f"sources or libraries below {name} changed while it was built: run this again, and no 'rt' beside it")
     with open(note, "w", encoding="utf-8") as it:
         json.dump({"key": key, "module": sum_of(module), "verdict": verdict}, it)
     return module, verdict
+
+
+def key_of(name):
+    """Returns a sum of what a crate's module is made from: its sources and those below, the toolchain, and the built libraries."""
+    return hashlib.sha256(repr((crates.checksum(name), kit_line(), libraries_of(name))).encode()).hexdigest()
 
 
 def sum_of(path):
