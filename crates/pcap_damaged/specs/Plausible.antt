@@ -42,10 +42,14 @@ pub record BeginsCapture (s : List ℕ) : Type 0 where
   pub major : header.version_major ≡ 2
   pub minor : header.version_minor ≡ 4
 
--- A head is near this time, states a length, and breaks no rule by its stored length.
+-- One of the head's numbers is not 0.
+abbrev pub IsNotZero : Head → Type 0
+IsNotZero head = (0 < head.seconds) ⊎ (0 < head.fraction) ⊎ (0 < head.included) ⊎ (0 < head.original)
+
+-- A head is near this time, is not all zero bytes, and breaks no rule by its stored length.
 pub record MayFollow (time : ℕ) (head : Head) : Type 0 where
   pub stored : head.included ≤ packet_limit
-  pub states : (0 < head.included) ⊎ (0 < head.original)
+  pub not_zero : IsNotZero head
   pub near : Near time head.seconds
 
 -- `s` begins with such a head.

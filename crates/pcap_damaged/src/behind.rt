@@ -20,12 +20,12 @@ fn may_follow(time: u32, head: Numbers) -> bool
     ensures { IsTrue result ↔ MayFollow time (head_in head) }
 {
     head.included <= PACKET_LIMIT
-        && (head.included > 0 || head.original > 0)
+        && (head.seconds > 0 || head.fraction > 0 || head.included > 0 || head.original > 0)
         && is_near(time, head.seconds)
 }
 
-/// Returns whether the slice begins with a packet's head at most a day before or after `time`, in seconds since 1970. The head
-/// states a length, and its stored length is at most 262144 bytes.
+/// Returns whether the slice begins with a packet's head at most a day before or after `time`, in seconds since 1970. Not all
+/// numbers of the head are 0, and its stored length is at most 262144 bytes.
 pub fn begins_near(parser: &PcapParser, time: u32, slice: &[u8]) -> bool
     ensures { IsTrue result ↔ BeginsNear (header_of parser.now) time slice.now }
 {
