@@ -22,7 +22,7 @@ pub struct Console {
     progress: Option<Shared>,
     /// Whether a capture was found truncated or malformed.
     has_fault: Cell<bool>,
-    /// What the file is whose first bytes were read last, if it is not a capture and no message has reported that yet.
+    /// What the file is whose first bytes were read last, if it is not a sound capture and no message has reported that yet.
     foreign: Rc<Cell<Option<Foreign>>>,
 }
 

@@ -1,6 +1,7 @@
-//! Files that are not captures.
+//! Files that are not captures, and captures that a text-mode transfer changed.
 
-use crate::walk::begins_capture;
+use crate::walk::{Walk, begins_capture};
+use pcap_altered::is_transferred;
 use std::fmt;
 
 /// The number of first bytes by which a text is recognized.
@@ -20,7 +21,14 @@ const SNOOP: &str =
 const ERF: &str =
     "is a capture in the format ERF; 'editcap FILE OUT' of Wireshark converts it to PcapNg";
 
-/// What a file is that doesn't begin like a capture.
+/// The first bytes of a PcapNg capture that a text-mode transfer changed.
+const CHANGED_SECTION: &[u8] = b"\r\n\r\r\r\n";
+
+/// What a message says of a capture that a text-mode transfer changed.
+const CHANGED: &str =
+    "looks as if a text-mode transfer turned LF into CR LF; 'pcapfile repair --guess' undoes it";
+
+/// What a file is that doesn't begin like a capture, or that a text-mode transfer changed.
 #[derive(Clone, Copy)]
 pub(crate) enum Foreign {
     /// It has no bytes.
@@ -35,6 +43,10 @@ pub(crate) enum Foreign {
     Page,
     /// It is a text.
     Text,
+    /// It is a PcapNg capture that a text-mode transfer changed.
+    ChangedBlocks,
+    /// It looks like a classic capture that a text-mode transfer changed.
+    ChangedPackets,
     /// It is something else.
     Unknown,
 }
@@ -94,13 +106,20 @@ impl Packing {
 }
 
 impl Foreign {
-    /// Returns what a file with these first bytes is, or `None` if it begins like a capture.
+    /// Returns what a file with these first bytes is, or `None` if it begins like a capture that no text-mode transfer changed.
     pub(crate) fn of_front(bytes: &[u8]) -> Option<Foreign> {
         if bytes.is_empty() {
             return Some(Foreign::Empty);
         }
+        if bytes.starts_with(CHANGED_SECTION) {
+            return Some(Foreign::ChangedBlocks);
+        }
         if begins_capture(bytes) {
-            return None;
+            return if is_changed(bytes) {
+                Some(Foreign::ChangedPackets)
+            } else {
+                None
+            };
         }
         for packing in Packing::EACH {
             if packing.begins(bytes) {
@@ -135,9 +154,33 @@ impl fmt::Display for Foreign {
             Foreign::Erf => f.write_str(ERF),
             Foreign::Page => f.write_str("is an HTML page, not a capture"),
             Foreign::Text => f.write_str("is a text file, not a capture"),
+            Foreign::ChangedBlocks | Foreign::ChangedPackets => f.write_str(CHANGED),
             Foreign::Unknown => f.write_str("is not a capture"),
         }
     }
+}
+
+// Returns whether a classic capture with these first bytes has more packets there, or fewer corrupt bytes, after a text-mode
+// transfer is undone.
+fn is_changed(bytes: &[u8]) -> bool {
+    if !is_transferred(bytes) {
+        return false;
+    }
+    let mut own = Walk::new();
+    let own_packets = own.pass(bytes);
+    let mut undone = Walk::new();
+    let mut undone_packets: u64 = 0;
+    let mut left = bytes;
+    for _ in 0..=bytes.len() {
+        let end = left.windows(2).position(|pair| pair == b"\r\n".as_slice());
+        let (line, rest) = left.split_at(end.unwrap_or(left.len()).min(left.len()));
+        undone_packets = undone_packets.saturating_add(undone.pass(line));
+        let Some(behind) = rest.get(1..) else {
+            break;
+        };
+        left = behind;
+    }
+    !undone.is_lost() && (own.is_lost() || undone_packets > own_packets)
 }
 
 // Returns whether the bytes begin like a page of the web, behind white space.

@@ -80,20 +80,46 @@ pub fn tell_error(console: &Console, name: &str, error: &PcapError) -> io::Resul
     Ok(AT_FAULT)
 }
 
-/// Prints what a file is that can't be read as a capture, and how to read it, if it doesn't begin like one. Otherwise records
-/// that a capture is truncated or malformed, and returns false.
+/// Prints what a file is that can't be read as a capture, and how to read it, if it doesn't begin like one. Returns false for a
+/// classic capture: it prints how to read it if a text-mode transfer changed it, and otherwise records that it is malformed.
 pub fn tell_foreign(console: &Console, name: &str) -> io::Result<bool> {
+    let foreign = console.take_foreign();
+    if foreign.is_none() {
+        console.note_fault();
+    }
+    tell_known(console, name, foreign)
+}
+
+/// Prints what a file is that doesn't begin like a capture, and how to read it, and returns whether this is known.
+pub fn tell_other_file(console: &Console, name: &str) -> io::Result<bool> {
+    tell_known(console, name, console.take_foreign())
+}
+
+fn tell_known(console: &Console, name: &str, foreign: Option<Foreign>) -> io::Result<bool> {
     let shown = Shown(name);
-    match console.take_foreign() {
-        Some(Foreign::Unknown) => Ok(false),
+    match foreign {
+        None | Some(Foreign::Unknown) => Ok(false),
+        Some(Foreign::ChangedPackets) => {
+            let changed = Foreign::ChangedPackets;
+            eprintln!(console.for_line(); "pcapfile: {shown}: {changed}")?;
+            Ok(false)
+        }
         Some(foreign) => {
             eprintln!(console.for_line(); "pcapfile: {shown}: {foreign}")?;
             Ok(true)
         }
-        None => {
-            console.note_fault();
-            Ok(false)
+    }
+}
+
+/// Prints how to read a capture that a text-mode transfer changed, if this is one and no message has reported that yet.
+pub fn tell_changed(console: &Console, name: &str) -> io::Result<()> {
+    let shown = Shown(name);
+    match console.take_foreign() {
+        Some(Foreign::ChangedBlocks | Foreign::ChangedPackets) => {
+            let changed = Foreign::ChangedBlocks;
+            eprintln!(console.for_line(); "pcapfile: {shown}: {changed}")
         }
+        _ => Ok(()),
     }
 }
 

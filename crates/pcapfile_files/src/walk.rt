@@ -88,6 +88,11 @@ impl Walk {
         packets
     }
 
+    /// Returns whether corrupt bytes stopped it.
+    pub(crate) fn is_lost(&self) -> bool {
+        matches!(self.next, Next::Nothing)
+    }
+
     // Skips bytes or reads bytes of a header. Returns whether that completes the header of a packet, and the bytes after it.
     fn step<'a>(&mut self, bytes: &'a [u8]) -> (bool, &'a [u8]) {
         if self.skipped > 0 {

@@ -10,10 +10,11 @@ mod repaired;
 mod rows;
 mod standing;
 mod stored;
+mod torn;
 mod window;
 
 pub use captured::Captured;
-pub use opening::{Guessed, Opening, header_with, magic_of};
+pub use opening::{Found, Guessed, Opening, header_with, magic_of};
 pub use packets::{Change, Named};
 pub use repaired::Repaired;
 pub use rows::{Changed, Rows};

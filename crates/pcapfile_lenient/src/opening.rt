@@ -2,9 +2,11 @@
 
 use crate::window::Window;
 use byteorder::{BigEndian, LittleEndian};
+use pcap_altered::is_transferred;
 use pcap_damaged::{begins_near, head_at, resync};
 use pcap_file::pcap::PcapHeader;
 use pcap_file::{DataLink, Endianness, PcapParser, ResultParsing, TsResolution};
+use std::alloc::Global;
 use std::io;
 
 /// The magic numbers of classic captures, in the order in which they are tried.
@@ -22,6 +24,9 @@ const FEWEST: u64 = 4;
 /// The link type that is assumed: Ethernet.
 const ETHERNET: u32 = 1;
 
+/// The first bytes of a section header after a text-mode transfer.
+const TRANSFERRED_SECTION: [u8; 6] = [0x0D, 0x0A, 0x0D, 0x0D, 0x0D, 0x0A];
+
 /// Where the header of a classic capture comes from.
 #[derive(Clone, Copy)]
 pub enum Opening {
@@ -29,8 +34,26 @@ pub enum Opening {
     Own,
     /// From the caller, before the first byte of the capture.
     Given(PcapHeader),
-    /// From the packets, where the capture has none. The link type may be given.
+    /// From the packets, where the capture has none. The link type may be given. A text-mode transfer is undone.
     Guess(Option<u32>),
+}
+
+/// What was found at the beginning of a capture.
+#[derive(Clone, Copy)]
+pub struct Found {
+    /// The header, if it was guessed.
+    pub guessed: Option<Guessed>,
+    /// Whether a text-mode transfer is undone.
+    pub is_undone: bool,
+}
+
+/// A run of packets.
+#[derive(Clone, Copy)]
+struct Run {
+    /// The number of its packets.
+    packets: u64,
+    /// Whether it reaches the end of the capture.
+    is_to_end: bool,
 }
 
 /// A header that was guessed.
@@ -73,16 +96,71 @@ pub(crate) fn bytes_of(header: &PcapHeader) -> [u8; 24] {
     }
 }
 
+impl Run {
+    /// No packets.
+    const NONE: Run = Run {
+        packets: 0,
+        is_to_end: false,
+    };
+
+    // Returns whether the run has more packets than another one, or as many, and alone reaches the end of the capture.
+    fn is_longer(&self, other: &Run) -> bool {
+        self.packets > other.packets
+            || self.packets == other.packets && self.is_to_end && !other.is_to_end
+    }
+}
+
+/// Undoes a text-mode transfer of the capture in the window, if there was one: the capture then begins with a section header, or has a
+/// longer run of packets. Returns whether it is undone.
+pub(crate) fn undo_transfer(
+    alloc: Global,
+    window: &mut Window,
+    link: Option<u32>,
+) -> ResultParsing<bool> {
+    let sure = window.reach_row()?;
+    let bytes = window.shown();
+    let is_sure = !bytes.starts_with(&TRANSFERRED_SECTION);
+    if is_sure && !is_transferred(bytes) {
+        return Ok(false);
+    }
+    let behind = bytes.len().saturating_sub(sure);
+    let own = longest_run(bytes, sure, link)?;
+    let undone = window.undone(alloc)?;
+    let bound = undone.bytes().len().saturating_sub(behind);
+    if is_sure && !longest_run(undone.bytes(), bound, link)?.is_longer(&own) {
+        return Ok(false);
+    }
+    window.put_undone(undone);
+    Ok(true)
+}
+
+// Returns the longest run of packets in these bytes, under their own header, or under a guessed one if they have none.
+fn longest_run(bytes: &[u8], bound: usize, link: Option<u32>) -> ResultParsing<Run> {
+    match PcapParser::new(bytes) {
+        Ok((rest, parser)) => Ok(run_of(&parser, rest, bound)),
+        Err(_) => Ok(guess_in(bytes, bound, link)?.0),
+    }
+}
+
 /// Returns the header under which the window has the longest run of packets, if one has a run.
 pub(crate) fn guess(window: &mut Window, link: Option<u32>) -> ResultParsing<Option<Guessed>> {
     let sure = window.reach_row()?;
+    Ok(guess_in(window.shown(), sure, link)?.1)
+}
+
+// Returns the longest run of packets in these bytes under one of the headers, and this header, if one has a run.
+fn guess_in(
+    bytes: &[u8],
+    bound: usize,
+    link: Option<u32>,
+) -> ResultParsing<(Run, Option<Guessed>)> {
+    let mut longest = Run::NONE;
     let mut best = None;
-    let mut longest = FEWEST - 1;
     for magic in MAGICS {
         let header = header_with(magic, link.unwrap_or(ETHERNET));
         let parser = PcapParser::with_header(header)?;
-        let run = run_of(&parser, window.shown(), sure);
-        if run > longest {
+        let run = run_of(&parser, bytes, bound);
+        if run.packets >= FEWEST && run.packets > longest.packets {
             longest = run;
             best = Some(Guessed {
                 header,
@@ -90,15 +168,15 @@ pub(crate) fn guess(window: &mut Window, link: Option<u32>) -> ResultParsing<Opt
             });
         }
     }
-    Ok(best)
+    Ok((longest, best))
 }
 
-// Returns the number of packets that follow each other from the first place at which packets go on.
-fn run_of(parser: &PcapParser, bytes: &[u8], bound: usize) -> u64 {
+// Returns the packets that follow each other from the first place at which packets go on.
+fn run_of(parser: &PcapParser, bytes: &[u8], bound: usize) -> Run {
     let Some(mut at) = resync(parser, 0, bytes, bound) else {
-        return 0;
+        return Run::NONE;
     };
-    let mut run: u64 = 0;
+    let mut run = Run::NONE;
     for _ in 0..u64::MAX {
         let left = bytes.get(at..).unwrap_or_default();
         let Some((head, _data)) = head_at(parser, left) else {
@@ -108,7 +186,8 @@ fn run_of(parser: &PcapParser, bytes: &[u8], bound: usize) -> u64 {
         let Some(behind) = left.get(end..) else {
             break;
         };
-        run = run.saturating_add(1);
+        run.packets = run.packets.saturating_add(1);
+        run.is_to_end = behind.is_empty();
         if !begins_near(parser, head.seconds, behind) {
             break;
         }

@@ -93,6 +93,13 @@ pub enum Change {
     Found,
     /// The last packet, of this many bytes, is a guess: nothing confirms where it ends.
     Unconfirmed(usize),
+    /// The end of the next block is missing, and is written again: of its bytes so many are there, and so many are written.
+    CutOff {
+        /// The number of bytes that are there.
+        present: usize,
+        /// The number of bytes that are written.
+        whole: usize,
+    },
 }
 
 /// How a message names a packet or a block.
@@ -147,6 +154,9 @@ impl Change {
             ),
             Change::Unconfirmed(_) => format!(in alloc;
                 "{item} at byte {place}: kept, a guess: nothing confirms where it ends"
+            ),
+            Change::CutOff { .. } => format!(in alloc;
+                "{item} at byte {place}: its end is missing: its packet is kept, without options that are cut off or break rules"
             ),
         }
     }

@@ -2,7 +2,7 @@
 
 ghost use Rattle.std.specs.Prelude.{None};
 
-use crate::opening::{Guessed, Opening};
+use crate::opening::{Found, Guessed, Opening};
 use crate::packets::{Change, Named};
 use crate::rows::Rows;
 use crate::standing::{BlockRows, HEADER, PacketRows, Standing, Stop};
@@ -201,14 +201,12 @@ impl Repaired {
         let shown = Shown(name);
         let prefix = format!(in alloc; "pcapfile: {shown}: ")?;
         let mut notes = BufWriter::with_capacity(alloc, OUTPUT, console.notes()?)?;
-        let (standing, guessed) = Standing::open_as(alloc, stream, opening)?;
-        let first = match (opening, &guessed) {
+        let (standing, found) = Standing::open_as(alloc, stream, opening)?;
+        let first = match (opening, &found.guessed) {
             (Opening::Guess(_), None) | (Opening::Own, _) => HEADER as u64,
             _ => 0,
         };
-        if let Some(guessed) = &guessed {
-            say_guess(&mut notes, prefix.as_str(), guessed);
-        }
+        say_found(&mut notes, prefix.as_str(), &found);
         match standing {
             Standing::Packets(made, rows) => {
                 let repairs = Repairs {
@@ -244,6 +242,11 @@ impl Repaired {
             place: Place::new(bytes),
             changed: 0,
         }
+    }
+
+    /// Returns whether something was changed or left out so far.
+    pub fn is_changed(&self) -> bool {
+        self.changed > 0 || self.place.left_out > 0 || self.place.counted.flawed > 0
     }
 
     /// Returns the next bytes of the repaired capture, or none at its end.
@@ -317,6 +320,20 @@ fn given_up(notes: &mut Lines, stop: Stop) -> Exit {
     match stop {
         Stop::Unread(error) => Exit::from(error),
         Stop::Untold(exit) => exit,
+    }
+}
+
+// Reports what was found at the beginning of the capture.
+fn say_found(notes: &mut Lines, prefix: &str, found: &Found) {
+    if found.is_undone {
+        // A failed message doesn't stop the repair.
+        let _ = writeln!(
+            notes,
+            "{prefix}its line ends are undone: a text-mode transfer turned each LF into CR LF; bytes are counted without these CRs"
+        );
+    }
+    if let Some(guessed) = &found.guessed {
+        say_guess(notes, prefix, guessed);
     }
 }
 

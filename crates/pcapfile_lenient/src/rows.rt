@@ -5,6 +5,7 @@ ghost use Rattle.std.specs.Prelude.{None};
 use crate::frames::mend_frame;
 use crate::packets::{Change, HEADER, Here, LIMIT, Packets};
 use crate::stored::mend_stored;
+use crate::torn::complete_last;
 use crate::window::{IN_A_ROW, Sought, Window};
 use pcap_file::pcap::PcapHeader;
 use pcap_file::{PcapError, ResultParsing, Rule};
@@ -51,10 +52,15 @@ enum Step {
 /// bytes or at the end of the capture. Corrupt bytes are skipped, and the next read goes on after them.
 #[derive(Drop)]
 pub struct Rows {
+    alloc: Global,
     kind: Kind,
     window: Window,
     /// The number of buffered bytes that belong to a packet or block.
     ready: usize,
+    /// The whole text of the last block, if its end was missing. The window is then empty.
+    last: Vec<u8>,
+    /// The number of bytes of this text that were read.
+    given: usize,
     left_out: LeftOut,
     /// The last change, and how many there are so far.
     changed: Changed,
@@ -101,15 +107,20 @@ impl Kind {
 
 impl Rows {
     /// Returns the rows of the packets that the window shows next, read by a parser with the header.
-    pub(crate) fn of_packets(header: PcapHeader, window: Window) -> ResultParsing<Rows> {
-        Ok(Rows::new(Kind::Packets(Packets::new(header)?), window, 0))
+    pub(crate) fn of_packets(
+        alloc: Global,
+        header: PcapHeader,
+        window: Window,
+    ) -> ResultParsing<Rows> {
+        let kind = Kind::Packets(Packets::new(header)?);
+        Ok(Rows::new(alloc, kind, window, 0))
     }
 
     /// Returns the rows of the blocks from the first section header in the window on, and leaves out what is before it. If there is none,
     /// the errors are those of the first bytes.
     pub(crate) fn of_blocks(alloc: Global, mut window: Window) -> ResultParsing<Rows> {
         let refusal = match open(alloc, &mut window) {
-            Ok((parser, len)) => return Ok(Rows::new(Kind::Blocks(parser), window, len)),
+            Ok((parser, len)) => return Ok(Rows::new(alloc, Kind::Blocks(parser), window, len)),
             Err(error) => error,
         };
         if let PcapError::OutOfMemory(_) | PcapError::IoError(_) = &refusal {
@@ -120,21 +131,24 @@ impl Rows {
             return Err(refusal);
         }
         let (parser, len) = first_section(alloc, window.shown())?;
-        let mut rows = Rows::new(Kind::Blocks(parser), window, len);
+        let mut rows = Rows::new(alloc, Kind::Blocks(parser), window, len);
         rows.leave_out(passed.bytes, Scrap::NoBlocks, refusal.rule());
         Ok(rows)
     }
 
-    fn new(kind: Kind, window: Window, ready: usize) -> Rows {
+    fn new(alloc: Global, kind: Kind, window: Window, ready: usize) -> Rows {
         let left_out = LeftOut {
             bytes: 0,
             scrap: kind.garbage(),
             rule: None,
         };
         Rows {
+            alloc,
             kind,
             window,
             ready,
+            last: Vec::new(alloc),
+            given: 0,
             left_out,
             changed: Changed {
                 count: 0,
@@ -158,6 +172,14 @@ impl Rows {
     /// Returns the reports so far.
     pub fn changed(&self) -> Changed {
         self.changed
+    }
+
+    // Returns the bytes from which the next packet or block is read.
+    fn shown(&self) -> &[u8] {
+        if self.last.is_empty() {
+            return self.window.shown();
+        }
+        self.last.get(self.given..).unwrap_or_default()
     }
 
     // Finds the next packet or block. At the end of a row none is ready.
@@ -283,8 +305,15 @@ impl Rows {
         Ok(())
     }
 
-    // Skips the last bytes of a PcapNg capture, if any, when at least `missing` bytes are missing from a block.
+    // Completes the last block of a PcapNg capture, or skips the last bytes, when at least `missing` bytes are missing from a block.
     fn pass_end(&mut self, missing: usize) -> io::Result<()> {
+        if self.given < self.last.len() {
+            self.ready = self.last.len() - self.given;
+            return Ok(());
+        }
+        if self.mend_last(missing)? {
+            return Ok(());
+        }
         let last = self.window.shown();
         let goes_on = match &self.kind {
             Kind::Packets(_) => false,
@@ -299,6 +328,31 @@ impl Rows {
         }
         self.pass_torn();
         Ok(())
+    }
+
+    // Mends the frame of the last block, or completes it, and returns whether that was done.
+    fn mend_last(&mut self, missing: usize) -> io::Result<bool> {
+        let Kind::Blocks(parser) = &self.kind else {
+            return Ok(false);
+        };
+        let len = self.window.shown().len();
+        if len == 0 || len.saturating_add(missing) > LIMIT as usize {
+            return Ok(false);
+        }
+        if let Some(change) = mend_frame(parser, &mut self.window)? {
+            self.note(change);
+            return Ok(true);
+        }
+        let Some(text) = complete_last(self.alloc, parser, &self.window)? else {
+            return Ok(false);
+        };
+        self.note(Change::CutOff {
+            present: len,
+            whole: text.len(),
+        });
+        self.last = text;
+        self.window.pass(len);
+        Ok(true)
     }
 
     // Skips the last bytes of the capture, which are of a truncated item.
@@ -326,10 +380,14 @@ impl Read for Rows {
         if self.ready == 0 {
             self.find_next()?;
         }
-        let shown = self.window.shown();
+        let shown = self.shown();
         let len = self.ready.min(shown.len()).min(buf.len());
         buf[..len].copy_from_slice(&shown[..len]);
-        self.window.pass(len);
+        if self.last.is_empty() {
+            self.window.pass(len);
+        } else {
+            self.given = self.given.saturating_add(len);
+        }
         self.ready = self.ready.saturating_sub(len);
         Ok(len)
     }

@@ -4,7 +4,7 @@ ghost use Rattle.std.specs.Prelude.{◌≡◌, ◌<◌, ◌^◌, false};
 ghost use Rattle.pcap_tolerant.specs.ReaderAsIs.{is_done, has_failed};
 ghost use Rattle.pcap_tolerant_captures.specs.ReaderAsIs.{is_done as is_done_with_blocks, has_failed as has_failed_in_blocks};
 
-use crate::opening::{Guessed, Opening, bytes_of, guess};
+use crate::opening::{Found, Opening, bytes_of, guess, undo_transfer};
 use crate::packets::{HEADER as HEADER_LEN, LIMIT};
 use crate::rows::Rows;
 use crate::window::Window;
@@ -131,34 +131,48 @@ impl Standing {
         }
     }
 
-    /// Returns the same, with a given or guessed header if the capture has none, and the guess, if there is one.
+    /// Returns the same, with a given or guessed header if the capture has none, and what was found at the beginning.
     pub fn open_as(
         alloc: Global,
         stream: Watched,
         opening: Opening,
-    ) -> ResultParsing<(Standing, Option<Guessed>)> {
-        let link = match opening {
-            Opening::Own => return Ok((Standing::open(alloc, stream)?, None)),
-            Opening::Given(_) => None,
-            Opening::Guess(link) => link,
+    ) -> ResultParsing<(Standing, Found)> {
+        let mut found = Found {
+            guessed: None,
+            is_undone: false,
         };
+        let standing = match opening {
+            Opening::Own => Standing::open(alloc, stream)?,
+            Opening::Given(header) => {
+                let window = Window::new(alloc, buffered(alloc, stream)?);
+                Standing::without_header(alloc, header, window)?
+            }
+            Opening::Guess(link) => Standing::guessed(alloc, stream, link, &mut found)?,
+        };
+        Ok((standing, found))
+    }
+
+    // Returns the items after a text-mode transfer is undone, and with a guessed header if the capture has none.
+    fn guessed(
+        alloc: Global,
+        stream: Watched,
+        link: Option<u32>,
+        found: &mut Found,
+    ) -> ResultParsing<Standing> {
         let mut window = Window::new(alloc, buffered(alloc, stream)?);
-        if let Opening::Given(header) = opening {
-            return Ok((Standing::without_header(alloc, header, window)?, None));
-        }
-        window.show(HEADER)?;
+        found.is_undone = undo_transfer(alloc, &mut window, link)?;
         let error = match header_in(window.shown()) {
-            Ok(header) => return Ok((Standing::after_header(alloc, header, window)?, None)),
+            Ok(header) => return Standing::after_header(alloc, header, window),
             Err(error) => error,
         };
         if window.shown().first() == Some(&FIRST_OF_BLOCKS) {
-            return Ok((Standing::of_blocks(alloc, error, window)?, None));
+            return Standing::of_blocks(alloc, error, window);
         }
         match guess(&mut window, link)? {
-            None => Ok((Standing::of_blocks(alloc, error, window)?, None)),
+            None => Standing::of_blocks(alloc, error, window),
             Some(guessed) => {
-                let standing = Standing::without_header(alloc, guessed.header, window)?;
-                Ok((standing, Some(guessed)))
+                found.guessed = Some(guessed);
+                Standing::without_header(alloc, guessed.header, window)
             }
         }
     }
@@ -192,7 +206,7 @@ impl Standing {
         opening: Vec<u8>,
         window: Window,
     ) -> ResultParsing<Standing> {
-        let rows = Rows::of_packets(header, window)?;
+        let rows = Rows::of_packets(alloc, header, window)?;
         let parser = PcapParser::with_header(header)?;
         let reader = ReaderAsIs::with_parser(alloc, parser, rows, LIMIT);
         Ok(Standing::Packets(opening, PacketRows { reader }))

@@ -57,8 +57,8 @@ pub(crate) fn mend_stored(
     })
 }
 
-// Returns the snapshot length of an interface, or the largest number.
-fn limit(parser: &PcapNgParserAsIs, interface: u32) -> u32 {
+/// Returns the snapshot length of an interface, or the largest number.
+pub(crate) fn limit(parser: &PcapNgParserAsIs, interface: u32) -> u32 {
     match parser.interface(interface) {
         Some(found) if found.snaplen > 0 => found.snaplen,
         _ => u32::MAX,
@@ -108,7 +108,7 @@ fn fits(order: Endianness, bytes: &[u8], length: u32) -> bool {
     true
 }
 
-// Returns a length with its padding to a multiple of four.
-fn padded(length: usize) -> usize {
+/// Returns a length with its padding to a multiple of four.
+pub(crate) fn padded(length: usize) -> usize {
     length.saturating_add((4 - length % 4) % 4)
 }

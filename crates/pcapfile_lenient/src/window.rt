@@ -2,6 +2,7 @@
 
 use crate::packets::ROW;
 use capcopy_run::Uninterrupted;
+use pcap_altered::LineEnds;
 use pcap_damaged::resync as first_packets;
 use pcap_file::PcapParser;
 use pcap_tolerant_captures::PcapNgParserAsIs;
@@ -49,6 +50,22 @@ pub(crate) struct Window {
     passed: usize,
     /// Whether nothing follows the bytes in the buffer.
     is_all: bool,
+    /// How a text-mode transfer of the input is undone, if it is.
+    line_ends: Option<LineEnds>,
+}
+
+/// The bytes of a window after a text-mode transfer was undone.
+#[derive(Drop)]
+pub(crate) struct Undone {
+    room: Vec<u8>,
+    line_ends: LineEnds,
+}
+
+impl Undone {
+    /// Returns the bytes.
+    pub(crate) fn bytes(&self) -> &[u8] {
+        self.room.as_slice()
+    }
 }
 
 impl Sought<'_> {
@@ -70,7 +87,27 @@ impl Window {
             room: Vec::new(alloc),
             passed: 0,
             is_all: false,
+            line_ends: None,
         }
+    }
+
+    /// Returns the bytes in the window after a text-mode transfer of the input is undone.
+    pub(crate) fn undone(&self, alloc: Global) -> io::Result<Undone> {
+        let mut room = Vec::new(alloc);
+        let mut line_ends = LineEnds::new();
+        line_ends.put(&mut room, self.shown())?;
+        if self.is_all {
+            line_ends.finish(&mut room)?;
+        }
+        Ok(Undone { room, line_ends })
+    }
+
+    /// Puts these bytes into the window, and goes on undoing the transfer in the bytes behind it.
+    pub(crate) fn put_undone(&mut self, undone: Undone) {
+        let Undone { room, line_ends } = undone;
+        self.room = room;
+        self.passed = 0;
+        self.line_ends = Some(line_ends);
     }
 
     /// Returns the bytes in the window.
@@ -161,10 +198,14 @@ impl Window {
         }
         let came = self.input.fill_buf()?;
         let len = came.len();
-        self.room.extend_from_slice(came)?;
-        self.input.consume(len);
         self.is_all = len == 0;
-        Ok(len > 0)
+        match &mut self.line_ends {
+            None => self.room.extend_from_slice(came)?,
+            Some(line_ends) if len > 0 => line_ends.put(&mut self.room, came)?,
+            Some(line_ends) => line_ends.finish(&mut self.room)?,
+        }
+        self.input.consume(len);
+        Ok(len > 0 || self.line_ends.is_some())
     }
 
     // Drops the consumed bytes once they outnumber the rest, so that a move never copies more bytes than were consumed.

@@ -1,2 +1,3 @@
 pub mod BodiesSaid
+pub mod CutBlocks
 pub mod StrictAgain

@@ -24,7 +24,7 @@ pub(crate) struct Front {
 }
 
 // Returns the kind of options that end a body of this type, if it may have options.
-fn options_in(type_: BlockType) -> Option<OptionsOf>
+pub(crate) fn options_in(type_: BlockType) -> Option<OptionsOf>
     ensures { result ≡ options_of type_ }
 {
     match type_ {

@@ -23,8 +23,10 @@ pub(crate) struct Telling {
     pub(crate) place: Place,
     /// The error that ended the capture early: `IncompleteBuffer` if it is truncated there.
     pub(crate) fault: Option<PcapError>,
-    /// The number of packets or blocks whose length was changed.
+    /// The number of packets or blocks whose length or end was changed.
     pub(crate) changed: u64,
+    /// The numbers of bytes that the last block had and now has, if its end was missing.
+    pub(crate) completed: Option<(u64, u64)>,
     /// The number of reports on packets or blocks.
     reported: u64,
 }
@@ -49,6 +51,7 @@ impl Telling {
             place: Place::new(bytes),
             fault: None,
             changed: 0,
+            completed: None,
             reported: 0,
         })
     }
@@ -108,10 +111,18 @@ impl Telling {
         }
         self.reported = changed.count;
         let last = changed.last?;
-        if let Change::Length { .. } = last {
+        self.count(last);
+        Some(Between::Change(last))
+    }
+
+    // Counts a change of a packet or block.
+    fn count(&mut self, change: Change) {
+        if let Change::CutOff { present, whole } = change {
+            self.completed = Some((present as u64, whole as u64));
+        }
+        if let Change::Length { .. } | Change::CutOff { .. } = change {
             self.changed = self.changed.saturating_add(1);
         }
-        Some(Between::Change(last))
     }
 
     // Counts a gap and returns it. `None` for a truncated packet or block, which is no gap and ends the capture.

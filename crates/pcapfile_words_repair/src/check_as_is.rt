@@ -4,7 +4,7 @@ use crate::as_is::{Between, MOST, Telling};
 use capcopy_run::{Exit, Uninterrupted, put_line};
 use pcap_file::PcapError;
 use pcapfile_as_is::{BlockFlawLines, CheckedAsIs, FlawLines, put_gap};
-use pcapfile_files::{Console, OUTPUT, Shown, tell_error, tell_unwritten};
+use pcapfile_files::{Console, OUTPUT, Shown, tell_changed, tell_error, tell_unwritten};
 use pcapfile_lenient::Change;
 use pcapfile_run::{Checked, End, end_of};
 use std::alloc::Global;
@@ -102,7 +102,11 @@ fn tell_checked<W: Write>(
     if !is_told {
         eprintln!(console.for_line(); "pcapfile: {shown}: {checked}")?;
     }
-    Ok(checked.status())
+    let status = checked.status();
+    if status > 0 {
+        tell_changed(console, name)?;
+    }
+    Ok(status)
 }
 
 fn checked_of(telling: Telling) -> CheckedAsIs {
@@ -111,14 +115,20 @@ fn checked_of(telling: Telling) -> CheckedAsIs {
         place,
         fault,
         changed,
+        completed,
         ..
     } = telling;
     let items = place.counted.items;
+    let (present, whole) = completed.unwrap_or((0, 0));
     CheckedAsIs {
         checked: Checked {
             format,
             items,
-            bytes: place.counted.bytes,
+            bytes: place
+                .counted
+                .bytes
+                .saturating_sub(whole)
+                .saturating_add(present),
             end: end_behind(fault, items),
         },
         flawed: place.counted.flawed.saturating_add(changed),

@@ -1,6 +1,8 @@
 //! The word `repair`.
 
-use pcapfile_files::{Console, OUTPUT, open_watched, tell_error, tell_io, write_named};
+use pcapfile_files::{
+    Console, OUTPUT, open_watched, tell_changed, tell_error, tell_io, write_named,
+};
 use pcapfile_lenient::{Opening, Repaired};
 use std::io;
 use std::io::{BufWriter, Write};
@@ -47,8 +49,11 @@ fn repair_to<W: Write + Drop>(console: &Console, asked: &Repair, output: W) -> i
         let len = bytes.len();
         repaired.pass(len);
     }
-    match output.flush() {
-        Ok(()) => Ok(0),
-        Err(error) => tell_io(console, asked.out, &error),
+    if let Err(error) = output.flush() {
+        return tell_io(console, asked.out, &error);
     }
+    if matches!(asked.opening, Opening::Own) && repaired.is_changed() {
+        tell_changed(console, asked.from)?;
+    }
+    Ok(0)
 }

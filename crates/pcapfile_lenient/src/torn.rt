@@ -1,0 +1,118 @@
+//! The last block of a truncated PcapNg capture, which may have all of its packet.
+
+use crate::frames::number_at;
+use crate::stored::{limit, padded};
+use crate::window::{IN_A_ROW, Window};
+use pcap_file::Endianness;
+use pcap_tolerant_captures::PcapNgParserAsIs;
+use pcap_tolerant_captures::resync::resync as first_blocks;
+use pcapfile_mended::complete;
+use std::alloc::{AllocError, Global};
+
+/// The type of a simple packet.
+const SIMPLE: u32 = 3;
+
+/// The offset of the first length in a block.
+const LENGTH: usize = 4;
+
+/// The length of a block's head, in bytes.
+const HEAD: usize = 8;
+
+/// The offset of a simple packet's data in its block.
+const SIMPLE_DATA: usize = 12;
+
+/// The offset of the data of any other packet.
+const DATA: usize = 28;
+
+/// The offset of their stored length.
+const STORED: usize = 20;
+
+/// The length of what is behind the body of a block, in bytes.
+const TRAILER: usize = 4;
+
+/// Returns the whole text of the packet block at the front of the window, if the input ends inside it, but behind the packet's data.
+/// `None` if the bytes speak against that.
+pub(crate) fn complete_last(
+    alloc: Global,
+    parser: &PcapNgParserAsIs,
+    window: &Window,
+) -> Result<Option<Vec<u8>>, AllocError> {
+    let order = parser.section().endianness();
+    let most = limit(parser, 0);
+    let bytes = window.shown();
+    if is_cut_off(parser, most, bytes).is_none() {
+        return Ok(None);
+    }
+    let mut body = Vec::new(alloc);
+    let mut text = Vec::new(alloc);
+    if complete(order, most, bytes, &mut body, &mut text)? {
+        return Ok(Some(text));
+    }
+    Ok(None)
+}
+
+// Returns a value if nothing speaks against these bytes as the beginning of a packet block whose end is cut off. What follows the data
+// must be padding, options and the beginning of the last length. There must be no blocks in a row behind the data.
+fn is_cut_off(parser: &PcapNgParserAsIs, most: u32, bytes: &[u8]) -> Option<()> {
+    let order = parser.section().endianness();
+    let type_ = number_at(order, bytes, 0)?;
+    let end = data_end(order, type_, most, bytes)?;
+    let stated = number_at(order, bytes, LENGTH)? as usize;
+    let trailer = bytes.get(LENGTH..HEAD)?;
+    if bytes.ends_with(trailer) {
+        return None;
+    }
+    let behind = bytes.get(end..)?;
+    let from = padded(end);
+    let last = stated.checked_sub(TRAILER)?;
+    let room = last.checked_sub(from)?;
+    if type_ == SIMPLE && room > 0 {
+        return None;
+    }
+    if first_blocks(parser, behind, IN_A_ROW).is_some() {
+        return None;
+    }
+    let options = bytes.get(from..last.min(bytes.len())).unwrap_or_default();
+    let is_end = trailer.starts_with(bytes.get(last..).unwrap_or_default());
+    if is_end && begin_options(order, options, room) {
+        return Some(());
+    }
+    None
+}
+
+// Returns the offset of the end of a packet's data in its block.
+fn data_end(order: Endianness, type_: u32, most: u32, bytes: &[u8]) -> Option<usize> {
+    match type_ {
+        SIMPLE => {
+            let original = number_at(order, bytes, HEAD)?;
+            Some((original.min(most) as usize).saturating_add(SIMPLE_DATA))
+        }
+        2 | 6 => Some((number_at(order, bytes, STORED)? as usize).saturating_add(DATA)),
+        _ => None,
+    }
+}
+
+// Returns whether these bytes begin options that fill this room.
+fn begin_options(order: Endianness, bytes: &[u8], room: usize) -> bool {
+    let mut left = bytes;
+    let mut room_left = room;
+    for _ in 0..u64::MAX {
+        let Some(number) = number_at(order, left, 0) else {
+            break;
+        };
+        let (code, size) = match order {
+            Endianness::Big => (number >> 16, number & 0xFFFF),
+            Endianness::Little => (number & 0xFFFF, number >> 16),
+        };
+        if code == 0 {
+            return true;
+        }
+        let len = padded(size as usize).saturating_add(LENGTH);
+        let Some(more) = room_left.checked_sub(len) else {
+            return false;
+        };
+        room_left = more;
+        left = left.get(len..).unwrap_or_default();
+    }
+    left.len() <= room_left
+}
