@@ -1,18 +1,16 @@
 //! Functions that count items and their bytes.
 
 ghost use Rattle.std.specs.Prelude.{◌≡◌, ◌<◌, ◌^◌, [], true, false};
+ghost use Rattle.pcap_items.specs.Format.{IsLawful};
 ghost use Rattle.pcap_classic.specs.Magic.{is_magic};
 ghost use Rattle.pcap_classic.specs.PacketText.{packet_limit};
 ghost use Rattle.pcap_classic.specs.Packets.{reader_format};
-ghost use Rattle.pcap_ng.specs.Ahead.{state_of, text_of};
-ghost use Rattle.pcap_ng.specs.Blocks.{block_format};
 ghost use Rattle.pcap_walk.specs.CountedItems.{CountsItem, CountsItems};
 
 use crate::packets::Packets;
-use crate::walking::{Ended, Sink, Walked, walk};
+use crate::walking::{Ended, Sink, Walked, Walker, walk};
 use pcap_classic::pcap::PcapHeader;
 use pcap_core::PcapError;
-use pcap_ng::pcapng::BlocksAhead;
 use std::alloc::Global;
 use std::io;
 use std::io::{BufRead, Write};
@@ -68,8 +66,31 @@ impl<F, H> Sink<F, H> for Counting {
     }
 }
 
-/// Counts the packets after a header, at most 2^64 - 2, and returns the error of the first packet that can't be taken. The
-/// function holds a packet in memory only if the input's buffer ends inside it.
+/// Counts the items that a walker meets, at most 2^64 - 2, and returns the error of the first item that can't be taken. The
+/// function holds an item in memory, one at a time, only if the walker does not find it whole in the input's buffer.
+pub fn count_items<F: Walker, R: BufRead>(
+    walker: &mut F,
+    input: &mut R,
+    walked: &mut Walked,
+    counting: &mut Counting,
+) -> Option<PcapError>
+    requires lawful { IsLawful (F.format (F.setting walker.old)) }
+    requires between { F.held walker.old ≡ [] }
+    requires none_yet { walked.old.items ≡ 0 }
+    requires unfailed { walked.old.read_failed ≡ false }
+    requires room { counting.old.bytes < 2 ^ 64 }
+    ensures counts { CountsItems (F.format (F.setting walker.old)) (F.state walker.old) (R.remaining input.old) (R.remaining input.new) walked.new.read_failed 18446744073709551614
+        walked.old.items walked.new.items counting.old.bytes counting.new.bytes result }
+{
+    match walk(walker, input, &mut io::sink(), counting, MOST, walked) {
+        Ended::AtEnd => None,
+        Ended::AtMost => None,
+        Ended::Refused(error) => Some(error),
+        Ended::Stopped(_) => None,
+    }
+}
+
+/// Counts the packets after a header as `count_items` does.
 pub fn count_packets<R: BufRead>(
     alloc: Global,
     header: &PcapHeader,
@@ -84,34 +105,5 @@ pub fn count_packets<R: BufRead>(
     ensures counts { CountsItems (reader_format packet_limit header.now) tt (R.remaining input.old) (R.remaining input.new) walked.new.read_failed 18446744073709551614
         walked.old.items walked.new.items counting.old.bytes counting.new.bytes result }
 {
-    let mut packets = Packets::new(alloc, header);
-    match walk(&mut packets, input, &mut io::sink(), counting, MOST, walked) {
-        Ended::AtEnd => None,
-        Ended::AtMost => None,
-        Ended::Refused(error) => Some(error),
-        Ended::Stopped(_) => None,
-    }
-}
-
-/// Counts the blocks after those already taken, at most 2^64 - 2, and returns the error of the first block that can't be taken.
-/// The function holds a block in memory, one at a time, only if it is no enhanced packet or the input's buffer ends inside it.
-pub fn count_blocks<R: BufRead>(
-    blocks: &mut BlocksAhead,
-    input: &mut R,
-    walked: &mut Walked,
-    counting: &mut Counting,
-) -> Option<PcapError>
-    requires between { text_of blocks.old ≡ [] }
-    requires none_yet { walked.old.items ≡ 0 }
-    requires unfailed { walked.old.read_failed ≡ false }
-    requires room { counting.old.bytes < 2 ^ 64 }
-    ensures counts { CountsItems block_format (state_of blocks.old) (R.remaining input.old) (R.remaining input.new) walked.new.read_failed 18446744073709551614
-        walked.old.items walked.new.items counting.old.bytes counting.new.bytes result }
-{
-    match walk(blocks, input, &mut io::sink(), counting, MOST, walked) {
-        Ended::AtEnd => None,
-        Ended::AtMost => None,
-        Ended::Refused(error) => Some(error),
-        Ended::Stopped(_) => None,
-    }
+    count_items(&mut Packets::new(alloc, header), input, walked, counting)
 }

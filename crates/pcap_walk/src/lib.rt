@@ -6,6 +6,6 @@ mod counting;
 mod packets;
 mod walking;
 
-pub use counting::{Counting, Never, count_blocks, count_packets};
+pub use counting::{Counting, Never, count_items, count_packets};
 pub use packets::Packets;
 pub use walking::{Ended, Front, Sink, Walked, Walker, walk};

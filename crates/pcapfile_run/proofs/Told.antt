@@ -3,7 +3,7 @@ use Rattle.std.proofs.Common.{◌≡◌, ◌<◌, ◌+◌, ◌^◌, ℕ, List, [
 use Rattle.std.specs.Prelude.{⊤, IfSome}
 use Rattle.pcap_core.specs.declared.errors.PcapError.{PcapError}
 use Rattle.pcap_core.specs.Answer.{number_in, whole}
-use Rattle.pcap_items.specs.Format.{Format}
+use Rattle.pcap_items.specs.Format.{Format, IsLawful}
 use Rattle.pcap_items.specs.Reading.{Takes, ReadsTold}
 use Rattle.pcap_classic.specs.declared.pcap.header.PcapHeader.{PcapHeader}
 use Rattle.pcap_classic.specs.HeaderText.{HeaderText, HeaderSays}
@@ -14,16 +14,15 @@ use Rattle.pcap_classic.proofs.Captures.{under_valid}
 use Rattle.pcap_classic.proofs.HeadedPackets.{packets_lawful}
 use Rattle.pcap_classic.proofs.Stable.{header_stable}
 use Rattle.pcap_classic.proofs.Texts.{header_length}
-use Rattle.pcap_ng.specs.Blocks.{block_format}
+use Rattle.pcap_ng.specs.Blocks.{Item}
 use Rattle.pcap_items.specs.Lent.{TakesText}
 use Rattle.pcap_ng.specs.Opening.{OpeningSays, RefusesOpening}
 use Rattle.pcap_ng.specs.State.{State}
-use Rattle.pcap_ng.proofs.BlockFormat.{blocks_lawful}
 use Rattle.pcap_ng.proofs.ReadBlocks.{opened_more}
 use Rattle.pcapfile_run.specs.declared.checked.Checked.{Checked}
 use Rattle.pcapfile_run.specs.declared.checked.End.{End}
 use Rattle.pcapfile_run.specs.declared.checked.Format.TheVariants.{Pcap, PcapNg}
-use Rattle.pcapfile_run.specs.Checks.{FaultIs, EndIs, ChecksPackets, ChecksBlocks, most_passed}
+use Rattle.pcapfile_run.specs.Checks.{FaultIs, EndIs, ChecksPackets, ChecksOpened, CountsBehind, most_passed}
 use Rattle.pcap_walk.specs.CountedItems.{CountsItems}
 use Rattle.pcapfile_run.specs.Passing.{counted}
 use Rattle.pcapfile_run.proofs.Ends.{fails_at, items_checked}
@@ -31,9 +30,6 @@ use Rattle.pcapfile_run.proofs.Ends.{fails_at, items_checked}
 -- The result of a check.
 abbrev pub packets_told : ℕ → ℕ → End → Checked
 packets_told items bytes end = record { format = Pcap; items = items; bytes = bytes; end = end }
-
-abbrev pub blocks_told : ℕ → ℕ → End → Checked
-blocks_told items bytes end = record { format = PcapNg; items = items; bytes = bytes; end = end }
 
 -- The header is refused.
 pub packets_refused : (known now : Option (List ℕ)) (failed : Bool) (e : PcapError) (end : End) → ReadsTold HeaderSays (λ (header : PcapHeader). header) known now failed (Err e) → FaultIs e failed end
@@ -72,24 +68,27 @@ packets_passed header (Some s) None now failed m n fault end took counts is = ab
 packets_passed header (Some s) (Some after) now failed m n fault end took counts is = packets_behind header s after took now failed m n fault end counts is
 
 -- The first block is refused.
-pub blocks_refused : (known : Option (List ℕ)) (e : PcapError) (end : End) → RefusesOpening known e → FaultIs e true end → IfSome known (λ s. ChecksBlocks s (blocks_told 0 0 end))
-blocks_refused None e end why is = tt
-blocks_refused (Some s) e end why is = (
-  refl,
+pub blocks_refused : (f : Format State Item) (known : Option (List ℕ)) (e : PcapError) (checked : Checked) → RefusesOpening known e
+    → (checked.format ≡ PcapNg) × (checked.items ≡ 0) × (checked.bytes ≡ 0) × FaultIs e true checked.end → IfSome known (λ s. ChecksOpened f s checked)
+blocks_refused f None e checked why is = tt
+blocks_refused f (Some s) e checked why is = (
+  is.0,
   inl (record {
-    items = refl;
-    bytes = refl;
-    fails = fails_at ⊤ OpeningSays s e true end (elim why [ inl io ↦ inl (io, refl) | inr (inl memory) ↦ inr (inr (inl (tt, memory))) | inr (inr stands) ↦ inr (inr (inr stands)) ]) is;
+    items = is.1;
+    bytes = is.2;
+    fails = fails_at ⊤ OpeningSays s e true checked.end (elim why [ inl io ↦ inl (io, refl) | inr (inl memory) ↦ inr (inr (inl (tt, memory))) | inr (inr stands) ↦ inr (inr (inr stands)) ]) is.3;
   }),
 )
 
 -- The first block is read, and then blocks are counted.
-pub blocks_passed : (known after now : Option (List ℕ)) (text : List ℕ) (first : State) (before : ℕ) → before ≡ length text → before < 2 ^ 64 → (failed : Bool) (m n : ℕ) (fault : Option PcapError) (end : End)
-    → TakesText OpeningSays known after text first → CountsItems block_format first after now failed most_passed 0 m before n fault → EndIs fault failed (m + 1) 18446744073709551615 end
-    → IfSome known (λ s. ChecksBlocks s (blocks_told (m + 1) n end))
-blocks_passed None after now text first before long room failed m n fault end took counts is = tt
-blocks_passed (Some s) None now text first before long room failed m n fault end took counts is = absurd took.1
-blocks_passed (Some s) (Some after) now text first before long room failed m n fault end took counts is =
+pub blocks_passed : (f : Format State Item) (laws : IsLawful f) (known after now : Option (List ℕ)) (text : List ℕ) (first : State) (before : ℕ) → before ≡ length text → before < 2 ^ 64 → (checked : Checked)
+    → TakesText OpeningSays known after text first → CountsBehind f first after now before checked → IfSome known (λ s. ChecksOpened f s checked)
+blocks_passed f laws None after now text first before long room checked took counts = tt
+blocks_passed f laws (Some s) None now text first before long room checked took counts = absurd took.1
+blocks_passed f laws (Some s) (Some after) now text first before long room checked took counts =
     let opens = subst (λ (l : List ℕ). OpeningSays l (whole first after)) (sym took.1) (opened_more text after first took.0) in
     let start : before ≡ counted (length text) = omega (arith, long, room) in
-    (refl, inr (first, after, opens, items_checked block_format blocks_lawful first s text after took.1 now failed most_passed 1 before fault (blocks_told (m + 1) n end) m n counts start (omega arith) refl is))
+    let number : checked.items ≡ 1 + counts.items = omega (arith, counts.count) in (
+      counts.format,
+      inr (first, after, opens, items_checked f laws first s text after took.1 now counts.failed most_passed 1 before counts.fault checked counts.items checked.bytes counts.counts start number refl counts.end),
+    )

@@ -11,14 +11,16 @@ use Rattle.pcap_classic.specs.declared.pcap.header.PcapHeader.{PcapHeader}
 use Rattle.pcap_classic.specs.HeaderText.{HeaderText, HeaderSays}
 use Rattle.pcap_classic.specs.Packets.{format_under}
 use Rattle.pcap_classic.specs.PacketText.{packet_limit}
-use Rattle.pcap_ng.specs.Blocks.{block_format}
+use Rattle.pcap_ng.specs.Blocks.{Item, block_format}
 use Rattle.pcap_ng.specs.Opening.{OpeningSays}
 use Rattle.pcap_ng.specs.State.{State}
 use Rattle.pcapfile_run.specs.declared.checked.Checked.{Checked}
 use Rattle.pcapfile_run.specs.declared.checked.End.{End}
 use Rattle.pcapfile_run.specs.declared.checked.End.TheVariants.{Whole, Most, Short, Breaks, NotUtf8, Unread, Memory}
 use Rattle.pcapfile_run.specs.declared.checked.Format.TheVariants.{Pcap, PcapNg}
+use Rattle.pcap_walk.specs.CountedItems.{CountsItems}
 use Rattle.pcapfile_run.specs.Passing.{counted}
+use Rattle.pcapfile_run.specs.SoundBlocks.{sound_blocks}
 
 -- FaultIs error failed end: a run that stopped with this error, and in which a read failed or not, has this end. `Unread` holds the error.
 abbrev pub FaultIs : PcapError → Bool → End → Type 0
@@ -89,9 +91,28 @@ ChecksPackets s checked =
     × (FailsOpening ⊥ HeaderSays s checked
     ⊎ ((header : PcapHeader) × (after : List ℕ) × HeaderText header s after × ChecksItems (format_under packet_limit header) tt s after 0 most_passed checked))
 
--- ChecksBlocks s checked: the result of checking a PcapNg capture, with its first section header, which is counted, and then its blocks.
-abbrev pub ChecksBlocks : List ℕ → Checked → Type 0
-ChecksBlocks s checked =
+-- CountsBehind f q before now first checked: items were counted behind a first block of this many bytes, and why no other one follows.
+pub record CountsBehind {S V : Type 0} (f : Format S V) (q : S) (before now : Option (List ℕ)) (first : ℕ) (checked : Checked) : Type 0 where
+  pub failed : Bool
+  pub fault : Option PcapError
+  pub items : ℕ
+  pub counts : CountsItems f q before now failed most_passed 0 items first checked.bytes fault
+  pub format : checked.format ≡ PcapNg
+  pub count : checked.items ≡ items + 1
+  pub end : EndIs fault failed checked.items (1 + most_passed) checked.end
+
+-- ChecksOpened f s checked: the result of checking a PcapNg capture, with its first section header, which is counted, and then its blocks
+-- in this format.
+abbrev pub ChecksOpened : Format State Item → List ℕ → Checked → Type 0
+ChecksOpened f s checked =
     (checked.format ≡ PcapNg)
     × (FailsOpening ⊤ OpeningSays s checked
-    ⊎ ((first : State) × (after : List ℕ) × OpeningSays s (whole first after) × ChecksItems block_format first s after 1 most_passed checked))
+    ⊎ ((first : State) × (after : List ℕ) × OpeningSays s (whole first after) × ChecksItems f first s after 1 most_passed checked))
+
+-- ChecksBlocks s checked: the result of checking the frames of blocks, and what stays in force.
+abbrev pub ChecksBlocks : List ℕ → Checked → Type 0
+ChecksBlocks = ChecksOpened block_format
+
+-- ChecksBodies s checked: the result of checking blocks and their bodies.
+abbrev pub ChecksBodies : List ℕ → Checked → Type 0
+ChecksBodies = ChecksOpened sound_blocks

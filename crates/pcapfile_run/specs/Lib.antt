@@ -6,4 +6,6 @@ pub mod Lines
 pub mod Numbered
 pub mod NumberedLaws
 pub mod Passing
+pub mod SoundBlocks
 pub mod StoredBlocks
+pub mod WiderCauses

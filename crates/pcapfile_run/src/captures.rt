@@ -1,12 +1,16 @@
 //! Checks of whole captures.
 
-ghost use Rattle.std.specs.Prelude.{IfSome};
-ghost use Rattle.pcapfile_run.specs.Checks.{ChecksPackets, ChecksBlocks};
+ghost use Rattle.std.specs.Prelude.{◌≡◌, [], true, IfSome};
+ghost use Rattle.pcap_items.specs.Format.{IsLawful};
+ghost use Rattle.pcapfile_run.specs.Checks.{ChecksBlocks, ChecksBodies, ChecksPackets, CountsBehind, FaultIs};
+ghost use Rattle.pcapfile_run.specs.declared.checked.Format.TheVariants as formats;
 
 use crate::checked::{Checked, Format, end_of};
+use crate::sound_blocks::SoundBlocks;
+use pcap_file::PcapError;
 use pcap_file::pcap::read_header;
 use pcap_file::pcapng::BlocksAhead;
-use pcap_walk::{Counting, Walked, count_blocks, count_packets};
+use pcap_walk::{Counting, Walked, Walker, count_items, count_packets};
 use std::alloc::Global;
 use std::io::BufRead;
 
@@ -46,33 +50,18 @@ pub fn check_packets<R: BufRead + Drop>(alloc: Global, mut input: R) -> Checked
     }
 }
 
-/// Checks a PcapNg capture read from a stream: counts the blocks of its front, with the first section header, and their bytes, and
-/// finds why no other block follows. It checks the bodies only of section headers and interface descriptions, since these stay in
-/// force. It holds the current section and interfaces in memory, and at most one block. An enhanced packet block is held only if the
-/// end of the input's buffer cuts it.
-pub fn check_blocks<R: BufRead + Drop>(alloc: Global, mut input: R) -> Checked
-    ensures { IfSome (R.remaining input) (λ s. ChecksBlocks s result) }
+// Counts the items behind a first block, which has this many bytes.
+fn check_behind<F: Walker, R: BufRead>(walker: &mut F, input: &mut R, first: u64) -> Checked
+    requires lawful { IsLawful (F.format (F.setting walker.old)) }
+    requires between { F.held walker.old ≡ [] }
+    ensures { CountsBehind (F.format (F.setting walker.old)) (F.state walker.old) (R.remaining input.old) (R.remaining input.new) first result }
 {
     let mut walked = Walked {
         items: 0,
         read_failed: false,
     };
-    let mut blocks = match BlocksAhead::open(alloc, &mut input, &mut walked.read_failed) {
-        Ok(blocks) => blocks,
-        Err(error) => {
-            return Checked {
-                format: Format::PcapNg,
-                items: 0,
-                bytes: 0,
-                end: end_of(Some(error), true, 0, MOST),
-            };
-        }
-    };
-    let mut counting = Counting {
-        bytes: blocks.text().len() as u64,
-    };
-    blocks.clear();
-    let fault = count_blocks(&mut blocks, &mut input, &mut walked, &mut counting);
+    let mut counting = Counting { bytes: first };
+    let fault = count_items(walker, input, &mut walked, &mut counting);
     let Walked { items, read_failed } = walked;
     let items = items + 1;
     let bytes = counting.bytes;
@@ -83,4 +72,46 @@ pub fn check_blocks<R: BufRead + Drop>(alloc: Global, mut input: R) -> Checked
         bytes,
         end,
     }
+}
+
+// Returns the result of a check of a capture whose first block can't be read.
+fn unopened(error: PcapError) -> Checked
+    ensures { (result.format ≡ formats.PcapNg) × (result.items ≡ 0) × (result.bytes ≡ 0) × FaultIs error true result.end }
+{
+    Checked {
+        format: Format::PcapNg,
+        items: 0,
+        bytes: 0,
+        end: end_of(Some(error), true, 0, MOST),
+    }
+}
+
+/// Checks a PcapNg capture read from a stream: counts the blocks of its front, with the first section header, and their bytes, and
+/// finds why no other block follows. It checks the bodies only of section headers and interface descriptions, since these stay in
+/// force. It holds the current section and interfaces in memory, and at most one block. An enhanced packet block is held only if the
+/// end of the input's buffer cuts it.
+pub fn check_blocks<R: BufRead + Drop>(alloc: Global, mut input: R) -> Checked
+    ensures { IfSome (R.remaining input) (λ s. ChecksBlocks s result) }
+{
+    let mut blocks = match BlocksAhead::open(alloc, &mut input, &mut false) {
+        Ok(blocks) => blocks,
+        Err(error) => return unopened(error),
+    };
+    let first = blocks.text().len() as u64;
+    blocks.clear();
+    check_behind(&mut blocks, &mut input, first)
+}
+
+/// Checks a PcapNg capture as `check_blocks` does, and the body of each block with its options. No block with a malformed body is
+/// counted.
+pub fn check_bodies<R: BufRead + Drop>(alloc: Global, mut input: R) -> Checked
+    ensures { IfSome (R.remaining input) (λ s. ChecksBodies s result) }
+{
+    let mut blocks = match BlocksAhead::open(alloc, &mut input, &mut false) {
+        Ok(blocks) => blocks,
+        Err(error) => return unopened(error),
+    };
+    let first = blocks.text().len() as u64;
+    blocks.clear();
+    check_behind(&mut SoundBlocks::new(alloc, blocks), &mut input, first)
 }

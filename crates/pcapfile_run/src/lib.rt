@@ -10,9 +10,10 @@ mod lines;
 mod listing;
 mod packets;
 mod seen;
+mod sound_blocks;
 
 pub use block_packet::{BlockPacket, holds_packet, interface_at, packet_in_body};
-pub use captures::{check_blocks, check_packets};
+pub use captures::{check_blocks, check_bodies, check_packets};
 pub use checked::{Checked, End, Format, end_of};
 pub use lines::put_packet;
 pub use listing::{format_of, list};

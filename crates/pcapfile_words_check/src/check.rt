@@ -2,22 +2,31 @@
 
 use pcap_file::PcapError;
 use pcapfile_files::{AT_FAULT, Console, Shown, buffered, open_watched, tell_foreign, tell_io};
-use pcapfile_run::{Checked, End, Format, check_blocks, check_packets, format_of};
+use pcapfile_run::{Checked, End, Format, check_blocks, check_bodies, check_packets, format_of};
 use std::io;
 use std::io::ErrorKind;
 
+/// The arguments of `check`.
+#[derive(Clone, Copy)]
+pub struct Checking<'a> {
+    /// The names of the captures.
+    pub names: &'a [&'a str],
+    /// Whether the body of each PcapNg block is checked too.
+    pub bodies: bool,
+}
+
 /// Writes a line on each capture, and returns the worst exit status.
-pub fn check_files(console: &Console, names: &[&str]) -> io::Result<u8> {
+pub fn check_files(console: &Console, asked: Checking<'_>) -> io::Result<u8> {
     let mut status = 0;
-    for name in names {
-        status = check_file(console, name)?.max(status);
+    for name in asked.names {
+        status = check_file(console, name, asked.bodies)?.max(status);
     }
     Ok(status)
 }
 
 // Writes the line on a capture. If the file is no capture or can't be read, or memory runs out, a line goes to standard error.
-fn check_file(console: &Console, name: &str) -> io::Result<u8> {
-    let checked = match read_and_check(console, name) {
+fn check_file(console: &Console, name: &str, bodies: bool) -> io::Result<u8> {
+    let checked = match read_and_check(console, name, bodies) {
         Ok(checked) => checked,
         Err(error) => return tell_io(console, name, &error),
     };
@@ -47,10 +56,11 @@ pub(crate) fn tell_unread(console: &Console, name: &str, checked: &Checked) -> i
     }
 }
 
-fn read_and_check(console: &Console, name: &str) -> io::Result<Checked> {
+fn read_and_check(console: &Console, name: &str, bodies: bool) -> io::Result<Checked> {
     let mut input = buffered(console.alloc(), open_watched(console, name)?)?;
     match format_of(&mut input)? {
         Format::Pcap => Ok(check_packets(console.alloc(), input)),
+        Format::PcapNg if bodies => Ok(check_bodies(console.alloc(), input)),
         Format::PcapNg => Ok(check_blocks(console.alloc(), input)),
     }
 }
