@@ -15,7 +15,7 @@ use Rattle.pcap_blocks.specs.declared.block_type.BlockType.{BlockType}
 use Rattle.pcap_blocks.specs.declared.block_type.BlockType.TheVariants as types
 use Rattle.pcap_blocks.specs.EnhancedPacket.{Enhanced}
 use Rattle.pcap_blocks.specs.InterfaceDescription.{Interface}
-use Rattle.pcap_blocks.specs.ParsedBlock.{Body, BodySays, EnhancedBody}
+use Rattle.pcap_blocks.specs.ParsedBlock.{Body, BodySays, EnhancedBody, OldPacketBody}
 use Rattle.pcap_blocks.specs.StoredBytes.{stored_len}
 use Rattle.pcap_blocks.specs.StoredPacket.{Stored, StoredText}
 use Rattle.pcap_options.specs.Values.{Kind}
@@ -31,7 +31,8 @@ use Rattle.pcapfile_merge.specs.BufferedBlocks.{lent_by}
 use Rattle.pcapfile_merge.specs.Keeping.{CarriedBy, IsNumbered, carried_with, first_number, gives, is_carried, is_interface, is_statistics, with_number}
 use Rattle.pcapfile_merge.specs.Making.{DescribesText, IsMade, KeepsText, MakesText, PutsNumbered, PutsText, PutsWhole, made_as}
 use Rattle.pcapfile_merge.specs.Packets.{Packet, plain_text}
-use Rattle.pcapfile_merge.specs.Passing.{IsSaid, TellsPending, bytes_within, start_of}
+use Rattle.pcapfile_merge.specs.Passing.{IsSaid, TellsBody, TellsIfPacket, TellsPending, TellsStored, bytes_within, start_of}
+use Rattle.pcapfile_merge.specs.Renewing.{options_left_out, renewed}
 use Rattle.pcapfile_merge.specs.Taking.{packet_in, text_by}
 use Rattle.pcapfile_merge.specs.TakingBlocks.{EndsBlock, GivesOf, IsUnmade, block_under, block_unkept, described_as, enhanced_in, interface_unmade, packet_unmade}
 
@@ -101,6 +102,18 @@ packet_there order types.InterfaceStatistics interfaces s rest body is says = ab
 packet_there order types.SystemdJournalExport interfaces s rest body is says = absurd (true≢false (sym is))
 packet_there order (types.Unknown n) interfaces s rest body is says = absurd (true≢false (sym is))
 
+-- An obsolete packet and the enhanced packet that it becomes hold the same packet.
+same_packet : (interfaces : List Interface) (body : Body) → packet_in_body interfaces (renewed body) ≡ packet_in_body interfaces body
+same_packet interfaces (OldPacketBody old) = refl
+same_packet interfaces body = refl
+
+-- What is said about a renewed body is said about the packet that its block holds.
+pub renewed_said : (numbers : List ℕ) (interfaces : List Interface) (body made : Body) (options : ℕ) (packet : InBlock) (result : Result Pending PcapError) → made ≡ renewed body → options ≡ options_left_out body
+    → packet_in_body interfaces body ≡ Some packet → TellsBody numbers interfaces made options result → TellsStored numbers interfaces packet (options_left_out body) result
+renewed_said numbers interfaces body made options packet result is many holds tells =
+    let there : packet_in_body interfaces made ≡ Some packet = ap (packet_in_body interfaces) is ∙ same_packet interfaces body ∙ holds in
+    subst (λ (n : ℕ). TellsStored numbers interfaces packet n result) many (subst (λ (o : Option InBlock). TellsIfPacket numbers interfaces o options result) there tells)
+
 -- If no made block is lent, the body is lent.
 pub nothing_made : (made : Made) (body : List ℕ) → made.is_lent ≡ false → lent_by made body ≡ body
 nothing_made made body none = ap (λ (b : Bool). if b then made.text.items else body) none
@@ -117,14 +130,15 @@ made_packet p made pending body makes =
     let all : lent ≡ items =
     ap (λ (l : List ℕ). bytes_within l pending) (made_lent made body makes.is_lent) ∙ ap (λ (n : ℕ). take n (drop pending.start items)) makes.len ∙ ap (λ (n : ℕ). take (length items) (drop n items)) makes.start ∙ take-length items in
     let text : text_by pending.is_made pending lent ≡ p.text = ap (λ (b : Bool). text_by b pending lent) makes.is_made ∙ all ∙ makes.text in
-    ap (λ (t : Option Timestamp). record { time = t; text = text_by pending.is_made pending lent; is_interface = pending.is_interface }) makes.time
-    ∙ ap (λ (l : List ℕ). record { time = p.time; text = l; is_interface = pending.is_interface }) text
-    ∙ ap (λ (b : Bool). record { time = p.time; text = p.text; is_interface = b }) makes.is_interface
+    ap (λ (t : Option Timestamp). record { time = t; text = text_by pending.is_made pending lent; is_interface = pending.is_interface; left_out = pending.left_out }) makes.time
+    ∙ ap (λ (l : List ℕ). record { time = p.time; text = l; is_interface = pending.is_interface; left_out = pending.left_out }) text
+    ∙ ap (λ (b : Bool). record { time = p.time; text = p.text; is_interface = b; left_out = pending.left_out }) makes.is_interface
+    ∙ ap (λ (n : ℕ). record { time = p.time; text = p.text; is_interface = p.is_interface; left_out = n }) makes.left_out
 
 module _ (numbers : List ℕ) (interfaces : List Interface) (block : Framed) (packet : InBlock) (is : is_packet block.type_ ≡ true) (holds : HoldsPacket interfaces block packet) where
   -- The case of a packet whose block is made from its bytes.
-  pub plain_given : (pending : Pending) (body : List ℕ) → body ≡ block.body → IsSaid numbers interfaces packet pending
-      → block_under block.endianness pending.number pending.units packet (enhanced_in holds.body) ≡ EnhancedBody (plain_packet pending.number pending.units packet.original_len packet.bytes)
+  pub plain_given : (pending : Pending) (body : List ℕ) → body ≡ block.body → IsSaid numbers interfaces packet (options_left_out holds.body) pending
+      → block_under block.endianness pending.number pending.units packet (enhanced_in (renewed holds.body)) ≡ EnhancedBody (plain_packet pending.number pending.units packet.original_len packet.bytes)
       → GivesOf numbers interfaces block (Some (packet_in (bytes_within body pending) pending))
   unfolding AreThere
   plain_given pending body same said plain =
@@ -132,15 +146,15 @@ module _ (numbers : List ℕ) (interfaces : List Interface) (block : Framed) (pa
       let number = pending.number in
       let bytes : bytes_within body pending ≡ packet.bytes =
       ap (λ (l : List ℕ). bytes_within l pending) same ∙ ap (λ (n : ℕ). take n (drop pending.start block.body)) said.len ∙ ap (λ (n : ℕ). take (length packet.bytes) (drop n block.body)) said.start ∙ there in
-      let text : text_by pending.is_made pending (bytes_within body pending) ≡ little_text (block_under block.endianness number pending.units packet (enhanced_in holds.body)) =
+      let text : text_by pending.is_made pending (bytes_within body pending) ≡ little_text (block_under block.endianness number pending.units packet (enhanced_in (renewed holds.body))) =
       ap (λ (b : Bool). text_by b pending (bytes_within body pending)) said.unmade
       ∙ ap (λ (l : List ℕ). plain_text pending.number pending.units pending.original_len l) bytes
       ∙ ap (λ (n : ℕ). plain_text number pending.units n packet.bytes) said.original_len
       ∙ ap little_text (sym plain) in
-      inl (is, packet, holds, record { by = said.by; described = said.described; number = number; is_numbered = said.number; units = pending.units; time = said.time; text = text; no_interface = said.no_interface })
+      inl (is, packet, holds, record { by = said.by; described = said.described; number = number; is_numbered = said.number; units = pending.units; time = said.time; text = text; no_interface = said.no_interface; left_out = said.left_out })
 
   -- The case of a packet whose own block was made.
-  made_given : (said pending : Pending) (made : Made) (enhanced : Enhanced) → IsSaid numbers interfaces packet said → enhanced_in holds.body ≡ Some enhanced → IsMade (made_as block.endianness said enhanced) made pending
+  made_given : (said pending : Pending) (made : Made) (enhanced : Enhanced) → IsSaid numbers interfaces packet (options_left_out holds.body) said → enhanced_in (renewed holds.body) ≡ Some enhanced → IsMade (made_as block.endianness said enhanced) made pending
       → GivesOf numbers interfaces block (Some (packet_in (bytes_within (lent_by made block.body) pending) pending))
   made_given said pending made enhanced tells is_one makes =
       let p = made_as block.endianness said enhanced in
@@ -157,22 +171,23 @@ module _ (numbers : List ℕ) (interfaces : List Interface) (block : Framed) (pa
           time = tells.time;
           text = ap (λ (o : Option Enhanced). little_text (block_under block.endianness said.number said.units packet o)) (sym is_one);
           no_interface = refl;
+          left_out = tells.left_out;
         },
       ) in
       subst (λ (q : Packet). GivesOf numbers interfaces block (Some q)) (sym (made_packet p made pending block.body makes)) gives
 
   -- The case of a packet whose own block was not made.
-  unmade_ends : (said : Pending) (enhanced : Enhanced) (e : PcapError) → IsSaid numbers interfaces packet said → enhanced_in holds.body ≡ Some enhanced → IsUnmade block.endianness said.number enhanced e → EndsBlock numbers interfaces block e
+  unmade_ends : (said : Pending) (enhanced : Enhanced) (e : PcapError) → IsSaid numbers interfaces packet (options_left_out holds.body) said → enhanced_in (renewed holds.body) ≡ Some enhanced → IsUnmade block.endianness said.number enhanced e → EndsBlock numbers interfaces block e
   unmade_ends said enhanced e tells is_one unmade = packet_unmade packet holds enhanced is_one said.number tells.number unmade
 
-  made_or_ends_there : (said : Pending) (made : Made) (enhanced : Enhanced) (result : Result Pending PcapError) → IsSaid numbers interfaces packet said → enhanced_in holds.body ≡ Some enhanced → MakesText block.endianness said enhanced made result
+  made_or_ends_there : (said : Pending) (made : Made) (enhanced : Enhanced) (result : Result Pending PcapError) → IsSaid numbers interfaces packet (options_left_out holds.body) said → enhanced_in (renewed holds.body) ≡ Some enhanced → MakesText block.endianness said enhanced made result
       → TellsPending numbers interfaces block made result
   made_or_ends_there said made enhanced (Ok pending) tells is_one makes = made_given said pending made enhanced tells is_one makes
   made_or_ends_there said made enhanced (Err e) tells is_one makes = unmade_ends said enhanced e tells is_one makes
 
   -- The block of an enhanced packet was made, or it ended the capture.
-  pub made_or_ends : (order : Endianness) (said : Pending) (made : Made) (enhanced : Enhanced) (result : Result Pending PcapError) → order ≡ block.endianness → IsSaid numbers interfaces packet said
-      → enhanced_in holds.body ≡ Some enhanced → MakesText order said enhanced made result → TellsPending numbers interfaces block made result
+  pub made_or_ends : (order : Endianness) (said : Pending) (made : Made) (enhanced : Enhanced) (result : Result Pending PcapError) → order ≡ block.endianness → IsSaid numbers interfaces packet (options_left_out holds.body) said
+      → enhanced_in (renewed holds.body) ≡ Some enhanced → MakesText order said enhanced made result → TellsPending numbers interfaces block made result
   made_or_ends order said made enhanced result same tells is_one makes =
       made_or_ends_there said made enhanced result tells is_one (subst (λ (e : Endianness). MakesText e said enhanced made result) same makes)
 

@@ -1,5 +1,5 @@
 -- One more packet of a source.
-use Rattle.std.proofs.Common.{◌≡◌, ◌≤◌, ℕ, drop, arith, List, [], ◌∷◌, ◌++◌, map, Bool, true, false, Option, None, Some, refl, sym, ap, ◌∙◌, subst, inl}
+use Rattle.std.proofs.Common.{◌≡◌, ◌≤◌, ◌<◌, ◌+◌, ◌^◌, ℕ, drop, arith, List, [], ◌∷◌, ◌++◌, map, Bool, true, false, Option, None, Some, refl, sym, ap, ◌∙◌, subst, inl}
 use Rattle.std.specs.Prelude.{IfSome, Ok}
 use Rattle.std.proofs.lemmas.Bool.{true≢false}
 use Rattle.std.proofs.lemmas.List.{map-append, append-nil, length-take}
@@ -15,6 +15,7 @@ use Rattle.pcap_classic.specs.Packets.{reader_format}
 use Rattle.pcap_classic.specs.PacketText.{Captured, packet_limit}
 use Rattle.pcap_classic.proofs.Packets.{reader_lawful}
 use Rattle.pcap_file.proofs.Converting.{packet_short}
+use Rattle.pcapfile_run.specs.Passing.{counted}
 use Rattle.pcapfile_merge.specs.declared.buffered.BufferedPackets.{BufferedPackets}
 use Rattle.pcapfile_merge.specs.declared.buffered_blocks.BufferedBlocks.{BufferedBlocks}
 use Rattle.pcapfile_merge.specs.declared.packet.Pending.{Pending}
@@ -25,8 +26,8 @@ use Rattle.pcapfile_merge.specs.declared.source.Source.{Source}
 use Rattle.pcapfile_merge.specs.Buffered.{data_of, has_failed, header_of, is_done, left_of, lent_packet}
 use Rattle.pcapfile_merge.specs.BufferedBlocks.{body_of, progress_of}
 use Rattle.pcapfile_merge.specs.Keeping.{Progress}
-use Rattle.pcapfile_merge.specs.Packets.{Packet, packet_of}
-use Rattle.pcapfile_merge.specs.Holding.{HoldsFew, IsReady, IsReadyIf, TakesNext, TakesThere, alone, bytes_in, held_by, holds_interface}
+use Rattle.pcapfile_merge.specs.Packets.{Packet, left_out_with, packet_of}
+use Rattle.pcapfile_merge.specs.Holding.{HoldsFew, IsReady, IsReadyIf, TakesNext, TakesThere, alone, bytes_in, held_by, holds_interface, left_out_next}
 use Rattle.pcapfile_merge.specs.Sources.{Advances, AdvancesTo, GaveBy, GavePackets, GaveStored, Stands, numbers_of, numbers_with}
 use Rattle.pcapfile_merge.specs.Taking.{IsOf, TakesPacket, TakesPending, packet_in}
 use Rattle.pcapfile_merge.specs.TakingBlocks.{TakesStored}
@@ -174,6 +175,19 @@ pub blocks_ready : {R : Type 0} (remaining : R → Option (List ℕ)) (numbers :
 blocks_ready remaining numbers a reader bytes None fault takes = refl
 blocks_ready remaining numbers a reader bytes (Some p) None takes = takes.3.0.goes_on
 blocks_ready remaining numbers a reader bytes (Some p) (Some e) takes = absurd takes
+
+-- The count with the packet that was taken next.
+pub left_out_held : {R : Type 0} (reader : Reader R) (next : Option Pending) (others : ℕ) → left_out_next next others ≡ left_out_with (held_by reader next) others
+left_out_held reader None others = refl
+left_out_held reader (Some pending) others = refl
+
+pub left_out_both : (xs ys : List Packet) (others : ℕ) → left_out_with (xs ++ ys) others ≡ left_out_with ys (left_out_with xs others)
+left_out_both [] ys others = refl
+left_out_both (x ∷ xs) ys others = left_out_both xs ys (counted (others + x.left_out))
+
+-- A packet of which no option is left out changes no count.
+pub nothing_more : (others : ℕ) (pending : Pending) → others < 2 ^ 64 → pending.left_out ≡ 0 → others ≡ counted (others + pending.left_out)
+nothing_more others pending most none = omega (arith, most, none)
 
 -- A source that held no interface took what comes next.
 pub advanced : {R : Type 0} (remaining : R → Option (List ℕ)) (number : ℕ) (old new : Source R) → holds_interface old.taken.next ≡ false → AdvancesTo remaining (numbers_of old) old new → Advances remaining number old new

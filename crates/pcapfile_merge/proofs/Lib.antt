@@ -7,6 +7,7 @@ pub mod Keeping
 pub mod Lying
 pub mod MergeLaws
 pub mod Merges
+pub mod Renewing
 pub mod Reversing
 pub mod ShownTaken
 pub mod Steps

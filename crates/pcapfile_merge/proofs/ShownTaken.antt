@@ -43,15 +43,15 @@ use Rattle.pcapfile_merge.proofs.Turning.{passed_none}
 
 -- What an enhanced packet in the buffer says.
 abbrev pub said_of : EnhancedNumbers → Said
-said_of packet = record { interface = packet.interface; units = Some packet.units; original_len = packet.original; len = packet.stored }
+said_of packet = record { interface = packet.interface; units = Some packet.units; original_len = packet.original; len = packet.stored; left_out = 0 }
 
 -- The result for what a block says is the result for the packet in the buffer.
 pub told_there : (numbers others : List ℕ) (lent interfaces : List Interface) (said : Said) (packet : EnhancedNumbers) (result : Result Pending PcapError) → numbers ≡ others → lent ≡ interfaces → said ≡ said_of packet
-    → ((bytes : List ℕ) → said.len ≡ length bytes → TellsStored numbers lent (in_said said bytes) result) → (bytes : List ℕ) → packet.stored ≡ length bytes → TellsStored others interfaces (in_said (said_of packet) bytes) result
+    → ((bytes : List ℕ) → said.len ≡ length bytes → TellsStored numbers lent (in_said said bytes) said.left_out result) → (bytes : List ℕ) → packet.stored ≡ length bytes → TellsStored others interfaces (in_said (said_of packet) bytes) 0 result
 told_there numbers others lent interfaces said packet result them there is tells =
-    let at = subst (λ (n : List ℕ). (bytes : List ℕ) → said.len ≡ length bytes → TellsStored n lent (in_said said bytes) result) them tells in
-    let here = subst (λ (l : List Interface). (bytes : List ℕ) → said.len ≡ length bytes → TellsStored others l (in_said said bytes) result) there at in
-    subst (λ (s : Said). (bytes : List ℕ) → s.len ≡ length bytes → TellsStored others interfaces (in_said s bytes) result) is here
+    let at = subst (λ (n : List ℕ). (bytes : List ℕ) → said.len ≡ length bytes → TellsStored n lent (in_said said bytes) said.left_out result) them tells in
+    let here = subst (λ (l : List Interface). (bytes : List ℕ) → said.len ≡ length bytes → TellsStored others l (in_said said bytes) said.left_out result) there at in
+    subst (λ (s : Said). (bytes : List ℕ) → s.len ≡ length bytes → TellsStored others interfaces (in_said s bytes) s.left_out result) is here
 
 either : {X : Type 0} (b : Bool) (x : X) → (if b then x else x) ≡ x
 either true x = refl
@@ -146,7 +146,7 @@ module _ {R A : Type 0} (remaining : R → Option (List ℕ)) (numbers : List �
         )
 
     gives_there : (pending : Pending) (body : List ℕ) → body ≡ text.body
-        → ((bytes : List ℕ) → packet.stored ≡ length bytes → TellsStored (of_section kept numbers) (interfaces_in_force reader) (in_said (said_of packet) bytes) (Ok pending))
+        → ((bytes : List ℕ) → packet.stored ≡ length bytes → TellsStored (of_section kept numbers) (interfaces_in_force reader) (in_said (said_of packet) bytes) 0 (Ok pending))
         → GivesOf (of_section kept numbers) (interfaces_in_force reader) item_there.block (Some (packet_in (bytes_within body pending) pending))
     unfolding item_there
     gives_there pending body same tells =
@@ -157,14 +157,14 @@ module _ {R A : Type 0} (remaining : R → Option (List ℕ)) (numbers : List �
         let stored : InBlock = record { interface = enhanced.interface_id; units = Some enhanced.packet.timestamp; original_len = enhanced.packet.original_len; bytes = bytes } in
         let is : in_said (said_of packet) bytes ≡ stored = rw (says.interface_is, says.units_are, says.original_is) refl in
         let holds : HoldsPacket interfaces item_there.block stored = record { body = EnhancedBody enhanced; rest = text.after; says = (enhanced, refl, text.text); packet_is = refl } in
-        let said = subst (λ (p : InBlock). TellsStored (of_section kept numbers) interfaces p (Ok pending)) is (tells bytes says.stored_is) in
+        let said = subst (λ (p : InBlock). TellsStored (of_section kept numbers) interfaces p 0 (Ok pending)) is (tells bytes says.stored_is) in
         let units = units_of said.by enhanced.packet.timestamp pending.time pending.units said.time in
         plain_given (of_section kept numbers) interfaces item_there.block stored refl holds pending body same said
         (plain_enhanced item_there.block.endianness pending.number pending.units enhanced text.plain text.text.packet_is.captured units)
 
     -- A packet that is whole in the buffer was taken.
     pub shown_taken : (pending : Pending) (made : Made) → made.is_lent ≡ false
-        → ((bytes : List ℕ) → packet.stored ≡ length bytes → TellsStored (of_section kept numbers) (interfaces_in_force reader) (in_said (said_of packet) bytes) (Ok pending))
+        → ((bytes : List ℕ) → packet.stored ≡ length bytes → TellsStored (of_section kept numbers) (interfaces_in_force reader) (in_said (said_of packet) bytes) 0 (Ok pending))
         → TellsTaken numbers a (progress_at remaining (Some n) reader kept) (lent_by made (body_in (text_in (Some n) reader))) (Ok (Some pending))
     unfolding item_there
     shown_taken pending made unmade tells =

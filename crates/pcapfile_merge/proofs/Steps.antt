@@ -18,11 +18,11 @@ use Rattle.pcapfile_merge.specs.declared.source.Source.{Source}
 use Rattle.pcapfile_merge.specs.Choosing.{Chooses, IsFirst}
 use Rattle.pcapfile_merge.specs.Merges.{ComesLater, IsNotBefore}
 use Rattle.pcapfile_merge.specs.Merging.{AllHaveNumbers, EndsMerge, HasNumbers, Input, Merging, MergesAt, MergesRun, Output, held_of, next_after, next_after_all, next_number, numbers_given, packets_in}
-use Rattle.pcapfile_merge.specs.Packets.{Packet, IsEarlier, text_of, texts}
+use Rattle.pcapfile_merge.specs.Packets.{Packet, IsEarlier, left_out_with, text_of, texts}
 use Rattle.pcapfile_merge.specs.Holding.{Holds, TakesNext, bytes_in, held_by, holds_interface}
 use Rattle.pcapfile_merge.specs.Sources.{Advances, AdvancesTo, Gave, GaveBy, LacksMemory, numbers_of, numbers_with, pending_of}
 use Rattle.pcapfile_merge.specs.Taking.{packet_in, text_by}
-use Rattle.pcapfile_merge.proofs.Given.{gave_more, gave_unnumbered}
+use Rattle.pcapfile_merge.proofs.Given.{gave_more, gave_unnumbered, left_out_both, left_out_held}
 use Rattle.pcapfile_merge.proofs.Merges.{GoesOn, all_of_map, goes_next, goes_none, goes_so_far, map_join, map_split}
 
 -- A merge that has written n packets so far.
@@ -167,10 +167,13 @@ module _ {R : Type 0} (remaining : R → Option (List ℕ)) where
       let more = taken_by (holds_interface s.now.taken.next) number in
       let same : numbers_with (holds_interface s.now.taken.next) number numbers ≡ numbers ++ more = with_taken (holds_interface s.now.taken.next) number numbers in
       let takes = subst (λ (l : List ℕ). TakesNext remaining s.now.base l s.now.reader new.reader new.taken) same advances.2 in
-      let on = gave_more remaining s.now.base numbers more from s.now.reader new.reader given s.now.taken new.taken n is (s.gave from earlier gave) takes in
+      let so_far = s.gave from earlier gave in
+      let on = gave_more remaining s.now.base numbers more from s.now.reader new.reader given s.now.taken new.taken n is so_far.0 takes in
       let there = subst (λ (base : ℕ). GaveBy remaining base (numbers ++ more) from new.reader (given ++ pending_of new) new.taken) (sym advances.0) on in
       let here = subst (λ (l : List ℕ). GaveBy remaining new.base l from new.reader (given ++ pending_of new) new.taken) (sym (advances.1 ∙ same)) there in
-      subst (λ (l : List Packet). Gave remaining from new l) (append_assoc earlier s.gone (pending_of s.now)) here
+      let count : new.left_out ≡ left_out_with (given ++ pending_of new) 0 =
+      advances.3 ∙ left_out_held new.reader new.taken.next s.now.left_out ∙ ap (left_out_with (pending_of new)) so_far.1 ∙ sym (left_out_both given (pending_of new) 0) in
+      subst (λ (l : List Packet). Gave remaining from new l) (append_assoc earlier s.gone (pending_of s.now)) (here, count)
 
   -- An input whose source gave a packet and took the next one.
   input_on : (number : ℕ) (s : Input remaining) (new : Source R) (n : Pending) → s.now.taken.next ≡ Some n → AdvancesTo remaining (numbers_with (holds_interface s.now.taken.next) number (numbers_of s.now)) s.now new
@@ -198,7 +201,7 @@ module _ {R : Type 0} (remaining : R → Option (List ℕ)) where
       let now = s.now in
       let interface : n.is_interface ≡ true = sym (ap holds_interface is) ∙ lacks.interface in
       let fault = some_and IsMemory new.taken.fault lacks.fault in
-      let so_far = subst (λ (o : Option Pending). GaveBy remaining now.base (numbers_of now) from now.reader (before ++ held_by now.reader o) now.taken) is (s.gave from earlier gave) in
+      let so_far = subst (λ (o : Option Pending). GaveBy remaining now.base (numbers_of now) from now.reader (before ++ held_by now.reader o) now.taken) is (s.gave from earlier gave).0 in
       let ends = gave_unnumbered remaining now.base (numbers_of now) from now.reader before now.taken new.taken n fault.0 is interface so_far lacks.ended fault.1 fault.2 in
       let all = before ++ pending_of now in
       let there = subst (λ (o : Option Pending). GaveBy remaining now.base (numbers_of now) from now.reader (before ++ held_by now.reader o) new.taken) (sym is) ends in
@@ -207,7 +210,9 @@ module _ {R : Type 0} (remaining : R → Option (List ℕ)) where
       let listed = subst (λ (l : List Packet). GaveBy remaining now.base (numbers_of now) from now.reader l new.taken) none there in
       let based = subst (λ (b : ℕ). GaveBy remaining b (numbers_of now) from now.reader ((earlier ++ (s.gone ++ pending_of now)) ++ pending_of new) new.taken) (sym lacks.base) listed in
       let numbered = subst (λ (l : List ℕ). GaveBy remaining new.base l from now.reader ((earlier ++ (s.gone ++ pending_of now)) ++ pending_of new) new.taken) (sym lacks.numbers) based in
-      subst (λ (reader : Reader R). GaveBy remaining new.base (numbers_of new) from reader ((earlier ++ (s.gone ++ pending_of now)) ++ pending_of new) new.taken) (sym lacks.reader) numbered
+      let count : new.left_out ≡ left_out_with ((earlier ++ (s.gone ++ pending_of now)) ++ pending_of new) 0 =
+      lacks.left_out ∙ (s.gave from earlier gave).1 ∙ ap (λ (l : List Packet). left_out_with l 0) none in
+      (subst (λ (reader : Reader R). GaveBy remaining new.base (numbers_of new) from reader ((earlier ++ (s.gone ++ pending_of now)) ++ pending_of new) new.taken) (sym lacks.reader) numbered, count)
 
   -- An input whose source gave an interface for whose number there is no memory.
   input_off : (number : ℕ) (s : Input remaining) (new : Source R) (n : Pending) → s.now.taken.next ≡ Some n → LacksMemory s.now new → (t : Input remaining) × Follows number s new t

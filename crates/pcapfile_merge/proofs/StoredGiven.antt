@@ -57,6 +57,7 @@ gives_grown xs ys interfaces block (Some p) grows (inl holds) =
         time = merged.time;
         text = merged.text;
         no_interface = merged.no_interface;
+        left_out = merged.left_out;
       },
     )
 gives_grown xs ys interfaces block (Some p) grows (inr (inl describes)) = inr (inl describes)

@@ -15,6 +15,7 @@ use Rattle.pcapfile_merge.specs.declared.kept.Kept.{Kept}
 use Rattle.pcapfile_merge.specs.declared.made.Made.{Made}
 use Rattle.pcapfile_merge.specs.declared.packet.Pending.{Pending}
 use Rattle.pcapfile_merge.specs.Keeping.{Progress, gives, kept_with, with_item, with_items}
+use Rattle.pcapfile_merge.specs.LeavingOut.{options_at}
 use Rattle.pcapfile_merge.specs.Passing.{TellsPending}
 use Rattle.pcapfile_merge.specs.TakingBlocks.{IsGoing, MayPass, Passes, TakesItem}
 use Rattle.pcapfile_merge.proofs.Choices.{all_push}
@@ -66,9 +67,11 @@ tells_there numbers others lent interfaces framed block made result them there s
     (subst (λ (l : List Interface). TellsPending others l framed made result) there (subst (λ (n : List ℕ). TellsPending n lent framed made result) them tells))
 
 -- A block of the code is counted as the item that it is.
-pub counted_there : (lent : List Interface) (framed : Framed) (item : Item) (old new : Kept) → lent ≡ interfaces_at item.after → framed ≡ item.block → new ≡ kept_with lent framed old → new ≡ with_item item old
-counted_there lent framed item old new there same counts =
-    counts ∙ ap (λ (l : List Interface). kept_with l framed old) there ∙ ap (λ (b : Framed). kept_with (interfaces_at item.after) b old) same
+pub counted_there : (options : ℕ) (lent : List Interface) (framed : Framed) (item : Item) (old new : Kept) → options ≡ options_at item.after → lent ≡ interfaces_at item.after → framed ≡ item.block
+    → new ≡ kept_with options lent framed old → new ≡ with_item item old
+counted_there options lent framed item old new many there same counts =
+    counts ∙ ap (λ (n : ℕ). kept_with n lent framed old) many ∙ ap (λ (l : List Interface). kept_with (options_at item.after) l framed old) there
+    ∙ ap (λ (b : Framed). kept_with (options_at item.after) (interfaces_at item.after) b old) same
 
 -- A block of the code gives something if the item that it is does.
 pub given_there : (lent : List Interface) (framed : Framed) (item : Item) (b : Bool) → lent ≡ interfaces_at item.after → framed ≡ item.block → gives lent framed ≡ b → gives (interfaces_at item.after) item.block ≡ b

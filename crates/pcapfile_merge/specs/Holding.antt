@@ -1,6 +1,7 @@
 -- The packet that a reader of either format holds, and the packets that it takes.
-use Rattle.std.specs.Prelude.{◌≡◌, ◌≤◌, ℕ, List, [], ◌∷◌, length, take, drop, Bool, true, false, Option, None, Some}
+use Rattle.std.specs.Prelude.{◌≡◌, ◌≤◌, ◌+◌, ℕ, List, [], ◌∷◌, length, take, drop, Bool, true, false, Option, None, Some}
 use Rattle.pcap_core.specs.declared.errors.PcapError.{PcapError}
+use Rattle.pcapfile_run.specs.Passing.{counted}
 use Rattle.pcapfile_merge.specs.declared.buffered.BufferedPackets.{BufferedPackets}
 use Rattle.pcapfile_merge.specs.declared.buffered_blocks.BufferedBlocks.{BufferedBlocks}
 use Rattle.pcapfile_merge.specs.declared.packet.Pending.{Pending}
@@ -57,6 +58,11 @@ IsReadyIf reader next = has_refused_if reader next ≡ false
 
 abbrev pub IsReadyBlocks : {R : Type 0} → BufferedBlocks R → Option Pending → Type 0
 IsReadyBlocks reader next = IsReadyIf (Blocks reader) next
+
+-- How many options are left out, after this many others, with the packet that was taken next.
+abbrev pub left_out_next : Option Pending → ℕ → ℕ
+left_out_next None others = others
+left_out_next (Some pending) others = counted (others + pending.left_out)
 
 -- A packet is held.
 abbrev pub Holds : Option Pending → Type 0

@@ -19,7 +19,7 @@ use Rattle.pcap_ng.specs.State.{interfaces_at}
 use Rattle.pcapfile_run.specs.Passing.{counted}
 use Rattle.pcapfile_merge.specs.declared.kept.Kept.{Kept}
 use Rattle.pcapfile_merge.specs.declared.left_out.LeftOut.{LeftOut}
-use Rattle.pcapfile_merge.specs.LeavingOut.{with_block}
+use Rattle.pcapfile_merge.specs.LeavingOut.{options_at, with_block}
 use Rattle.pcapfile_merge.specs.Packets.{Packet}
 
 -- Whether there is a value.
@@ -70,7 +70,7 @@ gives interfaces block = is_packet block.type_ || (is_interface block.type_ || i
 
 -- A kept block with this body, as the output has it. It goes before the next packet, since it has no time.
 abbrev pub carried_with : List ℕ → Framed → Packet
-carried_with body block = record { time = None; text = raw_text (record { type_ = block.type_; endianness = block.endianness; body = body }); is_interface = false }
+carried_with body block = record { time = None; text = raw_text (record { type_ = block.type_; endianness = block.endianness; body = body }); is_interface = false; left_out = 0 }
 
 -- The interface of a section that has the index `own` has this number in the output.
 abbrev pub IsNumbered : List ℕ → ℕ → ℕ → Type 0
@@ -90,9 +90,9 @@ CarriedBy _ numbers block p = p ≡ carried_with block.body block
 abbrev pub IsKeptAs : List ℕ → List Interface → Framed → Packet → Type 0
 IsKeptAs numbers interfaces block p = (is_carried interfaces block ≡ true) × CarriedBy block.type_ numbers block p
 
--- The counts after one more block. A block that is kept isn't counted.
-abbrev pub with_framed : List Interface → Framed → LeftOut → LeftOut
-with_framed interfaces block left_out = if is_carried interfaces block then left_out else with_block block.type_ left_out
+-- The counts after one more block of a section whose header has this many options. A block that is kept isn't counted.
+abbrev pub with_framed : ℕ → List Interface → Framed → LeftOut → LeftOut
+with_framed options interfaces block left_out = if is_carried interfaces block then left_out else with_block options block.type_ left_out
 
 -- How many interfaces came before the current section, after one more block of this type.
 abbrev pub before_with : BlockType → Kept → ℕ
@@ -104,13 +104,13 @@ abbrev pub all_with : BlockType → ℕ → ℕ
 all_with types.InterfaceDescription all = counted (all + 1)
 all_with _ all = all
 
--- The counts after one more block of a section with these interfaces.
-abbrev pub kept_with : List Interface → Framed → Kept → Kept
-kept_with interfaces block kept =
-    record { left_out = with_framed interfaces block kept.left_out; before = before_with block.type_ kept; all = all_with block.type_ kept.all }
+-- The counts after one more block of a section with this many options and these interfaces.
+abbrev pub kept_with : ℕ → List Interface → Framed → Kept → Kept
+kept_with options interfaces block kept =
+    record { left_out = with_framed options interfaces block kept.left_out; before = before_with block.type_ kept; all = all_with block.type_ kept.all }
 
 abbrev pub with_item : Item → Kept → Kept
-with_item item = kept_with (interfaces_at item.after) item.block
+with_item item = kept_with (options_at item.after) (interfaces_at item.after) item.block
 
 -- The counts after these blocks.
 abbrev pub with_items : List Item → Kept → Kept

@@ -3,6 +3,7 @@ pub mod BufferedBlocks
 pub mod Choices
 pub mod Choosing
 pub mod Fronts
+pub mod Headers
 pub mod Holding
 pub mod Keeping
 pub mod LeavingOut
@@ -11,6 +12,7 @@ pub mod Merges
 pub mod Merging
 pub mod Packets
 pub mod Passing
+pub mod Renewing
 pub mod Reordered
 pub mod Sources
 pub mod Taking

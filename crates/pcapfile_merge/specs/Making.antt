@@ -21,10 +21,11 @@ pub record IsMade (p : Packet) (made : Made) (pending : Pending) : Type 0 where
   pub is_made : pending.is_made ≡ true
   pub is_lent : made.is_lent ≡ true
   pub text : made.text.items ≡ p.text
+  pub left_out : pending.left_out ≡ p.left_out
 
--- The packet that is made of an enhanced packet of a section of this order, with the interface number and the time of `said`.
+-- The packet that is made of an enhanced packet of a section of this order, with the interface number, the time and the count of `said`.
 abbrev pub made_as : Endianness → Pending → Enhanced → Packet
-made_as order said enhanced = record { time = said.time; text = little_text (EnhancedBody (numbered order said.number enhanced)); is_interface = false }
+made_as order said enhanced = record { time = said.time; text = little_text (EnhancedBody (numbered order said.number enhanced)); is_interface = false; left_out = said.left_out }
 
 -- MakesText order said enhanced made result: the call made the block, or returned why it did not.
 abbrev pub MakesText : Endianness → Pending → Enhanced → Made → Result Pending PcapError → Type 0

@@ -1,5 +1,5 @@
 -- Packets that are merged, and their times.
-use Rattle.std.specs.Prelude.{⊤, ◌≡◌, ◌⊎◌, ◌<◌, ◌<ℤ◌, ℕ, List, Bool, true, false, Option, None, Some}
+use Rattle.std.specs.Prelude.{⊤, ◌≡◌, ◌⊎◌, ◌<◌, ◌<ℤ◌, ◌+◌, ℕ, List, [], ◌∷◌, Bool, true, false, Option, None, Some}
 use Rattle.std.specs.List.{flat_map}
 use Rattle.pcap_times.specs.declared.clock.Timestamp.{Timestamp}
 use Rattle.pcap_classic.specs.PacketText.{Captured}
@@ -7,13 +7,20 @@ use Rattle.pcap_file.specs.Conversion.{exact_time}
 use Rattle.pcap_blocks.specs.ParsedBlock.{EnhancedBody}
 use Rattle.pcap_written.specs.Plain.{plain_packet}
 use Rattle.pcap_file.specs.Converted.{little_text, time_of}
+use Rattle.pcapfile_run.specs.Passing.{counted}
 
--- A packet that is merged, or another block: its time, if it has one, the text of the block that is written, and whether it describes an
--- interface.
+-- A packet that is merged, or another block: its time, if it has one, the text of the block that is written, whether it describes an
+-- interface, and how many options of its block in the capture are left out.
 pub record Packet : Type 0 where
   pub time : Option Timestamp
   pub text : List ℕ
   pub is_interface : Bool
+  pub left_out : ℕ
+
+-- How many options are left out with these packets, after this many others.
+abbrev pub left_out_with : List Packet → ℕ → ℕ
+left_out_with [] others = others
+left_out_with (p ∷ ps) others = left_out_with ps (counted (others + p.left_out))
 
 -- The text of a packet's block, and the texts of several packets in a row.
 abbrev pub text_of : Packet → List ℕ
@@ -52,4 +59,5 @@ packet_of number captured = record {
   time = Some (exact_time captured);
   text = plain_text number (time_of captured) captured.header.orig_len captured.bytes;
   is_interface = false;
+  left_out = 0;
 }

@@ -52,8 +52,9 @@ start_of packet = bytes_before packet.units
 abbrev pub in_said : Said → List ℕ → InBlock
 in_said said bytes = record { interface = said.interface; units = said.units; original_len = said.original_len; bytes = bytes }
 
--- The facts about a packet in a block, given the interfaces of its section and their numbers in the output.
-pub record IsSaid (numbers : List ℕ) (interfaces : List Interface) (packet : InBlock) (pending : Pending) : Type 0 where
+-- The facts about a packet in a block with this many options that are left out, given the interfaces of its section and their numbers in
+-- the output.
+pub record IsSaid (numbers : List ℕ) (interfaces : List Interface) (packet : InBlock) (options : ℕ) (pending : Pending) : Type 0 where
   pub by : Interface
   pub described : slice_get interfaces packet.interface ≡ Some by
   pub number : IsNumbered numbers packet.interface pending.number
@@ -63,20 +64,21 @@ pub record IsSaid (numbers : List ℕ) (interfaces : List Interface) (packet : I
   pub start : pending.start ≡ start_of packet
   pub unmade : pending.is_made ≡ false
   pub no_interface : pending.is_interface ≡ false
+  pub left_out : pending.left_out ≡ options
 
 -- The result for a packet in a block: its facts, or why it can't be merged.
-abbrev pub TellsStored : List ℕ → List Interface → InBlock → Result Pending PcapError → Type 0
-TellsStored numbers interfaces packet (Ok pending) = IsSaid numbers interfaces packet pending
-TellsStored numbers interfaces packet (Err e) = IsUnfit numbers interfaces packet e
+abbrev pub TellsStored : List ℕ → List Interface → InBlock → ℕ → Result Pending PcapError → Type 0
+TellsStored numbers interfaces packet options (Ok pending) = IsSaid numbers interfaces packet options pending
+TellsStored numbers interfaces packet options (Err e) = IsUnfit numbers interfaces packet e
 
 -- The result for an optional packet; without one, nothing is claimed.
-abbrev pub TellsIfPacket : List ℕ → List Interface → Option InBlock → Result Pending PcapError → Type 0
-TellsIfPacket numbers interfaces (Some packet) result = TellsStored numbers interfaces packet result
-TellsIfPacket numbers interfaces None (Ok pending) = ⊥
-TellsIfPacket numbers interfaces None (Err e) = ⊤
+abbrev pub TellsIfPacket : List ℕ → List Interface → Option InBlock → ℕ → Result Pending PcapError → Type 0
+TellsIfPacket numbers interfaces (Some packet) options result = TellsStored numbers interfaces packet options result
+TellsIfPacket numbers interfaces None options (Ok pending) = ⊥
+TellsIfPacket numbers interfaces None options (Err e) = ⊤
 
--- The result for a body.
-abbrev pub TellsBody : List ℕ → List Interface → Body → Result Pending PcapError → Type 0
+-- The result for a body, of whose block this many options are left out.
+abbrev pub TellsBody : List ℕ → List Interface → Body → ℕ → Result Pending PcapError → Type 0
 TellsBody numbers interfaces body = TellsIfPacket numbers interfaces (in_blocks.packet_in interfaces body)
 
 -- The result of taking a packet from a reader, which then lends this body.

@@ -18,9 +18,9 @@ use Rattle.pcapfile_merge.specs.declared.reader.Taken.{Taken}
 use Rattle.pcapfile_merge.specs.declared.source.Source.{Source}
 use Rattle.pcapfile_merge.specs.Buffered.{has_failed, header_of, left_of}
 use Rattle.pcapfile_merge.specs.BufferedBlocks.{progress_of}
-use Rattle.pcapfile_merge.specs.Holding.{TakesNext, held_by, holds_interface}
+use Rattle.pcapfile_merge.specs.Holding.{TakesNext, held_by, holds_interface, left_out_next}
 use Rattle.pcapfile_merge.specs.Keeping.{Progress, with_items}
-use Rattle.pcapfile_merge.specs.Packets.{Packet, packet_of}
+use Rattle.pcapfile_merge.specs.Packets.{Packet, left_out_with, packet_of}
 use Rattle.pcapfile_merge.specs.Taking.{EndsThere}
 use Rattle.pcapfile_merge.specs.TakingBlocks.{AllGive, EndsAt, EndsWell, IsGoing}
 
@@ -39,7 +39,9 @@ numbers_with false number numbers = numbers
 
 -- A source whose interfaces have these numbers took the packet after the one that it held.
 abbrev pub AdvancesTo : {R : Type 0} → (R → Option (List ℕ)) → List ℕ → Source R → Source R → Type 0
-AdvancesTo remaining numbers old new = (new.base ≡ old.base) × (numbers_of new ≡ numbers) × TakesNext remaining old.base numbers old.reader new.reader new.taken
+AdvancesTo remaining numbers old new =
+    (new.base ≡ old.base) × (numbers_of new ≡ numbers) × TakesNext remaining old.base numbers old.reader new.reader new.taken
+    × (new.left_out ≡ left_out_next new.taken.next old.left_out)
 
 -- There is no memory for the number of the interface that a source held, and the source ends.
 pub record LacksMemory {R : Type 0} (old new : Source R) : Type 0 where
@@ -47,6 +49,7 @@ pub record LacksMemory {R : Type 0} (old new : Source R) : Type 0 where
   pub base : new.base ≡ old.base
   pub numbers : numbers_of new ≡ numbers_of old
   pub reader : new.reader ≡ old.reader
+  pub left_out : new.left_out ≡ old.left_out
   pub ended : new.taken.next ≡ None
   pub fault : IsSomeAnd new.taken.fault IsMemory
 
@@ -102,6 +105,9 @@ GaveBy remaining base numbers (Packets from) (Packets reader) given taken = Gave
 GaveBy remaining base numbers (Blocks from) (Blocks reader) given taken = GaveStored remaining numbers from reader given taken
 GaveBy remaining base numbers _ _ given taken = ⊥
 
--- A source gave these packets of a capture from where `from` was, and holds the next one, if there is one.
+-- A source gave these packets of a capture from where `from` was, and holds the next one, if there is one. It counted the options that are
+-- left out with them.
 abbrev pub Gave : {R : Type 0} → (R → Option (List ℕ)) → Reader R → Source R → List Packet → Type 0
-Gave remaining from source gone = GaveBy remaining source.base (numbers_of source) from source.reader (gone ++ pending_of source) source.taken
+Gave remaining from source gone =
+    GaveBy remaining source.base (numbers_of source) from source.reader (gone ++ pending_of source) source.taken
+    × (source.left_out ≡ left_out_with (gone ++ pending_of source) 0)

@@ -21,7 +21,7 @@ text_by false pending bytes = plain_text pending.number pending.units pending.or
 
 -- The packet with these facts, and with its bytes or the text of its block.
 abbrev pub packet_in : List ℕ → Pending → Packet
-packet_in bytes pending = record { time = pending.time; text = text_by pending.is_made pending bytes; is_interface = pending.is_interface }
+packet_in bytes pending = record { time = pending.time; text = text_by pending.is_made pending bytes; is_interface = pending.is_interface; left_out = pending.left_out }
 
 -- These are the facts about the packet with this header, whose interface has this number.
 abbrev pub IsOf : ℕ → PacketHeader → Pending → Type 0

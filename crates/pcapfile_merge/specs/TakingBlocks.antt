@@ -31,6 +31,7 @@ use Rattle.pcapfile_merge.specs.declared.kept.Kept.{Kept}
 use Rattle.pcapfile_merge.specs.declared.packet.Pending.{Pending}
 use Rattle.pcapfile_merge.specs.Keeping.{IsKeptAs, IsNumbered, IsUnkept, Progress, first_number, gives, is_carried, is_interface, of_section, with_item, with_items}
 use Rattle.pcapfile_merge.specs.Packets.{Packet}
+use Rattle.pcapfile_merge.specs.Renewing.{HasOldOptions, options_left_out, renewed}
 use Rattle.pcapfile_merge.specs.Reordered.{NeedReordering, little_entry}
 use Rattle.pcapfile_merge.specs.Taking.{packet_in}
 
@@ -60,7 +61,7 @@ enhanced_in (EnhancedBody enhanced) = Some enhanced
 enhanced_in _ = None
 
 -- The block written for a packet of a section of this order, with this interface number. An enhanced packet keeps its time, lengths, bytes
--- and all options, with their numbers in little-endian order. Any other packet keeps its units, its length on the wire and its bytes.
+-- and all options, with their numbers in little-endian order. A simple packet keeps its length on the wire and its bytes.
 abbrev pub block_under : Endianness → ℕ → ℕ → InBlock → Option Enhanced → Body
 block_under order number units packet (Some enhanced) = EnhancedBody (numbered order number enhanced)
 block_under order number units packet None = EnhancedBody (plain_packet number units packet.original_len packet.bytes)
@@ -74,8 +75,9 @@ pub record IsMerged (order : Endianness) (numbers : List ℕ) (interfaces : List
   pub is_numbered : IsNumbered numbers packet.interface number
   pub units : ℕ
   pub time : IsTimeBy by packet.units p.time units
-  pub text : p.text ≡ little_text (block_under order number units packet (enhanced_in body))
+  pub text : p.text ≡ little_text (block_under order number units packet (enhanced_in (renewed body)))
   pub no_interface : p.is_interface ≡ false
+  pub left_out : p.left_out ≡ options_left_out body
 
 -- A block holds the packet of which a merge makes this one.
 abbrev pub HoldsMerged : List ℕ → List Interface → Framed → Packet → Type 0
@@ -84,7 +86,7 @@ HoldsMerged numbers interfaces block p =
 
 -- The block of an interface with this body, as the output has it. It goes before the next packet, since it has no time.
 abbrev pub described_as : Body → Packet
-described_as body = record { time = None; text = little_text body; is_interface = true }
+described_as body = record { time = None; text = little_text body; is_interface = true; left_out = 0 }
 
 -- A block describes the interface of which a merge makes this block.
 abbrev pub Describes : Framed → Packet → Type 0
@@ -144,8 +146,10 @@ pub data EndsBlock (numbers : List ℕ) (interfaces : List Interface) (block : F
       → EndsBlock numbers interfaces block e
   -- It holds a packet that can't be merged.
   packet_unfit : (packet : InBlock) → HoldsPacket interfaces block packet → IsUnfit numbers interfaces packet e → EndsBlock numbers interfaces block e
-  -- It is an enhanced packet that can't be written with its number.
-  packet_unmade : (packet : InBlock) (holds : HoldsPacket interfaces block packet) (enhanced : Enhanced) → enhanced_in holds.body ≡ Some enhanced
+  -- It is an obsolete packet, and there is no memory for the list of its options.
+  packet_unlisted : (packet : InBlock) (holds : HoldsPacket interfaces block packet) → HasOldOptions holds.body → IsMemory e → EndsBlock numbers interfaces block e
+  -- It is an enhanced packet or an obsolete one that can't be written with its number.
+  packet_unmade : (packet : InBlock) (holds : HoldsPacket interfaces block packet) (enhanced : Enhanced) → enhanced_in (renewed holds.body) ≡ Some enhanced
       → (number : ℕ) → IsNumbered numbers packet.interface number → IsUnmade block.endianness number enhanced e → EndsBlock numbers interfaces block e
   -- It describes an interface that can't be written.
   interface_unmade : is_interface block.type_ ≡ true → (body : Body) (rest : List ℕ) → SaysOfBody block (whole body rest) → IsUnwritten body e → EndsBlock numbers interfaces block e

@@ -4,12 +4,13 @@ ghost use Rattle.std.specs.Prelude.{◌≡◌, false, map, None, IfSome};
 ghost use Rattle.std.specs.Io.Buffered.{reader_remaining};
 ghost use Rattle.pcap_core.specs.Answer.{number_in};
 ghost use Rattle.pcap_blocks.specs.InterfaceDescription.{interface_of};
+ghost use Rattle.pcap_ng.specs.Reader.{state_of};
 ghost use Rattle.pcap_file.specs.Placing as readers;
 ghost use Rattle.pcapfile_merge.specs.BufferedBlocks.{LiesThere, PlainText, body_of, interfaces_of, left_out_of, progress_of};
-ghost use Rattle.pcapfile_merge.specs.LeavingOut.{nothing};
+ghost use Rattle.pcapfile_merge.specs.LeavingOut.{nothing, options_at, with_section, without_options};
 
 use crate::kept::Kept;
-use crate::left_out::LeftOut;
+use crate::left_out::{LeftOut, options_of};
 use crate::made::Made;
 use crate::parts::{behind, front};
 use byteorder::{BigEndian, ByteOrder, LittleEndian};
@@ -43,7 +44,7 @@ impl<R> BufferedBlocks<R> {
         self.reader.interfaces()
     }
 
-    /// Returns how many of the blocks taken so far were left out.
+    /// Returns how many of the blocks taken so far were left out, and how many options of the section headers so far.
     pub fn left_out(&self) -> LeftOut
         ensures { result ≡ left_out_of self.now }
     {
@@ -51,16 +52,38 @@ impl<R> BufferedBlocks<R> {
     }
 }
 
+impl<R> BufferedBlocks<R> {
+    /// Returns how many options the header of the current section has.
+    pub fn options(&self) -> usize
+        ensures { result ≡ options_at (state_of self.now.reader) }
+    {
+        options_of(self.reader.section())
+    }
+
+    /// Takes the options of the section headers so far away from what is left out. The caller has written them.
+    pub fn keep_options(&mut self)
+        ensures reader { self.new.reader ≡ self.old.reader }
+        ensures lent { body_of self.new ≡ body_of self.old }
+        ensures counts { self.new.kept ≡ record self.old.kept { left_out = without_options (left_out_of self.old) } }
+    {
+        self.kept.left_out.keep_options();
+    }
+}
+
 impl<R: Read + Drop> BufferedBlocks<R> {
     /// Makes a reader of the blocks after those that `reader` took.
     pub fn new(alloc: Global, reader: PcapNgReader<BufReader<R>>) -> BufferedBlocks<R>
-        ensures { progress_of R.remaining result ≡ record { source = readers.source_of (reader_remaining R.remaining) reader; kept = record { left_out = nothing; before = 0; all = 0 } } }
+        ensures { progress_of R.remaining result ≡ record {
+          source = readers.source_of (reader_remaining R.remaining) reader;
+          kept = record { left_out = with_section (options_at (state_of reader)) nothing; before = 0; all = 0 };
+        } }
     {
+        let options = options_of(reader.section());
         BufferedBlocks {
             reader,
             shown: None,
             made: Made::new(alloc),
-            kept: Kept::new(),
+            kept: Kept::new(options),
         }
     }
 
@@ -90,9 +113,9 @@ impl<R: Read + Drop> BufferedBlocks<R> {
         Some((packet, shown.len() - after.len()))
     }
 
-    // Returns the body of the lent block, or the text of the block that was made.
+    /// Returns the body of the block that was taken last, or the text of the block that was made of it.
     #[inline(always)]
-    pub(crate) fn body(&self) -> &[u8]
+    pub fn body(&self) -> &[u8]
         ensures { result.now ≡ body_of self.now }
     {
         if self.made.is_lent {

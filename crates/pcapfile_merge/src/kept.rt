@@ -4,7 +4,7 @@ ghost use Rattle.std.specs.Prelude.{◌≡◌, ◌≤◌, length, map, IfOk, Mat
 ghost use Rattle.pcap_core.specs.Errors.{IsMemory};
 ghost use Rattle.pcap_blocks.specs.InterfaceDescription.{interface_of};
 ghost use Rattle.pcap_ng.specs.Frames.{framed_of};
-ghost use Rattle.pcapfile_merge.specs.LeavingOut.{nothing};
+ghost use Rattle.pcapfile_merge.specs.LeavingOut.{nothing, with_section};
 ghost use Rattle.pcapfile_merge.specs.Keeping as keeping;
 ghost use Rattle.pcapfile_merge.specs.Keeping.{IsUnkept, carried_with, kept_with, with_number};
 
@@ -28,7 +28,7 @@ const NUMBER: usize = 4;
 /// What a reader counted in the blocks that it took.
 #[derive(Clone, Copy)]
 pub(crate) struct Kept {
-    /// How many blocks without a packet it left out.
+    /// How many blocks without a packet, and options of section headers, it left out.
     pub(crate) left_out: LeftOut,
     /// How many interfaces came before the current section.
     pub(crate) before: usize,
@@ -37,23 +37,30 @@ pub(crate) struct Kept {
 }
 
 impl Kept {
-    // Returns the counts before any block.
-    pub(crate) fn new() -> Kept
-        ensures { result ≡ record { left_out = nothing; before = 0; all = 0 } }
+    // Returns the counts after a first section header that has this many options.
+    pub(crate) fn new(options: usize) -> Kept
+        ensures { result ≡ record { left_out = with_section options nothing; before = 0; all = 0 } }
     {
+        let mut left_out = LeftOut::nothing();
+        left_out.count_options(options);
         Kept {
-            left_out: LeftOut::nothing(),
+            left_out,
             before: 0,
             all: 0,
         }
     }
 
-    // Counts a block of a section that has these interfaces with it.
-    pub(crate) fn pass(&mut self, interfaces: &[InterfaceDescriptionBlock<'static>], block: &Block)
-        ensures { self.new ≡ kept_with (map interface_of interfaces.now) (framed_of block.now) self.old }
+    // Counts a block of a section that has these interfaces with it, and this many options in its header.
+    pub(crate) fn pass(
+        &mut self,
+        options: usize,
+        interfaces: &[InterfaceDescriptionBlock<'static>],
+        block: &Block,
+    )
+        ensures { self.new ≡ kept_with options (map interface_of interfaces.now) (framed_of block.now) self.old }
     {
         if !is_carried(interfaces, block) {
-            self.left_out.count(block.type_);
+            self.left_out.count(block.type_, options);
         }
         match block.type_ {
             BlockType::SectionHeader => self.before = self.all,

@@ -4,6 +4,7 @@
 mod buffered;
 mod buffered_blocks;
 mod choice;
+mod headers;
 mod kept;
 pub mod laws;
 mod left_out;
@@ -13,12 +14,14 @@ mod numbers;
 mod packet;
 mod parts;
 mod reader;
+mod renewed;
 mod reordered;
 mod source;
 mod stored;
 
 pub use buffered::BufferedPackets;
 pub use buffered_blocks::BufferedBlocks;
+pub use headers::have_same_options;
 pub use left_out::LeftOut;
 pub use merging::{Merged, merge_packets};
 pub use reader::Reader;

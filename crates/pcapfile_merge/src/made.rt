@@ -37,7 +37,7 @@ impl Made {
     }
 
     // Makes the little-endian block of an enhanced packet of a section of this order, with all its options and with the interface number
-    // of `pending`.
+    // of `pending`. The time and the count of `pending` stay.
     pub(crate) fn put(
         &mut self,
         alloc: Global,
@@ -50,7 +50,7 @@ impl Made {
     {
         let packet = renumbered(alloc, order, pending.number, packet)?;
         self.write(&packet)?;
-        Ok(self.lent(pending.time, false))
+        Ok(self.lent(pending.time, false, pending.left_out))
     }
 
     // Makes the little-endian block of an interface.
@@ -59,7 +59,7 @@ impl Made {
         ensures few { IfOk result (λ made. made.len ≤ 4294967260) }
     {
         self.write(parsed)?;
-        Ok(self.lent(None, true))
+        Ok(self.lent(None, true, 0))
     }
 
     // Makes the text of a block without a packet that is kept. The interfaces of its section have these numbers in the output.
@@ -68,7 +68,7 @@ impl Made {
         ensures few { IfOk result (λ made. made.len ≤ 4294967260) }
     {
         self.put_block(numbers, block)?;
-        Ok(self.lent(None, false))
+        Ok(self.lent(None, false, 0))
     }
 
     // Replaces the text by the little-endian text of a block, and lends it.
@@ -118,7 +118,7 @@ impl Made {
     }
 
     // Returns the facts about the lent block.
-    fn lent(&self, time: Option<Timestamp>, is_interface: bool) -> Pending
+    fn lent(&self, time: Option<Timestamp>, is_interface: bool, left_out: u64) -> Pending
         ensures { result ≡ record {
           number = 0;
           time = time;
@@ -128,6 +128,7 @@ impl Made {
           len = length self.now.text.items;
           is_made = true;
           is_interface = is_interface;
+          left_out = left_out;
         } }
     {
         Pending {
@@ -139,6 +140,7 @@ impl Made {
             len: self.text.len(),
             is_made: true,
             is_interface,
+            left_out,
         }
     }
 }

@@ -27,6 +27,8 @@ pub(crate) struct Pending {
     pub(crate) is_made: bool,
     /// Whether it is no packet but the description of an interface.
     pub(crate) is_interface: bool,
+    /// How many options of its block in the capture are left out.
+    pub(crate) left_out: u64,
 }
 
 /// Returns whether a packet of the first time goes before one of the second. A packet without a time goes before each that has one.

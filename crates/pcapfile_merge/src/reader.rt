@@ -1,6 +1,6 @@
 //! A reader of packets of either format, and the packet that it holds.
 
-ghost use Rattle.std.specs.Prelude.{◌≡◌, false};
+ghost use Rattle.std.specs.Prelude.{◌≡◌, false, IfSome};
 ghost use Rattle.pcapfile_merge.specs.Buffered.{is_done};
 ghost use Rattle.pcapfile_merge.specs.Holding.{HoldsFewPackets, PacketThere};
 ghost use Rattle.pcapfile_merge.specs.Taking.{IsOf, TakesPacket};
@@ -59,6 +59,7 @@ impl<R: Read + Drop> Reader<R> {
         requires { IsReady self.old }
         ensures there { TakesThere R.remaining base numbers.now self.old self.new result }
         ensures few { HoldsFew self.new result }
+        ensures all { IfSome result (λ pending. pending.left_out ≡ 0) }
         ensures ready { IsReady self.new }
     {
         match self {
@@ -91,6 +92,7 @@ fn take_packet_there<R: Read + Drop>(
 ) -> Option<Pending>
     requires { is_done reader.old ≡ false }
     ensures few { HoldsFewPackets reader.new result }
+    ensures all { IfSome result (λ pending. pending.left_out ≡ 0) }
     ensures ready { is_done reader.new ≡ false }
     ensures there { PacketThere R.remaining number reader.old reader.new result }
 {
@@ -122,7 +124,8 @@ fn take_packet<R: Read + Drop>(reader: &mut BufferedPackets<R>, number: u32) -> 
 // Returns the facts about the packet with this header.
 #[inline(always)]
 fn pending_of_header(header: PacketHeader, number: u32) -> Pending
-    ensures { IsOf number header result }
+    ensures is { IsOf number header result }
+    ensures all { result.left_out ≡ 0 }
 {
     let PacketHeader {
         ts_sec,
@@ -143,5 +146,6 @@ fn pending_of_header(header: PacketHeader, number: u32) -> Pending
         len: incl_len as usize,
         is_made: false,
         is_interface: false,
+        left_out: 0,
     }
 }

@@ -1,6 +1,7 @@
 //! A capture that is merged with others.
 
-ghost use Rattle.std.specs.Prelude.{◌≡◌, [], None, option_map, true};
+ghost use Rattle.std.specs.Prelude.{◌≡◌, ◌<◌, ◌^◌, [], None, option_map, true};
+ghost use Rattle.pcapfile_merge.specs.Holding as holding;
 ghost use Rattle.pcapfile_merge.specs.Holding.{Holds, HoldsFew, IsReady, IsReadyIf, IsWhole, holds_interface, holds_untimed};
 
 use crate::numbers::push_number;
@@ -18,9 +19,11 @@ pub struct Source<R> {
     pub(crate) base: u32,
     pub(crate) numbers: Vec<u64>,
     pub(crate) taken: Taken,
+    left_out: u64,
     ghost few: { HoldsFew reader taken.next },
     ghost ready: { IsReadyIf reader taken.next },
     ghost whole: { IsWhole taken },
+    ghost room: { left_out < 2 ^ 64 },
 }
 
 impl<R: Read + Drop> Source<R> {
@@ -37,12 +40,14 @@ impl<R: Read + Drop> Source<R> {
         let mut reader = reader;
         let numbers = Vec::new(alloc);
         let taken = reader.take_next(alloc, base, numbers.as_slice());
+        let left_out = left_out_next(taken.next, 0);
         Source {
             alloc,
             reader,
             base,
             numbers,
             taken,
+            left_out,
         }
     }
 
@@ -88,6 +93,7 @@ impl<R: Read + Drop> Source<R> {
         let taken = self
             .reader
             .take_next(self.alloc, self.base, self.numbers.as_slice());
+        self.left_out = left_out_next(taken.next, self.left_out);
         self.taken = taken;
     }
 }
@@ -129,10 +135,27 @@ impl<R> Source<R> {
         &self.reader
     }
 
+    /// Returns how many options of the packets taken so far are left out. They are those of obsolete packet blocks.
+    pub fn left_out(&self) -> u64
+        ensures { result ≡ self.now.left_out }
+    {
+        self.left_out
+    }
+
     /// Returns the error after what the source gave. Returns None if the capture ended after that or goes on.
     pub fn fault(&self) -> Option<&PcapError>
         ensures { option_map (λ error. error.now) result ≡ self.now.taken.fault }
     {
         self.taken.fault.as_ref()
+    }
+}
+
+// Returns how many options are left out, after this many others, with the packet that was taken next.
+fn left_out_next(next: Option<Pending>, others: u64) -> u64
+    ensures { result ≡ holding.left_out_next next others }
+{
+    match next {
+        None => others,
+        Some(pending) => others.saturating_add(pending.left_out),
     }
 }

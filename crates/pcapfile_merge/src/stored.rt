@@ -20,10 +20,12 @@ ghost use Rattle.pcapfile_merge.specs.TakingBlocks.{IsTimeBy, enhanced_in};
 
 use crate::buffered_blocks::BufferedBlocks;
 use crate::kept::{Kept, is_carried, is_interface};
+use crate::left_out::options_of;
 use crate::made::Made;
 use crate::numbers::{number_of, numbers_behind};
 use crate::packet::{MOST, Pending};
 use crate::reader::Taken;
+use crate::renewed::renewed;
 use pcap_file::pcapng::enhanced::EnhancedNumbers;
 use pcap_file::pcapng::{
     Block, BlockHeader, EnhancedPacketBlock, InterfaceDescriptionBlock, ParsedBlock, Timestamp,
@@ -92,6 +94,7 @@ pub(crate) fn take_there<R: Read + Drop>(
 ) -> Option<Pending>
     requires { buffered.is_done blocks.old ≡ false }
     ensures few { IfSome result (λ pending. pending.len ≤ 4294967260) }
+    ensures all { IfSome result (λ pending. pending.left_out ≡ 0) }
     ensures ready { buffered.is_done blocks.new ≡ false }
     ensures unmade { blocks.new.made.is_lent ≡ false }
     ensures there { BlockThere R.remaining numbers.now blocks.old blocks.new result }
@@ -146,23 +149,26 @@ fn pass_to_giver<R: Read + Drop>(
             Some(Ok(header)) => header,
         };
         let block = reader.block(header);
-        if pass_one(reader.interfaces(), &block, kept) {
+        let options = options_of(reader.section());
+        if pass_one(options, reader.interfaces(), &block, kept) {
             return Ok(Some(header));
         }
     }
     Ok(None)
 }
 
-// Counts a block of a section that has these interfaces with it, and returns whether it gives something next.
+// Counts a block of a section that has these interfaces with it and this many options in its header. Returns whether it gives something
+// next.
 fn pass_one(
+    options: usize,
     interfaces: &[InterfaceDescriptionBlock<'static>],
     block: &Block,
     kept: &mut Kept,
 ) -> bool
-    ensures counts { kept.new ≡ keeping.kept_with (map interface_of interfaces.now) (framed_of block.now) kept.old }
+    ensures counts { kept.new ≡ keeping.kept_with options (map interface_of interfaces.now) (framed_of block.now) kept.old }
     ensures gives { result ≡ gives (map interface_of interfaces.now) (framed_of block.now) }
 {
-    kept.pass(interfaces, block);
+    kept.pass(options, interfaces, block);
     gives_next(interfaces, block)
 }
 
@@ -205,7 +211,7 @@ fn pending_in_interface(alloc: Global, block: &Block, made: &mut Made) -> Result
     made.describe(&parsed)
 }
 
-// Returns the facts about the packet in a block. If it is an enhanced packet, its block is made for the output.
+// Returns the facts about the packet in a block. If it is an enhanced packet or an obsolete one, its block is made for the output.
 fn pending_in_block(
     alloc: Global,
     interfaces: &[InterfaceDescriptionBlock<'static>],
@@ -219,24 +225,26 @@ fn pending_in_block(
     ensures few { IfOk result (λ pending. pending.len ≤ 4294967260) }
 {
     let parsed = block.parsed(alloc)?;
-    let pending = pending_in_body(interfaces, numbers, &parsed)?;
-    match enhanced_of_body(parsed) {
+    let (body, left_out) = renewed(alloc, parsed)?;
+    let pending = pending_in_body(interfaces, numbers, &body, left_out)?;
+    match enhanced_of_body(body) {
         None => Ok(pending),
         Some(packet) => made.put(alloc, block.endianness(), packet, pending),
     }
 }
 
-// Returns the facts about the packet in a parsed body.
+// Returns the facts about the packet in a parsed body, of whose block this many options are left out.
 fn pending_in_body(
     interfaces: &[InterfaceDescriptionBlock<'static>],
     numbers: &[u64],
     parsed: &ParsedBlock<'_>,
+    left_out: u64,
 ) -> ResultParsing<Pending>
-    ensures tells { TellsBody numbers.now (map interface_of interfaces.now) (bodies.body_of parsed.now) result }
+    ensures tells { TellsBody numbers.now (map interface_of interfaces.now) (bodies.body_of parsed.now) left_out result }
     ensures few { IfOk result (λ pending. pending.len ≤ 4294967260) }
 {
     match packet_in_body(interfaces, parsed) {
-        Some(packet) => pending_of_packet(interfaces, numbers, packet),
+        Some(packet) => pending_of_packet(interfaces, numbers, packet, left_out),
         None => Err(PcapError::InvalidField("Block: no packet")),
     }
 }
@@ -262,28 +270,32 @@ struct Said {
     original_len: u32,
     /// The number of its stored bytes.
     len: usize,
+    /// How many options of its block are left out.
+    left_out: u64,
 }
 
 // Returns what an enhanced packet in the buffer says.
 #[inline(always)]
 fn said_there(packet: EnhancedNumbers) -> Said
-    ensures { result ≡ record { interface = packet.interface; units = Some packet.units; original_len = packet.original; len = packet.stored } }
+    ensures { result ≡ record { interface = packet.interface; units = Some packet.units; original_len = packet.original; len = packet.stored; left_out = 0 } }
 {
     Said {
         interface: packet.interface,
         units: Some(packet.units),
         original_len: packet.original,
         len: packet.stored,
+        left_out: 0,
     }
 }
 
-// Returns the facts about a packet that a block holds.
+// Returns the facts about a packet that a block with this many options that are left out holds.
 fn pending_of_packet(
     interfaces: &[InterfaceDescriptionBlock<'static>],
     numbers: &[u64],
     packet: BlockPacket,
+    left_out: u64,
 ) -> ResultParsing<Pending>
-    ensures tells { TellsStored numbers.now (map interface_of interfaces.now) (in_block packet.entry) result }
+    ensures tells { TellsStored numbers.now (map interface_of interfaces.now) (in_block packet.entry) left_out result }
     ensures few { IfOk result (λ pending. pending.len ≤ 4294967260) }
 {
     let said = Said {
@@ -291,6 +303,7 @@ fn pending_of_packet(
         units: packet.units,
         original_len: packet.original_len,
         len: packet.bytes.len(),
+        left_out,
     };
     pending_of(interfaces, numbers, said)
 }
@@ -302,8 +315,9 @@ fn pending_of(
     numbers: &[u64],
     said: Said,
 ) -> ResultParsing<Pending>
-    ensures tells { (bytes : List ℕ) → said.len ≡ length bytes → TellsStored numbers.now (map interface_of interfaces.now) (in_said said bytes) result }
+    ensures tells { (bytes : List ℕ) → said.len ≡ length bytes → TellsStored numbers.now (map interface_of interfaces.now) (in_said said bytes) said.left_out result }
     ensures few { IfOk result (λ pending. pending.len ≤ 4294967260) }
+    ensures count { IfOk result (λ pending. pending.left_out ≡ said.left_out) }
 {
     let Some(interface) = interface_at(interfaces, said.interface) else {
         return Err(PcapError::InvalidField(Unplaced::InterfaceMissing.message()));
@@ -324,6 +338,7 @@ fn pending_of(
         len: said.len,
         is_made: false,
         is_interface: false,
+        left_out: said.left_out,
     })
 }
 

@@ -1,6 +1,6 @@
 -- Texts that are written into a room, one after the other.
-use Rattle.std.proofs.Common.{◌≡◌, ℕ, ◌+◌, List, ◌++◌, length, take, drop, sym, ap, ◌∙◌, append_assoc, length-append, take-append-drop, length-drop, arith}
-use Rattle.std.proofs.lemmas.List.{take_at, length-take-le}
+use Rattle.std.proofs.Common.{◌≡◌, ℕ, ◌+◌, List, ◌++◌, length, take, drop, sym, ap, ◌∙◌, append_assoc, append-nil, length-append, take-append-drop, length-drop, arith}
+use Rattle.std.proofs.lemmas.List.{drop_all, take_at, length-take-le}
 use Rattle.std.proofs.Math.Seq.{drop-append-add}
 use Rattle.pcapfile_values.specs.BlockTexts.{PutsAt}
 
@@ -27,3 +27,7 @@ puts_both {at = at} {behind = behind} {a = a} {b = b} {old = old} {mid = mid} {n
       within = omega (arith, both, q.within, end, wide, ap length parts, length-append front rest, long, p.within, length-drop (at + length a) old);
       is = q.is ∙ rw (before, after) (simp append_assoc);
     }
+
+-- A text as long as the room is all of it.
+pub puts_all : {text old now : List ℕ} → PutsAt 0 text old now → length text ≡ length old → now ≡ text
+puts_all {text = text} {old = old} p long = p.is ∙ ap (λ (l : List ℕ). text ++ l) (drop_all (0 + length text) old (omega (arith, long))) ∙ append-nil text

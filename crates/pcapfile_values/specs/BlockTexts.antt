@@ -4,6 +4,8 @@ use Rattle.std.specs.Int.{w64, cast_unsigned}
 use Rattle.pcap_core.specs.declared.link.DataLink.{DataLink}
 use Rattle.pcap_blocks.specs.ParsedBlock.{Body, SectionBody, InterfaceBody, EnhancedBody}
 use Rattle.pcap_options.specs.Values.{Entry, Integer}
+use Rattle.pcap_core.specs.Codec.{Encoder}
+use Rattle.pcap_written.specs.Bodies.{packet_head_text}
 use Rattle.pcap_written.specs.Plain.{plain_packet}
 use Rattle.pcapfile_values.specs.declared.blocks.PcapfileSection.{PcapfileSection}
 use Rattle.pcapfile_values.specs.declared.bodies.PcapfileInterface.{PcapfileInterface}
@@ -39,3 +41,7 @@ interface_block link i =
 -- The enhanced packet that a struct shows, without options ('Enhanced Packet Block').
 abbrev pub packet_block : PcapfileNgPacket → Body
 packet_block p = EnhancedBody (plain_packet p.interface_id p.timestamp p.orig_len p.bytes.now)
+
+-- The interface, the time and the lengths of the enhanced packet that a struct shows, which precede its bytes.
+abbrev pub packet_front : Encoder → PcapfileNgPacket → List ℕ
+packet_front write p = write 4 p.interface_id ++ packet_head_text write p.timestamp (length p.bytes.now) p.orig_len

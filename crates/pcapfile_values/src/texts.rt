@@ -9,15 +9,16 @@ ghost use Rattle.pcap_options.specs.InterfaceOption.{interface_description};
 ghost use Rattle.pcap_written.specs.Bodies.{text_of};
 ghost use Rattle.pcap_written.specs.Plain.{plain_head};
 ghost use Rattle.pcap_written.specs.Text.{list_text};
-ghost use Rattle.pcapfile_values.specs.BlockTexts.{PutsAt, section_block, interface_block, packet_block, clock_options, clock_len, resolution_byte};
+ghost use Rattle.pcapfile_values.specs.BlockTexts.{PutsAt, section_block, interface_block, packet_block, packet_front};
+ghost use Rattle.pcapfile_values.specs.BlockTexts.{clock_options, clock_len, resolution_byte};
 
 use crate::blocks::PcapfileSection;
 use crate::bodies::{PcapfileInterface, PcapfileNgPacket};
 use byteorder::{BigEndian, ByteOrder, LittleEndian};
 use pcap_core::{DataLink, Endianness};
 
-// Writes bytes at this place of the room, and returns the place after them.
-fn put_bytes(room: &mut [u8], at: usize, bytes: &[u8]) -> usize
+/// Writes bytes at this place of the room, and returns the place after them.
+pub fn put_bytes(room: &mut [u8], at: usize, bytes: &[u8]) -> usize
     requires { at + length bytes.now ≤ length room.old }
     ensures behind { result ≡ at + length bytes.now }
     ensures put { PutsAt at bytes.now room.old room.new }
@@ -37,7 +38,8 @@ fn put_u16<B: ByteOrder>(room: &mut [u8], at: usize, n: u16) -> usize
     put_bytes(room, at, &bytes)
 }
 
-fn put_u32<B: ByteOrder>(room: &mut [u8], at: usize, n: u32) -> usize
+/// Writes a number of four bytes at this place of the room, and returns the place after it.
+pub fn put_u32<B: ByteOrder>(room: &mut [u8], at: usize, n: u32) -> usize
     requires { at + 4 ≤ length room.old }
     ensures behind { result ≡ at + 4 }
     ensures put { PutsAt at (B.bytes_of 4 n) room.old room.new }
@@ -57,7 +59,8 @@ fn put_u64<B: ByteOrder>(room: &mut [u8], at: usize, n: u64) -> usize
     put_bytes(room, at, &bytes)
 }
 
-fn put_pair<B: ByteOrder>(room: &mut [u8], at: usize, first: u16, second: u16) -> usize
+/// Writes two numbers of two bytes at this place of the room, and returns the place after them.
+pub fn put_pair<B: ByteOrder>(room: &mut [u8], at: usize, first: u16, second: u16) -> usize
     requires { at + 4 ≤ length room.old }
     ensures behind { result ≡ at + 4 }
     ensures put { PutsAt at (B.bytes_of 2 first ++ B.bytes_of 2 second) room.old room.new }
@@ -197,6 +200,34 @@ fn put_packet_in<B: ByteOrder>(packet: &PcapfileNgPacket<'_>, room: &mut [u8])
     let zeros = [0; 3];
     let len_again_at = put_bytes(room, padding_at, &zeros[..missing]);
     put_u32::<B>(room, len_again_at, len);
+}
+
+/// Returns the 20 bytes of an enhanced packet's body before the packet's bytes.
+pub fn packet_head(order: Endianness, packet: &PcapfileNgPacket<'_>) -> [u8; 20]
+    requires { length packet.now.bytes.now < 2 ^ 32 }
+    ensures { result ≡ packet_front (number_bytes order) packet.now }
+{
+    match order {
+        Endianness::Big => packet_head_in::<BigEndian>(packet),
+        Endianness::Little => packet_head_in::<LittleEndian>(packet),
+    }
+}
+
+fn packet_head_in<B: ByteOrder>(packet: &PcapfileNgPacket<'_>) -> [u8; 20]
+    requires { length packet.now.bytes.now < 2 ^ 32 }
+    ensures { result ≡ packet_front B.bytes_of packet.now }
+{
+    let mut head = [0; 20];
+    let high_at = put_u32::<B>(&mut head, 0, packet.interface_id);
+    let low_at = put_u32::<B>(
+        &mut head,
+        high_at,
+        (packet.timestamp / 4_294_967_296) as u32,
+    );
+    let captured_at = put_u32::<B>(&mut head, low_at, (packet.timestamp % 4_294_967_296) as u32);
+    let original_at = put_u32::<B>(&mut head, captured_at, packet.bytes.len() as u32);
+    put_u32::<B>(&mut head, original_at, packet.orig_len);
+    head
 }
 
 // Writes the 28 bytes before the bytes of a packet, in a block of this length.

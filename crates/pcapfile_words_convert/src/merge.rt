@@ -98,25 +98,32 @@ fn merge_to<W: Write + Drop>(console: &Console, asked: &Merge, output: W) -> io:
     })
 }
 
-// Reports how many blocks of each kind were left out of each capture.
+// Reports how many blocks and options of each kind were left out of each capture.
 fn tell_left_out(console: &Console, names: &[&str], sources: &[Source<Input>]) -> io::Result<()> {
     for (name, source) in names.iter().zip(sources) {
         if let Reader::Blocks(blocks) = source.reader() {
             let left_out = blocks.left_out();
-            tell_kind(console, name, left_out.names, "names")?;
-            tell_kind(console, name, left_out.statistics, "statistics")?;
-            tell_kind(console, name, left_out.secrets, "secrets")?;
-            tell_kind(console, name, left_out.others, "other types")?;
+            let packet_options = source.left_out();
+            for (count, kind) in [
+                (left_out.names, "blocks of names"),
+                (left_out.statistics, "blocks of statistics"),
+                (left_out.secrets, "blocks of secrets"),
+                (left_out.others, "blocks of other types"),
+                (left_out.section_options, "options of section headers"),
+                (packet_options, "options of obsolete packets"),
+            ] {
+                tell_kind(console, name, count, kind)?;
+            }
         }
     }
     Ok(())
 }
 
-// Reports how many blocks of one kind were left out of a capture, if there were any.
+// Reports how many blocks or options of one kind were left out of a capture, if there were any.
 fn tell_kind(console: &Console, name: &str, count: u64, kind: &str) -> io::Result<()> {
     if count > 0 {
         let shown = Shown(name);
-        eprintln!(console.for_line(); "pcapfile: {shown}: {count} blocks of {kind} are left out")?;
+        eprintln!(console.for_line(); "pcapfile: {shown}: {count} {kind} are left out")?;
     }
     Ok(())
 }

@@ -3,11 +3,16 @@
 ghost use Rattle.pcapfile_merge.specs.Holding.{IsReady};
 
 use pcap_file::pcap::PcapHeader;
-use pcap_file::pcapng::{InterfaceDescriptionBlock, InterfaceDescriptionOption, PcapNgWriter};
+use pcap_file::pcapng::{
+    InterfaceDescriptionBlock, InterfaceDescriptionOption, PcapNgWriter, SectionHeaderBlock,
+};
 use pcap_file::{LinkField, PcapError, ResultParsing};
-use pcapfile_merge::{Reader, Source, merge_packets};
+use pcapfile_merge::{Reader, Source, have_same_options, merge_packets};
 use std::alloc::Global;
 use std::io::{Read, Write};
+
+/// The magic number of a little-endian section, high byte first.
+const LITTLE: u32 = 0x4D3C2B1A;
 
 /// A reader of a capture that has returned no error.
 #[derive(Drop)]
@@ -23,6 +28,23 @@ impl<R> Opened<R> {
     {
         Opened { reader }
     }
+
+    // Takes the options of the first section header, which the output has, away from what is left out.
+    fn keep_options(&mut self) {
+        if let Reader::Blocks(blocks) = &mut self.reader {
+            blocks.keep_options();
+        }
+    }
+}
+
+impl<R: Read + Drop> Opened<R> {
+    // Returns the body of the capture's first section header, if that has options.
+    fn header(&self) -> Option<&[u8]> {
+        match &self.reader {
+            Reader::Blocks(blocks) if blocks.options() > 0 => Some(blocks.body()),
+            _ => None,
+        }
+    }
 }
 
 /// Writes a section header, and what each capture gives before its first packet with a time: its interfaces and other blocks. The
@@ -33,9 +55,14 @@ pub(crate) fn put_opening<R: Read + Drop, W: Write + Drop>(
     sources: &mut Vec<Source<R>>,
     output: W,
 ) -> ResultParsing<(W, u64)> {
-    let mut writer = PcapNgWriter::new(alloc, output)?;
+    let header = header_of(alloc, readers.as_slice())?;
+    let mut writer = put_header(alloc, header.as_slice(), output)?;
     let mut interfaces: u64 = 0;
     for opened in readers {
+        let mut opened = opened;
+        if !header.is_empty() {
+            opened.keep_options();
+        }
         let Ok(base) = u32::try_from(interfaces) else {
             return Err(PcapError::InvalidField("Block: too many interfaces"));
         };
@@ -48,6 +75,42 @@ pub(crate) fn put_opening<R: Read + Drop, W: Write + Drop>(
         interfaces = put_untimed(sources.as_mut_slice(), writer.get_mut(), interfaces)?;
     }
     Ok((writer.into_writer(), interfaces))
+}
+
+// Returns the body of a section header with the options that all captures' first section headers with options have. It is empty if two
+// of them differ, or none has options.
+fn header_of<R: Read + Drop>(alloc: Global, readers: &[Opened<R>]) -> ResultParsing<Vec<u8>> {
+    let mut first: &[u8] = &[];
+    for opened in readers {
+        if let Some(body) = opened.header() {
+            if first.is_empty() {
+                first = body;
+            } else if !have_same_options(first, body) {
+                return Ok(Vec::new(alloc));
+            }
+        }
+    }
+    Ok(Vec::from_slice(alloc, first)?)
+}
+
+// Writes a little-endian section header with the options of the header with this body, or without options if it is empty.
+fn put_header<W: Write + Drop>(
+    alloc: Global,
+    body: &[u8],
+    output: W,
+) -> ResultParsing<PcapNgWriter<W>> {
+    if body.is_empty() {
+        return PcapNgWriter::new(alloc, output);
+    }
+    let (_, section) = SectionHeaderBlock::from_slice(alloc, body)?;
+    let section = SectionHeaderBlock {
+        magic: LITTLE,
+        major_version: 1,
+        minor_version: 0,
+        section_length: -1,
+        options: section.options,
+    };
+    PcapNgWriter::with_section_header(alloc, &section, output)
 }
 
 // Writes what the sources give before their first packet with a time. Returns the number of the next interface.

@@ -18,4 +18,4 @@ returns-in-Some-Ok g c =
     let reader = c.next_header.new.self in
     let next = rw (c.requires, c.in-Some-Ok.field-0-is) at c.in-Some-Ok.ensures.next in
     let packet = lent_packet reader c.in-Some-Ok.header in
-    (c.in-Some-Ok.ensures.header, (refl, next.0, packet_short (header_of c.args.reader.now) next.2.0 packet next.2.1, packet, c.pending_of_header.ensures (data_of reader), next.2))
+    (c.in-Some-Ok.ensures.header, (refl, next.0, packet_short (header_of c.args.reader.now) next.2.0 packet next.2.1, packet, c.pending_of_header.ensures.is (data_of reader), next.2))

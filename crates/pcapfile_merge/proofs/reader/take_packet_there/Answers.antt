@@ -6,7 +6,7 @@ use Rattle.pcapfile_merge.proofs.reader.take_packet_there.Goals as goal
 pub returns-clause-there : goal.returns-clause-there
 returns-clause-there g c =
     let given = c.in_ok-header.ensures in
-    packet_there g.R.Read.remaining c.args.number c.args.reader.now c.next_there.new.self c.in_ok-header.header c.pending_of_header.result c.requires given.header given.there c.pending_of_header.ensures
+    packet_there g.R.Read.remaining c.args.number c.args.reader.now c.next_there.new.self c.in_ok-header.header c.pending_of_header.result c.requires given.header given.there c.pending_of_header.ensures.is
 
 pub returns-clause-few : goal.returns-clause-few
 returns-clause-few g c =

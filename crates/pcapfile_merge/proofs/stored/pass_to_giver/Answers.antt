@@ -1,4 +1,5 @@
-use Rattle.std.proofs.Common.{arith, refl, sym, ◌∙◌, inl, inr, true, false}
+use Rattle.std.proofs.Common.{arith, refl, sym, ap, length, ◌∙◌, inl, inr, true, false}
+use Rattle.pcap_blocks.specs.SectionHeader.{Section}
 use Rattle.pcap_file.specs.Placing.{source_of}
 use Rattle.pcap_ng.specs.Reader.{lent_item}
 use Rattle.pcap_file.proofs.Placing.{gives_next, gives_none, gives_refused}
@@ -35,7 +36,8 @@ returns-then-pass_one g c =
     let header = c.in-Some-Ok.header in
     let item = lent_item reader header in
     let next = rw c.in-Some-Ok.field-0-is at c.in-Some-Ok.ensures.next in
-    let counts = counted_there _ _ item c.loop-turn.kept c.pass_one.new.kept c.interfaces.ensures c.block-block.ensures.block c.pass_one.ensures.counts in
+    let many = c.options_of-options.ensures ∙ ap (λ (s : Section). length s.options) c.section.ensures in
+    let counts = counted_there _ _ _ item c.loop-turn.kept c.pass_one.new.kept many c.interfaces.ensures c.block-block.ensures.block c.pass_one.ensures.counts in
     let gives = given_there _ _ item true c.interfaces.ensures c.block-block.ensures.block (sym c.pass_one.ensures.gives ∙ c.if-pass_one.true) in
     (progress_with c.loop-turn.kept at, c.loop-turn.invariant.passes, (gives_next (lent_item reader) at (source_of g.R.Read.remaining reader) header refl next, counts), gives)
 
@@ -48,7 +50,8 @@ loop-turn-preserved g c =
     let next = rw c.in-Some-Ok.field-0-is at c.in-Some-Ok.ensures.next in
     let old = c.loop-turn.kept in
     let new = c.pass_one.new.kept in
-    let counts = counted_there _ _ item old new c.interfaces.ensures c.block-block.ensures.block c.pass_one.ensures.counts in
+    let many = c.options_of-options.ensures ∙ ap (λ (s : Section). length s.options) c.section.ensures in
+    let counts = counted_there _ _ _ item old new many c.interfaces.ensures c.block-block.ensures.block c.pass_one.ensures.counts in
     let may = given_there _ _ item false c.interfaces.ensures c.block-block.ensures.block (sym c.pass_one.ensures.gives ∙ c.if-pass_one.false) in
     passed_more (progress_with c.args.kept.now (source_of g.R.Read.remaining c.args.reader.now)) (progress_with old at) (progress_with new (source_of g.R.Read.remaining reader)) c.loop-turn.turn item c.loop-turn.invariant
     (gives_next (lent_item reader) at (source_of g.R.Read.remaining reader) header refl next, counts) may

@@ -12,6 +12,7 @@ returns-in-Err g c = inr (record {
   base = refl;
   numbers = c.in-Err.ensures.stays;
   reader = refl;
+  left_out = refl;
   ended = refl;
   fault = c.in-Err.ensures.pushes;
 })
@@ -23,4 +24,4 @@ returns-in-Ok g c =
     let advances = c.advance_any.ensures in
     let pushed = c.in-Ok.ensures.pushes in
     advanced_numbered g.R.Read.remaining c.args.number old new c.requires.interface
-    (advances.0, advances.1 ∙ pushed, subst (λ (l : List ℕ). TakesNext g.R.Read.remaining old.base l old.reader new.reader new.taken) pushed advances.2)
+    (advances.0, advances.1 ∙ pushed, subst (λ (l : List ℕ). TakesNext g.R.Read.remaining old.base l old.reader new.reader new.taken) pushed advances.2, advances.3)
