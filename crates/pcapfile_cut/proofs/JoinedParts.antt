@@ -20,6 +20,7 @@ use Rattle.pcapfile_cut.specs.declared.joining.Joined.TheVariants.{Unopened, Oth
 use Rattle.pcapfile_cut.specs.declared.opening.Opening.{Opening}
 use Rattle.pcapfile_cut.specs.declared.wanted.Wanted.{Wanted}
 use Rattle.pcapfile_cut.specs.declared.wanted.Wanted.TheVariants.{All, Numbers, Bytes, Selected}
+use Rattle.pcapfile_cut.specs.Changes.{written}
 use Rattle.pcapfile_cut.specs.Choice.{Stored, WantsMore, chosen, text_of}
 use Rattle.pcapfile_cut.specs.Cuts.{CutsBehind, Ends, EndsWhole, IsStored, LastIsWanted, OpensPart, PacketIsSaid, packets_under}
 use Rattle.pcapfile_cut.specs.Fronts.{CutsInto, HoldsPackets, IsJoined, JoinsOthers, TakesAll, packets_of}
@@ -38,6 +39,13 @@ chosen_all (Numbers first last) packets is needed =
     rw (is, take_all last packets within) refl
 chosen_all (Bytes most) packets is needed = refl
 chosen_all (Selected selection) packets is needed = absurd is
+
+-- Such a cut writes each packet with its bytes.
+written_all : (header : PcapHeader) (wanted : Wanted) (packets : List Stored) → TakesAll wanted → written header wanted packets ≡ text_of packets
+written_all header All packets is = refl
+written_all header (Numbers first last) packets is = refl
+written_all header (Bytes most) packets is = refl
+written_all header (Selected selection) packets is = absurd is
 
 none_fails : (P : PcapError → Type 0) (fault : Option PcapError) → fault ≡ None → IsSomeAnd fault P → ⊥
 none_fails P None fine is = is
@@ -60,10 +68,11 @@ cut_part_is opening wanted s behind part outcome all opens fine =
     let passes = cuts.passes in
     let end = ended (header_of opening) wanted cuts.packets cuts.left (Some behind) cuts.mid (Some part) outcome fine cuts.ends in
     let took : Consumes (Some s) (Some behind) (text_of cuts.packets) = Consumes-kept (Some s) cuts.left (Some behind) (text_of cuts.packets) passes.took end.taken in
-    let picked : text_of (chosen wanted cuts.packets) ≡ text_of cuts.packets = ap text_of (chosen_all wanted cuts.packets all passes.needed) in
-    let went : Appends (Some []) cuts.mid (bytes_of opening ++ text_of (chosen wanted cuts.packets)) =
-    Appends-trans (Some []) opens.behind cuts.mid (bytes_of opening) (text_of (chosen wanted cuts.packets)) opens.opened passes.went in
-    let out : part ≡ bytes_of opening ++ text_of (chosen wanted cuts.packets) = Appends-kept (Some []) cuts.mid (Some part) (bytes_of opening ++ text_of (chosen wanted cuts.packets)) went end.went in
+    let header = header_of opening in
+    let text = written header wanted (chosen wanted cuts.packets) in
+    let picked : text ≡ text_of cuts.packets = written_all header wanted (chosen wanted cuts.packets) all ∙ ap text_of (chosen_all wanted cuts.packets all passes.needed) in
+    let went : Appends (Some []) cuts.mid (bytes_of opening ++ text) = Appends-trans (Some []) opens.behind cuts.mid (bytes_of opening) text opens.opened passes.went in
+    let out : part ≡ bytes_of opening ++ text = Appends-kept (Some []) cuts.mid (Some part) (bytes_of opening ++ text) went end.went in
     (cuts.packets, out ∙ ap (λ (t : List ℕ). bytes_of opening ++ t) picked, took, passes.each)
 
 at_end : (t text : List ℕ) (left : Option (List ℕ)) → Consumes (Some t) left text → IsAtEnd left → t ≡ text

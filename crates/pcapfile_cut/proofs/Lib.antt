@@ -6,3 +6,5 @@ mod FrontCuts
 mod JoinedParts
 mod Passing
 mod Repeating
+mod ShortPackets
+mod ShortBlocks

@@ -9,6 +9,7 @@ use Rattle.pcap_classic.specs.declared.pcap.header.PcapHeader.{PcapHeader}
 use Rattle.pcapfile_cut.specs.declared.cutting.Outcome.{Outcome}
 use Rattle.pcapfile_cut.specs.declared.wanted.Wanted.{Wanted}
 use Rattle.pcap_core.specs.declared.errors.PcapError.{PcapError}
+use Rattle.pcapfile_cut.specs.Changes.{written, written_for}
 use Rattle.pcapfile_cut.specs.Choice.{Stored, WantsMore, chosen, takes, text_of}
 use Rattle.pcapfile_cut.specs.Cuts.{CutsBehind, IsStored, Passes, PassesOne, StepsCut, counted, outcome_of, progress}
 use Rattle.pcapfile_cut.proofs.Chosen.{chosen_none, chosen_push, one_if}
@@ -16,21 +17,21 @@ use Rattle.pcapfile_cut.proofs.Chosen.{chosen_none, chosen_push, one_if}
 counted_more : (b c m n : ℕ) → b ≡ counted m → c ≡ counted (b + n) → c ≡ counted (m + n)
 counted_more b c m n first second = omega arith
 
-text_if : (b : Bool) (x : Stored) → text_of (one_if b x) ≡ (if b then x.text else [])
-text_if true x = append-nil x.text
-text_if false x = refl
+text_if : (header : PcapHeader) (wanted : Wanted) (b : Bool) (x : Stored) → written header wanted (one_if b x) ≡ (if b then written_for header wanted x else [])
+text_if header wanted true x = append-nil (written_for header wanted x)
+text_if header wanted false x = refl
 
 -- The bytes of one more packet.
 text_push : (xs : List Stored) (x : Stored) → text_of (xs ++ x ∷ []) ≡ text_of xs ++ x.text
 text_push xs x = flat_map-append (λ (stored : Stored). stored.text) xs (x ∷ []) ∙ ap (λ (t : List ℕ). text_of xs ++ t) (append-nil x.text)
 
--- The bytes of one more packet, if the test says that it is wanted.
-chosen_text_push : (wanted : Wanted) (xs : List Stored) (x : Stored)
-    → text_of (chosen wanted (xs ++ x ∷ [])) ≡ text_of (chosen wanted xs) ++ (if takes wanted (length xs + 1) x.packet then x.text else [])
-chosen_text_push wanted xs x =
+-- What is written for one more packet, if the test says that it is wanted.
+written_push : (header : PcapHeader) (wanted : Wanted) (xs : List Stored) (x : Stored)
+    → written header wanted (chosen wanted (xs ++ x ∷ [])) ≡ written header wanted (chosen wanted xs) ++ (if takes wanted (length xs + 1) x.packet then written_for header wanted x else [])
+written_push header wanted xs x =
     let b = takes wanted (length xs + 1) x.packet in
-    ap text_of (chosen_push wanted xs x) ∙ flat_map-append (λ (stored : Stored). stored.text) (chosen wanted xs) (one_if b x)
-    ∙ ap (λ (t : List ℕ). text_of (chosen wanted xs) ++ t) (text_if b x)
+    ap (written header wanted) (chosen_push wanted xs x) ∙ flat_map-append (λ (stored : Stored). written_for header wanted stored) (chosen wanted xs) (one_if b x)
+    ∙ ap (λ (t : List ℕ). written header wanted (chosen wanted xs) ++ t) (text_if header wanted b x)
 
 module _ (header : PcapHeader) (wanted : Wanted) where
   -- The cut has read no packets yet.
@@ -38,7 +39,7 @@ module _ (header : PcapHeader) (wanted : Wanted) where
   passes_none before out outcome none no_bytes = record {
     each = All-nil (IsStored header);
     took = Consumes-nil before;
-    went = subst (λ (xs : List Stored). Appends out out (text_of xs)) (sym (chosen_none wanted)) (Appends-nil out);
+    went = subst (λ (xs : List Stored). Appends out out (written header wanted xs)) (sym (chosen_none wanted)) (Appends-nil out);
     count = none;
     bytes = omega (arith, no_bytes);
     needed = inl refl;
@@ -49,16 +50,16 @@ module _ (header : PcapHeader) (wanted : Wanted) where
       → WantsMore wanted old.packets old.bytes → (one : PassesOne header wanted left now mid out_now old new) → Passes header wanted (xs ++ one.stored ∷ []) before now out out_now new
   passes_more xs before left now out mid out_now old new so_far wants one =
       let x = one.stored in
-      let went : Appends mid out_now (if takes wanted (length xs + 1) x.packet then x.text else []) =
-      subst (λ (n : ℕ). Appends mid out_now (if takes wanted (n + 1) x.packet then x.text else [])) so_far.count one.went in
-      let all_went = Appends-trans out mid out_now (text_of (chosen wanted xs)) (if takes wanted (length xs + 1) x.packet then x.text else []) so_far.went went in
+      let went : Appends mid out_now (if takes wanted (length xs + 1) x.packet then written_for header wanted x else []) =
+      subst (λ (n : ℕ). Appends mid out_now (if takes wanted (n + 1) x.packet then written_for header wanted x else [])) so_far.count one.went in
+      let all_went = Appends-trans out mid out_now (written header wanted (chosen wanted xs)) (if takes wanted (length xs + 1) x.packet then written_for header wanted x else []) so_far.went went in
       let all_took = Consumes-trans before left now (text_of xs) x.text so_far.took one.took in
       let last : WantsMore wanted (length xs) (counted (length (text_of xs))) =
       subst (λ (k : ℕ). WantsMore wanted (length xs) k) so_far.bytes (subst (λ (n : ℕ). WantsMore wanted n old.bytes) so_far.count wants) in
       record {
         each = All-push (IsStored header) xs x so_far.each one.is_stored;
         took = subst (λ (t : List ℕ). Consumes before now t) (sym (text_push xs x)) all_took;
-        went = subst (λ (t : List ℕ). Appends out out_now t) (sym (chosen_text_push wanted xs x)) all_went;
+        went = subst (λ (t : List ℕ). Appends out out_now t) (sym (written_push header wanted xs x)) all_went;
         count = omega (arith, length-append xs (x ∷ []), so_far.count, one.packets);
         bytes = counted_more old.bytes new.bytes (length (text_of xs)) (length x.text) so_far.bytes one.bytes ∙ ap counted (sym (ap length (text_push xs x) ∙ length-append (text_of xs) x.text));
         needed = inr (xs, x, refl, last);

@@ -15,6 +15,7 @@ use Rattle.pcap_classic.specs.PacketText.{Captured, packet_limit}
 use Rattle.pcapfile_cut.specs.declared.cutting.Outcome.{Outcome}
 use Rattle.pcapfile_cut.specs.declared.opening.Opening.{Opening}
 use Rattle.pcapfile_cut.specs.declared.wanted.Wanted.{Wanted}
+use Rattle.pcapfile_cut.specs.Changes.{written, written_for}
 use Rattle.pcapfile_cut.specs.Choice.{Stored, WantsMore, chosen, takes, text_of}
 use Rattle.pcapfile_cut.specs.Openings.{bytes_of, header_of}
 
@@ -50,11 +51,11 @@ LastIsWanted wanted packets =
 abbrev pub IsStored : PcapHeader → Stored → Type 0
 IsStored header stored = PacketIsSaid header stored.text (whole stored.packet [])
 
--- The cut read exactly these packets, and wrote exactly the bytes of the wanted ones.
+-- The cut read exactly these packets, and wrote exactly the wanted ones, each with its bytes or shortened.
 pub record Passes (header : PcapHeader) (wanted : Wanted) (packets : List Stored) (before left out mid : Option (List ℕ)) (outcome : Outcome) : Type 0 where
   pub each : All (IsStored header) packets
   pub took : Consumes before left (text_of packets)
-  pub went : Appends out mid (text_of (chosen wanted packets))
+  pub went : Appends out mid (written header wanted (chosen wanted packets))
   pub count : outcome.packets ≡ length packets
   pub bytes : outcome.bytes ≡ counted (length (text_of packets))
   pub needed : LastIsWanted wanted packets
@@ -77,7 +78,7 @@ pub record EndsTorn (header : PcapHeader) (wanted : Wanted) (packets : List Stor
   pub refused : IsSomeAnd outcome.fault IsIo
   pub no_read_failed : outcome.read_failed ≡ false
   pub write_failed : outcome.write_failed ≡ true
-  pub went : AppendsPart mid out_now torn.text
+  pub went : AppendsPart mid out_now (written_for header wanted torn)
 
 -- The cut returned an error for the rest after reading part of it, and wrote nothing more.
 pub record EndsRefused (header : PcapHeader) (left now mid out_now : Option (List ℕ)) (outcome : Outcome) : Type 0 where
@@ -125,7 +126,7 @@ pub record PassesOne (header : PcapHeader) (wanted : Wanted) (before now out out
   pub stored : Stored
   pub is_stored : IsStored header stored
   pub took : Consumes before now stored.text
-  pub went : Appends out out_now (if takes wanted (old.packets + 1) stored.packet then stored.text else [])
+  pub went : Appends out out_now (if takes wanted (old.packets + 1) stored.packet then written_for header wanted stored else [])
   pub packets : new.packets ≡ old.packets + 1
   pub bytes : new.bytes ≡ counted (old.bytes + length stored.text)
   pub no_read_failed : new.read_failed ≡ false
@@ -148,7 +149,7 @@ pub record TearsOne (header : PcapHeader) (wanted : Wanted) (before now out out_
   pub refused : IsIo e
   pub no_read_failed : new.read_failed ≡ false
   pub write_failed : new.write_failed ≡ true
-  pub went : AppendsPart out out_now stored.text
+  pub went : AppendsPart out out_now (written_for header wanted stored)
 
 -- The cut returned an error for the rest.
 pub record RefusesOne (header : PcapHeader) (before now out out_now : Option (List ℕ)) (new : Outcome) (e : PcapError) : Type 0 where

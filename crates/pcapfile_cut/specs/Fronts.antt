@@ -15,6 +15,7 @@ use Rattle.pcapfile_cut.specs.declared.joining.Joined.TheVariants.{Packets}
 use Rattle.pcapfile_cut.specs.declared.opening.Opening.{Opening}
 use Rattle.pcapfile_cut.specs.declared.wanted.Wanted.{Wanted}
 use Rattle.pcapfile_cut.specs.declared.wanted.Wanted.TheVariants.{All, Numbers, Bytes, Selected}
+use Rattle.pcapfile_cut.specs.Changes.{written}
 use Rattle.pcapfile_cut.specs.Choice.{Stored, WantsMore, chosen, text_of}
 use Rattle.pcapfile_cut.specs.Cuts.{EndsTorn, OpensPart, PacketIsSaid, packets_under}
 use Rattle.pcapfile_cut.specs.Joins.{JoinsPart}
@@ -59,7 +60,7 @@ pub record CutsFront (header : PcapHeader) (wanted : Wanted) (s : List ℕ) (now
   pub front : Front (packets_under header) tt (packets_of (packets ++ more)) s rest
   pub bytes : s ≡ text_of (packets ++ more) ++ rest
   pub place : s ≡ text_of packets ++ left
-  pub went : Appends out mid (text_of (chosen wanted packets))
+  pub went : Appends out mid (written header wanted (chosen wanted packets))
   pub count : outcome.packets ≡ length packets
   pub first_ones : (others : List Stored) × (chosen wanted (packets ++ more) ≡ chosen wanted packets ++ others)
   pub ends : EndsAll wanted more rest left now mid out_now outcome ⊎ TearsNext header wanted packets more left now mid out_now outcome

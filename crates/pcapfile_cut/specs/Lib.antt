@@ -1,5 +1,6 @@
 pub mod BlockCuts
 pub mod BlockParts
+pub mod Changes
 pub mod Choice
 pub mod Cuts
 pub mod Fronts
@@ -7,3 +8,4 @@ pub mod Joins
 pub mod Openings
 pub mod Repeating
 pub mod Selections
+pub mod ShortBlocks

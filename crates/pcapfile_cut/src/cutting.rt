@@ -4,9 +4,12 @@ ghost use Rattle.std.specs.Prelude.{◌≡◌, ◌<◌, ◌+◌, ◌^◌, [], dr
 ghost use Rattle.pcap_items.specs.Held.{held_bytes};
 ghost use Rattle.pcap_items.specs.Writing.{WritesAll};
 ghost use Rattle.pcap_classic.specs.Magic.{is_magic};
+ghost use Rattle.pcap_classic.specs.StatedPackets.{held_packet};
+ghost use Rattle.pcapfile_cut.specs.Changes.{stored_of, written_for};
 ghost use Rattle.pcapfile_cut.specs.Cuts.{CutsBehind, CutsPart, IsNew, StepsCut, outcome_of, progress};
 
 use crate::opening::Opening;
+use crate::shortening::{Found, data_of, put_found};
 use crate::wanted::Wanted;
 use pcap_classic::pcap::{PacketsUnder, PcapHeader};
 use pcap_core::{PcapError, ResultParsing};
@@ -129,36 +132,30 @@ fn cut_next<R: Read, W: Write>(
     };
     let text = held.as_slice();
     let is_wanted = wanted.takes(outcome.packets + 1, &head, data_of(text));
-    put_if(output, &mut outcome.write_failed, is_wanted, text)?;
+    let found = Found { header, head, text };
+    put_if(output, &mut outcome.write_failed, is_wanted, wanted, found)?;
     outcome.packets += 1;
     outcome.bytes = outcome.bytes.saturating_add(text.len() as u64);
     held.clear();
     Ok(true)
 }
 
-// Returns the data of a packet, which is behind its header.
-fn data_of(text: &[u8]) -> &[u8]
-    ensures { result.now ≡ drop 16 text.now }
-{
-    match text.get(16..) {
-        Some(data) => data,
-        None => &[],
-    }
-}
-
-// Writes the bytes if they are wanted.
+// Writes a packet if it is wanted.
 fn put_if<W: Write>(
     output: &mut W,
     has_failed: &mut bool,
     is_wanted: bool,
-    bytes: &[u8],
+    wanted: Wanted<'_>,
+    found: Found<'_>,
 ) -> ResultParsing<()>
-    ensures out { WritesAll (W.contents output.old) (W.contents output.new) (if is_wanted then bytes.now else []) result }
+    requires { IsTrue (is_magic found.header.now.magic_number) }
+    ensures out { WritesAll (W.contents output.old) (W.contents output.new)
+        (if is_wanted then written_for found.entry.header.now wanted.entry (stored_of found.entry) else []) result }
     ensures told { MatchResult result (λ _. has_failed.new ≡ has_failed.old) (λ _. has_failed.new ≡ true) }
     ensures wanted { IfErr result (λ _. is_wanted ≡ true) }
 {
     if !is_wanted {
         return Ok(());
     }
-    put(output, has_failed, bytes)
+    put_found(output, has_failed, wanted.snaplen(), found)
 }

@@ -1,19 +1,27 @@
 //! Laws of captures that are cut and joined. The contract of each function says what is proved of it.
 
-ghost use Rattle.std.specs.Prelude.{◌≡◌, ◌≤◌, ◌++◌, ℕ, List, ◌∷◌, length, false, true, Option, None, Some, []};
+ghost use Rattle.std.specs.Prelude.{◌≡◌, ◌≤◌, ◌<◌, ◌^◌, ◌++◌, ℕ, List, ◌∷◌, length, false, true, Option, None, Some, []};
+ghost use Rattle.pcap_blocks.specs.EnhancedPacket.{Enhanced, EnhancedText};
+ghost use Rattle.pcap_core.specs.declared.common.Endianness.{Endianness};
+ghost use Rattle.pcap_core.specs.Answer.{number_in};
+ghost use Rattle.pcap_core.specs.Bytes.{IsBytes};
+ghost use Rattle.pcap_core.specs.Codec.{number_bytes};
 ghost use Rattle.pcap_classic.specs.declared.pcap.header.PcapHeader.{PcapHeader};
+ghost use Rattle.pcap_classic.specs.Written.{written_under};
 ghost use Rattle.pcapfile_cut.specs.declared.cutting.Outcome.{Outcome};
 ghost use Rattle.pcapfile_cut.specs.declared.opening.Opening.{Opening};
 ghost use Rattle.pcapfile_cut.specs.declared.wanted.Wanted.{Wanted};
 ghost use Rattle.pcapfile_cut.specs.declared.wanted.Wanted.TheVariants.{All, Numbers, Selected};
 ghost use Rattle.pcapfile_cut.specs.BlockCuts.{Place};
 ghost use Rattle.pcapfile_cut.specs.BlockParts.{CutsEach, HasPacketNext, HoldsBlocks};
+ghost use Rattle.pcapfile_cut.specs.Changes.{shortened};
 ghost use Rattle.pcapfile_cut.specs.Choice.{Stored, WantsMore, chosen};
-ghost use Rattle.pcapfile_cut.specs.Cuts.{CutsBehind, OpensPart};
+ghost use Rattle.pcapfile_cut.specs.Cuts.{CutsBehind, IsStored, OpensPart};
 ghost use Rattle.pcapfile_cut.specs.Fronts.{CutsFront, CutsInto, HoldsPackets, JoinsOthers};
 ghost use Rattle.pcapfile_cut.specs.Openings.{bytes_of};
 ghost use Rattle.pcapfile_cut.specs.Repeating.{HasNoHeader, Typed, about_packets, is_header, opening_behind, texts_of};
 ghost use Rattle.pcapfile_cut.specs.Selections.{goes_behind};
+ghost use Rattle.pcapfile_cut.specs.ShortBlocks.{Parted, PartedText, first_bytes, short_body};
 
 /// A cut of known bytes writes the bytes of the first wanted packets of their front, and of all of these if it ended without an
 /// error and would have gone on.
@@ -32,6 +40,27 @@ pub fn numbers_end_at_the_last()
 pub fn selections_end_at_the_last()
     ensures { (selection : _) (packets more : List Stored) → goes_behind selection.now (length packets) ≡ false →
         chosen (Selected selection) (packets ++ more) ≡ chosen (Selected selection) packets }
+{}
+
+/// A packet that is written with at most a number of its bytes is read again: with the first ones of its bytes, and with its time and
+/// its original length.
+pub fn shortened_packets_are_read()
+    ensures { (header : PcapHeader) (n : ℕ) (stored : Stored) → IsBytes stored.text → IsStored header stored →
+        IsStored header (record { packet = shortened n stored.packet; text = written_under header (shortened n stored.packet) }) }
+{}
+
+/// A packet with no more bytes than that is written unchanged.
+pub fn short_packets_stay()
+    ensures { (header : PcapHeader) (n : ℕ) (stored : Stored) → IsBytes stored.text → IsStored header stored → stored.packet.header.incl_len ≤ n →
+        written_under header (shortened n stored.packet) ≡ stored.text }
+{}
+
+/// An enhanced packet that is written with the first n of its bytes is read again with these bytes. Its interface, its time, its original
+/// length and its options stay.
+pub fn shortened_blocks_are_read()
+    ensures { (e : Endianness) (n : ℕ) (parts : Parted) (body rest : List ℕ) (enhanced : Enhanced) → PartedText (number_in e) parts body →
+        EnhancedText (number_in e) enhanced body rest → n ≤ length parts.bytes → n < 2 ^ 32 →
+        EnhancedText (number_in e) (first_bytes n enhanced) (short_body (number_bytes e) n parts) rest }
 {}
 
 /// Parts that are cut one after another have, concatenated, the packets from the beginning of the first part to the end of the

@@ -1,6 +1,7 @@
 //! The words `cut` and `join` of the program `pcapfile`, over any input and output.
 #![tactic(auto)]
 
+mod block_shortening;
 mod blocks;
 mod cutting;
 mod joining;
@@ -8,8 +9,10 @@ pub mod laws;
 mod opening;
 mod repeated;
 mod selection;
+mod shortening;
 mod wanted;
 
+pub use block_shortening::{Shortened, Shortening};
 pub use blocks::Blocks;
 pub use cutting::{Outcome, cut_part};
 pub use joining::{Joined, join_part};

@@ -31,7 +31,7 @@ impl Range {
     }
 }
 
-/// The tests that a wanted packet passes, all of them.
+/// The tests that a wanted packet passes, all of them, and the most bytes that are written of it.
 #[derive(Clone, Copy)]
 pub struct Selection<'a> {
     /// The ranges of the packets' numbers, in any order. The first packet has number 1. A packet that is in several ranges is
@@ -45,6 +45,8 @@ pub struct Selection<'a> {
     pub lengths: Range,
     /// The program that accepts the packets. `None` accepts all.
     pub filter: Option<&'a Filter>,
+    /// The most bytes that are written of each packet. `None` if each packet keeps all its bytes.
+    pub snaplen: Option<u32>,
 }
 
 // Returns the time of a packet in nanoseconds since 1970.

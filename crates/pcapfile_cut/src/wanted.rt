@@ -1,6 +1,7 @@
 //! The packets that a cut writes.
 
 ghost use Rattle.std.specs.Prelude.{◌≡◌, ◌↔◌, IsTrue};
+ghost use Rattle.pcapfile_cut.specs.Changes.{snaplen_of};
 ghost use Rattle.pcapfile_cut.specs.Choice.{WantsMore, takes};
 ghost use Rattle.pcapfile_cut.specs.Selections.{captured};
 
@@ -36,6 +37,16 @@ impl Wanted<'_> {
             Wanted::Numbers { last, .. } => packets < last,
             Wanted::Bytes(most) => packets < u64::MAX && bytes < most,
             Wanted::Selected(selection) => packets < u64::MAX && selection.has_more(packets),
+        }
+    }
+
+    // Returns the most bytes that the cut writes of each packet, if there is such a number.
+    pub(crate) fn snaplen(self) -> Option<u32>
+        ensures { result ≡ snaplen_of self.entry }
+    {
+        match self {
+            Wanted::All | Wanted::Numbers { .. } | Wanted::Bytes(_) => None,
+            Wanted::Selected(selection) => selection.snaplen,
         }
     }
 

@@ -3,7 +3,7 @@
 mod selected;
 
 use crate::selecting::Tests;
-use crate::source::{Source, Untimed, nothing};
+use crate::source::{Exceptions, Source, nothing};
 use pcap_file::ResultParsing;
 use pcap_file::pcapng::Timestamp;
 use pcap_items::stream::put;
@@ -16,8 +16,8 @@ use std::io::{Read, Write};
 #[derive(Drop)]
 pub(crate) struct Blocks<R> {
     blocks: pcapfile_cut::Blocks<R>,
-    /// How many packets were left out because a test doesn't apply to them.
-    untimed: Untimed,
+    /// How many packets were left out because a test doesn't apply to them, and how many were not shortened.
+    exceptions: Exceptions,
     /// The time of the first packet that has one, if a test depends on it and that packet was read.
     first: Option<Timestamp>,
 }
@@ -27,7 +27,7 @@ impl<R: Read + Drop> Blocks<R> {
     pub(crate) fn new(alloc: Global, input: R) -> ResultParsing<Blocks<R>> {
         Ok(Blocks {
             blocks: pcapfile_cut::Blocks::new(alloc, input)?,
-            untimed: Untimed::default(),
+            exceptions: Exceptions::default(),
             first: None,
         })
     }
@@ -73,8 +73,8 @@ impl<R: Read + Drop> Source for Blocks<R> {
         Ok(self.blocks.is_all_in_parts())
     }
 
-    fn untimed(&self) -> Untimed {
-        self.untimed
+    fn exceptions(&self) -> Exceptions {
+        self.exceptions
     }
 
     fn opening_len(&self) -> u64 {

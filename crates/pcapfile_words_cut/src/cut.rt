@@ -3,7 +3,7 @@
 use crate::blocks::Blocks;
 use crate::filters::load;
 use crate::selecting::{Selecting, Tests};
-use crate::source::{Packets, Source, Untimed, flushed};
+use crate::source::{Exceptions, Packets, Source, flushed};
 use crate::tell::tell_outcome;
 use pcap_filter::Filter;
 use pcap_parts::to_next_end;
@@ -126,25 +126,35 @@ fn cut_capture(console: &Console, asked: &Cutting, filter: Option<&Filter>) -> i
     }
 }
 
-// Reports how many packets are left out because a test doesn't apply to them.
-fn tell_untimed(console: &Console, from: &str, packets: Untimed) -> io::Result<()> {
-    let from = Shown(from);
-    let Untimed {
+// Reports how many packets are left out because a test doesn't apply to them, and how many are not shortened.
+fn tell_exceptions(console: &Console, from: &str, packets: Exceptions) -> io::Result<()> {
+    let Exceptions {
         malformed,
         without_time,
+        whole_malformed,
+        whole_simple,
     } = packets;
-    if malformed > 0 {
-        let s = plural(malformed);
-        eprintln!(console.for_line();
-            "pcapfile: {from}: left out {malformed} packet{s} with a malformed body"
-        )?;
+    let (left_out, whole) = ("left out", "did not shorten");
+    let with_malformed = "with a malformed body";
+    tell_packets(console, from, left_out, malformed, with_malformed)?;
+    tell_packets(console, from, left_out, without_time, "without a time")?;
+    tell_packets(console, from, whole, whole_malformed, with_malformed)?;
+    tell_packets(console, from, whole, whole_simple, "in a simple block")
+}
+
+// Reports what was done with this many packets of this kind, if there are any.
+fn tell_packets(
+    console: &Console,
+    from: &str,
+    done: &str,
+    count: u64,
+    kind: &str,
+) -> io::Result<()> {
+    if count == 0 {
+        return Ok(());
     }
-    if without_time > 0 {
-        let s = plural(without_time);
-        eprintln!(console.for_line();
-            "pcapfile: {from}: left out {without_time} packet{s} without a time"
-        )?;
-    }
+    let (from, s) = (Shown(from), plural(count));
+    eprintln!(console.for_line(); "pcapfile: {from}: {done} {count} packet{s} {kind}")?;
     Ok(())
 }
 
@@ -197,7 +207,7 @@ fn cut_source<S: Source>(
     };
     if !asked.way.is_many() {
         let status = write_selected(console, asked, tests, source, place)?;
-        tell_untimed(console, asked.from, source.untimed())?;
+        tell_exceptions(console, asked.from, source.exceptions())?;
         return Ok(status);
     }
     for number in 1..u64::MAX {

@@ -7,7 +7,7 @@ use capcopy_run::Uninterrupted;
 use pcapfile_cut::{Joined, Opening, Wanted, join_part};
 use pcapfile_files::{
     AT_FAULT, Console, OUTPUT, Shown, Watched, buffered, open_watched, tell_error, tell_io,
-    write_named,
+    tell_other_file, write_named,
 };
 use pcapfile_run::{Format, format_of};
 use std::io;
@@ -104,11 +104,23 @@ fn join_packets<W: Write>(
             break;
         }
         status = match open(console, part) {
-            Ok((_, input)) => join_next(console, asked, part, opening, input, output)?,
+            Ok((Format::Pcap, input)) => join_next(console, asked, part, opening, input, output)?,
+            Ok((Format::PcapNg, _)) => tell_other_format(console, part)?,
             Err(error) => tell_io(console, part, &error)?,
         };
     }
     Ok(status)
+}
+
+// Reports a part whose format differs from that of the first part, or what it is if it is no capture, and returns the exit status.
+fn tell_other_format(console: &Console, part: &str) -> io::Result<u8> {
+    let shown = Shown(part);
+    if !tell_other_file(console, part)? {
+        eprintln!(console.for_line();
+            "pcapfile: {shown}: its format differs from that of the first part"
+        )?;
+    }
+    Ok(AT_FAULT)
 }
 
 fn join_next<W: Write>(
@@ -151,7 +163,8 @@ fn join_others<W: Write>(
             break;
         }
         let input = match open(console, part) {
-            Ok((_, input)) => input,
+            Ok((Format::PcapNg, input)) => input,
+            Ok((Format::Pcap, _)) => return tell_other_format(console, part),
             Err(error) => return tell_io(console, part, &error),
         };
         let mut blocks = match Blocks::new(console.alloc(), input) {

@@ -5,7 +5,7 @@ use pcap_file::pcapng::Timestamp;
 use pcap_filter::Filter;
 use pcapfile_cut::{Range, Selection};
 
-/// The tests that a user names. A packet is selected if it passes all of them.
+/// The tests that a user names. A packet is selected if it passes all of them. A selected packet may be shortened.
 #[derive(Drop)]
 pub struct Selecting {
     /// The ranges of the packets' numbers.
@@ -18,6 +18,8 @@ pub struct Selecting {
     pub lengths: Range,
     /// The number of the packets' interface in their section.
     pub interface: Option<u32>,
+    /// The most bytes that are written of each packet. `None` if each packet keeps all its bytes.
+    pub snaplen: Option<u32>,
 }
 
 /// The tests that a user names, and the filter that was read from a file.
@@ -81,6 +83,7 @@ impl<'a> Tests<'a> {
             from,
             until,
             lengths,
+            snaplen,
             ..
         } = self.asked;
         Selection {
@@ -89,6 +92,7 @@ impl<'a> Tests<'a> {
             until: until.map_or(u64::MAX, |until| nanoseconds_of(until.after(first))),
             lengths: *lengths,
             filter: self.filter,
+            snaplen: *snaplen,
         }
     }
 }

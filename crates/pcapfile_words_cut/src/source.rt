@@ -13,13 +13,17 @@ use std::io::{BufRead, Read, Write};
 /// The length of a packet's header in a classic capture, in bytes.
 const HEAD: usize = 16;
 
-/// How many packets a selection left out because a test doesn't apply to them.
+/// How many packets a selection left out because a test doesn't apply to them, and how many it did not shorten.
 #[derive(Clone, Copy, Default)]
-pub(crate) struct Untimed {
-    /// Packets with a malformed body.
+pub(crate) struct Exceptions {
+    /// Packets with a malformed body that were left out.
     pub(crate) malformed: u64,
-    /// Packets that are stored without a time, if a test depends on it.
+    /// Packets without a time that were left out, if a test depends on it.
     pub(crate) without_time: u64,
+    /// Packets with a malformed body that were not shortened.
+    pub(crate) whole_malformed: u64,
+    /// Longer simple packets, which can't be shortened.
+    pub(crate) whole_simple: u64,
 }
 
 /// A capture that is read part by part.
@@ -45,8 +49,8 @@ pub(crate) trait Source {
     /// Returns whether all of the capture is in a part.
     fn is_at_end(&mut self) -> io::Result<bool>;
 
-    /// Returns how many packets were left out because a test doesn't apply to them.
-    fn untimed(&self) -> Untimed;
+    /// Returns how many packets were left out because a test doesn't apply to them, and how many were not shortened.
+    fn exceptions(&self) -> Exceptions;
 
     /// Returns the length of the next part's opening, in bytes.
     fn opening_len(&self) -> u64;
@@ -113,8 +117,8 @@ impl<R: BufRead + Drop> Source for Packets<R> {
         Ok(self.input.ahead().is_empty() && self.input.input.fill_buf()?.is_empty())
     }
 
-    fn untimed(&self) -> Untimed {
-        Untimed::default()
+    fn exceptions(&self) -> Exceptions {
+        Exceptions::default()
     }
 
     fn opening_len(&self) -> u64 {

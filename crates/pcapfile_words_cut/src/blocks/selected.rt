@@ -2,10 +2,13 @@
 
 use super::{Blocks, pass_text};
 use crate::selecting::Tests;
-use pcap_file::pcapng::{BlockHeader, InterfaceDescriptionBlock, ParsedBlock, Timestamp};
+use crate::source::Exceptions;
+use pcap_file::pcapng::{
+    BlockHeader, BlockType, InterfaceDescriptionBlock, ParsedBlock, RawBlock, Timestamp,
+};
 use pcap_file::{PcapError, ResultParsing};
 use pcap_items::stream::put;
-use pcapfile_cut::{Outcome, Selection};
+use pcapfile_cut::{Outcome, Selection, Shortened, Shortening};
 use pcapfile_run::{BlockPacket, holds_packet, interface_at, packet_in_body};
 use std::alloc::Global;
 use std::io::{Read, Write};
@@ -36,6 +39,10 @@ impl<R: Read + Drop> Blocks<R> {
         outcome: &mut Outcome,
     ) -> ResultParsing<()> {
         let selection = tests.selection(NO_TIME);
+        let mut shortening = match selection.snaplen {
+            Some(most) => Some(Shortening::new(alloc, most)),
+            None => None,
+        };
         if tests.first() > 1 {
             self.pass_to(alloc, tests, outcome)?;
         }
@@ -48,12 +55,66 @@ impl<R: Read + Drop> Blocks<R> {
                 break;
             };
             if self.is_kept(alloc, header, tests, outcome)? {
-                self.put_block(output, outcome)?;
+                self.put_kept(alloc, header, &mut shortening, output, outcome)?;
             } else {
                 pass_text(self.blocks.reader().text(), outcome);
             }
         }
         Ok(())
+    }
+
+    // Writes the lent block, with at most so many bytes of its packet if that is asked for.
+    fn put_kept<W: Write>(
+        &mut self,
+        alloc: Global,
+        header: BlockHeader,
+        shortening: &mut Option<Shortening>,
+        output: &mut W,
+        outcome: &mut Outcome,
+    ) -> ResultParsing<()> {
+        let Some(shortening) = shortening else {
+            return self.put_block(output, outcome);
+        };
+        let reader = self.blocks.reader();
+        let block = RawBlock {
+            type_: header.type_,
+            endianness: header.endianness,
+            body: reader.body(),
+        };
+        let failed = &mut outcome.write_failed;
+        let shortened = shortening.put(output, failed, block, reader.text())?;
+        pass_text(reader.text(), outcome);
+        match shortened {
+            Shortened::Changed => {}
+            Shortened::Malformed => self.exceptions.add_whole_malformed(),
+            Shortened::Stays => {
+                if self.is_longer_simple(alloc, header, shortening.most())? {
+                    self.exceptions.add_whole_simple();
+                }
+            }
+        }
+        Ok(())
+    }
+
+    // Returns whether the lent block is a simple packet with more than this many stored bytes.
+    fn is_longer_simple(
+        &self,
+        alloc: Global,
+        header: BlockHeader,
+        most: u32,
+    ) -> ResultParsing<bool> {
+        if header.type_ != BlockType::SimplePacket {
+            return Ok(false);
+        }
+        let reader = self.blocks.reader();
+        let block = reader.block(header);
+        let parsed = match block.parsed(alloc) {
+            Ok(parsed) => parsed,
+            Err(PcapError::OutOfMemory(error)) => return Err(PcapError::OutOfMemory(error)),
+            Err(_) => return Ok(false),
+        };
+        let packet = packet_in_body(reader.interfaces(), &parsed);
+        Ok(packet.is_some_and(|packet| packet.bytes.len() > most as usize))
     }
 
     // Skips blocks until the reader lends the packet of the first number.
@@ -101,7 +162,7 @@ impl<R: Read + Drop> Blocks<R> {
             return Ok(true);
         }
         let verdict = self.verdict(alloc, header, tests, &selection)?;
-        self.untimed.add(verdict);
+        self.exceptions.add(verdict);
         Ok(matches!(verdict, Verdict::Selected))
     }
 
@@ -153,7 +214,7 @@ impl<R: Read + Drop> Blocks<R> {
     }
 }
 
-impl crate::source::Untimed {
+impl Exceptions {
     // Counts a packet to which a test doesn't apply.
     fn add(&mut self, verdict: Verdict) {
         match verdict {
@@ -161,6 +222,16 @@ impl crate::source::Untimed {
             Verdict::WithoutTime => self.without_time = self.without_time.saturating_add(1),
             Verdict::Selected | Verdict::Rejected => {}
         }
+    }
+
+    // Counts a packet with a malformed body that is not shortened.
+    fn add_whole_malformed(&mut self) {
+        self.whole_malformed = self.whole_malformed.saturating_add(1);
+    }
+
+    // Counts a simple packet that is not shortened.
+    fn add_whole_simple(&mut self) {
+        self.whole_simple = self.whole_simple.saturating_add(1);
     }
 }
 

@@ -13,6 +13,7 @@ use Rattle.pcap_classic.proofs.StatedPackets.{shown_stands}
 use Rattle.std.specs.Prelude.{if◌then◌else◌}
 use Rattle.std.specs.Io.KnownBytes.{Appends}
 use Rattle.pcap_items.specs.Writing.{WritesAll}
+use Rattle.pcapfile_cut.specs.Changes.{written_for}
 use Rattle.pcapfile_cut.specs.Choice.{Stored, takes}
 use Rattle.pcapfile_cut.specs.Selections.{captured}
 use Rattle.pcapfile_cut.proofs.cutting.cut_next.Goals as goal
@@ -38,7 +39,10 @@ pub returns-in_err-put_if-clause-steps : goal.returns-in_err-put_if-clause-steps
 returns-in_err-put_if-clause-steps g c =
     let filled = rw c.in-Some.is at c.in_ok-head.ensures.fills in
     let held = held_bytes c.fill_item.new.held in
-    let stored : Stored = record { packet = held_packet held c.in-Some.head; text = held } in
+    let stored_at : List ℕ → Stored = λ s. record { packet = held_packet s c.in-Some.head; text = s } in
+    let stored = stored_at held in
+    let header = c.args.header.now in
+    let wanted = c.args.wanted in
     let same : c.data_of.result.now ≡ drop 16 held = c.data_of.ensures ∙ ap (drop 16) c.as_slice-text.ensures in
     let takes_it : c.takes-is_wanted.result ≡ takes c.args.wanted (c.args.outcome.now.packets + 1) stored.packet =
     c.takes-is_wanted.ensures ∙ ap (λ (bytes : List ℕ). takes c.args.wanted (c.args.outcome.now.packets + 1) (captured c.in-Some.head bytes)) same in
@@ -47,9 +51,10 @@ returns-in_err-put_if-clause-steps g c =
     let out_now = g.W.Write.contents c.put_if.new.output in
     let e = c.in_err-put_if.field-0.0 in
     let is : c.takes-is_wanted.result ≡ true = c.in_err-put_if.ensures.wanted in
-    let went : WritesAll out out_now (if c.takes-is_wanted.result then c.as_slice-text.result.now else []) (Err e) = c.in_err-put_if.ensures.out in
-    let all_went : WritesAll out out_now c.as_slice-text.result.now (Err e) = subst (λ (b : Bool). WritesAll out out_now (if b then c.as_slice-text.result.now else []) (Err e)) is went in
-    let part = torn_write held out out_now e (subst (λ (s : List ℕ). WritesAll out out_now s (Err e)) c.as_slice-text.ensures all_went) in
+    let went : WritesAll out out_now (if c.takes-is_wanted.result then written_for header wanted (stored_at c.as_slice-text.result.now) else []) (Err e) = c.in_err-put_if.ensures.out in
+    let all_went : WritesAll out out_now (written_for header wanted (stored_at c.as_slice-text.result.now)) (Err e) =
+    subst (λ (b : Bool). WritesAll out out_now (if b then written_for header wanted (stored_at c.as_slice-text.result.now) else []) (Err e)) is went in
+    let part = torn_write (written_for header wanted stored) out out_now e (subst (λ (s : List ℕ). WritesAll out out_now (written_for header wanted (stored_at s)) (Err e)) c.as_slice-text.ensures all_went) in
     rw (p.1, p.2) (
       refl,
       refl,
@@ -69,19 +74,23 @@ pub returns-clause-steps : goal.returns-clause-steps
 returns-clause-steps g c =
     let filled = rw c.in-Some.is at c.in_ok-head.ensures.fills in
     let held = held_bytes c.fill_item.new.held in
-    let stored : Stored = record { packet = held_packet held c.in-Some.head; text = held } in
+    let stored_at : List ℕ → Stored = λ s. record { packet = held_packet s c.in-Some.head; text = s } in
+    let stored = stored_at held in
+    let header = c.args.header.now in
+    let wanted = c.args.wanted in
     let same : c.data_of.result.now ≡ drop 16 held = c.data_of.ensures ∙ ap (drop 16) c.as_slice-text.ensures in
     let takes_it : c.takes-is_wanted.result ≡ takes c.args.wanted (c.args.outcome.now.packets + 1) stored.packet =
     c.takes-is_wanted.ensures ∙ ap (λ (bytes : List ℕ). takes c.args.wanted (c.args.outcome.now.packets + 1) (captured c.in-Some.head bytes)) same in
     let out = g.W.Write.contents c.args.output.now in
     let out_now = g.W.Write.contents c.put_if.new.output in
-    let went : Appends out out_now (if c.takes-is_wanted.result then c.as_slice-text.result.now else []) = c.in_ok-put_if.ensures.out in
-    let went_held : Appends out out_now (if c.takes-is_wanted.result then held else []) = subst (λ (s : List ℕ). Appends out out_now (if c.takes-is_wanted.result then s else [])) c.as_slice-text.ensures went in
+    let went : Appends out out_now (if c.takes-is_wanted.result then written_for header wanted (stored_at c.as_slice-text.result.now) else []) = c.in_ok-put_if.ensures.out in
+    let went_held : Appends out out_now (if c.takes-is_wanted.result then written_for header wanted stored else []) =
+    subst (λ (s : List ℕ). Appends out out_now (if c.takes-is_wanted.result then written_for header wanted (stored_at s) else [])) c.as_slice-text.ensures went in
     record {
       stored = stored;
       is_stored = (reader_whole packet_limit c.args.header.now held [] stored.packet (shown_stands c.args.header.now c.in-Some.head held filled.1)).1;
       took = filled.4;
-      went = subst (λ (b : Bool). Appends out out_now (if b then held else [])) takes_it went_held;
+      went = subst (λ (b : Bool). Appends out out_now (if b then written_for header wanted stored else [])) takes_it went_held;
       packets = refl;
       bytes = search rules;
       no_read_failed = filled.0;

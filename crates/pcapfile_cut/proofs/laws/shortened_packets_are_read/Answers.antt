@@ -1,0 +1,5 @@
+use Rattle.pcapfile_cut.proofs.ShortPackets.{shortened_read}
+use Rattle.pcapfile_cut.proofs.laws.shortened_packets_are_read.Goals as goal
+
+pub returns : goal.returns
+returns c = shortened_read
