@@ -5,12 +5,13 @@ use Rattle.std.proofs.lemmas.List.{get_or-set_same, length-set}
 use Rattle.std.proofs.lemmas.List.Elements.{All-nil, All-cons, filter_map-append}
 use Rattle.pcap_classic.specs.PacketText.{Captured}
 use Rattle.pcapfile_run.specs.Passing.{counted}
+use Rattle.pcapfile_info.specs.declared.late.Late.{Late}
 use Rattle.pcapfile_info.specs.declared.seen.Seen.{Seen}
 use Rattle.pcapfile_info.specs.declared.seen.Sight.{Sight}
 use Rattle.pcapfile_info.specs.declared.seen.Sight.TheVariants.{Packet}
 use Rattle.pcapfile_info.specs.declared.totals.Totals.{Totals}
 use Rattle.pcapfile_info.specs.Sights.{IsPacketSight, captured_seen}
-use Rattle.pcapfile_info.specs.Tallies.{Tallies}
+use Rattle.pcapfile_info.specs.Tallies.{tally_of, Tallies}
 use Rattle.pcapfile_info.specs.Telling.{AreSights}
 use Rattle.pcapfile_info.specs.Totals.{AllAre, TotalsAre, IsBelow, packet_in, packets_of, interfaces_in, is_refused, is_section, is_by, is_undescribed}
 
@@ -61,18 +62,18 @@ alone_push sights seen old new before all undescribed interfaces refused section
 }
 
 -- After the copy, the interface has the counts of all packets.
-pub given_to_it : (packets : List Captured) (sights : List Sight) → AreSights IsPacketSight 1 packets sights → (old new : Totals) → AllAre sights old → new.all ≡ old.all → new.undescribed ≡ old.undescribed
-    → new.interfaces.items ≡ set old.interfaces.items 0 old.all → new.refused ≡ old.refused → new.sections ≡ old.sections → TotalsAre 1 sights new
-given_to_it packets sights are old new before all undescribed interfaces refused sections =
+pub given_to_it : (packets : List Captured) (sights : List Sight) → AreSights IsPacketSight 1 packets sights → (old new : Totals) (late : Late) → AllAre sights old → new.all ≡ old.all → new.undescribed ≡ old.undescribed
+    → tally_of late ≡ old.all → new.interfaces.items ≡ set old.interfaces.items 0 late → new.refused ≡ old.refused → new.sections ≡ old.sections → TotalsAre 1 sights new
+given_to_it packets sights are old new late before all undescribed is interfaces refused sections =
     let one = by_one 1 packets sights are in
-    let long : length new.interfaces.items ≡ 1 = ap length interfaces ∙ length-set old.interfaces.items 0 old.all ∙ before.described in
+    let long : length new.interfaces.items ≡ 1 = ap length interfaces ∙ length-set old.interfaces.items 0 late ∙ before.described in
     record {
       all = rw all before.all;
       undescribed = rw (one.undescribed, undescribed) before.undescribed;
       described = omega (arith, long, one.no_interface);
       by_interface = λ index d less.
           let first : index ≡ 0 = omega (arith, less, long) in
-          rw (first, one.by_it, interfaces, get_or-set_same old.interfaces.items 0 old.all d (omega (arith, before.described))) before.all;
+          rw (first, one.by_it, interfaces, get_or-set_same old.interfaces.items 0 late d (omega (arith, before.described)), is) before.all;
       within = rw long one.below;
       refused = refused ∙ before.refused ∙ ap counted (sym one.no_refused);
       sections = sections ∙ before.sections ∙ ap counted (sym one.no_section);

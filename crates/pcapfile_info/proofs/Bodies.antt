@@ -1,5 +1,5 @@
 -- Lemmas on what the totals use of bodies.
-use Rattle.std.proofs.Common.{◌≡◌, ℕ, List, Option, Some, None, Result, Ok, Err, IfErr, true, refl, inl, inr}
+use Rattle.std.proofs.Common.{◌≡◌, ◌⊎◌, ℕ, List, Option, Some, None, Result, Ok, Err, IfErr, true, refl, inl, inr}
 use Rattle.pcap_blocks.specs.declared.block_type.BlockType.{BlockType}
 use Rattle.pcap_blocks.specs.declared.block_type.BlockType.TheVariants as types
 use Rattle.pcap_blocks.specs.declared.enhanced_packet.EnhancedPacketBlock.{EnhancedPacketBlock}
@@ -9,11 +9,15 @@ use Rattle.pcap_blocks.specs.declared.parsed_block.ParsedBlock.{ParsedBlock}
 use Rattle.pcap_blocks.specs.declared.parsed_block.ParsedBlock.TheVariants as block_of
 use Rattle.pcap_blocks.specs.InterfaceDescription.{Interface}
 use Rattle.pcap_blocks.specs.ParsedBlock.{body_of}
+use Rattle.pcapfile_info.specs.declared.seen.Seen.{Seen}
+use Rattle.pcapfile_info.specs.declared.seen.Sight.{Sight}
 use Rattle.pcapfile_info.specs.declared.seen.Sight.TheVariants as sights
+use Rattle.pcapfile_info.specs.declared.totals.Totals.{Totals}
 use Rattle.pcap_ng.specs.Frames.{Framed}
 use Rattle.pcap_ng.specs.State.{is_kept}
 use Rattle.pcapfile_run.specs.BlockPackets.{InBlock, packet_in}
 use Rattle.pcapfile_info.specs.Sights.{IsBodySight, IsInBlockSight, IsSightOf, IsStoredSight}
+use Rattle.pcapfile_info.specs.Totals.{IsFirstBy, NeedsRoom}
 
 -- A body of any other type has no packet.
 pub other_sight : (described : ℕ) (interfaces : List Interface) (parsed : ParsedBlock)
@@ -49,6 +53,15 @@ interface_kept types.NameResolution described interfaces block is = absurd cc
 interface_kept types.InterfaceStatistics described interfaces block is = absurd cc
 interface_kept types.SystemdJournalExport described interfaces block is = absurd cc
 interface_kept (types.Unknown n) described interfaces block is = absurd cc
+
+-- A block for whose sight memory is needed is kept, or has the first packet of an interface.
+pub room_named : (type : BlockType) (described : ℕ) (interfaces : List Interface) (block : Framed) (totals : Totals) (sight : Sight) → IsSightOf type described interfaces block sight → NeedsRoom totals sight
+    → (is_kept type ≡ true) ⊎ ((seen : Seen) × IsSightOf type described interfaces block (sights.Packet seen) × IsFirstBy totals seen)
+room_named type described interfaces block totals (sights.Packet seen) is room = inr (seen, is, room)
+room_named type described interfaces block totals sights.Refused is room = absurd room
+room_named type described interfaces block totals sights.Interface is room = inl (interface_kept type described interfaces block is)
+room_named type described interfaces block totals sights.Section is room = absurd room
+room_named type described interfaces block totals sights.Other is room = absurd room
 
 -- A fact that always holds also holds of each error.
 pub err_says : {A E : Type 0} (P : Type 0) → P → (result : Result A E) → IfErr result (λ _. P)

@@ -22,10 +22,10 @@ use Rattle.pcapfile_info.specs.Describing.{SameDescribed}
 use Rattle.pcapfile_info.specs.KeptBlocks.{KeepsBlocks}
 use Rattle.pcapfile_info.specs.InForce.{AreInForce, IsClocked}
 use Rattle.pcapfile_info.specs.Sights.{IsBlockSight, IsTimeSeen, Sees, place_of}
-use Rattle.pcapfile_info.specs.Telling.{AddsItem}
+use Rattle.pcapfile_info.specs.Telling.{AddsItem, AddsNothing}
 use Rattle.pcapfile_info.proofs.InForce.{clocked_seen}
-use Rattle.pcapfile_info.proofs.KeptBlocks.{kept_more, packet_describes}
-use Rattle.pcapfile_info.proofs.Turns.{Walked, walked_more}
+use Rattle.pcapfile_info.proofs.KeptBlocks.{kept_more, kept_stays, packet_describes}
+use Rattle.pcapfile_info.proofs.Turns.{Walked, walked_more, walked_stays}
 
 pub packet_said : (e : Endianness) (section : Section) (interfaces : List Interface) → e ≡ order_at (within section interfaces) → (len : ℕ) (body t : List ℕ)
     → block_format.says (within section interfaces) t (whole (packet_item e len body (within section interfaces)) []) → length t ≡ len
@@ -66,3 +66,9 @@ walk_on clocks (within section interfaces) known shown rest after mid new next p
       subst (λ (n : ℕ). IsBlockSight n item (Packet seen)) kept.totals.described is,
       kept_more (enhanced_frame e len body) section interfaces (Packet seen) new next adds.2 (packet_describes section interfaces new next same) first items sights kept,
     ))
+
+-- A walk stays where it is if the next packet isn't counted.
+pub walk_stays : (q : State) (shown rest : List ℕ) (mid new next : Progress) → Walked block_format IsBlockSight 0 KeepsBlocks q q shown rest mid new → AddsNothing new next → SameDescribed new next
+    → Walked block_format IsBlockSight 0 KeepsBlocks q q shown rest mid next
+walk_stays q shown rest mid new next walked nothing same =
+    walked_stays block_format IsBlockSight 0 KeepsBlocks q q shown rest mid new next walked nothing.0 nothing.1 (kept_stays new next nothing same)

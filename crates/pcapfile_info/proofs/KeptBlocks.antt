@@ -1,5 +1,5 @@
 -- Lemmas on the progress, one block after another.
-use Rattle.std.proofs.Common.{List, [], ◌∷◌, ◌++◌, inl, inr, refl, sym, append-nil, Option, Some}
+use Rattle.std.proofs.Common.{List, [], ◌∷◌, ◌++◌, inl, inr, refl, sym, ◌∙◌, append-nil, Option, Some}
 use Rattle.std.specs.Prelude.{map}
 use Rattle.std.specs.String.{string_bytes}
 use Rattle.pcap_core.specs.declared.errors.PcapError.{PcapError}
@@ -36,6 +36,14 @@ packet_describes section interfaces old new same =
 -- A run ends with all that it has kept.
 pub kept_ends : (fault : Option PcapError) (first : State) (items : List Item) (sights : List Sight) (progress : Progress) → KeepsBlocks first items sights progress → EndsBlocks fault first items sights progress
 kept_ends fault first items sights progress kept = record { totals = kept.totals; described = inr kept.described }
+
+-- The progress is of the same blocks.
+pub kept_stays : (old new : Progress) → AddsNothing old new → SameDescribed old new → (first : State) (items : List Item) (sights : List Sight) → KeepsBlocks first items sights old → KeepsBlocks first items sights new
+kept_stays old new nothing same first items sights kept = record {
+  totals = nothing.2 0 sights kept.totals;
+  section = same.0 ∙ kept.section;
+  described = rw (same.1, same.2) kept.described;
+}
 
 -- A run that is out of memory ends with what it has counted.
 pub counted_ends : (e : PcapError) → IsMemory e → (old new : Progress) → AddsNothing old new → LosesNone old new → (first : State) (items : List Item) (sights : List Sight) → KeepsBlocks first items sights old → EndsBlocks (Some e) first items sights new

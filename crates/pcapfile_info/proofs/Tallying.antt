@@ -1,8 +1,8 @@
 -- Lemmas on counting one more packet.
-use Rattle.std.proofs.Common.{◌≡◌, ◌<◌, ◌+◌, ◌++◌, ◌∷◌, [], ℕ, List, Bool, true, false, cond, Option, None, Some, length, inl, inr, refl, sym, ap, ◌∙◌, subst, arith, length-append, append-nil}
+use Rattle.std.proofs.Common.{◌≡◌, ◌<◌, ◌+◌, ◌++◌, ◌∷◌, [], ℕ, List, Bool, true, false, cond, Option, None, Some, length, inl, inr, refl, sym, ap, ◌∙◌, subst, arith, length-append, append-nil, replicate}
 use Rattle.std.specs.Prelude.{All, Contains, count_by, filter, sum_by, slice_index, slice_set}
 use Rattle.std.proofs.lemmas.Bool.{cases_eq, eq-eqb, ne_eqb}
-use Rattle.std.proofs.lemmas.List.{get_or-set_same, get_or-set_other, map-append}
+use Rattle.std.proofs.lemmas.List.{get_or-replicate, get_or-set_same, get_or-set_other, map-append}
 use Rattle.std.proofs.lemmas.List.Elements.{All-push, All-nil, All-weaker, Contains-append_left, Contains-push, filter_map-append, filter-append}
 use Rattle.std.proofs.lemmas.List.Sums.{sum_by_push, length-filter}
 use Rattle.pcap_times.specs.declared.clock.Timestamp.{Timestamp}
@@ -10,7 +10,7 @@ use Rattle.pcapfile_run.specs.Passing.{counted}
 use Rattle.pcapfile_info.specs.declared.seen.Seen.{Seen}
 use Rattle.pcapfile_info.specs.declared.spread.Spread.{Spread}
 use Rattle.pcapfile_info.specs.declared.tally.Tally.{Tally}
-use Rattle.pcapfile_info.specs.Tallies.{instant_of, instants_of, IsAfter, IsBefore, IsFirst, IsFirstOf, IsFirstWith, IsSpread, IsSpreadWith, Tallies, times_of, size_class, is_of_class}
+use Rattle.pcapfile_info.specs.Tallies.{instant_of, instants_of, IsAfter, IsBefore, IsFirst, IsFirstOf, IsFirstWith, IsSpread, IsSpreadWith, no_tally, Tallies, times_of, size_class, is_of_class}
 
 -- A saturated count continues from where it was.
 pub counted_push : (a n k : ℕ) → a ≡ counted n → counted (a + k) ≡ counted (n + k)
@@ -103,3 +103,10 @@ tally_push packets seen old new before number stored original earliest latest sp
   sizes = sizes;
   spread = spread_behind packets old.spread new.spread seen seen.time refl before.spread spread;
 }
+
+none_of_class : (class : ℕ) → class < 10 → slice_index (replicate 10 0) class ≡ counted (count_by (is_of_class class) [])
+none_of_class class less = get_or-replicate 10 class 0 0 less
+
+-- The counts of no packets are those of an empty list.
+pub nothing_tallied : Tallies [] no_tally
+nothing_tallied = record { number = refl; stored = refl; original = refl; earliest = refl; latest = refl; sizes = none_of_class; spread = refl }

@@ -6,12 +6,12 @@ use Rattle.std.proofs.lemmas.List.{get_or-set_same, get_or-set_other, get_or_app
 use Rattle.std.proofs.lemmas.List.Elements.{All-push, All-head, All-tail, All-weaker, filter_map-append, filter-append}
 use Rattle.std.proofs.lemmas.List.Sums.{sum_by_push}
 use Rattle.pcapfile_run.specs.Passing.{counted}
+use Rattle.pcapfile_info.specs.declared.late.Late.{Late}
 use Rattle.pcapfile_info.specs.declared.seen.Seen.{Seen}
 use Rattle.pcapfile_info.specs.declared.seen.Sight.{Sight}
 use Rattle.pcapfile_info.specs.declared.seen.Sight.TheVariants.{Packet, Interface}
-use Rattle.pcapfile_info.specs.declared.tally.Tally.{Tally}
 use Rattle.pcapfile_info.specs.declared.totals.Totals.{Totals}
-use Rattle.pcapfile_info.specs.Tallies.{Tallies}
+use Rattle.pcapfile_info.specs.Tallies.{tally_of, Tallies}
 use Rattle.pcapfile_info.specs.Totals.{TotalsAre, packet_in, packets_of, interfaces_in, is_refused, is_section, is_number, is_by, is_none, is_undescribed, IsBelow}
 use Rattle.pcapfile_info.proofs.Tallying.{count_push, counted_push}
 
@@ -79,22 +79,22 @@ module _ (first : ℕ) (sights : List Sight) (old new : Totals) (before : Totals
   }
 
   -- The next item is an interface.
-  pub totals_described : (tally : Tally) → Tallies [] tally → new.all ≡ old.all → new.undescribed ≡ old.undescribed → new.interfaces.items ≡ old.interfaces.items ++ tally ∷ []
+  pub totals_described : (late : Late) → Tallies [] (tally_of late) → new.all ≡ old.all → new.undescribed ≡ old.undescribed → new.interfaces.items ≡ old.interfaces.items ++ late ∷ []
       → new.refused ≡ old.refused → new.sections ≡ old.sections → TotalsAre first (sights ++ Interface ∷ []) new
-  totals_described tally nothing all undescribed interfaces refused sections =
+  totals_described late nothing all undescribed interfaces refused sections =
       let items = old.interfaces.items in
       let n = length items in
       let same : packets_of (sights ++ Interface ∷ []) ≡ packets_of sights = packets_push Interface ∙ append-nil (packets_of sights) in
-      let long : length new.interfaces.items ≡ n + 1 = ap length interfaces ∙ length-append items (tally ∷ []) in
+      let long : length new.interfaces.items ≡ n + 1 = ap length interfaces ∙ length-append items (late ∷ []) in
       record {
         all = rw (same, all) before.all;
         undescribed = rw (same, undescribed) before.undescribed;
         described = omega (arith, long, before.described, sum_by_push interfaces_in sights Interface);
         by_interface = λ index d less. elim (cases_lt index n) [
-          | inl known ↦ rw (same, interfaces, get_or_append_left items (tally ∷ []) d index known) (before.by_interface index d known)
+          | inl known ↦ rw (same, interfaces, get_or_append_left items (late ∷ []) d index known) (before.by_interface index d known)
           | inr last ↦
               let here : index ≡ n = omega (arith, last, less, long) in
-              rw (same, interfaces, here, get_or_push items tally d n refl, none_by n (packets_of sights) before.within) nothing
+              rw (same, interfaces, here, get_or_push items late d n refl, none_by n (packets_of sights) before.within) nothing
         ];
         within = rw (same, long) (All-weaker (λ packet. IsBelow n packet.interface) (λ packet. IsBelow (n + 1) packet.interface) (λ packet below. below_more n packet.interface below) (packets_of sights) before.within);
         refused = refused_same Interface refl refused;
@@ -117,19 +117,19 @@ module _ (first : ℕ) (sights : List Sight) (old new : Totals) (before : Totals
     }
 
     -- Its interface has this index.
-    pub totals_by : (i : ℕ) (tally : Tally) → seen.interface ≡ Some i → i < length old.interfaces.items → Tallies (filter (is_by i) (packets_of sights) ++ seen ∷ []) tally → new.undescribed ≡ old.undescribed
-        → new.interfaces.items ≡ set old.interfaces.items i tally → TotalsAre first (sights ++ Packet seen ∷ []) new
-    totals_by i tally is below more undescribed interfaces =
+    pub totals_by : (i : ℕ) (late : Late) → seen.interface ≡ Some i → i < length old.interfaces.items → Tallies (filter (is_by i) (packets_of sights) ++ seen ∷ []) (tally_of late) → new.undescribed ≡ old.undescribed
+        → new.interfaces.items ≡ set old.interfaces.items i late → TotalsAre first (sights ++ Packet seen ∷ []) new
+    totals_by i late is below more undescribed interfaces =
         let items = old.interfaces.items in
-        let long : length new.interfaces.items ≡ length items = ap length interfaces ∙ length-set items i tally in
+        let long : length new.interfaces.items ≡ length items = ap length interfaces ∙ length-set items i late in
         record {
           all = rw (packets_push (Packet seen)) all;
           undescribed = rw (packets_push (Packet seen), filter_no is_undescribed (packets_of sights) seen (ap is_none is), undescribed) before.undescribed;
           described = omega (arith, long, before.described, sum_by_push interfaces_in sights (Packet seen));
           by_interface = λ index d less. elim (cases_eq index i) [
-            | inl same ↦ rw (packets_push (Packet seen), interfaces, same, filter_yes (is_by i) (packets_of sights) seen (ap (is_number i) is ∙ eq-eqb i i refl), get_or-set_same items i tally d below) more
+            | inl same ↦ rw (packets_push (Packet seen), interfaces, same, filter_yes (is_by i) (packets_of sights) seen (ap (is_number i) is ∙ eq-eqb i i refl), get_or-set_same items i late d below) more
             | inr other ↦
-                rw (packets_push (Packet seen), interfaces, filter_no (is_by index) (packets_of sights) seen (ap (is_number index) is ∙ ne_eqb i index (λ at. other (sym at))), get_or-set_other items i index tally d other)
+                rw (packets_push (Packet seen), interfaces, filter_no (is_by index) (packets_of sights) seen (ap (is_number index) is ∙ ne_eqb i index (λ at. other (sym at))), get_or-set_other items i index late d other)
                 (before.by_interface index d (omega (arith, less, long)))
           ];
           within = rw (packets_push (Packet seen), long) (All-push (λ packet. IsBelow (length items) packet.interface) (packets_of sights) seen before.within within);

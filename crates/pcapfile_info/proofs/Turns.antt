@@ -68,6 +68,27 @@ module _ {S V : Type 0} (f : Format S V) (IsSight : ℕ → V → Sight → Type
         on = λ behind q before old so_far. goes_more laws here there (prepend_known rest behind) (prepend_known after behind) new next k item sight (takes_shown f laws here rest after item stands behind) goes (long _ (takes_shown f laws here rest after item stands behind).1) adds number bytes q before old (walked.on behind q before old so_far);
       }
 
+  -- A walk is where it was, and the progress is of the same items.
+  pub walked_stays : (from here : S) (shown rest : List ℕ) (mid new next : Progress) → Walked from here shown rest mid new → next.items ≡ new.items → next.bytes ≡ new.bytes
+      → ((q : S) (items : List V) (sights : List Sight) → Kept q items sights new → Kept q items sights next) → Walked from here shown rest mid next
+  walked_stays from here shown rest mid new next walked number bytes stays = record {
+    front = walked.front;
+    split = walked.split;
+    on = λ behind q before old so_far.
+        let told = walked.on behind q before old so_far in
+        record {
+          items = told.items;
+          count = told.count ∙ sym number;
+          leads = told.leads;
+          took = told.took;
+          number = number ∙ told.number ∙ ap (λ (n : ℕ). old.items + n) (sym number);
+          bytes = bytes ∙ told.bytes;
+          sights = told.sights;
+          are_sights = told.are_sights;
+          kept = stays q told.items told.sights told.kept;
+        };
+  }
+
   -- A walk ends before the rest.
   pub walked_used : (from here : S) (shown rest : List ℕ) (mid new : Progress) → Walked from here shown rest mid new
       → (behind : Option (List ℕ)) → GoesOn f IsSight first Kept from here (prepend_known shown behind) (prepend_known (drop (length shown - length rest) shown) behind) mid new

@@ -1,7 +1,9 @@
 -- Counts of packets.
-use Rattle.std.specs.Prelude.{◌≡◌, ◌<◌, ◌⊎◌, ◌==◌, ◌^◌, ◌+◌, ◌*◌, ◌<ℤ◌, ◌++◌, ◌∷◌, ℕ, ℤ, pos, negsuc, List, [], Bool, Option, None, Some, nat_lt, if◌then◌else◌, length, sum_by, count_by, map, filter_map, All, Contains, slice_index}
+use Rattle.std.specs.Prelude.{◌≡◌, ◌<◌, ◌⊎◌, ◌==◌, ◌^◌, ◌+◌, ◌*◌, ◌<ℤ◌, ◌++◌, ◌∷◌, ℕ, ℤ, pos, negsuc, List, [], Bool, Option, None, Some, nat_lt, if◌then◌else◌, length, sum_by, count_by, map, filter_map, replicate, All, Contains, slice_index}
 use Rattle.pcap_times.specs.declared.clock.Timestamp.{Timestamp}
 use Rattle.pcapfile_run.specs.Passing.{counted}
+use Rattle.pcapfile_info.specs.declared.late.Late.{Late}
+use Rattle.pcapfile_info.specs.declared.late.Late.TheVariants.{NoPacket, Packets}
 use Rattle.pcapfile_info.specs.declared.seen.Seen.{Seen}
 use Rattle.pcapfile_info.specs.declared.spread.Spread.{Spread}
 use Rattle.pcapfile_info.specs.declared.tally.Tally.{Tally}
@@ -85,3 +87,12 @@ pub record Tallies (packets : List Seen) (tally : Tally) : Type 0 where
   pub latest : IsFirst IsAfter (times_of packets) tally.latest
   pub sizes : (class : ℕ) → class < 10 → slice_index tally.sizes class ≡ counted (count_by (is_of_class class) packets)
   pub spread : IsSpread (instants_of packets) tally.spread
+
+-- The counts of no packets.
+abbrev pub no_tally : Tally
+no_tally = record { packets = 0; stored = 0; original = 0; earliest = None; latest = None; sizes = replicate 10 0; spread = None }
+
+-- The counts of an interface's packets, which are those of no packets before its first one.
+abbrev pub tally_of : Late → Tally
+tally_of NoPacket = no_tally
+tally_of (Packets counts) = counts.value

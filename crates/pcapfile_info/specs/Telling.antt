@@ -3,12 +3,15 @@ use Rattle.std.specs.Prelude.{⊤, ◌≡◌, ◌+◌, ℕ, List, [], ◌∷◌,
 use Rattle.pcap_core.specs.declared.errors.PcapError.{PcapError}
 use Rattle.pcap_items.specs.Format.{Format, state_after}
 use Rattle.pcap_items.specs.Takes.{TakesTexts, TakesItems}
+use Rattle.pcap_ng.specs.Blocks.{Item}
 use Rattle.pcapfile_run.specs.Passing.{counted}
 use Rattle.pcapfile_info.specs.declared.progress.Progress.{Progress}
 use Rattle.pcapfile_info.specs.declared.seen.Sight.{Sight}
+use Rattle.pcapfile_info.specs.declared.seen.Sight.TheVariants.{Packet}
 use Rattle.pcapfile_info.specs.declared.totals.Totals.{Totals}
 use Rattle.pcapfile_info.specs.declared.seen.Seen.{Seen}
-use Rattle.pcapfile_info.specs.Totals.{Adds, AddsAlone, Stay, interfaces_in}
+use Rattle.pcapfile_info.specs.Sights.{IsBlockSight}
+use Rattle.pcapfile_info.specs.Totals.{Adds, AddsAlone, IsFirstBy, Stay, interfaces_in}
 
 -- The progress has one more item of this many bytes, and the totals count it.
 abbrev pub AddsItem : Sight → ℕ → Progress → Progress → Type 0
@@ -21,6 +24,10 @@ AddsPacketAlone seen bytes old new = (new.items ≡ old.items + 1) × (new.bytes
 -- The progress has no more items and bytes, and its totals are of the same items.
 abbrev pub AddsNothing : Progress → Progress → Type 0
 AddsNothing old new = (new.items ≡ old.items) × (new.bytes ≡ old.bytes) × Stay old.totals new.totals
+
+-- The block has a packet, which is the first one of its interface.
+abbrev pub IsFirstPacket : Totals → Item → Type 0
+IsFirstPacket totals item = (seen : Seen) × IsBlockSight (length totals.interfaces.items) item (Packet seen) × IsFirstBy totals seen
 
 -- The counts are unchanged.
 abbrev pub SameCounts : Progress → Progress → Type 0

@@ -1,13 +1,13 @@
 -- The totals of the items of a capture.
-use Rattle.std.specs.Prelude.{⊤, ◌≡◌, ◌<◌, ◌+◌, ◌==◌, ◌++◌, ◌∷◌, [], ℕ, List, Bool, true, false, Option, None, Some, length, sum_by, count_by, filter, filter_map, All}
+use Rattle.std.specs.Prelude.{⊤, ◌≡◌, ◌<◌, ◌+◌, ◌==◌, ◌++◌, ◌∷◌, [], ℕ, List, Bool, true, false, Option, None, Some, length, sum_by, count_by, filter, filter_map, All, IsSomeAnd}
 use Rattle.std.specs.List.{slice_index_or}
 use Rattle.pcapfile_run.specs.Passing.{counted}
+use Rattle.pcapfile_info.specs.declared.late.Late.{Late}
 use Rattle.pcapfile_info.specs.declared.seen.Seen.{Seen}
 use Rattle.pcapfile_info.specs.declared.seen.Sight.{Sight}
 use Rattle.pcapfile_info.specs.declared.seen.Sight.TheVariants.{Packet, Refused, Interface, Section}
-use Rattle.pcapfile_info.specs.declared.tally.Tally.{Tally}
 use Rattle.pcapfile_info.specs.declared.totals.Totals.{Totals}
-use Rattle.pcapfile_info.specs.Tallies.{Tallies}
+use Rattle.pcapfile_info.specs.Tallies.{tally_of, Tallies}
 
 -- The packet of a sight, if it has one.
 abbrev pub packet_in : Sight → Option Seen
@@ -61,8 +61,8 @@ pub record TotalsAre (first : ℕ) (sights : List Sight) (totals : Totals) : Typ
   pub all : Tallies (packets_of sights) totals.all
   pub undescribed : Tallies (filter is_undescribed (packets_of sights)) totals.undescribed
   pub described : length totals.interfaces.items ≡ first + sum_by interfaces_in sights
-  pub by_interface : (index : ℕ) (d : Tally) → index < length totals.interfaces.items
-      → Tallies (filter (is_by index) (packets_of sights)) (slice_index_or totals.interfaces.items index d)
+  pub by_interface : (index : ℕ) (d : Late) → index < length totals.interfaces.items
+      → Tallies (filter (is_by index) (packets_of sights)) (tally_of (slice_index_or totals.interfaces.items index d))
   pub within : All (λ packet. IsBelow (length totals.interfaces.items) packet.interface) (packets_of sights)
   pub refused : totals.refused ≡ counted (count_by is_refused sights)
   pub sections : totals.sections ≡ counted (count_by is_section sights)
@@ -91,3 +91,17 @@ Stay old new = (first : ℕ) (sights : List Sight) → TotalsAre first sights ol
 abbrev pub IsWithin : ℕ → Sight → Type 0
 IsWithin n (Packet packet) = IsBelow n packet.interface
 IsWithin n _ = ⊤
+
+-- The totals count no packet of the interface of this index.
+abbrev pub HasNoPacket : Totals → ℕ → Type 0
+HasNoPacket totals index = (d : Late) → (tally_of (slice_index_or totals.interfaces.items index d)).packets ≡ 0
+
+-- The packet's interface is described, and the packet is the first one of it.
+abbrev pub IsFirstBy : Totals → Seen → Type 0
+IsFirstBy totals seen = IsSomeAnd seen.interface (HasNoPacket totals)
+
+-- Another item with this sight needs memory: it describes an interface, or is the first packet of one.
+abbrev pub NeedsRoom : Totals → Sight → Type 0
+NeedsRoom totals Interface = ⊤
+NeedsRoom totals (Packet seen) = IsFirstBy totals seen
+NeedsRoom totals sight = ⊥

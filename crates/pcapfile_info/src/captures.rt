@@ -6,6 +6,7 @@ ghost use Rattle.pcapfile_info.specs.Information.{InformsPackets, InformsBlocks,
 use crate::described::{Described, Opened, opened_by, push_comments};
 use crate::passing::tell_packets;
 use crate::progress::{MOST, Progress, tell_blocks};
+use crate::tally::Tally;
 use crate::totals::Totals;
 use pcap_file::PcapNgReader;
 use pcap_file::pcap::{PcapHeader, read_header};
@@ -42,6 +43,7 @@ pub fn inform_packets<R: BufRead + Drop>(
 {
     let format = Format::Pcap;
     let totals = Totals::with_interface(alloc)?;
+    let own = Box::new(alloc, Tally::new())?;
     let mut read_failed = false;
     let header = match read_header(&mut input, &mut read_failed) {
         Ok(header) => header,
@@ -70,7 +72,14 @@ pub fn inform_packets<R: BufRead + Drop>(
         described: Vec::new(alloc),
         comments: Vec::new(alloc),
     };
-    let fault = tell_packets(alloc, &header, &mut input, &mut read_failed, &mut progress);
+    let fault = tell_packets(
+        alloc,
+        own,
+        &header,
+        &mut input,
+        &mut read_failed,
+        &mut progress,
+    );
     let Progress {
         items,
         bytes,

@@ -5,6 +5,7 @@ mod blocks;
 mod captures;
 mod clocks;
 mod described;
+mod late;
 pub mod laws;
 mod packets;
 mod passing;
@@ -18,6 +19,7 @@ mod totals;
 
 pub use captures::{Information, inform_blocks, inform_packets};
 pub use described::{Described, Opened};
+pub use late::Late;
 pub use seen::{Seen, Sight};
 pub use spread::{SPANS, Spread};
 pub use tally::{CLASSES, LEAST, Tally};

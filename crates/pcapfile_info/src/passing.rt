@@ -16,6 +16,7 @@ ghost use Rattle.pcapfile_info.specs.Totals.{AllAre, TotalsAre};
 
 use crate::progress::{MOST, Progress};
 use crate::shown::{Passes, pass_shown};
+use crate::tally::Tally;
 use byteorder::{BigEndian, ByteOrder, LittleEndian};
 use pcap_file::pcap::{HeldPacket, Packet, PacketsUnder, PcapHeader};
 use pcap_file::{Endianness, PcapError, ResultParsing, TsResolution};
@@ -148,9 +149,11 @@ fn pass_packets<R: BufRead>(
     Ok(())
 }
 
-/// Counts the packets after a header, and returns the error of the next packet, if any.
+/// Counts the packets after a header, and returns the error of the next packet, if any. The counts of their one interface are
+/// put into `own`.
 pub(crate) fn tell_packets<R: BufRead>(
     alloc: Global,
+    own: Box<Tally>,
     header: &PcapHeader,
     input: &mut R,
     read_failed: &mut bool,
@@ -166,6 +169,6 @@ pub(crate) fn tell_packets<R: BufRead>(
         (KeepsTotals (TotalsAre 1)) (R.remaining input.old) (R.remaining input.new) read_failed.new 18446744073709551614 progress.old progress.new result }
 {
     let fault = pass_packets(alloc, header, input, read_failed, progress).err();
-    progress.totals.give_to_the_interface();
+    progress.totals.give_to_the_interface(own);
     fault
 }

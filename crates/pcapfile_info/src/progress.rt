@@ -10,13 +10,13 @@ ghost use Rattle.pcap_ng.specs.Blocks.{block_format};
 ghost use Rattle.pcap_ng.specs.Bodies.{GrowsInBody};
 ghost use Rattle.pcap_ng.specs.Reader as ng;
 ghost use Rattle.pcap_ng.specs.State.{is_kept};
-ghost use Rattle.pcapfile_info.specs.declared.seen.Sight.TheVariants.{Interface, Packet};
+ghost use Rattle.pcapfile_info.specs.declared.seen.Sight.TheVariants.{Packet};
 ghost use Rattle.pcapfile_info.specs.Describing.{AddsDescribed, LosesNone, SameDescribed, last_description, told_of};
 ghost use Rattle.pcapfile_info.specs.KeptBlocks.{EndsBlocks, KeepsBlocks};
 ghost use Rattle.pcapfile_info.specs.InForce.{AreInForce};
 ghost use Rattle.pcapfile_info.specs.Sights.{IsBlockSight, captured_as, captured_seen};
-ghost use Rattle.pcapfile_info.specs.Telling.{AddsItem, AddsNothing, AddsPacketAlone, SameCounts, TellsItems, TurnGives};
-ghost use Rattle.pcapfile_info.specs.Totals.{IsBelow, IsWithin};
+ghost use Rattle.pcapfile_info.specs.Telling.{AddsItem, AddsNothing, AddsPacketAlone, IsFirstPacket, SameCounts, TellsItems, TurnGives};
+ghost use Rattle.pcapfile_info.specs.Totals.{IsBelow, IsFirstBy, IsWithin, NeedsRoom};
 
 use crate::blocks::sight_of_block;
 use crate::clocks::Clocks;
@@ -62,15 +62,22 @@ impl Progress {
 
     /// Counts one enhanced packet, whose block has this many bytes.
     #[inline(always)]
-    pub(crate) fn add_packet(&mut self, seen: Seen, bytes: usize)
+    pub(crate) fn add_packet(
+        &mut self,
+        alloc: Global,
+        seen: Seen,
+        bytes: usize,
+    ) -> Result<(), AllocError>
         requires few { self.old.items + 1 < 2 ^ 64 }
         requires below { IsBelow (length self.old.totals.interfaces.items) seen.interface }
-        ensures adds { AddsItem (Packet seen) bytes self.old self.new }
+        ensures adds { MatchResult result (λ done. AddsItem (Packet seen) bytes self.old self.new) (λ e. AddsNothing self.old self.new) }
         ensures same { SameDescribed self.old self.new }
+        ensures memory { IfErr result (λ e. IsFirstBy self.old.totals seen) }
     {
-        self.totals.add_packet(seen);
+        self.totals.add_packet(alloc, seen)?;
         self.items += 1;
         self.bytes = self.bytes.saturating_add(bytes as u64);
+        Ok(())
     }
 
     // Appends the description of the last of the section's interfaces.
@@ -124,14 +131,14 @@ impl Progress {
     }
 
     // Counts one item of this many bytes.
-    fn add(&mut self, sight: Sight, bytes: u64) -> Result<(), AllocError>
+    fn add(&mut self, alloc: Global, sight: Sight, bytes: u64) -> Result<(), AllocError>
         requires few { self.old.items + 1 < 2 ^ 64 }
         requires within { IsWithin (length self.old.totals.interfaces.items) sight }
         ensures adds { MatchResult result (λ done. AddsItem sight bytes self.old self.new) (λ e. AddsNothing self.old self.new) }
         ensures same { SameDescribed self.old self.new }
-        ensures memory { IfErr result (λ _. sight ≡ Interface) }
+        ensures memory { IfErr result (λ e. NeedsRoom self.old.totals sight) }
     {
-        self.totals.add(sight)?;
+        self.totals.add(alloc, sight)?;
         self.items += 1;
         self.bytes = self.bytes.saturating_add(bytes);
         Ok(())
@@ -152,13 +159,14 @@ fn tell_block<T: Read + Drop>(
         (λ e. IsMemory e × AddsNothing progress.old progress.new × LosesNone progress.old progress.new) }
     ensures describes { IfOk result
         (λ done. AddsDescribed header.type_ (ng.section_in_force reader.now) (ng.interfaces_in_force reader.now) progress.old progress.new) }
-    ensures memory { IfErr result (λ _. GrowsInBody (ng.lent_item reader.now header).block ⊎ (is_kept header.type_ ≡ true)) }
+    ensures memory { IfErr result (λ _. GrowsInBody (ng.lent_item reader.now header).block ⊎ (is_kept header.type_ ≡ true)
+        ⊎ IsFirstPacket progress.old.totals (ng.lent_item reader.now header)) }
 {
     let described = progress.totals.interfaces.as_slice().len();
     let block = reader.block(header);
     let sight = sight_of_block(alloc, described, reader.interfaces(), &block)?;
     progress.keep(alloc, header.type_, reader.section(), reader.interfaces())?;
-    progress.add(sight, reader.text().len() as u64)?;
+    progress.add(alloc, sight, reader.text().len() as u64)?;
     Ok(())
 }
 
@@ -191,8 +199,11 @@ impl Passes for Clocks {
             };
             let described = progress.totals.interfaces.as_slice().len();
             let seen = self.seen(described, packet);
-            progress.add_packet(seen, rest.len() - after.len());
-            rest = after;
+            match progress.add_packet(self.alloc, seen, rest.len() - after.len()) {
+                Ok(()) => rest = after,
+                // The reader reads this packet next, and then reports that there is no memory.
+                Err(_) => break,
+            }
         }
         shown.len() - rest.len()
     }

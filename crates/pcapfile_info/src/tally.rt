@@ -2,7 +2,7 @@
 
 ghost use Rattle.std.specs.Prelude.{◌≡◌, ◌<◌, ◌++◌, ◌∷◌, [], ℕ, List, Some, IsTrue, ◌↔◌};
 ghost use Rattle.pcapfile_info.specs.declared.seen.Seen.{Seen};
-ghost use Rattle.pcapfile_info.specs.Tallies.{instant_of, IsAfter, IsBefore, IsFirstWith, IsSpread, IsSpreadWith, size_class, Tallies};
+ghost use Rattle.pcapfile_info.specs.Tallies.{instant_of, IsAfter, IsBefore, IsFirstWith, IsSpread, IsSpreadWith, no_tally, size_class, Tallies};
 
 use crate::seen::Seen;
 use crate::spread::Spread;
@@ -116,7 +116,8 @@ fn class_of(original: u32) -> usize
 impl Tally {
     /// Returns the counts of no packets.
     pub(crate) fn new() -> Tally
-        ensures { Tallies [] result }
+        ensures tallies { Tallies [] result }
+        ensures is { result ≡ no_tally }
     {
         Tally {
             packets: 0,

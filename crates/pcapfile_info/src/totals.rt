@@ -2,11 +2,12 @@
 
 ghost use Rattle.std.specs.Prelude.{◌≡◌, List, [], IfErr, IfOk, MatchResult, length};
 ghost use Rattle.pcap_classic.specs.PacketText.{Captured};
-ghost use Rattle.pcapfile_info.specs.declared.seen.Sight.TheVariants.{Interface, Packet};
+ghost use Rattle.pcapfile_info.specs.declared.seen.Sight.TheVariants.{Packet};
 ghost use Rattle.pcapfile_info.specs.Sights.{IsPacketSight};
 ghost use Rattle.pcapfile_info.specs.Telling.{AreSights};
-ghost use Rattle.pcapfile_info.specs.Totals.{Adds, AllAre, IsBelow, IsWithin, Stay, TotalsAre};
+ghost use Rattle.pcapfile_info.specs.Totals.{Adds, AllAre, IsBelow, IsFirstBy, IsWithin, NeedsRoom, Stay, TotalsAre};
 
+use crate::late::Late;
 use crate::seen::{Seen, Sight};
 use crate::tally::Tally;
 use std::alloc::{AllocError, Global};
@@ -23,7 +24,7 @@ pub struct Totals {
     /// The counts of the packets whose interface isn't described.
     pub undescribed: Tally,
     /// The counts of the packets of each described interface, in order over all sections. A classic capture has one interface.
-    pub interfaces: Vec<Tally>,
+    pub interfaces: Vec<Late>,
 }
 
 impl Totals {
@@ -45,41 +46,47 @@ impl Totals {
         ensures { IfOk result (TotalsAre 1 []) }
     {
         let mut totals = Totals::new(alloc);
-        totals.interfaces.push(Tally::new())?;
+        totals.interfaces.push(Late::NoPacket)?;
         Ok(totals)
     }
 
-    /// Counts one packet.
-    pub(crate) fn add_packet(&mut self, seen: Seen)
+    /// Counts one packet. `AllocError` if it is its interface's first, and there is no memory for the interface's counts; the
+    /// totals are then unchanged.
+    #[inline(always)]
+    pub(crate) fn add_packet(&mut self, alloc: Global, seen: Seen) -> Result<(), AllocError>
         requires { IsBelow (length self.old.interfaces.items) seen.interface }
-        ensures { Adds (Packet seen) self.old self.new }
+        ensures adds { MatchResult result (λ done. Adds (Packet seen) self.old self.new) (λ e. Stay self.old self.new) }
+        ensures memory { IfErr result (λ e. IsFirstBy self.old seen) }
     {
-        self.all.add(seen);
         match seen.interface {
             None => self.undescribed.add(seen),
-            Some(index) => self.interfaces[index].add(seen),
+            Some(index) => self.interfaces[index].add(alloc, seen)?,
         }
+        self.all.add(seen);
+        Ok(())
     }
 
-    /// Copies the counts of all packets to the one interface that captured them.
-    pub(crate) fn give_to_the_interface(&mut self)
+    /// Copies the counts of all packets into `own`, and gives it to the one interface that captured them.
+    pub(crate) fn give_to_the_interface(&mut self, mut own: Box<Tally>)
         requires { length self.old.interfaces.items ≡ 1 }
         ensures { (packets : List Captured) (sights : List Sight)
             → AreSights IsPacketSight 1 packets sights → AllAre sights self.old → TotalsAre 1 sights self.new }
     {
-        self.interfaces[0] = self.all;
+        *own = self.all;
+        self.interfaces[0] = Late::Packets(own);
     }
 
-    /// Counts one item. `AllocError` if there is no memory for another interface; the totals are then unchanged.
-    pub(crate) fn add(&mut self, sight: Sight) -> Result<(), AllocError>
+    /// Counts one item. `AllocError` if there is no memory for another interface, or for the counts of one that has its first
+    /// packet; the totals are then unchanged.
+    pub(crate) fn add(&mut self, alloc: Global, sight: Sight) -> Result<(), AllocError>
         requires { IsWithin (length self.old.interfaces.items) sight }
         ensures adds { MatchResult result (λ done. Adds sight self.old self.new) (λ e. Stay self.old self.new) }
-        ensures memory { IfErr result (λ _. sight ≡ Interface) }
+        ensures memory { IfErr result (λ e. NeedsRoom self.old sight) }
     {
         match sight {
-            Sight::Packet(seen) => self.add_packet(seen),
+            Sight::Packet(seen) => self.add_packet(alloc, seen)?,
             Sight::Refused => self.refused = self.refused.saturating_add(1),
-            Sight::Interface => self.interfaces.push(Tally::new())?,
+            Sight::Interface => self.interfaces.push(Late::NoPacket)?,
             Sight::Section => self.sections = self.sections.saturating_add(1),
             Sight::Other => {}
         }

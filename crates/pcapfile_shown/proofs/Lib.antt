@@ -2,3 +2,5 @@ pub mod EachInterface
 pub mod Largest
 pub mod Numbers
 pub mod Padding
+pub mod Pieces
+pub mod Plain

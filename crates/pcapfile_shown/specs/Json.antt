@@ -20,9 +20,11 @@ use Rattle.pcapfile_run.specs.declared.checked.Checked.{Checked}
 use Rattle.pcapfile_info.specs.declared.captures.Information.{Information}
 use Rattle.pcapfile_info.specs.declared.described.Described.{Described}
 use Rattle.pcapfile_info.specs.declared.described.Opened.{Opened}
+use Rattle.pcapfile_info.specs.declared.late.Late.{Late}
 use Rattle.pcapfile_info.specs.declared.spread.Spread.{Spread}
 use Rattle.pcapfile_info.specs.declared.tally.Tally.{Tally}
 use Rattle.pcapfile_info.specs.Spreads.{Rows, lies_in}
+use Rattle.pcapfile_info.specs.Tallies.{tally_of}
 use Rattle.pcapfile_shown.specs.Texts.{average_of, difference, hundredths_text, per_second, seconds_text, since_1970}
 
 -- A JSON number.
@@ -89,17 +91,21 @@ abbrev pub counts_in : List ℕ → Spread → List ℕ
 counts_in instants spread =
     map (λ span. counted (count_by (lies_in spread.width span) instants)) (range_with_len spread.first (spread.last - spread.first + 1))
 
--- The spread of these instants over time.
+-- The spread of packets over time, with these numbers of packets in its spans.
 abbrev pub spread_data : List ℕ → Spread → Data
-spread_data instants spread = object
-    (put (codes "packets") (numbers_data (counts_in instants spread))
+spread_data counts spread = object
+    (put (codes "packets") (numbers_data counts)
     (put (codes "first") (number_data spread.first)
     (put (codes "width") (number_data spread.width) no_members)))
+
+-- The numbers of packets are those of the instants that the row counts.
+abbrev pub AreCountsOf : Spread → List ℕ → Type 0
+AreCountsOf spread counts = (instants : List ℕ) → Rows instants spread → counts ≡ counts_in instants spread
 
 -- The value shows the spread of instants, or null if there is none.
 abbrev pub TellsSpread : Option Spread → Data → Type 0
 TellsSpread None shown = shown ≡ null
-TellsSpread (Some spread) shown = (instants : List ℕ) → Rows instants spread → shown ≡ spread_data instants spread
+TellsSpread (Some spread) shown = (counts : List ℕ) × AreCountsOf spread counts × (shown ≡ spread_data counts spread)
 
 -- A text as JSON.
 abbrev pub text_data : String Global → Data
@@ -129,10 +135,10 @@ with_description described link_name members =
     (put (codes "section") (number_data described.section) members)))))
 
 -- The value shows an interface: its description, the counts of its packets, and their spread over time.
-abbrev pub TellsInterface : Described × Tally → Data → Type 0
+abbrev pub TellsInterface : Described × Late → Data → Type 0
 TellsInterface interface shown =
-    (link_name : List ℕ) × (spread : Data) × TellsSpread interface.1.spread spread
-    × (shown ≡ object (put (codes "over_time") spread (with_figures interface.1 (with_description interface.0 link_name no_members))))
+    (link_name : List ℕ) × (spread : Data) × TellsSpread (tally_of interface.1).spread spread
+    × (shown ≡ object (put (codes "over_time") spread (with_figures (tally_of interface.1) (with_description interface.0 link_name no_members))))
 
 -- A version.
 abbrev pub version_data : ℕ → ℕ → Data
@@ -194,15 +200,22 @@ TellsFile name told before after =
     (checked made : Members) × TellsCheck name told.checked before checked × TellsHeader told.header checked made
     × (after ≡ with_opened told.opened made)
 
--- The value shows the capture of this name: its file, comments, interfaces, the spread of its packets over time, and their counts.
-abbrev pub Tells : List ℕ → Information → Data → Type 0
-Tells name told shown =
-    (file : Members) × (spread : Data) × (interfaces : List Data)
-    × TellsFile name told no_members file × TellsSpread told.totals.all.spread spread
-    × AllZip TellsInterface (zip told.described.items told.totals.interfaces.items) interfaces
-    × (shown ≡ object (with_figures told.totals.all
+-- The members on the capture of this name, except its interfaces: its file, comments, the spread of its packets, and their counts.
+abbrev pub TellsWhole : List ℕ → Information → Members → Type 0
+TellsWhole name told members =
+    (file : Members) × (spread : Data) × TellsFile name told no_members file × TellsSpread told.totals.all.spread spread
+    × (members ≡ with_figures told.totals.all
     (put (codes "refused") (number_data told.totals.refused)
     (put (codes "sections") (number_data (counted (told.totals.sections + 1)))
     (put (codes "over_time") spread
-    (put (codes "interfaces") (array (items_of interfaces))
-    (put (codes "comments") (texts_data told.comments.items) file)))))))
+    (put (codes "comments") (texts_data told.comments.items) file)))))
+
+-- The values show the interfaces, in order.
+abbrev pub TellsInterfaces : Information → List Data → Type 0
+TellsInterfaces told = AllZip TellsInterface (zip told.described.items told.totals.interfaces.items)
+
+-- The value shows the capture of this name: the capture as a whole, and its interfaces.
+abbrev pub Tells : List ℕ → Information → Data → Type 0
+Tells name told shown =
+    (members : Members) × (interfaces : List Data) × TellsWhole name told members × TellsInterfaces told interfaces
+    × (shown ≡ object (put (codes "interfaces") (array (items_of interfaces)) members))

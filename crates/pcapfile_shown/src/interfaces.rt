@@ -43,11 +43,12 @@ impl fmt::Display for Interfaces<'_> {
     fn fmt<W: fmt::Write>(&self, f: &mut fmt::Formatter<W>) -> fmt::Result {
         let told = self.0;
         let are_several = told.described.len() > 1;
-        for (described, tally) in told.described.iter().zip(told.totals.interfaces.iter()) {
+        for (described, counts) in told.described.iter().zip(told.totals.interfaces.iter()) {
             let interface = Interface(described);
             write!(f, "{interface}")?;
             if are_several {
-                let figures = Figures(tally);
+                let tally = counts.tally();
+                let figures = Figures(&tally);
                 write!(f, "{figures}")?;
             }
         }

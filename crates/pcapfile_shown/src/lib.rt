@@ -5,17 +5,19 @@ mod bar;
 mod figures;
 mod histogram;
 mod interfaces;
-mod json;
+mod members;
 mod over_time;
+mod piecewise;
 mod rate;
 mod report;
 mod time;
 mod told;
 
 pub use bar::{Bar, bar_of};
+pub use piecewise::Unwritten;
 pub use rate::{
     Hundredths, Seconds, duration_of, hundredths_of, hundredths_per_second, seconds_since_1970,
 };
 pub use report::Report;
 pub use time::Utc;
-pub use told::{json_of, told_of};
+pub use told::write_json;

@@ -1,22 +1,27 @@
 //! The JSON report on a capture.
 
-ghost use Rattle.std.specs.Prelude.{◌≡◌, ℕ, List, zip, string_bytes, IfOk, OnOk};
-ghost use Rattle.std.specs.List.{AllZip};
-ghost use Rattle.serde_json.specs.Data.{Data, array};
+ghost use Rattle.std.specs.Prelude.{◌≡◌, ℕ, List, false, IfOk, OnOk};
+ghost use Rattle.std.specs.Fmt.{WritesInCalls};
+ghost use Rattle.serde_json.specs.Data.{Data};
 ghost use Rattle.serde_json.specs.View.{items_of, members_view, view};
-ghost use Rattle.serde_json.specs.Written.{IsInOrder};
+ghost use Rattle.serde_json.specs.Written.{compact_text};
 ghost use Rattle.pcapfile_run.specs.Lines.{format_name};
-ghost use Rattle.pcapfile_shown.specs.Json.{Tells, TellsCheck, TellsFile, TellsHeader, TellsInterface, text_or_null};
+ghost use Rattle.pcapfile_shown.specs.Json.{Tells, TellsCheck, TellsFile, TellsHeader, TellsInterface, TellsInterfaces, TellsWhole, text_or_null};
 ghost use Rattle.pcapfile_shown.specs.Json.{texts_data, with_description, with_kind, with_link, with_opened};
+ghost use Rattle.pcapfile_shown.specs.Pieces.{items_inside};
 
-use crate::json::{put_figures, spread_or_null};
+use crate::members::{put_figures, spread_or_null};
+use crate::piecewise::{
+    Unwritten, comma, text_around, write_before, write_behind, write_text, write_value,
+};
 use crate::report::{order_name, resolution_name};
 use pcap_core::DataLink;
 use pcap_file::pcap::PcapHeader;
-use pcapfile_info::{Described, Information, Opened, Tally};
+use pcapfile_info::{Described, Information, Late, Opened};
 use pcapfile_run::{Checked, Format};
 use serde_json::{Map, Value, push, put};
 use std::alloc::{AllocError, Global};
+use std::fmt;
 
 fn name_of(format: Format) -> &'static str
     ensures { result.now ≡ format_name format }
@@ -132,9 +137,10 @@ fn put_description(
 }
 
 // Returns the description of an interface and the counts of its packets.
-fn interface(alloc: Global, described: &Described, tally: &Tally) -> Result<Value, AllocError>
-    ensures { IfOk result (λ v. TellsInterface (described.now, tally.now) (view v)) }
+fn interface(alloc: Global, described: &Described, counts: &Late) -> Result<Value, AllocError>
+    ensures { IfOk result (λ v. TellsInterface (described.now, counts.now) (view v)) }
 {
+    let tally = &counts.tally();
     let over_time = spread_or_null(alloc, &tally.spread)?;
     let mut map = Map::new(alloc);
     put_description(&mut map, alloc, described)?;
@@ -143,15 +149,23 @@ fn interface(alloc: Global, described: &Described, tally: &Tally) -> Result<Valu
     Ok(Value::Object(map))
 }
 
-fn interfaces(alloc: Global, told: &Information) -> Result<Value, AllocError>
-    ensures { IfOk result (λ v. (shown : List Data) × (view v ≡ array (items_of shown))
-        × AllZip TellsInterface (zip told.now.described.items told.now.totals.interfaces.items) shown) }
+// Writes the interfaces, with commas between them.
+fn write_interfaces<W: fmt::Write>(
+    alloc: Global,
+    told: &Information,
+    output: &mut W,
+) -> Result<(), Unwritten>
+    ensures { OnOk result ((shown : List Data) × TellsInterfaces told.now shown
+        × WritesInCalls W.write_str_gives output.old (items_inside false (items_of shown)) output.new) }
 {
-    let mut values = Vec::new(alloc);
-    for (described, tally) in told.described.iter().zip(told.totals.interfaces.iter()) {
-        push(&mut values, interface(alloc, described, tally)?)?;
+    let mut later = false;
+    for (described, counts) in told.described.iter().zip(told.totals.interfaces.iter()) {
+        let value = interface(alloc, described, counts)?;
+        write_text(comma(later), output)?;
+        write_value(alloc, &value, output)?;
+        later = true;
     }
-    Ok(Value::Array(values))
+    Ok(())
 }
 
 // Puts the name of a file, its format, and the result of its check.
@@ -187,28 +201,36 @@ fn put_file(
     put_opened(map, alloc, told.opened)
 }
 
-/// Returns the JSON report on the capture of this name, as an object.
-pub fn told_of(alloc: Global, name: &str, told: &Information) -> Result<Value, AllocError>
-    ensures { IfOk result (λ v. Tells name.now told.now (view v)) }
+// Returns the members of the JSON report on the capture of this name, except its interfaces.
+fn told_of(alloc: Global, name: &str, told: &Information) -> Result<Map<String, Value>, AllocError>
+    ensures { IfOk result (λ map. TellsWhole name.now told.now (members_view map.entries)) }
 {
     let comments = texts(alloc, told.comments.as_slice())?;
-    let interfaces = interfaces(alloc, told)?;
     let over_time = spread_or_null(alloc, &told.totals.all.spread)?;
     let mut map = Map::new(alloc);
     put_file(&mut map, alloc, name, told)?;
     put(&mut map, alloc, "comments", comments)?;
-    put(&mut map, alloc, "interfaces", interfaces)?;
     put(&mut map, alloc, "over_time", over_time)?;
     let sections = told.totals.sections.saturating_add(1);
     put(&mut map, alloc, "sections", Value::from(sections))?;
     put(&mut map, alloc, "refused", Value::from(told.totals.refused))?;
     put_figures(&mut map, alloc, &told.totals.all)?;
-    Ok(Value::Object(map))
+    Ok(map)
 }
 
-/// Returns the JSON report on the capture of this name as text in one line: each member once, in the order of their names.
-pub fn json_of(alloc: Global, name: &str, told: &Information) -> Result<String, AllocError>
-    ensures { IfOk result (λ text. (shown : Data) × Tells name.now told.now shown × IsInOrder (string_bytes text) shown) }
+/// Writes the JSON report on the capture of this name in one line: each member once, in the order of their names. In memory are
+/// one interface and the other members.
+pub fn write_json<W: fmt::Write>(
+    alloc: Global,
+    name: &str,
+    told: &Information,
+    output: &mut W,
+) -> Result<(), Unwritten>
+    ensures { OnOk result ((shown : Data) × Tells name.now told.now shown × WritesInCalls W.write_str_gives output.old (compact_text shown) output.new) }
 {
-    told_of(alloc, name, told)?.to_string(alloc)
+    let text = text_around(alloc, told_of(alloc, name, told)?)?;
+    write_before(text.front.as_str(), "]}", output)?;
+    write_interfaces(alloc, told, output)?;
+    write_behind(text.back.as_str(), "{\"interfaces\":[", output)?;
+    Ok(())
 }

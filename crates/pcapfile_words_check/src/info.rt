@@ -9,9 +9,9 @@ use pcapfile_files::{
 use pcapfile_info::{Information, inform_blocks, inform_packets};
 use pcapfile_lenient::Captured;
 use pcapfile_run::{End, Format, format_of};
-use pcapfile_shown::{Report, json_of};
-use std::io;
+use pcapfile_shown::{Report, Unwritten, write_json};
 use std::io::{BufWriter, ErrorKind, Write};
+use std::{fmt, io};
 
 /// The arguments of `info`.
 #[derive(Drop)]
@@ -24,10 +24,33 @@ pub struct Informing<'a> {
     pub as_is: bool,
 }
 
+/// The output of the reports. JSON is displayed with escapes, and the error of a failed write is kept.
+#[derive(Drop)]
+struct Output<W> {
+    stream: W,
+    error: Option<io::Error>,
+}
+
+impl<W: Write> fmt::Write for Output<W> {
+    fn write_str(&mut self, text: &str) -> fmt::Result {
+        let shown = ShownJson(text);
+        match write!(self.stream, "{shown}") {
+            Ok(()) => Ok(()),
+            Err(error) => {
+                self.error = Some(error);
+                Err(fmt::Error)
+            }
+        }
+    }
+}
+
 /// Writes a report on each capture, and returns the worst exit status.
 pub fn inform_files(console: &Console, asked: &Informing) -> io::Result<u8> {
     let stdout = Uninterrupted::new(console.rt().stdout());
-    let mut output = BufWriter::with_capacity(console.alloc(), OUTPUT, stdout)?;
+    let mut output = Output {
+        stream: BufWriter::with_capacity(console.alloc(), OUTPUT, stdout)?,
+        error: None,
+    };
     let mut status = 0;
     for name in asked.names {
         let told = match inform(console, name, asked.as_is) {
@@ -56,7 +79,7 @@ fn write_told<W: Write>(
     name: &str,
     information: &Information,
     as_json: bool,
-    output: &mut W,
+    output: &mut Output<W>,
 ) -> io::Result<u8> {
     let checked = &information.checked;
     let shown = Shown(name);
@@ -76,19 +99,32 @@ fn write_told<W: Write>(
         return Ok(AT_FAULT);
     }
     if as_json {
-        match json_of(console.alloc(), name, information) {
-            Ok(line) => {
-                let line = ShownJson(line.as_str());
-                writeln!(output, "{line}")?;
-            }
-            Err(error) => return tell_error(console, name, &PcapError::from(error)),
-        }
-    } else {
-        let name = format!(in console.alloc(); "{shown}")?;
-        let name = name.as_str();
-        let report = Report { name, information };
-        write!(output, "{report}")?;
+        return tell_json(console, name, information, output);
     }
-    output.flush()?;
+    let name = format!(in console.alloc(); "{shown}")?;
+    let name = name.as_str();
+    let report = Report { name, information };
+    write!(output.stream, "{report}")?;
+    output.stream.flush()?;
     Ok(checked.status())
+}
+
+// Writes the JSON report on a capture. If memory runs out, the line ends early, and a message goes to standard error.
+fn tell_json<W: Write>(
+    console: &Console,
+    name: &str,
+    information: &Information,
+    output: &mut Output<W>,
+) -> io::Result<u8> {
+    let written = write_json(console.alloc(), name, information, output);
+    if let Some(error) = output.error.take() {
+        return Err(error);
+    }
+    writeln!(output.stream)?;
+    output.stream.flush()?;
+    match written {
+        Ok(()) => Ok(information.checked.status()),
+        Err(Unwritten::Memory(error)) => tell_error(console, name, &PcapError::from(error)),
+        Err(Unwritten::Output(_)) => Err(io::Error::from(ErrorKind::Other)),
+    }
 }

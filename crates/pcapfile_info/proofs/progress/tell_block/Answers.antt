@@ -5,10 +5,11 @@ use Rattle.pcap_ng.specs.Bodies.{GrowsInBody}
 use Rattle.pcap_ng.specs.Frames.{Framed}
 use Rattle.pcap_ng.specs.Lent.{framed_around}
 use Rattle.pcap_ng.specs.Reader.{body_of, interfaces_in_force, section_in_force}
-use Rattle.pcapfile_info.specs.declared.seen.Sight.{Sight}
+use Rattle.pcapfile_info.specs.declared.totals.Totals.{Totals}
 use Rattle.pcapfile_info.specs.Sights.{IsFramedSight}
 use Rattle.pcapfile_info.specs.Telling.{AddsItem}
-use Rattle.pcapfile_info.proofs.Bodies.{interface_kept}
+use Rattle.pcapfile_info.specs.Totals.{NeedsRoom}
+use Rattle.pcapfile_info.proofs.Bodies.{room_named}
 use Rattle.pcapfile_info.proofs.Describing.{adds_loses, described_behind, same_loses}
 use Rattle.pcapfile_info.proofs.Telling.{nothing_same, nothing_behind, item_behind}
 use Rattle.pcapfile_info.proofs.progress.tell_block.Goals as goal
@@ -54,14 +55,17 @@ returns-in_err-sight-clause-memory g c =
 pub returns-in_err-keep-clause-memory : goal.returns-in_err-keep-clause-memory
 returns-in_err-keep-clause-memory g c =
     let p = err_from_is_err_and c.from_residual-in_err-keep.result c.from_residual-in_err-keep.ensures.1 in
-    rw p.1 (inr c.in_err-keep.ensures.memory)
+    rw p.1 (inr (inl c.in_err-keep.ensures.memory))
 
 pub returns-in_err-add-clause-memory : goal.returns-in_err-add-clause-memory
 returns-in_err-add-clause-memory g c =
     let p = err_from_is_err_and c.from_residual-in_err-add.result c.from_residual-in_err-add.ensures.1 in
+    let sight = c.in_ok-sight.sight in
     let n = length c.as_slice-described.result.now in
-    let own = map interface_of c.interfaces.result.now in
+    let own = interfaces_in_force c.args.reader.now in
     let block = framed_around c.args.header (body_of c.args.reader.now) in
-    let framed = subst (λ (f : Framed). IsFramedSight n own f c.in_ok-sight.sight) c.block-block.ensures.block c.in_ok-sight.ensures.0 in
-    let here = subst (λ (s : Sight). IsFramedSight n own block s) c.in_err-add.ensures.memory framed in
-    rw p.1 (inr (interface_kept c.args.header.type_ n own block here))
+    let framed = subst (λ (f : Framed). IsFramedSight n (map interface_of c.interfaces.result.now) f sight) c.block-block.ensures.block c.in_ok-sight.ensures.0 in
+    let under = subst (λ (l : List Interface). IsFramedSight n l block sight) c.interfaces.ensures framed in
+    let behind = subst (λ (m : ℕ). IsFramedSight m own block sight) (ap length c.as_slice-described.ensures.value) under in
+    let room = subst (λ (t : Totals). NeedsRoom t sight) c.keep.ensures.counts.2 c.in_err-add.ensures.memory in
+    rw p.1 (inr (room_named c.args.header.type_ (length c.args.progress.now.totals.interfaces.items) own block c.args.progress.now.totals sight behind room))

@@ -1,21 +1,23 @@
 use Rattle.std.proofs.Common.{refl, arith}
 use Rattle.std.proofs.lemmas.Result.{err_from_is_err_and}
+use Rattle.pcapfile_info.specs.declared.late.Late.TheVariants.{NoPacket}
+use Rattle.pcapfile_info.proofs.Tallying.{nothing_tallied}
 use Rattle.pcapfile_info.proofs.Totalling.{totals_push, totals_described, totals_stay}
 use Rattle.pcapfile_info.proofs.totals.Totals.add.Goals as goal
 
 pub returns-in_err-push-in-Interface-clause-adds : goal.returns-in_err-push-in-Interface-clause-adds
 returns-in_err-push-in-Interface-clause-adds c =
-    let p = err_from_is_err_and c.from_residual.result c.from_residual.ensures.1 in
+    let p = err_from_is_err_and c.from_residual-in_err-push-in-Interface.result c.from_residual-in_err-push-in-Interface.ensures.1 in
     rw p.1 (λ first sights before. totals_stay first sights c.args.self.now _ before refl refl c.in_err-push-in-Interface.ensures.items refl refl)
 
-pub returns-in-Packet-clause-adds : goal.returns-in-Packet-clause-adds
-returns-in-Packet-clause-adds c = rw c.in-Packet.is c.add_packet.ensures
+pub returns-in_ok-add_packet-in-Packet-clause-adds : goal.returns-in_ok-add_packet-in-Packet-clause-adds
+returns-in_ok-add_packet-in-Packet-clause-adds c = rw c.in-Packet.is c.in_ok-add_packet-in-Packet.ensures.adds
 
 pub returns-in-Refused-clause-adds : goal.returns-in-Refused-clause-adds
 returns-in-Refused-clause-adds c = λ first sights before. rw c.in-Refused.is (totals_push first sights c.args.self.now _ before _ refl refl refl refl refl (omega (arith, c.saturating_add-self.ensures)) (omega (arith, before.sections)))
 
 pub returns-in_ok-push-in-Interface-clause-adds : goal.returns-in_ok-push-in-Interface-clause-adds
-returns-in_ok-push-in-Interface-clause-adds c = λ first sights before. rw c.in-Interface.is (totals_described first sights c.args.self.now _ before _ c.new.ensures refl refl c.in_ok-push-in-Interface.ensures.items refl refl)
+returns-in_ok-push-in-Interface-clause-adds c = λ first sights before. rw c.in-Interface.is (totals_described first sights c.args.self.now _ before NoPacket nothing_tallied refl refl c.in_ok-push-in-Interface.ensures.items refl refl)
 
 pub returns-in-Section-clause-adds : goal.returns-in-Section-clause-adds
 returns-in-Section-clause-adds c = λ first sights before. rw c.in-Section.is (totals_push first sights c.args.self.now _ before _ refl refl refl refl refl (omega (arith, before.refused)) (omega (arith, c.saturating_add-self-in-Section.ensures)))

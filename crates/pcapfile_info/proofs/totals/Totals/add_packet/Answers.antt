@@ -1,17 +1,24 @@
-use Rattle.std.proofs.Common.{refl, sym, subst}
+use Rattle.std.proofs.Common.{◌≡◌, ◌++◌, ◌∷◌, [], refl, sym, subst, ap}
 use Rattle.std.specs.Prelude.{filter}
-use Rattle.pcapfile_info.specs.declared.tally.Tally.{Tally}
-use Rattle.pcapfile_info.specs.Tallies.{Tallies}
-use Rattle.pcapfile_info.specs.Totals.{is_by, packets_of}
+use Rattle.pcapfile_info.specs.declared.late.Late.{Late}
+use Rattle.pcapfile_info.specs.declared.totals.Totals.{Totals}
+use Rattle.pcapfile_info.specs.Tallies.{Tallies, tally_of}
+use Rattle.pcapfile_info.specs.Totals.{is_by, is_undescribed, packets_of}
 use Rattle.pcapfile_info.proofs.Totalling.{totals_undescribed, totals_by}
 use Rattle.pcapfile_info.proofs.totals.Totals.add_packet.Goals as goal
+use Rattle.pcapfile_info.proofs.totals.Totals.add_packet.Goals.{in-None, in-Some+in_ok-add-in-Some}
 
-pub returns-in-None : goal.returns-in-None
-returns-in-None c = λ first sights before.
-    totals_undescribed first sights c.args.self.now _ before c.args.seen c.requires (c.add.ensures _ before.all) refl refl c.in-None.is (c.add-in-None.ensures _ before.undescribed) refl
-
-pub returns-in-Some : goal.returns-in-Some
-returns-in-Some c = λ first sights before.
-    let below = rw c.in-Some.is at c.requires in
-    let there = subst (λ (t : Tally). Tallies (filter (is_by c.in-Some.index) (packets_of sights)) t) (sym c.index_mut.ensures.value) (before.by_interface c.in-Some.index c.index_mut.result.now below) in
-    totals_by first sights c.args.self.now _ before c.args.seen c.requires (c.add.ensures _ before.all) refl refl c.in-Some.index c.add-in-Some.new.self c.in-Some.is below (c.add-in-Some.ensures _ there) refl refl
+pub returns-clause-adds : goal.returns-clause-adds
+returns-clause-adds c = λ first sights before.
+    elim c.match-seen.branch [
+      | in-None w ↦
+          let all = c.add-2.ensures (packets_of sights) (subst (λ (t : Totals). Tallies (packets_of sights) t.all) (sym w.self-is) before.all) in
+          totals_undescribed first sights c.args.self.now _ before c.args.seen c.requires all (ap (λ (t : Totals). t.refused) w.self-is) (ap (λ (t : Totals). t.sections) w.self-is) w.in-None.is
+          (subst (λ (t : Totals). Tallies (filter is_undescribed (packets_of sights) ++ c.args.seen ∷ []) t.undescribed) (sym w.self-is) (w.add.ensures _ before.undescribed)) (ap (λ (t : Totals). t.interfaces.items) w.self-is)
+      | in-Some+in_ok-add-in-Some w ↦
+          let all = c.add-2.ensures (packets_of sights) (subst (λ (t : Totals). Tallies (packets_of sights) t.all) (sym w.self-is) before.all) in
+          let below = rw w.in-Some.is at c.requires in
+          let there = subst (λ (t : Late). Tallies (filter (is_by w.in-Some.index) (packets_of sights)) (tally_of t)) (sym w.index_mut.ensures.value) (before.by_interface w.in-Some.index w.index_mut.result.now below) in
+          totals_by first sights c.args.self.now _ before c.args.seen c.requires all (ap (λ (t : Totals). t.refused) w.self-is) (ap (λ (t : Totals). t.sections) w.self-is) w.in-Some.index w.add-in-Some.new.self w.in-Some.is below
+          (w.in_ok-add-in-Some.ensures.adds _ there) (ap (λ (t : Totals). t.undescribed) w.self-is) (ap (λ (t : Totals). t.interfaces.items) w.self-is)
+    ]

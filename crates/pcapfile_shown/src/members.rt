@@ -2,8 +2,7 @@
 
 ghost use Rattle.std.specs.Prelude.{◌≡◌, ℕ, List, option_map, OnOk, IfOk};
 ghost use Rattle.serde_json.specs.View.{members_view, view};
-ghost use Rattle.pcapfile_info.specs.Spreads.{Rows};
-ghost use Rattle.pcapfile_shown.specs.Json.{counts_in, duration_in, hundredths_data, instant_in, numbers_data, or_null, rate_in, seconds_data};
+ghost use Rattle.pcapfile_shown.specs.Json.{AreCountsOf, duration_in, hundredths_data, instant_in, numbers_data, or_null, rate_in, seconds_data};
 ghost use Rattle.pcapfile_shown.specs.Json.{spread_data, TellsSpread, with_amounts, with_rates, with_times};
 
 use crate::rate::{
@@ -114,7 +113,7 @@ fn put_rates(map: &mut Map<String, Value>, alloc: Global, tally: &Tally) -> Resu
 // Returns the number of packets in each span of a row, from the first to the last.
 #[tactic(auto, using(crate::proofs::Numbers::counts_more, crate::proofs::Numbers::counts_all))]
 fn counts(alloc: Global, spread: &Spread) -> Result<Value, AllocError>
-    ensures { IfOk result (λ v. (instants : List ℕ) → Rows instants spread.now → view v ≡ numbers_data (counts_in instants spread.now)) }
+    ensures { IfOk result (λ v. (counts : List ℕ) × AreCountsOf spread.now counts × (view v ≡ numbers_data counts)) }
 {
     let mut values = Vec::new(alloc);
     for place in 0..spread.last - spread.first + 1 {
@@ -129,7 +128,7 @@ fn counts(alloc: Global, spread: &Spread) -> Result<Value, AllocError>
 // Returns the spread of packets over time as an object. It has the width of a span in nanoseconds, the number of the first span
 // counted from 1970, and the number of packets in each span.
 fn over_time(alloc: Global, spread: &Spread) -> Result<Value, AllocError>
-    ensures { IfOk result (λ v. (instants : List ℕ) → Rows instants spread.now → view v ≡ spread_data instants spread.now) }
+    ensures { IfOk result (λ v. (counts : List ℕ) × AreCountsOf spread.now counts × (view v ≡ spread_data counts spread.now)) }
 {
     let packets = counts(alloc, spread)?;
     let mut map = Map::new(alloc);
