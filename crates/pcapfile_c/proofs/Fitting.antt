@@ -1,6 +1,6 @@
 -- Written blocks fit into the room and are blocks of the format.
 use Rattle.std.proofs.Common.{◌≡◌, ◌≢◌, ℕ, ℤ, ◌+◌, ◌-◌, ◌<◌, ◌≤◌, ◌^◌, List, [], ◌∷◌, length, take, drop, refl, sym, ap, subst, ◌∙◌, append-nil, arith, zero, suc, pos, negsuc, Some, None, inl, inr, w32, to_z, of_z}
-use Rattle.std.specs.Prelude.{◌==◌, if◌then◌else◌, Bool, false, FitsSigned}
+use Rattle.std.specs.Prelude.{◌==◌, if◌then◌else◌, Bool, false, Any, FitsSigned}
 use Rattle.std.specs.Int.{w64, cast_unsigned}
 use Rattle.std.proofs.Math.Nat.{lt_of_not-le}
 use Rattle.std.proofs.lemmas.Bool.{ne_eqb}
@@ -18,25 +18,23 @@ use Rattle.pcap_blocks.specs.SectionHeader.{magic_order}
 use Rattle.pcap_options.specs.Values.{Entry, Integer}
 use Rattle.pcap_written.specs.Bodies.{text_of}
 use Rattle.pcap_written.specs.Fits.{AreFit, IsFitOption}
+use Rattle.pcap_written.specs.Mixed.{of_value}
 use Rattle.pcap_written.proofs.Packets.{packet_fit}
 use Rattle.pcapfile_values.specs.declared.blocks.PcapfileSection.{PcapfileSection}
 use Rattle.pcapfile_values.specs.declared.bodies.PcapfileInterface.{PcapfileInterface}
 use Rattle.pcapfile_values.specs.declared.bodies.PcapfileNgPacket.{PcapfileNgPacket}
 use Rattle.pcapfile_values.specs.declared.errors.PcapfileError.{PcapfileError}
 use Rattle.pcapfile_values.specs.declared.reasons.Reason.{Reason}
+use Rattle.pcapfile_values.specs.declared.reasons.Reason.TheVariants as reasons
 use Rattle.pcapfile_values.specs.BlockTexts.{PutsAt, clock_options, section_block, interface_block, packet_block, resolution_byte}
 use Rattle.pcapfile_values.specs.Reasons.{IsRefused}
 use Rattle.pcapfile_values.proofs.Parts.{clock_short, interface_long, section_long}
-use Rattle.pcapfile_c.specs.Putting.{BeginsWith, Given, IsTextOf, PutsBlock, a_section, an_interface, a_packet}
-use Rattle.pcapfile_c.specs.Readers.{block_writer}
-
--- A room begins with a text that was written at its front.
-pub begins : {text room now : List ℕ} → (n : ℕ) → n ≡ length text → PutsAt 0 text room now → BeginsWith text room now n
-begins {text = text} {room = room} {now = now} n long p = record {
-  long = long;
-  front = ap (take n) p.is ∙ take_at text (drop (0 + length text) room) n (sym long);
-  others = ap (drop n) p.is ∙ drop_at text (drop (0 + length text) room) n (sym long) ∙ ap (λ (k : ℕ). drop k room) (omega (arith, long));
-}
+use Rattle.pcapfile_c.specs.declared.options.PcapfileOption.{PcapfileOption}
+use Rattle.pcapfile_c.specs.declared.parts.Parts.{Parts}
+use Rattle.pcapfile_c.specs.PutParts.{IsFitParts, IsListed, IsUnlisted, PutsParts, parts_body, parts_text}
+use Rattle.pcapfile_c.specs.Putting.{Given, IsMisused, IsTextOf, PutsBlock, a_section, an_interface, a_packet}
+use Rattle.pcapfile_c.proofs.PutParts.{begins}
+use Rattle.pcapfile_c.specs.Readers.{block_writer, writer}
 
 resolution_fit : (e : Endianness) (resolution : ℕ) → IsFitOption (number_in e) (number_bytes e) interface_description (record { code = 9; value = Integer resolution })
 resolution_fit e resolution = record { code = omega arith; no_mark = λ is. omega (arith, is); short = omega arith; kept = refl }
@@ -65,7 +63,7 @@ bits_fit (pos n) fits = omega (arith, fits.sfits)
 bits_fit (negsuc n) fits = omega arith
 
 -- A magic number that names a byte order has four bytes.
-magic_fits : (n : ℕ) (e : Endianness) → magic_order n ≡ Some e → n < 2 ^ 32
+pub magic_fits : (n : ℕ) (e : Endianness) → magic_order n ≡ Some e → n < 2 ^ 32
 unfolding magic_order
 magic_fits n e names = lt_of_not-le (λ (big : 2 ^ 32 ≤ n).
     let not_big : (n == 0x1A2B3C4D) ≡ false = ne_eqb n 0x1A2B3C4D (λ is. omega (arith, is, big)) in
@@ -79,9 +77,9 @@ pub section_is_text : (e : Endianness) (s : PcapfileSection) → magic_order s.m
 section_is_text e s order major minor =
     let unknown : FitsSigned w64 (negsuc 0) = record { sfits = omega arith } in
     record {
-      body = section_block s;
+      block = of_value (section_block s);
       behind = record { endianness = e; interfaces = 0 };
-      body_is = refl;
+      block_is = refl;
       written = λ at may. record {
         place = (record { named = order; known = λ id is. absurd cc; room = omega arith }, refl);
         fit = record {
@@ -100,9 +98,9 @@ pub interface_is_text : (e : Endianness) (link : DataLink) (s : PcapfileSection)
 interface_is_text e link s i order link_is number exponent snaplen offset room =
     let bits = cast_unsigned w64 i.ts_offset in
     record {
-      body = interface_block link i;
+      block = of_value (interface_block link i);
       behind = record { endianness = e; interfaces = s.interfaces + 1 };
-      body_is = (link, link_is, exponent, offset, refl);
+      block_is = (link, record { named = link_is; exponent = exponent; offset = offset }, refl);
       written = λ at may. record {
         place = (record { named = sym may.0 ∙ order; known = λ id is. absurd cc; room = omega (arith, may.1, room) }, ap (λ (n : ℕ). n + 1) may.1);
         fit = record {
@@ -119,9 +117,9 @@ pub packet_is_text : (e : Endianness) (s : PcapfileSection) (p : PcapfileNgPacke
     → p.timestamp < 2 ^ 64 → p.orig_len < 2 ^ 32 → length p.bytes.now ≤ 4294967260
     → IsTextOf (a_packet p) s s (text_of (number_bytes e) (packet_block p))
 packet_is_text e s p order known room time original short = record {
-  body = packet_block p;
+  block = of_value (packet_block p);
   behind = record { endianness = e; interfaces = s.interfaces };
-  body_is = refl;
+  block_is = refl;
   written = λ at may. record {
     place = (
       record { named = sym may.0 ∙ order; known = λ id is. subst (λ (n : ℕ). n < at.interfaces) (same_Some p.interface_id id is) (omega (arith, known, may.1)); room = omega (arith, room, may.1) },
@@ -149,4 +147,58 @@ puts_nothing Stands given section after text room n before error told status is 
 pub puts_refused : (Stands : Reason → Type 0) (given : Given) (section : PcapfileSection) (room : List ℕ) (before : ℕ) (error told : PcapfileError) (status : ℤ) (reason : Reason) → Stands reason → IsRefused reason told status
     → PutsBlock Stands given (block_writer section room before error) (block_writer section room before told) (to_z w32 (of_z w32 status))
 puts_refused Stands given section room before error told status reason stands refused =
-    inr (refl, refl, refl, inr (reason, stands, record { status_is = ap (λ (z : ℤ). to_z w32 (of_z w32 z)) refused.status_is; rule_is = refused.rule_is; none_missing = refused.none_missing }))
+    inr (refl, refl, refl, inr (inl (reason, stands, record { status_is = ap (λ (z : ℤ). to_z w32 (of_z w32 z)) refused.status_is; rule_is = refused.rule_is; none_missing = refused.none_missing })))
+
+-- The result for what the call can't write.
+pub puts_misused : (Stands : Reason → Type 0) (given : Given) (section : PcapfileSection) (room : List ℕ) (before : ℕ) (error : PcapfileError) → IsMisused given
+    → PutsBlock Stands given (block_writer section room before error) (block_writer section room before error) (pos 10)
+puts_misused Stands given section room before error misused = inr (refl, refl, refl, inr (inr (refl, refl, misused)))
+
+-- A status as a call returns it.
+abbrev kept : ℤ → ℤ
+kept z = to_z w32 (of_z w32 z)
+
+-- The results for a block from its parts.
+module _ (Stands : Reason → Type 0) (given : Given) (section next : PcapfileSection) (e : Endianness) (p : Parts) (room now : List ℕ) (before after : ℕ) (error told : PcapfileError) (z : ℤ)
+    (is : IsFitParts (number_bytes e) p → IsTextOf given section next (parts_text (number_bytes e) p)) (puts : PutsParts (number_bytes e) p (writer room before error) (writer now after told) z) where
+  -- It was written.
+  pub parts_done : of_z w32 z ≡ 0 → PutsBlock Stands given (block_writer section room before error) (block_writer next now after told) (pos 0)
+  parts_done done =
+      elim puts [
+        | inl x ↦ inl (refl, x.1, parts_text (number_bytes e) p, is x.2, x.3)
+        | inr (same_room, same_written, rest) ↦
+            elim rest [
+              | inl x ↦ absurd (omega (arith, sym (ap (of_z w32) x.0) ∙ done))
+              | inr (inl x) ↦ absurd (omega (arith, sym (ap (of_z w32) x.1.status_is) ∙ done))
+              | inr (inr x) ↦ absurd (omega (arith, sym (ap (of_z w32) x.0) ∙ done))
+            ]
+      ]
+
+  module _ (long : 2 ^ 32 ≤ length (parts_body (number_bytes e) p) + 12 → Stands reasons.BlockTooLong) (misused : Any (IsUnlisted p.clocked) p.options.now → IsMisused given) where
+    -- It wasn't written.
+    pub parts_kept : (of_z w32 z ≡ 0 → ⊥) → PutsBlock Stands given (block_writer section room before error) (block_writer section now after told) (kept z)
+    parts_kept not =
+        elim puts [
+          | inl x ↦ absurd (not (ap (of_z w32) x.0))
+          | inr (same_room, same_written, rest) ↦
+              elim rest [
+                | inl x ↦ inr (refl, same_room, same_written, inl (ap kept x.0, parts_text (number_bytes e) p, next, is x.1, x.2))
+                | inr (inl x) ↦
+                    inr (refl, same_room, same_written, inr (inl (reasons.BlockTooLong, long x.0, record { status_is = ap kept x.1.status_is; rule_is = x.1.rule_is; none_missing = x.1.none_missing })))
+                | inr (inr x) ↦ inr (refl, same_room, same_written, inr (inr (ap kept x.0, x.1, misused x.2)))
+              ]
+        ]
+
+    -- It was written, or not, and the section is the same.
+    pub parts_same : next ≡ section → PutsBlock Stands given (block_writer section room before error) (block_writer section now after told) (kept z)
+    parts_same same =
+        elim puts [
+          | inl x ↦ inl (ap kept x.0, x.1, parts_text (number_bytes e) p, subst (λ (s : PcapfileSection). IsTextOf given section s (parts_text (number_bytes e) p)) same (is x.2), x.3)
+          | inr (same_room, same_written, rest) ↦
+              elim rest [
+                | inl x ↦ inr (refl, same_room, same_written, inl (ap kept x.0, parts_text (number_bytes e) p, next, is x.1, x.2))
+                | inr (inl x) ↦
+                    inr (refl, same_room, same_written, inr (inl (reasons.BlockTooLong, long x.0, record { status_is = ap kept x.1.status_is; rule_is = x.1.rule_is; none_missing = x.1.none_missing })))
+                | inr (inr x) ↦ inr (refl, same_room, same_written, inr (inr (ap kept x.0, x.1, misused x.2)))
+              ]
+        ]

@@ -11,7 +11,10 @@ pub mod Passing
 pub mod PacketsCome
 pub mod PushedNgPackets
 pub mod PacketLaws
+pub mod PutParts
 pub mod Fitting
+pub mod RawFitting
+pub mod WithOptions
 pub mod PutsAgain
 pub mod CutPlaces
 pub mod RowTexts

@@ -14,6 +14,8 @@ pub mod PushPackets
 pub mod ReadBlocks
 pub mod PushNgBatches
 pub mod PacketPushes
+pub mod Rooms
+pub mod PutParts
 pub mod Putting
 pub mod PutsAgain
 pub mod Cuts

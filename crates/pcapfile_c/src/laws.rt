@@ -57,7 +57,8 @@ pub fn pushed_packets_give_the_front()
 {}
 
 /// The blocks that calls write one after the other, beginning with a section header, are a capture without a rest. A reader reads each
-/// block as the struct that the caller passed for it.
+/// block as the struct that the caller passed for it. A block with options of the caller, and a block of bytes, is read with its type and
+/// its body. This holds if the options of each section header and each interface can be read.
 pub fn puts_are_read()
     ensures { (first : PcapfileSection) (others : List Given) (section : PcapfileSection) (bytes : List ℕ) → ArePut section (a_section first ∷ others) bytes →
         (items : List Item) × Front block_format opening items bytes [] × AllZip IsReadAs items (a_section first ∷ others) }

@@ -108,8 +108,12 @@ pub extern "C" fn pcapfile_put_ng_packet(
     0
 }
 
-// Returns a section that has no interface yet.
-fn without_interfaces(magic_number: u32, version_major: u16, version_minor: u16) -> PcapfileSection
+/// Returns a section that has no interface yet.
+pub(crate) fn without_interfaces(
+    magic_number: u32,
+    version_major: u16,
+    version_minor: u16,
+) -> PcapfileSection
     ensures shown { result ≡ record { magic_number = magic_number; version_major = version_major; version_minor = version_minor; interfaces = 0 } }
     ensures major { version_major < 2 ^ 16 }
     ensures minor { version_minor < 2 ^ 16 }
