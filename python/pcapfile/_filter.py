@@ -5,7 +5,8 @@ import datetime
 import struct
 import tempfile
 import threading
-from typing import Any, Dict, Optional, Tuple, Union
+from fractions import Fraction
+from typing import Any, Dict, Optional, Protocol, Tuple, Union
 
 from . import _arguments
 
@@ -14,6 +15,21 @@ _SNAPLEN = 262144
 
 # The largest time in nanoseconds that 64 bits hold.
 _LATE = 2**63 - 1
+
+# The units of datetime64 that have a fixed length, in nanoseconds. The length of years and months varies.
+_UNITS = {
+    "W": Fraction(604800 * 10**9),
+    "D": Fraction(86400 * 10**9),
+    "h": Fraction(3600 * 10**9),
+    "m": Fraction(60 * 10**9),
+    "s": Fraction(10**9),
+    "ms": Fraction(10**6),
+    "us": Fraction(10**3),
+    "ns": Fraction(1),
+    "ps": Fraction(1, 10**3),
+    "fs": Fraction(1, 10**6),
+    "as": Fraction(1, 10**9),
+}
 
 
 class _Program(ctypes.Structure):
@@ -38,7 +54,15 @@ def _load() -> Any:
     return pcap
 
 
-Moment = Union[float, datetime.datetime]
+class Datetime64(Protocol):
+    """A datetime64 of numpy."""
+
+    @property
+    def dtype(self) -> Any: ...
+    def astype(self, dtype: Any, /) -> Any: ...
+
+
+Moment = Union[float, datetime.datetime, Datetime64]
 
 
 def nanoseconds_of(name: str, moment: Optional[Moment]) -> Optional[int]:
@@ -46,14 +70,29 @@ def nanoseconds_of(name: str, moment: Optional[Moment]) -> Optional[int]:
     without a zone."""
     if moment is None:
         return None
+    if getattr(getattr(moment, "dtype", None), "kind", None) == "M":
+        return _of_numpy(name, moment)
     if not isinstance(moment, datetime.datetime):
-        return _arguments.nanoseconds(name, moment, "a datetime with a zone, or seconds since 1970")
+        return _arguments.nanoseconds(name, moment, "a datetime with a zone, a datetime64, or seconds since 1970")
     if moment.tzinfo is None:
         raise ValueError(f"{name} is {moment}, and has no time zone; use for example datetime.timezone.utc")
     since = moment - datetime.datetime(1970, 1, 1, tzinfo=datetime.timezone.utc)
     # A Timestamp of pandas is a datetime, and also counts nanoseconds.
     below = since.microseconds * 1000 + getattr(since, "nanoseconds", 0)
     return (since.days * 86400 + since.seconds) * 1_000_000_000 + below
+
+
+def _of_numpy(name: str, moment: Any) -> int:
+    """Returns a datetime64 of numpy, which has no zone and means UTC, as nanoseconds since 1970."""
+    import numpy
+
+    unit, count = numpy.datetime_data(moment.dtype)
+    if unit not in _UNITS:
+        moment, unit, count = moment.astype("M8[D]"), "D", 1
+    units = int(moment.astype("int64"))
+    if units == -_LATE - 1:
+        raise ValueError(f"{name} is NaT, and must be a time")
+    return units * count * _UNITS[unit] // 1
 
 
 def range_of(since: Optional[int], until: Optional[int]) -> Tuple[int, int]:
@@ -90,6 +129,13 @@ class Filter:
             if link not in self._programs:
                 self._programs[link] = self._compiled(link)
         return int(self._programs[link].instructions)
+
+    def text(self, link: int) -> str:
+        """Returns the program for packets of this link type as `tcpdump -ddd` prints it."""
+        self.program(link)
+        program = self._programs[link]
+        rows = struct.iter_unpack("=HBBI", ctypes.string_at(program.instructions, 8 * program.length))
+        return "".join(f"{' '.join(map(str, row))}\n" for row in [(program.length,), *rows])
 
     def takes(self, packet: Any) -> bool:
         """Returns True if the filter accepts a packet. An expression never accepts a packet whose link type is unknown."""

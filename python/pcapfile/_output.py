@@ -23,6 +23,14 @@ class Output:
         """Writes a header, or a block that later packets need."""
         self._write(text)
 
+    def section(self, text: bytes) -> None:
+        """Writes the header of another section."""
+        self._write(text)
+
+    def block(self, text: bytes) -> None:
+        """Writes a block that no other block needs."""
+        self._write(text)
+
     def packets(self, text: memoryview) -> None:
         """Writes several packets, if the output joins them."""
         self._write(text)
@@ -30,6 +38,11 @@ class Output:
     def packet(self, text: bytes, time: int) -> None:
         """Writes a packet with this time in nanoseconds."""
         self._write(text)
+
+    @property
+    def has_failed(self) -> bool:
+        """Whether an earlier write failed, or the output is closed."""
+        return self._has_failed
 
     def check(self) -> None:
         """Raises an OSError if an earlier write failed, or if the output is closed."""
@@ -87,6 +100,15 @@ class Numbered(Output):
     def front(self, text: bytes) -> None:
         super().front(text)
         self._front.append(text)
+        self._length += len(text)
+
+    def section(self, text: bytes) -> None:
+        super().section(text)
+        self._front = [text]
+        self._length += len(text)
+
+    def block(self, text: bytes) -> None:
+        super().block(text)
         self._length += len(text)
 
     def packet(self, text: bytes, time: int) -> None:

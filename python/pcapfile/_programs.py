@@ -6,6 +6,7 @@ import re
 import shutil
 import subprocess
 import sys
+import tempfile
 import warnings
 from collections.abc import Iterable
 from pathlib import Path
@@ -13,7 +14,8 @@ from typing import Any, Dict, List, NoReturn, Optional, Sequence, Union
 
 from . import _arguments
 from ._errors import CaptureError
-from ._filter import Moment, nanoseconds_of
+from ._filter import Filter, Moment, nanoseconds_of
+from ._open import open as open_capture
 
 Name = Union[str, bytes, "os.PathLike[Any]"]
 
@@ -133,6 +135,10 @@ def cut(
     packets: Union[slice, range, None] = None,
     since: Optional[Moment] = None,
     until: Optional[Moment] = None,
+    expression: Optional[str] = None,
+    min_length: Optional[int] = None,
+    max_length: Optional[int] = None,
+    interface: Optional[int] = None,
     every: Optional[int] = None,
     parts: Optional[int] = None,
     at_least: Optional[int] = None,
@@ -140,8 +146,9 @@ def cut(
 ) -> List[str]:
     """Writes a part of a capture, or the whole capture in several files. It copies the header and the packets byte for byte.
 
-    To write one part, give `packets`, a slice or a range of numbers from 0 on, as `indexed` numbers them. Or give a range of
-    times, from `since` to before `until`, as for `filter`.
+    To write one part, give `packets`, a slice or a range of numbers from 0 on, as `indexed` numbers them; a range of times, from
+    `since` to before `until`, as for `filter`; an `expression` of tcpdump, which libpcap compiles; the least or the greatest length
+    on the wire; or the number of an `interface`. The part has the packets that pass all tests.
 
     To write several files, give `every`, the number of packets in a file, `parts`, the number of equal files, or `at_least`, the
     least number of bytes in a file. The names of the files have numbers: `out.pcap` becomes `out-00001.pcap` and so on.
@@ -160,10 +167,28 @@ def cut(
     for word, name, moment in (("from", "since", since), ("until", "until", until)):
         if moment is not None:
             words.append(f"--{word}={_seconds(nanoseconds_of(name, moment) or 0)}")
+    for word, name, count in (("min-len", "min_length", min_length), ("max-len", "max_length", max_length), ("interface", "interface", interface)):
+        if count is not None:
+            words.append(f"--{word}={_arguments.whole(name, count, 0)}")
     for word, name, count in (("every", "every", every), ("parts", "parts", parts), ("bytes", "at_least", at_least)):
         if count is not None:
             words.append(f"--{word}={_arguments.whole(name, count, 1)}")
-    return _written(words, [_named("file", file)], out)
+    if expression is None:
+        return _written(words, [_named("file", file)], out)
+    with tempfile.NamedTemporaryFile("w") as compiled:
+        compiled.write(_compiled(expression, file))
+        compiled.flush()
+        return _written([*words, f"--bpf={compiled.name}"], [_named("file", file)], out)
+
+
+def _compiled(expression: str, file: Name) -> str:
+    """Returns an expression as a program for the packets of a capture. It raises a ValueError if their link types differ."""
+    chosen = Filter(expression)
+    with open_capture(file) as capture:
+        links = set(capture.link_types)
+    if len(links) != 1:
+        raise ValueError(f"expression is for one link type, and the capture has {len(links)}")
+    return chosen.text(links.pop())
 
 
 def convert(file: Name, out: Name, *, to: Optional[str] = None, repaired: bool = False) -> List[str]:
@@ -178,14 +203,25 @@ def convert(file: Name, out: Name, *, to: Optional[str] = None, repaired: bool =
     return _written(["convert", *_repaired(repaired), *words], [_named("file", file)], out)
 
 
-def repair(file: Name, out: Name) -> List[str]:
+def repair(file: Name, out: Name, *, header: Optional[str] = None, guess: bool = False, link: Optional[int] = None) -> List[str]:
     """Writes what can be read of a damaged capture as a capture that breaks no rule. It returns a message, with its place, for
     each packet and block that it changed or left out. It raises a ProgramError if the header is malformed.
+
+    If a classic capture has lost its header, give it as `header`, such as "little,micro,1": the byte order, the resolution and the
+    link type. With `guess=True` the program chooses the byte order and resolution with the longest run of packets; the link type is
+    then `link`, or Ethernet.
 
         >>> pcapfile.repair("capture.pcap", "sound.pcap")
         []
     """
-    return _written(["repair"], [_named("file", file)], out)
+    words = ["repair", *["--guess"] * guess]
+    if not isinstance(header, (str, type(None))):
+        raise _arguments.wrong_type("header", header, "a text")
+    if header is not None:
+        words.append(f"--header={header}")
+    if link is not None:
+        words.append(f"--link={_arguments.whole('link', link, 0)}")
+    return _written(words, [_named("file", file)], out)
 
 
 def _written(words: List[str], files: Sequence[Name], out: Name) -> List[str]:

@@ -1,5 +1,6 @@
 """Tests of the functions that run the program. Each expected value follows from the bytes beside it."""
 
+import ctypes.util
 import datetime
 import os
 import pickle
@@ -121,6 +122,32 @@ class Programs(InFolder):
         with self.assertRaises(ValueError):
             pcapfile.cut("a.pcap", "b.pcap", since=datetime.datetime(1970, 1, 1))
 
+    def test_cut_by_lengths(self):
+        whole = [packet(n, 0, bytes([n]), 60 + n) for n in range(9)]
+        Path("a.pcap").write_bytes(HEADER + b"".join(whole))
+        self.assertEqual(pcapfile.cut("a.pcap", "b.pcap", min_length=62, max_length=64), [])
+        self.assertEqual(Path("b.pcap").read_bytes(), HEADER + b"".join(whole[2:5]))
+        with self.assertRaisesRegex(ValueError, "min_length"):
+            pcapfile.cut("a.pcap", "b.pcap", min_length=-1)
+
+    def test_cut_by_interface(self):
+        packets = [enhanced(n % 2, n, bytes([n])) for n in range(6)]
+        Path("a.pcapng").write_bytes(SECTION + INTERFACE * 2 + b"".join(packets))
+        self.assertEqual(pcapfile.cut("a.pcapng", "b.pcapng", interface=1), [])
+        self.assertEqual(Path("b.pcapng").read_bytes(), SECTION + INTERFACE * 2 + b"".join(packets[1::2]))
+
+    @unittest.skipIf(ctypes.util.find_library("pcap") is None, "libpcap")
+    def test_cut_by_expression(self):
+        arp, other = bytes(12) + b"\x08\x06" + bytes(28), bytes(12) + b"\x08\x00" + bytes(28)
+        whole = [packet(n, 0, arp if n % 3 == 0 else other) for n in range(9)]
+        Path("a.pcap").write_bytes(HEADER + b"".join(whole))
+        self.assertEqual(pcapfile.cut("a.pcap", "b.pcap", expression="arp"), [])
+        self.assertEqual(Path("b.pcap").read_bytes(), HEADER + b"".join(whole[::3]))
+        Path("a.pcapng").write_bytes(SECTION + interface(1) + interface(101) + enhanced(0, 1, arp))
+        for file, expression in (("a.pcap", "no such"), ("a.pcapng", "arp")):
+            with self.subTest(file=file), self.assertRaises(ValueError):
+                pcapfile.cut(file, "b.pcap", expression=expression)
+
     def test_cut_into_parts(self):
         whole = [packet(n, 0, bytes(100)) for n in range(10)]
         Path("a.pcap").write_bytes(HEADER + b"".join(whole))
@@ -172,6 +199,22 @@ class Programs(InFolder):
         self.assertEqual(Path("b.pcap").read_bytes(), HEADER + packet(1, 0, b"abc", 3) + packet(2, 0, b"d"))
         self.assertEqual(lines[-1], "a.pcap: 1 of 2 packets are changed")
         self.assertEqual(pcapfile.repair("b.pcap", "c.pcap"), [])
+
+    def test_repair_without_a_header(self):
+        whole = [packet(1_700_000_000 + n, 0, bytes([n]) * 50) for n in range(6)]
+        Path("a.pcap").write_bytes(b"".join(whole))
+        with self.assertRaises(pcapfile.ProgramError):
+            pcapfile.repair("a.pcap", "b.pcap")
+        self.assertEqual(pcapfile.repair("a.pcap", "b.pcap", header="little,micro,101"), [])
+        with self.assertWarns(pcapfile.CaptureWarning):
+            pcapfile.repair("a.pcap", "c.pcap", guess=True, link=101)
+        for name in ("b.pcap", "c.pcap"):
+            with self.subTest(name=name), pcapfile.open(name) as capture:
+                self.assertEqual((capture.link, [bytes(it) for it in capture]), (101, [bytes([n]) * 50 for n in range(6)]))
+        with self.assertRaises(TypeError):
+            pcapfile.repair("a.pcap", "b.pcap", header=5)
+        with self.assertRaises(ValueError):
+            pcapfile.repair("a.pcap", "b.pcap", header="middle,micro,1")
 
     def test_long_warnings(self):
         Path("a.pcap").write_bytes(HEADER + packet(1, 0, b"abc", 2) * 50)

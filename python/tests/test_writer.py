@@ -1,5 +1,6 @@
 """Tests of writing captures. Each expected value follows from the bytes beside it."""
 
+import datetime
 import gzip
 import io
 import os
@@ -8,6 +9,8 @@ import struct
 import subprocess
 import tempfile
 import unittest
+from decimal import Decimal
+from fractions import Fraction
 
 import pcapfile
 import test_pcapfile as given
@@ -34,6 +37,11 @@ def enhanced(number, time, data, original):
     length = 32 + len(data + padding)
     head = struct.pack("<IIIIIII", 6, length, number, time >> 32, time & 0xFFFFFFFF, len(data), original)
     return head + data + padding + struct.pack("<I", length)
+
+
+def names():
+    """Makes the body of a name resolution block."""
+    return struct.pack("<HH", 1, 9) + b"\x7f\0\0\1host\0" + bytes(3) + bytes(4) + option(1, b"names") + option(0, b"")
 
 
 class Full:
@@ -183,9 +191,34 @@ class Writers(unittest.TestCase):
         with pcapfile.parse(BIG) as capture:
             (only,) = capture
             self.assertEqual(self.copied(capture, like=capture).count(b"big"), 1)
-            writer = pcapfile.Writer(io.BytesIO(), "pcapng")
-            self.assertRaisesRegex(ValueError, "big-endian", writer.write_packet, only)
+            file = io.BytesIO()
+            writer = pcapfile.Writer(file, "pcapng")
+            writer.write_packet(only)
             writer.write_packet(only, without_options=True)
+            with pcapfile.parse(file.getvalue()) as copy:
+                self.assertEqual([(p.comment, bytes(p)) for p in copy], [("big", b"xyz"), (None, b"xyz")])
+
+    def test_options_of_the_other_order(self):
+        """Numbers in options get the byte order of the capture, if they are known."""
+        known = [(1, b"text"), (2, struct.pack(">I", 0x01020304)), (4, struct.pack(">Q", 5)), (2989, struct.pack(">I", 7) + b"ab")]
+        face = [(2, b"eth0"), (8, struct.pack(">Q", 10**9)), (11, b"\0tcp"), (13, b"\4"), (2988, struct.pack(">I", 7) + b"x")]
+        for options, faces, number in ((known, face, None), ([(3, b"\2hash")], [], 3), ([], [(11, b"\1code")], 11), ([], [(99, b"")], 99)):
+            file, out = io.BytesIO(), io.BytesIO()
+            with pcapfile.Writer(file, "pcapng", link=None, byteorder="big") as writer:
+                writer.add_interface(7, options=faces)
+                writer.write(b"abc", TIME, options=options)
+            with pcapfile.parse(file.getvalue()) as capture, pcapfile.Writer(out, "pcapng", link=None) as writer:
+                (only,) = capture
+                if number is not None:
+                    self.assertRaisesRegex(ValueError, f"option {number}, .* big-endian", writer.write, only)
+                    continue
+                writer.write(only)
+            with pcapfile.parse(out.getvalue()) as capture:
+                (copy,) = capture
+                turned = [(1, b"text"), (2, struct.pack("<I", 0x01020304)), (4, struct.pack("<Q", 5)), (2989, struct.pack("<I", 7) + b"ab")]
+                self.assertEqual([(it.code, bytes(it.value)) for it in copy.options], turned)
+                wanted = [(9, b"\x09"), (2, b"eth0"), (8, struct.pack("<Q", 10**9)), (11, b"\0tcp"), (13, b"\4"), (2988, struct.pack("<I", 7) + b"x")]
+                self.assertEqual([(it.code, bytes(it.value)) for it in copy.interface.block.options], wanted)
 
     def test_packets_of_the_other_format(self):
         with pcapfile.parse(given.HEADER + given.packet(7, 8, b"abc", 5)) as capture:
@@ -329,6 +362,140 @@ class Writers(unittest.TestCase):
             self.assertRaises(OSError, writer.write, b"a", 1)
             with pcapfile.open(name) as capture:
                 self.assertEqual([(p.seconds, p.nanoseconds, bytes(p.data)) for p in capture], [(TIME, 5, b"abc")])
+
+    def test_options(self):
+        """Interfaces and packets have the given options, in their order, in both byte orders."""
+        for order, mark in (("little", "<"), ("big", ">")):
+            file = io.BytesIO()
+            with pcapfile.Writer(file, "pcapng", link=None, byteorder=order) as writer:
+                first = writer.add_interface(113, 96, name="eth0", description="the first", fcs_len=4, options=[(12, "Linux"), (1, b"hm")])
+                writer.write(b"abc", TIME, interface=first, comment="seen", options=[(4, struct.pack(mark + "Q", 5)), (1, "again")])
+                writer.write(b"abcd", TIME, interface=writer.add_interface(1, options=iter([(2, memoryview(b"xlo")[1:])])))
+            # Each value follows from the drafts' layout of an option: code, length, value and zeros up to a multiple of 4.
+            texts = [(9, b"\x09"), (2, b"eth0"), (3, b"the first"), (13, b"\x04"), (12, b"Linux"), (1, b"hm")]
+            padded = [struct.pack(mark + "HH", code, len(value)) + value + bytes(-len(value) % 4) for code, value in texts]
+            body = struct.pack(mark + "HHI", 113, 0, 96) + b"".join(padded) + bytes(4)
+            self.assertIn(struct.pack(mark + "II", 1, len(body) + 12) + body + struct.pack(mark + "I", len(body) + 12), file.getvalue())
+            with pcapfile.parse(file.getvalue()) as capture:
+                blocks = [(block.type, [(it.code, bytes(it.value)) for it in block.options]) for block in capture.blocks()]
+                wanted = [(1, b"seen"), (4, struct.pack(mark + "Q", 5)), (1, b"again")]
+                self.assertEqual(blocks, [(0x0A0D0D0A, []), (1, texts), (6, wanted), (1, [(9, b"\x09"), (2, b"lo")]), (6, [])])
+                self.assertEqual([(p.time_ns, bytes(p), p.link, p.comment) for p in capture], [(TIME * 10**9, b"abc", 113, "seen"), (TIME * 10**9, b"abcd", 1, None)])
+
+    def test_options_that_are_refused_change_nothing(self):
+        for words in ({"format": "pcapng"}, {"format": "pcap"}):
+            file = io.BytesIO()
+            writer = pcapfile.Writer(file, **words)
+            before = file.getvalue()
+            for options in ([(0, b"")], [(65536, b"")], [(1, bytes(65536))], [(1, b"a"), (-1, b"")]):
+                self.assertRaises(ValueError, writer.write, b"a", 1, options=options)
+                self.assertRaises(ValueError, writer.add_interface, 1, options=options)
+            for code in (9, 14):
+                self.assertRaises(ValueError, writer.add_interface, 1, options=[(code, b"\x06")])
+            for argument in ("name", "description"):
+                self.assertRaises((TypeError, ValueError), writer.add_interface, 1, **{argument: b"eth0"})
+            self.assertRaises(ValueError, writer.add_interface, 1, fcs_len=256)
+            self.assertEqual(file.getvalue(), before)
+        self.assertRaisesRegex(ValueError, "no place for options", writer.write, b"a", 1, comment="a")
+        self.assertRaisesRegex(ValueError, "no blocks", writer.write_block, 5, b"")
+
+    def test_times(self):
+        utc, east = datetime.timezone.utc, datetime.timezone(datetime.timedelta(hours=5))
+        times = [
+            ((TIME,), {}, TIME * 10**9),
+            ((TIME, 5), {}, TIME * 10**9 + 5),
+            ((1.5,), {}, 1_500_000_000),
+            ((Fraction(1, 3),), {}, 333_333_333),
+            ((Decimal("1.000000001"),), {}, 1_000_000_001),
+            ((datetime.datetime(1970, 1, 2, 0, 0, 0, 7, utc),), {}, 86400 * 10**9 + 7000),
+            ((datetime.datetime(1970, 1, 2, 5, tzinfo=east),), {}, 86400 * 10**9),
+            ((), {"time_ns": 2**63 + 1}, 2**63 + 1),
+        ]
+        if _columns.numpy is not None:
+            for text, wanted in (("1970-01-02", 86400 * 10**9), ("1970-01-01T00:00:00.000000003", 3), ("1971", 365 * 86400 * 10**9)):
+                times.append(((_columns.numpy.datetime64(text),), {}, wanted))
+            times.append(((_columns.numpy.int64(7),), {}, 7 * 10**9))
+            times.append(((_columns.numpy.float64(0.5),), {}, 500_000_000))
+            with self.assertRaisesRegex(ValueError, "NaT"):
+                pcapfile.Writer(io.BytesIO()).write(b"", _columns.numpy.datetime64("NaT"))
+        for given_time, words, wanted in times:
+            file = io.BytesIO()
+            with pcapfile.Writer(file, "pcapng") as writer:
+                writer.write(b"a", *given_time, **words)
+            with pcapfile.parse(file.getvalue()) as capture:
+                self.assertEqual([p.timestamp for p in capture], [wanted], given_time)
+
+    def test_the_name_gives_the_format(self):
+        with tempfile.TemporaryDirectory() as room:
+            for name, form in (("a.pcapng", "pcapng"), ("b.PCAPNG", "pcapng"), ("c.pcap", "pcap"), ("pcapng", "pcap"), ("d.cap", "pcap")):
+                path = os.path.join(room, name)
+                pcapfile.Writer(path if name != "c.pcap" else os.fsencode(path)).close()
+                with pcapfile.open(path) as capture:
+                    self.assertEqual(capture.format, form, name)
+            pcapfile.Writer(os.path.join(room, "e.pcapng"), "pcap").close()
+            with pcapfile.open(os.path.join(room, "e.pcapng")) as capture:
+                self.assertEqual(capture.format, "pcap")
+
+    def test_blocks_are_copied(self):
+        """Every kind of block is copied byte for byte, with sections in both byte orders."""
+        others = [(4, names()), (5, bytes(12)), (9, b"a=b\n"), (10, b"\1\2\3\4\4\0\0\0abcd"), (0xBAD, b"\1\0\0\0rest"), (77, b"")]
+        raw = b"".join(given.block(kind, body) for kind, body in others)
+        data = SECTION + NAMED + given.interface(7) + COMMENTED + raw + OLD + SIMPLE + BIG + SECTION + given.interface(9) + given.enhanced(0, 5, b"abc")
+        file = io.BytesIO()
+        with pcapfile.parse(data) as capture, pcapfile.Writer(file, "pcapng", link=None) as writer:
+            for block in capture.blocks():
+                writer.write_block(block)
+        self.assertEqual(file.getvalue(), data)
+        # Packets of interfaces that were copied belong to the copies.
+        file = io.BytesIO()
+        data = SECTION + given.interface(7) + NAMED + COMMENTED + given.enhanced(1, 5, b"abc")
+        with pcapfile.parse(data) as capture, pcapfile.Writer(file, "pcapng", link=None) as writer:
+            for block in list(capture.blocks())[:3]:
+                writer.write_block(block)
+            for packet in capture:
+                writer.write(packet)
+        self.assertEqual(file.getvalue(), data)
+
+    def test_blocks_by_their_numbers(self):
+        file = io.BytesIO()
+        with pcapfile.Writer(file, "pcapng", byteorder="big") as writer:
+            start = len(file.getvalue())
+            writer.write_block(0xBAD, b"abcde")
+            writer.write_block(1, struct.pack(">HHI", 113, 0, 0))
+            writer.write(b"x", 1, interface=1)
+        self.assertEqual(file.getvalue()[start:], struct.pack(">II8sI", 0xBAD, 20, b"abcde\0\0\0", 20) + struct.pack(">IIHHII", 1, 20, 113, 0, 0, 20) + file.getvalue()[start + 40 :])
+        with pcapfile.parse(file.getvalue()) as capture:
+            self.assertEqual([(p.link, p.time_ns) for p in capture], [(113, 10**9)])
+
+    def test_blocks_that_are_refused(self):
+        file = io.BytesIO()
+        writer = pcapfile.Writer(file, "pcapng", link=None)
+        for kind, body, kind_of_error in (
+            (1, b"abc", pcapfile.Unwritable),
+            (1, struct.pack("<HHI", 1, 0, 0) + option(9, b"ab") + option(0, b""), pcapfile.Unwritable),
+            (1, struct.pack("<HHI", 1, 0, 0) + option(2, b"\xff") + option(0, b""), ValueError),
+            (0x0A0D0D0A, b"abcd" + bytes(12), pcapfile.Unwritable),
+        ):
+            with self.assertRaises(kind_of_error):
+                writer.write_block(kind, body)
+        big = next(pcapfile.parse(BIG).blocks())
+        interface_of_it = list(pcapfile.parse(BIG).blocks())[1]
+        self.assertRaisesRegex(ValueError, "big-endian", writer.write_block, interface_of_it)
+        self.assertRaises(ValueError, writer.write_block, big, b"")
+        self.assertRaises(TypeError, writer.write_block, 5)
+        self.assertRaises(TypeError, writer.write_block, "5", b"")
+        self.assertIn(file.getvalue(), (b"", SECTION))
+        writer.close()
+        self.assertEqual(file.getvalue(), SECTION)
+
+    def test_a_packet_is_written_as_it_was(self):
+        for data, words in ((given.HEADER + given.packet(7, 8, b"abc", 5), {}), (SECTION + NAMED + COMMENTED + given.enhanced(0, 1, b"x"), {})):
+            with pcapfile.parse(data) as capture:
+                file = io.BytesIO()
+                with pcapfile.Writer(file, like=capture) as writer:
+                    for packet in capture:
+                        writer.write(packet)
+                self.assertEqual(file.getvalue(), data)
 
     @unittest.skipUnless(shutil.which("tshark"), "tshark is not installed")
     def test_tshark_reads_it(self):
