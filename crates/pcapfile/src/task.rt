@@ -8,7 +8,7 @@ use pcapfile_cut::Range;
 use pcapfile_files::Console;
 use pcapfile_lines::Form;
 use pcapfile_run::Format;
-use pcapfile_words_check::{Informing, Listing, check_files, inform_files, list_files};
+use pcapfile_words_check::{Checking, Informing, Listing, check_files, inform_files, list_files};
 use pcapfile_words_convert::{Conversion, Merge, convert_file, merge_files};
 use pcapfile_words_cut::{
     Cutting, Joining, Moment, Selecting, Way, Zone, cut_file, join_files, ranges,
@@ -53,8 +53,7 @@ impl From<AllocError> for Refusal {
 /// A word of the program with its arguments.
 #[derive(Drop)]
 pub(crate) enum Task<'a> {
-    /// A check of these files.
-    Check(&'a [&'a str]),
+    Check(Checking<'a>),
     /// A lenient check of these files.
     CheckAsIs(&'a [&'a str]),
     Info(Informing<'a>),
@@ -77,7 +76,7 @@ impl<'a> Task<'a> {
     ) -> Result<Task<'a>, Refusal> {
         Ok(match word {
             Word::Check if words.get_flag(words::AS_IS) => Task::CheckAsIs(files(words)),
-            Word::Check => Task::Check(files(words)),
+            Word::Check => Task::Check(checking(words)),
             Word::Info => Task::Info(informing(words)),
             Word::List if words.get_flag(words::AS_IS) => Task::ListAsIs(files(words)),
             Word::List => Task::List(listing(words)),
@@ -136,7 +135,7 @@ impl<'a> Task<'a> {
     /// Runs the task, and returns the exit status.
     pub(crate) fn run(&self, console: &Console) -> io::Result<u8> {
         match self {
-            Task::Check(names) => check_files(console, names),
+            Task::Check(asked) => check_files(console, *asked),
             Task::CheckAsIs(names) => check_files_as_is(console, names),
             Task::Info(asked) => inform_files(console, asked),
             Task::List(asked) => list_files(console, *asked),
@@ -215,6 +214,7 @@ fn selecting(rt: &HostRuntime, words: &ArgMatches) -> Result<Selecting, Refusal>
             last: words.get_one(words::MOST).unwrap_or(Range::ALL.last),
         },
         interface: words.get_one(words::INTERFACE),
+        snaplen: words.get_one(words::SNAPLEN),
     })
 }
 
@@ -284,6 +284,14 @@ fn merging<'a>(words: &'a ArgMatches<'_>) -> Merge<'a> {
         names: files(words),
         out: words.get_str(words::OUT).unwrap_or_default(),
         as_is: is_repaired(words),
+    }
+}
+
+// Returns the arguments of the word `check`.
+fn checking<'a>(words: &'a ArgMatches<'_>) -> Checking<'a> {
+    Checking {
+        names: files(words),
+        bodies: words.get_flag(words::BODIES),
     }
 }
 

@@ -43,6 +43,9 @@ pub(crate) const INTERFACE: &str = "interface";
 /// The option for the file with a filter.
 pub(crate) const BPF: &str = "bpf";
 
+/// The option for the most bytes of each packet.
+pub(crate) const SNAPLEN: &str = "snaplen";
+
 /// The option for the number of packets of each part.
 pub(crate) const EVERY: &str = "every";
 
@@ -51,6 +54,9 @@ pub(crate) const PARTS: &str = "parts";
 
 /// The option for the number of bytes of each part.
 pub(crate) const BYTES: &str = "bytes";
+
+/// The option to check the bodies of blocks.
+pub(crate) const BODIES: &str = "bodies";
 
 /// The option for lenient reading.
 pub(crate) const AS_IS: &str = "as-is";
@@ -104,6 +110,9 @@ const STATUSES: &str = "Exit status:
 const CHECK: &str =
     "Reports how many packets or blocks each capture has, or the byte at which a rule is broken.
 
+The check reads the frames of PcapNg blocks, and the bodies of section headers and interfaces. With --bodies
+it reads the bodies and options of all blocks.
+
 With --as-is the check goes on after an error. Each flaw of a packet, a section or an interface has a
 line with the index of the packet or block and the byte where it begins. Skipped bytes have a line too:
 the check skips corrupt bytes, such as blocks with a malformed frame, and packets or blocks of more than
@@ -142,6 +151,8 @@ skipped bytes on standard error before it goes on.";
 
 const QUIET_HELP: &str = "Shows no progress. Without it, commands show progress on a terminal";
 
+const BODIES_HELP: &str = "Checks the bodies of all PcapNg blocks too, with their options";
+
 const AS_IS_HELP: &str = "Goes on after an error, and reports each broken rule";
 
 const REPAIRED_HELP: &str =
@@ -160,11 +171,12 @@ written as OUT.part, and renamed to OUT when it is complete.";
 
 const CUT: &str = "Copies the chosen packets of a capture, or splits all of it into parts.
 
-Headers and packets keep their bytes. OUT gets the packets that pass all tests: --packets, --from,
---until, --min-len, --max-len, --interface and --bpf. With --every, --parts or --bytes the parts have a
-number of five digits before the extension of OUT, so that a shell sorts them: OUT.pcap becomes
-OUT-00001.pcap, OUT-00002.pcap and so on. 'pcapfile join' restores the capture. Each file is written as FILE.part, and renamed to FILE when
-it is complete. If the capture is truncated or malformed, the parts before the error stay.
+OUT gets the packets that pass all tests: --packets, --from, --until, --min-len, --max-len, --interface
+and --bpf. Headers and packets keep their bytes, unless --snaplen shortens packets. With --every, --parts
+or --bytes the parts have a number of five digits before the extension of OUT, so that a shell sorts them:
+OUT.pcap becomes OUT-00001.pcap, OUT-00002.pcap and so on. 'pcapfile join' restores the capture. Each file
+is written as FILE.part, and renamed to FILE when it is complete. If the capture is truncated or
+malformed, the parts before the error stay.
 
 A TIME is 1700000000.25 (seconds since 1970), 2023-11-14, '2023-11-14 22:13:20.25' (in UTC, or with
 --local in the system's zone), 2023-11-14T22:13:20.25+01:00, or +10s, +1.5s or '+1h 30m' after the first
@@ -198,7 +210,10 @@ const BPF_HELP: &str =
 
 const LOCAL_HELP: &str = "Reads a TIME without a zone in the system's zone";
 
-/// The options for several parts. None of them goes with an option that selects packets.
+const SNAPLEN_HELP: &str =
+    "At most the first N bytes of each packet; its length on the wire and the headers stay";
+
+/// The options for several parts. None of them goes with an option that selects or shortens packets.
 const MANY: &[&str] = &[EVERY, PARTS, BYTES];
 
 const PARTS_HELP: &str = "N parts of nearly equal length; needs a file, and excludes --repair";
@@ -219,9 +234,9 @@ The next packet is always the earliest among the next packets of all captures. O
 earlier capture on the command line goes first, and a packet without a time goes before all others.
 Each interface of each capture gets an interface of its own, and each packet keeps its comments and
 other options. Names, statistics, secrets and other blocks of little-endian captures go before the next
-packet of their capture. Standard error says how many blocks of each kind are left out. If a capture is
-malformed, its packets before the error are merged, and standard error gives the reason. The output is
-written as OUT.part, and renamed to OUT when it is complete.";
+packet of their capture. Standard error says how many blocks and options of each kind are left out. If
+a capture is malformed, its packets before the error are merged, and standard error gives the reason.
+The output is written as OUT.part, and renamed to OUT when it is complete.";
 
 const REPAIR: &str = "Reads a damaged capture and writes a well-formed one.
 
@@ -232,8 +247,9 @@ out. An interface that is too short is filled with zeros. Other blocks without r
 declare are left out, and sections declare no length. Everything else is unchanged.
 
 Corrupt bytes are skipped up to the next section header, or up to two packets or blocks in a row that
-break no rule. A truncated last item is left out. Each change and each skip is reported on standard
-error with its byte offset. The output is written as OUT.part, and renamed to OUT when it is complete.";
+break no rule. A truncated last block is completed if all data of its packet are there; any other
+truncated last item is left out. Each change and each skip is reported on standard error with its byte
+offset. The output is written as OUT.part, and renamed to OUT when it is complete.";
 
 /// A word of the program.
 #[derive(Clone, Copy)]
@@ -292,9 +308,26 @@ impl Word {
         }
     }
 
+    // Returns what the list of all words says of this one.
+    fn summary<'a>(self) -> &'a str {
+        match self {
+            Word::Check =>
+                "Counts packets or blocks, or says where a capture is truncated or malformed",
+            Word::Info => "Summarizes captures: packets, bytes, times, rates, interfaces",
+            Word::List => "Lists the packets of captures",
+            Word::Convert => "Converts a capture to pcap or PcapNg",
+            Word::Cut => "Copies the chosen packets of a capture, or splits it into parts",
+            Word::Join => "Joins the parts of a capture",
+            Word::Merge => "Merges captures by time into one PcapNg capture",
+            Word::Repair => "Reads a damaged capture and writes a well-formed one",
+        }
+    }
+
     // Adds the arguments and the help of the word.
     fn command<'a>(self, alloc: Global) -> Result<Command<'a>, AllocError> {
-        let command = Command::new(alloc, self.name()).after_help(STATUSES);
+        let command = Command::new(alloc, self.name())
+            .about(self.summary())
+            .after_help(STATUSES);
         match self {
             Word::Check => check(alloc, command),
             Word::Info => info(alloc, command),
@@ -330,12 +363,21 @@ fn program<'a>(alloc: Global) -> Result<Command<'a>, AllocError> {
 }
 
 fn check<'a>(alloc: Global, command: Command<'a>) -> Result<Command<'a>, AllocError> {
-    command.about(CHECK).arg(files(alloc))?.arg(as_is(alloc))
+    command
+        .long_about(CHECK)
+        .arg(files(alloc))?
+        .arg(bodies(alloc, BODIES, BODIES_HELP)?)?
+        .arg(as_is(alloc))
+}
+
+fn bodies<'a>(alloc: Global, name: &'a str, help: &'a str) -> Result<Arg<'a>, AllocError> {
+    let bodies = flag(alloc, name).help(help);
+    bodies.conflicts_with_all(&[AS_IS])
 }
 
 fn info<'a>(alloc: Global, command: Command<'a>) -> Result<Command<'a>, AllocError> {
     command
-        .about(INFO)
+        .long_about(INFO)
         .arg(files(alloc))?
         .arg(json(alloc))?
         .arg(repaired(alloc))?
@@ -344,7 +386,7 @@ fn info<'a>(alloc: Global, command: Command<'a>) -> Result<Command<'a>, AllocErr
 
 fn list<'a>(alloc: Global, command: Command<'a>) -> Result<Command<'a>, AllocError> {
     command
-        .about(LIST)
+        .long_about(LIST)
         .arg(files(alloc))?
         .arg(count(alloc, COUNT, "The first N packets of each capture")?)?
         .arg(utc(alloc, UTC, "Times in UTC")?)?
@@ -390,7 +432,7 @@ fn convert<'a>(alloc: Global, command: Command<'a>) -> Result<Command<'a>, Alloc
         );
     let out = output(alloc, OUT_HELP)?;
     command
-        .about(CONVERT)
+        .long_about(CONVERT)
         .arg(from)?
         .arg(to)?
         .arg(repaired(alloc))?
@@ -403,7 +445,7 @@ fn cut<'a>(alloc: Global, command: Command<'a>) -> Result<Command<'a>, AllocErro
         .required(true)
         .help("The capture to cut; - is standard input");
     command
-        .about(CUT)
+        .long_about(CUT)
         .arg(from)?
         .arg(range(alloc, PACKETS, RANGE_HELP)?)?
         .arg(time(alloc, FROM, "Packets at this time and later")?)?
@@ -413,6 +455,7 @@ fn cut<'a>(alloc: Global, command: Command<'a>) -> Result<Command<'a>, AllocErro
         .arg(length(alloc, MOST, MOST_HELP)?)?
         .arg(interface(alloc, INTERFACE, INTERFACE_HELP)?)?
         .arg(bpf(alloc, BPF, BPF_HELP)?)?
+        .arg(snaplen(alloc, SNAPLEN, SNAPLEN_HELP)?)?
         .arg(every(alloc, EVERY, "Parts of N packets")?)?
         .arg(parts(alloc, PARTS, PARTS_HELP)?)?
         .arg(bytes(alloc, BYTES, BYTES_HELP)?)?
@@ -465,6 +508,15 @@ fn bpf<'a>(alloc: Global, name: &'a str, help: &'a str) -> Result<Arg<'a>, Alloc
     bpf.conflicts_with_all(MANY)
 }
 
+fn snaplen<'a>(alloc: Global, name: &'a str, help: &'a str) -> Result<Arg<'a>, AllocError> {
+    let snaplen = Arg::new(alloc, name)
+        .long(name)
+        .value_name("N")
+        .value_parser(ValueParser::unsigned(1, u64::from(u32::MAX)))
+        .help(help);
+    snaplen.conflicts_with_all(MANY)
+}
+
 fn every<'a>(alloc: Global, name: &'a str, help: &'a str) -> Result<Arg<'a>, AllocError> {
     let every = number(alloc, name).help(help);
     every.conflicts_with_all(&[PARTS, BYTES])
@@ -506,12 +558,12 @@ fn join<'a>(alloc: Global, command: Command<'a>) -> Result<Command<'a>, AllocErr
         .num_args(1..)
         .help("The parts, in order");
     let out = output(alloc, OUT_HELP)?;
-    command.about(JOIN).arg(parts)?.arg(out)
+    command.long_about(JOIN).arg(parts)?.arg(out)
 }
 
 fn merge<'a>(alloc: Global, command: Command<'a>) -> Result<Command<'a>, AllocError> {
     command
-        .about(MERGE)
+        .long_about(MERGE)
         .arg(files(alloc))?
         .arg(repaired(alloc))?
         .arg(once_as_is(alloc))?
@@ -522,14 +574,16 @@ fn repair<'a>(alloc: Global, command: Command<'a>) -> Result<Command<'a>, AllocE
     let from = Arg::new(alloc, BROKEN)
         .required(true)
         .help("The capture to repair; - is standard input");
-    let guess = flag(alloc, GUESS).help("Guesses the header of a capture without one");
+    let guess = flag(alloc, GUESS).help(
+        "Guesses the header of a capture without one, and undoes a text-mode transfer",
+    );
     let link = Arg::new(alloc, LINK)
         .long(LINK)
         .value_name("N")
         .value_parser(ValueParser::unsigned(0, u64::from(u32::MAX)))
         .help("The link type of a guessed header; 1 is Ethernet");
     command
-        .about(REPAIR)
+        .long_about(REPAIR)
         .arg(from)?
         .arg(given_header(
             alloc,

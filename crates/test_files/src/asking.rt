@@ -50,6 +50,7 @@ fn calls_of_a_cut(alloc: Global) -> Result<(u64, usize), Fail> {
         until: 2_000_000_000,
         lengths: Range::ALL,
         filter: None,
+        snaplen: None,
     };
     let wanted = Wanted::Selected(&selection);
     let outcome = cut_part(alloc, &opening, &mut input, &mut output, wanted);
