@@ -192,6 +192,3 @@ KINDS = {
     "LF to CRLF": lines_of_text,
 }
 CLASSIC_ONLY = {"header lost"}
-# The script tries these kinds only if they are named. `repair` does not undo the first. Of a truncated capture it leaves out a last block
-# that has all of its packet but not its end, and pcapfix keeps that packet.
-NOT_UNDONE = {"LF to CRLF", "truncated"}

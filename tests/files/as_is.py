@@ -179,7 +179,9 @@ def said_behind(packet):
 
 
 def mending(it):
-    """Returns the message on a changed length of a block."""
+    """Returns the message on a changed length or a missing end of a block."""
+    if it.length is None:
+        return f"block {it.number} at byte {it.place}: its end is missing: its packet is kept, without options that are cut off or break rules"
     return f"block {it.number} at byte {it.place}: its stored length is {it.length} and not {it.stated}{', by a guess' * it.is_guess}"
 
 
@@ -324,9 +326,7 @@ def stands_behind(capture, start, order):
 
 
 def may_be_cut(capture, at, order):
-    """Returns whether the truncated block at this offset states no length that is too large, and no blocks go on inside it."""
-    if stands_behind(capture, at + 1, order) is not None:
-        return False
+    """Returns whether the truncated block at this offset states no length that is too large."""
     if len(capture) - at < 12:
         return True
     if capture.startswith(MAGIC, at):
@@ -372,6 +372,57 @@ def mended_stored(capture, number, at, found, interfaces):
     return Mending(number, at, size, stored, is_guess)
 
 
+def sound_options(order, number, left):
+    """Returns the bytes of the options whose values break no rule."""
+    kept = b""
+    while len(left) >= 4:
+        code, length = struct.unpack_from(order + "HH", left)
+        end = 4 + length + -length % 4
+        if code == 0 or end > len(left):
+            break
+        kept += b"" if option_flaw(number, code, left[4 : 4 + length]) else left[:end]
+        left = left[end:]
+    return kept
+
+
+def begin_options(order, left, room):
+    """Returns whether these bytes begin options that fill this many bytes."""
+    while len(left) >= 4:
+        code, length = struct.unpack_from(order + "HH", left)
+        end = 4 + length + -length % 4
+        if code == 0 or end > room:
+            return code == 0
+        left, room = left[end:], room - end
+    return len(left) <= room
+
+
+def data_end(order, number, left, interfaces):
+    """Returns how many bytes of a packet's block its data end behind, or None for other blocks and too few bytes."""
+    if number == SIMPLE and len(left) >= 12:
+        snaplen = interfaces[0][0] if interfaces and interfaces[0] else 0
+        return 12 + min(it for it in (*struct.unpack_from(order + "I", left, 8), snaplen or 1 << 32))
+    return 28 + struct.unpack_from(order + "I", left, 20)[0] if number in (ENHANCED, OBSOLETE) and len(left) >= 24 else None
+
+
+def completed(capture, number, at, order, interfaces):
+    """Completes the truncated block at this offset, if all data of its packet are there and nothing speaks against its options and its
+    end, and returns the change."""
+    left = bytes(capture[at:])
+    if len(left) < 12:
+        return None
+    type_, length = struct.unpack_from(order + "II", left)
+    end = data_end(order, type_, left, interfaces)
+    if end is None or end > len(left) or left.endswith(left[4:8]) or stands_behind(capture, at + end, order) is not None:
+        return None
+    options, room = left[end + -end % 4 : length - 4], length - 4 - end - -end % 4
+    if room < 0 or (type_ == SIMPLE and room) or not left[4:8].startswith(left[length - 4 :]) or not begin_options(order, options, room):
+        return None
+    body = left[8:end] + bytes(-end % 4) + (sound_options(order, type_, options) if type_ != SIMPLE else b"")
+    size = struct.pack(order + "I", len(body) + 12)
+    capture[at:] = left[:4] + size + body + size
+    return Mending(number, at, None, None, False)
+
+
 def blocks_and_gaps(whole, at):
     """Yields the blocks from the section header at this offset on, their changed lengths, and the gaps between them."""
     capture, order, count, interfaces = bytearray(whole), ">", 0, []
@@ -380,8 +431,10 @@ def blocks_and_gaps(whole, at):
         if isinstance(found, tuple):
             change = mended_stored(capture, count + 1, at, found, interfaces)
         elif found == CUT and may_be_cut(capture, at, order):
-            yield Gap(at, len(capture) - at, "of a block that is cut short", None)
-            break
+            change = mended_frame(capture, count + 1, at, order) or completed(capture, count + 1, at, order, interfaces)
+            if not change and stands_behind(capture, at + 1, order) is None:
+                yield Gap(at, len(capture) - at, "of a block that is cut short", None)
+                break
         else:
             change = mended_frame(capture, count + 1, at, order)
         if change:

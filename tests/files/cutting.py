@@ -170,6 +170,8 @@ def try_faults(tally, help):
     other = help.classic(">", 0xA1B2C3D4, 1000, 2, packets)[0]
     in_range = ["cut", "in", "--packets", "1", "-o", "out"]
     held = {"in": capture}
+    blocks = b"".join(text for _, text in sections(help, "<", 2))
+    differs = "pcapfile: b: its format differs from that of the first part\n"
     rule = "pcapfile: in: refused at byte {} by rule ".format(ends[1])
     for name, before, words, status, said in (
         ("a rule", {"in": broken}, ["cut", "in", "-o", "out"], AT_FAULT, rule),
@@ -185,7 +187,10 @@ def try_faults(tally, help):
         ("two ways", held, ["cut", "in", "--every", "2", "--parts", "2", "-o", "out"], USAGE, "error: "),
         ("parts of no packet", held, ["cut", "in", "--every", "0", "-o", "out"], USAGE, "error: "),
         ("another header", {**held, "b": other}, ["join", "in", "b", "-o", "all"], AT_FAULT, "pcapfile: b: its header differs from that of the first part\n"),
-        ("a part that is none", {**held, "b": b""}, ["join", "in", "b", "-o", "all"], AT_FAULT, "pcapfile: b: is empty\n"),
+        ("a part in the other format", {**held, "b": blocks}, ["join", "in", "b", "-o", "all"], AT_FAULT, differs),
+        ("a part in the other format behind blocks", {**held, "a": blocks}, ["join", "a", "in", "-o", "all"], AT_FAULT, differs.replace("b:", "in:")),
+        ("an empty part behind blocks", {"a": blocks, "b": b""}, ["join", "a", "b", "-o", "all"], AT_FAULT, "pcapfile: b: is empty\n"),
+        ("an empty part", {**held, "b": b""}, ["join", "in", "b", "-o", "all"], AT_FAULT, "pcapfile: b: is empty\n"),
         ("no part", held, ["join", "in", "b", "-o", "all"], FAILED, "pcapfile: b: "),
         ("a part for the whole", held, ["join", "in", "-o", "in"], FAILED, "pcapfile: in: is one of the inputs; choose another name for the output\n"),
     ):

@@ -233,6 +233,27 @@ def try_capinfos(tally, help):
         tally.note("info beside capinfos", [f"it has no {it!r}" for it in (*lines, *wanted) if it not in shown])
 
 
+def peak_of(tally, help, options, capture):
+    """Returns the peak memory of a report on this capture, in bytes."""
+    with tempfile.TemporaryDirectory() as folder:
+        help.put(folder, "in", capture)
+        ran = subprocess.Popen([tally.program, "info", *options, f"{folder}/in"], stdout=subprocess.DEVNULL)
+        _, status, used = os.wait4(ran.pid, 0)
+        ran.returncode = os.waitstatus_to_exitcode(status)
+    tally.note(f"info {options} of many interfaces", ran.returncode != DONE and f"it ended with {ran.returncode}")
+    return used.ru_maxrss * 1024
+
+
+def try_memory(tally, help):
+    """Checks that an interface without packets, whose block has 20 bytes, takes at most 300 bytes of memory."""
+    capture, (section, _) = help.blocks("<", [help.interface("<", help.ETHERNET, 0)])
+    many = 100_000
+    for options in ([], ["--json"]):
+        few, all_ = (peak_of(tally, help, options, capture[:section] + capture[section:] * count) for count in (1, many))
+        each = (all_ - few) // many
+        tally.note(f"info {options}, memory", each > 300 and f"an interface takes {each} bytes")
+
+
 def try_all(tally, help):
-    for tries in (try_classic, try_blocks, try_files, try_capinfos):
+    for tries in (try_classic, try_blocks, try_files, try_capinfos, try_memory):
         tries(tally, help)

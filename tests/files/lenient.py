@@ -59,7 +59,7 @@ class Reading:
         if end >= len(self.capture) or self.begins_capture(end):
             return end <= len(self.capture)
         head = self.head(end)
-        is_near = head and head.stored <= LONGEST and head.stored + head.wire > 0 and abs(time - head.seconds) <= DAY
+        is_near = head and head.stored <= LONGEST and any(vars(head).values()) and abs(time - head.seconds) <= DAY
         return bool(is_near) or self.is_row(end, None, 4)
 
     def can_be(self, head, size, time):

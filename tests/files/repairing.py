@@ -7,24 +7,11 @@ import tempfile
 
 import as_is
 import left_out
-from as_is import DONE, ENHANCED, INTERFACE, MOST, OBSOLETE, SECTION, SIMPLE, option_flaw, options_flaws
+from as_is import DONE, ENHANCED, INTERFACE, MOST, OBSOLETE, SECTION, SIMPLE, options_flaws, sound_options
 
 UNSTATED = b"\xff" * 8
 USAGE = 2
 LEFT = "options that break rules are left out"
-
-
-def sound_options(order, number, left):
-    """Returns the bytes of the options whose values break no rule."""
-    kept = b""
-    while len(left) >= 4:
-        code, length = struct.unpack_from(order + "HH", left)
-        end = 4 + length + -length % 4
-        if code == 0 or end > len(left):
-            break
-        kept += b"" if option_flaw(number, code, left[4 : 4 + length]) else left[:end]
-        left = left[end:]
-    return kept
 
 
 def with_options(order, number, body, front):
@@ -123,6 +110,10 @@ pcapfile: in: 1 of 4 blocks are changed or left out
 """
 
 
+# The last packet of captures by hand that is obsolete, or simple and without a time: what tshark shows of it.
+LAST = {"a block of type 2": "0.000000005\t4\t4", "a block of type 3": "\t4\t4"}
+
+
 def by_hand(order):
     """Yields captures, what they become, and the messages. They have a section of 28 bytes, an interface of 28 and four packets of 36."""
     interface = block(order, INTERFACE, struct.pack(order + "HHI", 1, 0, 0) + option(order, 9, b"\x09"))
@@ -172,9 +163,21 @@ pcapfile: in: block 7 at byte 200: its stored length is 12 and not 99, by a gues
 """
     yield "garbage before the first section", b"no" * 9 + sound, sound, "pcapfile: in: 18 bytes at byte 0 are no blocks, and are left out\n"
     yield "garbage at the end", sound + bytes(40), sound, "pcapfile: in: 40 bytes at byte 200 are no blocks, and are left out\n"
-    yield "a torn last block", sound[:-1], sound[:164], """\
-pcapfile: in: 35 bytes at byte 164 are of a block that is cut short, and are left out
+    yield "a torn last block", sound[:-5], sound[:164], """\
+pcapfile: in: 31 bytes at byte 164 are of a block that is cut short, and are left out
 """
+    end = "its end is missing: its packet is kept, without options that are cut off or break rules"
+    for size in (32, 33, 34, 35):
+        yield f"{size} bytes of a last block", sound[: 164 + size], sound, f"pcapfile: in: block 6 at byte 164: {end}\n"
+    texts = [option(order, 1, it) for it in (b"good", b"and good")]
+    with_two = enhanced(order, 0, 5, b"dat", b"".join(texts))
+    for size in range(31, len(with_two)):
+        kept = enhanced(order, 0, 5, b"dat", b"".join(texts[: (size >= 40) + (size >= 52)]))
+        yield f"{size} bytes of a block with options", sound + with_two[:size], sound + kept, f"pcapfile: in: block 7 at byte 200: {end}\n"
+    for number, body in ((OBSOLETE, struct.pack(order + "HHIIII", 0, 0, 0, 5, 4, 4)), (SIMPLE, struct.pack(order + "I", 4))):
+        other = block(order, number, body + b"data")
+        for size in range(len(other) - 4, len(other)):
+            yield f"{size} bytes of a block of type {number}", sound + other[:size], sound + other, f"pcapfile: in: block 7 at byte 200: {end}\n"
     yield "three bytes of a last block", sound[:167], sound[:164], """\
 pcapfile: in: 3 bytes at byte 164 are of a block that is cut short, and are left out
 """
@@ -245,7 +248,7 @@ def try_by_hand(tally, help):
                 ended != (DONE, b"", said) and f"it gave {ended}, and not {said!r}",
                 left["out"] != wanted and f"it wrote {left['out'].hex()}, and not {wanted.hex()}",
                 check[0] != DONE and f"a check gives {check}",
-                shown_by_tshark(left["out"]) not in (None, shown(help, left["out"])) and "tshark reads other packets",
+                shown_by_tshark(left["out"]) not in (None, shown_with_last(help, name, left["out"])) and "tshark reads other packets",
             )
 
 
@@ -255,6 +258,12 @@ def shown(help, capture):
         return [f"{time // 10**9}.{time % 10**9:09}\t{len(data)}\t{wire}" for _, time, wire, data in help.packets_of(capture)]
     except IndexError:
         return None
+
+
+def shown_with_last(help, name, capture):
+    """Returns the same as `shown`, and behind it the packet of another type that the capture by hand of this name has last."""
+    last = [line for ending, line in LAST.items() if name.endswith(ending)]
+    return shown(help, capture) + last if last else shown(help, capture)
 
 
 def shown_by_tshark(capture):

@@ -88,7 +88,7 @@ def try_closed(tally):
 
 def try_unread(tally):
     """Checks that a run ends without a message if nobody reads its output any more."""
-    many = HEADER + packet(1, b"x") * 200000
+    many = HEADER + packet(1, b"") * 200000
     flaws = HEADER + (struct.pack("<IIII", 1, 0, 4, 1) + b"data") * 20000
     words = [["list", "in"], ["list", "--json", "in"], ["list", "--csv", "in"], ["list", "--as-is", "in"], ["check", "--as-is", "flaws"]]
     words += [[*it, "-o", "-"] for it in (["convert", "in"], ["convert", "--to", "pcap", "in"], ["cut", "in"], ["join", "in"], ["merge", "in"], ["repair", "in"])]

@@ -92,17 +92,9 @@ def words_agree(folder, random, capture):
         assert told["packets"] <= len(listed), (told["packets"], len(listed))
 
 
-def looks_like_zero_bytes(found):
-    """Returns whether a packet without data is followed by one whose lengths are both 0."""
-    return any(not packet.data and not behind.data and behind.wire == 0 for packet, behind in zip(found, found[1:]))
-
-
 def lenient_is_strict_on_sound(folder, random, capture):
-    """Checks that for a sound capture lenient reading gives what strict reading gives. In a classic capture it takes some packets without data
-    for zero bytes (docs/PCAPFILE_FILES.md, 'Corrupt bytes'). The check leaves such captures out."""
+    """Checks that for a sound capture lenient reading gives what strict reading gives."""
     capture, found = sound(random)
-    if capture[:4] in MAGICS and looks_like_zero_bytes(found):
-        return
     folder.write("in", capture)
     for word in ("check", "list"):
         strict, lenient = folder.run(word, "in", statuses=[DONE]), folder.run(word, "--as-is", "in", statuses=[DONE])

@@ -1,0 +1,124 @@
+"""Checks how `pcapfile cut` changes packets, by the same changes made with struct, and beside editcap if that is installed."""
+import struct
+
+import cutting
+import left_out
+
+DONE, AT_FAULT, USAGE, FAILED = 0, 1, 2, 3
+START, SECOND = 1700000000250000000, 10**9
+ENHANCED, OLD, SIMPLE, NAMES, UNKNOWN = 6, 2, 3, 4, 0x12345
+LENGTHS = (1, 3, 4, 5, 7, 8, 60, 2**32 - 1)
+ORDERS = (("<", 0xA1B2C3D4, 1000), (">", 0xA1B23C4D, 1))
+# A comment, and the end of the options.
+COMMENT = {order: struct.pack(order + "HH", 1, 5) + b"notes\0\0\0" + bytes(4) for order in "<>"}
+
+
+def refuses(tally, help, words, said="error: "):
+    """Checks that the words are refused, and leave the file of that name as it is."""
+    capture, _ = help.classic("<", 0xA1B2C3D4, 1000, 1, [(START, 90, b"data")])
+    cutting.fails(tally, help, " ".join(words), {"in": capture, "out": b"old"}, ["cut", "in", *words, "-o", "out"], USAGE, said)
+
+
+def sample():
+    """Returns packets (nanoseconds, length on the wire, data) of several lengths."""
+    return [(START + k * SECOND, 90 + k % 3, bytes(range(k * 5, k * 5 + k * 3 % 11))) for k in range(12)]
+
+
+def packet_body(order, front, wire, data, padding, options):
+    """Returns the body of an enhanced or an obsolete packet whose first twelve bytes are given."""
+    filled = (padding * 3)[: -len(data) % 4]
+    return front + struct.pack(order + "II", len(data), wire) + data + filled + options
+
+
+def block_sample(order, shortest=None, padding=b"\xee"):
+    """Returns the blocks of a section with packets of each kind. If a length is given, enhanced and obsolete packets are cut to it, and have
+    zeros for padding if they were longer."""
+    parts = [(1, struct.pack(order + "HHI", 1, 0, 65535)), (1, struct.pack(order + "HHI", 101, 0, 6))]
+    for k, (time, wire, data) in enumerate(sample()):
+        kept = data if shortest is None else data[:shortest]
+        filling = padding if kept == data else b"\0"
+        options = COMMENT[order] if k % 2 else b""
+        units = time // 1000
+        front = struct.pack(order + "III", k % 2, units >> 32, units & 0xFFFFFFFF)
+        parts.append((ENHANCED, packet_body(order, front, wire, kept, filling, options)))
+        front = struct.pack(order + "HHII", 1, k, units >> 32, units & 0xFFFFFFFF)
+        parts.append((OLD, packet_body(order, front, wire, kept, filling, options)))
+        parts.append((UNKNOWN, data))
+    parts.append((NAMES, bytes(4)))
+    return parts
+
+
+def try_classic_lengths(tally, help):
+    """Checks shortened packets of classic captures, with all tests of packets, which are made before the packets are shortened."""
+    for order, magic, fraction in ORDERS:
+        packets = sample()
+        capture, _ = help.classic(order, magic, fraction, 101, packets)
+        for most in LENGTHS:
+            name = f"{most} bytes of packets, {order}{magic:x}"
+            short = [(time, wire, data[:most]) for time, wire, data in packets]
+            wanted, _ = help.classic(order, magic, fraction, 101, short)
+            made = cutting.expects(tally, help, name, {"in": capture}, ["cut", "in", "--snaplen", str(most), "-o", "out"], {"out": wanted})
+            cutting.expects(tally, help, f"{name}, again", {"in": wanted}, ["cut", "in", "--snaplen", str(most), "-o", "out"], {"out": wanted})
+            if made and order == "<" and most < 2**31 and left_out.has("editcap", "shortened packets beside editcap, in tests/files/run"):
+                given = help.packets_of(cutting.edited(capture, ["-s", str(most), "IN", "OUT"]))
+                tally.note(f"editcap -s {most}", help.packets_of(made["out"]) != given and f"it has {given}")
+        held = {"in": capture, "filter": b"4\n48 0 0 4\n21 0 1 34\n6 0 0 9\n6 0 0 0\n"}
+        for words, chosen in (
+            (["--packets", "2-4,9"], [packets[k] for k in (1, 2, 3, 8)]),
+            (["--from", "+2s", "--until", "+5s", "--max-len", "91"], [it for it in packets[2:5] if it[1] <= 91]),
+            (["--bpf", "filter"], [it for it in packets if it[2][4:5] == b"\x22"]),
+            (["--interface", "1"], []),
+        ):
+            wanted, _ = help.classic(order, magic, fraction, 101, [(time, wire, data[:3]) for time, wire, data in chosen])
+            cutting.expects(tally, help, f"3 bytes, {words}", held, ["cut", "in", *words, "--snaplen", "3", "-o", "out"], {"out": wanted})
+
+
+def try_block_lengths(tally, help):
+    """Checks shortened packets of blocks. Options and all other blocks stay, and so does the padding of packets that are short enough."""
+    for order in "<>":
+        given, _ = help.blocks(order, block_sample(order))
+        for most in LENGTHS:
+            wanted, _ = help.blocks(order, block_sample(order, most))
+            words = ["cut", "in", "--snaplen", str(most), "-o", "out"]
+            made = cutting.expects(tally, help, f"{most} bytes of blocks, {order}", {"in": given}, words, {"out": wanted})
+            if order == "<" and "out" in made:
+                checked = cutting.expects(tally, help, f"{most} bytes of blocks, again", {"in": made["out"]}, words, {"out": wanted})
+                tally.note(f"{most} bytes of blocks are blocks", checked.get("out") != wanted and "they change again")
+        other = "<" if order == ">" else ">"
+        both = given + help.blocks(other, block_sample(other))[0]
+        wanted = help.blocks(order, block_sample(order, 4))[0] + help.blocks(other, block_sample(other, 4))[0]
+        cutting.expects(tally, help, "two sections", {"in": both}, ["cut", "in", "--snaplen", "4", "-o", "out"], {"out": wanted})
+
+
+def try_kept_whole(tally, help):
+    """Checks packets that can't be shortened: the program leaves them unchanged, and says how many there are."""
+    for order in "<>":
+        front = struct.pack(order + "III", 0, 0, 5)
+        simple = [(SIMPLE, struct.pack(order + "I", wire) + data) for wire, data in ((3, b"abc\0"), (90, b"abcdefgh"), (5, b"abcde\0\0\0"), (4, b"abcd"))]
+        torn = (ENHANCED, front + struct.pack(order + "II", 9, 9) + b"only")
+        tiny = (OLD, bytes(16))
+        interface = (1, struct.pack(order + "HHI", 1, 0, 8))
+        whole = (ENHANCED, packet_body(order, front, 90, b"123456", b"\0", COMMENT[order]))
+        short = (ENHANCED, packet_body(order, front, 90, b"1234", b"\0", COMMENT[order]))
+        given, _ = help.blocks(order, [interface, *simple, whole, torn, tiny])
+        wanted, _ = help.blocks(order, [interface, *simple, short, torn, tiny])
+        said = "pcapfile: in: did not shorten 2 packets with a malformed body\npcapfile: in: did not shorten 2 packets in a simple block\n"
+        cutting.expects(tally, help, f"whole packets, {order}", {"in": given}, ["cut", "in", "--snaplen", "4", "-o", "out"], {"out": wanted}, said=said)
+        given, _ = help.blocks(order, [interface, simple[0], simple[1], whole])
+        wanted, _ = help.blocks(order, [interface, simple[0], simple[1], short])
+        said = "pcapfile: in: did not shorten 1 packet in a simple block\n"
+        cutting.expects(tally, help, f"a simple packet, {order}", {"in": given}, ["cut", "in", "--snaplen", "4", "-o", "out"], {"out": wanted}, said=said)
+        wanted, _ = help.blocks(order, [interface, short])
+        cutting.expects(tally, help, f"a number and a length, {order}", {"in": given}, ["cut", "in", "--snaplen", "4", "--packets", "3", "-o", "out"], {"out": wanted})
+
+
+def try_wrong_lengths(tally, help):
+    for text in ("0", "-1", "", "a", "4294967296", "1.5", "1K"):
+        refuses(tally, help, [f"--snaplen={text}"])
+    for words in (["--every", "2"], ["--parts", "2"], ["--bytes", "1K"]):
+        refuses(tally, help, ["--snaplen", "4", *words])
+
+
+def try_all(tally, help):
+    for tries in (try_classic_lengths, try_block_lengths, try_kept_whole, try_wrong_lengths):
+        tries(tally, help)
