@@ -5,9 +5,9 @@
  * the translator that wrote this file, nor the compiler that you use.
  *
  * Toolchain: rattle-kit-13f logic dac8208d650f15bf
- * Proof of the crate pcapfile_c: logic=proved functions=120 axioms=3 target=x86_64-unknown-linux-gnu cpu=x86-64-v2
+ * Proof of the crate pcapfile_c: logic=proved functions=138 axioms=3 target=x86_64-unknown-linux-gnu cpu=x86-64-v2
  * sum=dac8208d650f15bf native=nat,char,string
- * Sources: sha256 3e9c21ad2fafdbcff5d982a2f75d0f93b79529b6431d5af8e824fe6a9e5526cf
+ * Sources: sha256 434376436e8334324cd174d86bb6229ea2861e34f637ee6c5fe96660466d1041
  * (of src and specs of pcap_blocks, pcap_classic, pcap_core, pcap_items, pcap_ng, pcap_options, pcap_parts,
  * pcap_raw_options, pcap_times, pcap_tolerant, pcap_tolerant_blocks, pcap_tolerant_captures, pcap_written, pcapfile_c,
  * pcapfile_values)
@@ -180,6 +180,10 @@ void pcapfile_version(ptr v1);
 int32_t pcapfile_take_ng_packets(ptr v1, ptr v2, ptr v3, u64 v4, ptr v5, ptr v6);
 int32_t pcapfile_write_header(ptr v1, ptr v2, u64 v3, ptr v4, ptr v5);
 int32_t pcapfile_write_packet(ptr v1, ptr v2, ptr v3, u64 v4, ptr v5, ptr v6);
+int32_t pcapfile_put_options(ptr v1, ptr v2, u64 v3, ptr v4, u64 v5, ptr v6, ptr v7);
+int32_t pcapfile_put_block(ptr v1, ptr v2, ptr v3, u64 v4, ptr v5, ptr v6);
+int32_t pcapfile_put_interface_with(ptr v1, ptr v2, ptr v3, u64 v4, ptr v5, u64 v6, ptr v7, ptr v8);
+int32_t pcapfile_put_ng_packet_with(ptr v1, ptr v2, ptr v3, u64 v4, ptr v5, u64 v6, ptr v7, ptr v8);
 int32_t pcapfile_options(ptr v1, ptr v2, ptr v3, ptr v4);
 int32_t pcapfile_take_record(ptr v1, ptr v2, ptr v3, ptr v4);
 int32_t pcapfile_take_block_as_is(ptr v1, ptr v2, ptr v3, ptr v4, u64 v5, ptr v6);
@@ -193,6 +197,7 @@ int32_t pcapfile_push_next(ptr v1, ptr v2, u64 v3, ptr v4, ptr v5);
 int32_t pcapfile_take_any(ptr v1, ptr v2, ptr v3, u64 v4, ptr v5, ptr v6);
 int32_t pcapfile_push_packets(ptr v1, ptr v2, u64 v3, ptr v4, u64 v5, ptr v6, ptr v7);
 int32_t pcapfile_put_section(ptr v1, ptr v2, u64 v3, ptr v4, ptr v5);
+int32_t pcapfile_put_section_with(ptr v1, ptr v2, u64 v3, ptr v4, u64 v5, ptr v6, ptr v7);
 
 static const u8 static_0[29] = "PcapHeader wrong magic number";
 static const u8 static_1[40] = "PacketHeader ts_usec * 1000 > 0xFFFFFFFF";
@@ -288,7 +293,7 @@ static const u8 static_102[34] = "SectionHeader: too many interfaces";
 static const u8 static_104[5] = "0.2.0";
 static const u8 static_105[4] = {10,13,13,10};
 static const u8 switch_table_pcap_options_refusal_PcapErrorFromRefusal_from[40] = "\035(\037\037 (\035\027&\025%+-:#+\027(2311/1/-02'+\037/00/'(\0321!";
-static _Alignas(8) const u8 switch_table_pcapfile_rule_name_271[320] = {12,0,0,0,0,0,0,0,16,0,0,0,0,0,0,0,15,0,0,0,0,0,0,0,15,0,0,0,0,0,0,0,20,0,0,0,0,0,0,0,12,0,0,0,0,0,0,
+static _Alignas(8) const u8 switch_table_pcapfile_rule_name_274[320] = {12,0,0,0,0,0,0,0,16,0,0,0,0,0,0,0,15,0,0,0,0,0,0,0,15,0,0,0,0,0,0,0,20,0,0,0,0,0,0,0,12,0,0,0,0,0,0,
 0,14,0,0,0,0,0,0,0,13,0,0,0,0,0,0,0,18,0,0,0,0,0,0,0,14,0,0,0,0,0,0,0,15,0,0,0,0,0,0,0,17,0,0,0,0,0,
 0,0,16,0,0,0,0,0,0,0,11,0,0,0,0,0,0,0,14,0,0,0,0,0,0,0,18,0,0,0,0,0,0,0,14,0,0,0,0,0,0,0,9,0,0,0,0,0,
 0,0,19,0,0,0,0,0,0,0,19,0,0,0,0,0,0,0,18,0,0,0,0,0,0,0,18,0,0,0,0,0,0,0,20,0,0,0,0,0,0,0,25,0,0,0,0,
@@ -307,7 +312,7 @@ static _Alignas(4) const u8 switch_table_pcapfile_take_block_as_is[160] = {1,0,0
 0,0,114,7,0,0,115,7,0,0,116,7,0,0,117,7,0,0,118,7,0,0,119,7,0,0,120,7,0,0,121,7,0,0,122,7,0,0,123,7,
 0,0,20,0,0,0,21,0,0,0,22,0,0,0,23,0,0,0,24,0,0,0,25,0,0,0,26,0,0,0};
 static _Alignas(8) const struct __attribute__((packed)) { ptr f0; ptr f1; ptr f2; ptr f3; ptr f4; ptr f5; ptr f6; ptr f7; ptr f8; ptr f9; ptr f10; ptr f11; ptr f12; ptr f13; ptr f14; ptr f15; ptr f16; ptr f17; ptr f18; ptr f19; ptr f20; ptr f21; ptr f22; ptr f23; ptr f24; ptr f25; ptr f26; ptr f27; ptr f28; ptr f29; ptr f30; ptr f31; ptr f32; ptr f33; ptr f34; ptr f35; ptr f36; ptr f37; ptr f38; ptr f39; } switch_table_pcapfile_rule_name = { (ptr)static_46, (ptr)static_47, (ptr)static_48, (ptr)static_49, (ptr)static_50, (ptr)static_51, (ptr)static_52, (ptr)static_53, (ptr)static_54, (ptr)static_55, (ptr)static_56, (ptr)static_57, (ptr)static_58, (ptr)static_59, (ptr)static_60, (ptr)static_61, (ptr)static_62, (ptr)static_63, (ptr)static_64, (ptr)static_65, (ptr)static_66, (ptr)static_67, (ptr)static_68, (ptr)static_69, (ptr)static_70, (ptr)static_71, (ptr)static_72, (ptr)static_73, (ptr)static_74, (ptr)static_75, (ptr)static_76, (ptr)static_77, (ptr)static_78, (ptr)static_79, (ptr)static_80, (ptr)static_81, (ptr)static_82, (ptr)static_83, (ptr)static_84, (ptr)static_85 };
-static _Alignas(8) const struct __attribute__((packed)) { ptr f0; ptr f1; ptr f2; ptr f3; ptr f4; ptr f5; ptr f6; ptr f7; ptr f8; ptr f9; ptr f10; ptr f11; ptr f12; ptr f13; ptr f14; ptr f15; ptr f16; ptr f17; ptr f18; ptr f19; ptr f20; ptr f21; ptr f22; ptr f23; ptr f24; ptr f25; ptr f26; ptr f27; ptr f28; ptr f29; ptr f30; ptr f31; ptr f32; ptr f33; ptr f34; ptr f35; ptr f36; ptr f37; ptr f38; ptr f39; } switch_table_pcapfile_rule_text_272 = { (ptr)static_0, (ptr)static_1, (ptr)static_2, (ptr)static_3, (ptr)static_4, (ptr)static_5, (ptr)static_6, (ptr)static_7, (ptr)static_8, (ptr)static_9, (ptr)static_10, (ptr)static_11, (ptr)static_12, (ptr)static_13, (ptr)static_14, (ptr)static_15, (ptr)static_16, (ptr)static_17, (ptr)static_18, (ptr)static_19, (ptr)static_20, (ptr)static_21, (ptr)static_22, (ptr)static_23, (ptr)static_24, (ptr)static_25, (ptr)static_26, (ptr)static_27, (ptr)static_28, (ptr)static_29, (ptr)static_30, (ptr)static_31, (ptr)static_32, (ptr)static_33, (ptr)static_34, (ptr)static_35, (ptr)static_36, (ptr)static_37, (ptr)static_38, (ptr)static_39 };
+static _Alignas(8) const struct __attribute__((packed)) { ptr f0; ptr f1; ptr f2; ptr f3; ptr f4; ptr f5; ptr f6; ptr f7; ptr f8; ptr f9; ptr f10; ptr f11; ptr f12; ptr f13; ptr f14; ptr f15; ptr f16; ptr f17; ptr f18; ptr f19; ptr f20; ptr f21; ptr f22; ptr f23; ptr f24; ptr f25; ptr f26; ptr f27; ptr f28; ptr f29; ptr f30; ptr f31; ptr f32; ptr f33; ptr f34; ptr f35; ptr f36; ptr f37; ptr f38; ptr f39; } switch_table_pcapfile_rule_text_275 = { (ptr)static_0, (ptr)static_1, (ptr)static_2, (ptr)static_3, (ptr)static_4, (ptr)static_5, (ptr)static_6, (ptr)static_7, (ptr)static_8, (ptr)static_9, (ptr)static_10, (ptr)static_11, (ptr)static_12, (ptr)static_13, (ptr)static_14, (ptr)static_15, (ptr)static_16, (ptr)static_17, (ptr)static_18, (ptr)static_19, (ptr)static_20, (ptr)static_21, (ptr)static_22, (ptr)static_23, (ptr)static_24, (ptr)static_25, (ptr)static_26, (ptr)static_27, (ptr)static_28, (ptr)static_29, (ptr)static_30, (ptr)static_31, (ptr)static_32, (ptr)static_33, (ptr)static_34, (ptr)static_35, (ptr)static_36, (ptr)static_37, (ptr)static_38, (ptr)static_39 };
 
 static void pcap_ng_pcapng_block_Block_from_slice(ptr v1, u8 v2, ptr v3, u64 v4) {
 	u8 v5;
@@ -2558,7 +2563,7 @@ L0:
 L1:
 	v4 = v11; v5 = v11; v6 = v11 & 0xffffffffffff0000ull; v7 = v12; v8 = (u64)v13 << 8; v3 = 3; goto L3;
 L2:;
-	u64 v15 = (u64)ldp(at((ptr)&switch_table_pcapfile_rule_text_272, (u64)v10 * 8));
+	u64 v15 = (u64)ldp(at((ptr)&switch_table_pcapfile_rule_text_275, (u64)v10 * 8));
 	v4 = v15; v5 = v15; v6 = v15 & 0xffffffffffff0000ull; v7 = ld8(at((ptr)switch_table_pcap_options_refusal_PcapErrorFromRefusal_from, (u64)v10)); v3 = 2; v8 = 0;
 L3:
 	st8(v1, v3);
@@ -8409,6 +8414,226 @@ L21:
 	copy(v1+80, v65, 24);
 	return;
 }
+static u32 pcapfile_c_parts_put_parts(u8 v1, ptr v2, ptr v3, u64 v4, ptr v5, ptr v6) {
+	u64 v7, v8, v9, v10, v11, v12, v13, v14, v15, v16, v17, v18, v19, v20, v21, v22, v23, v24, v25, v26;
+	u32 v27;
+	u32 v28 = lu32(v2);
+	ptr v29 = lup(v2+8);
+	u64 v30 = lu64(v2+16), v31 = lu64(v2+24), v32 = lu64(v2+32);
+	ptr v33 = lup(v2+40);
+	u64 v34 = lu64(v2+48);
+	u8 v35 = ld8(v2+56) & 1, v36 = v34 == 0;
+	if (!(v1 & 1)) goto L18;
+	if (v36) { v9 = 4; goto L2; }
+	v7 = 4; v8 = 0;
+L0:;
+	ptr v37 = at(v33, v8 * 24);
+	u16 v38 = ld16(v37);
+	if ((v38 == 0) | (((v38 == 9) | (v38 == 14)) & v35)) { v27 = 10; goto L37; }
+	u64 v39 = ld64(v37+16);
+	if (v39 > 65535) { v27 = 10; goto L37; }
+	u64 v40 = v7 + 4 + (((!(v39 & 3) ? 0ull : 4ull) + v39) & 131068);
+	if (v40 <= 4294967283u) goto L1;
+	su32(v6, 2004);
+	su32(v6+4, 0);
+	su64(v6+8, 0);
+	v27 = 3; goto L37;
+L1:;
+	u64 v41 = v8 + 1;
+	if (v41 != v34) { v7 = v40; v8 = v41; goto L0; }
+	v9 = v40;
+L2:
+	if (v32 <= 4294967283u) goto L3;
+	su32(v6, 2004);
+	su32(v6+4, 0);
+	su64(v6+8, 0);
+	v27 = 3; goto L37;
+L3:;
+	u8 v42 = (v34 != 0) | v35;
+	u64 v43 = v30 + 12 + ((v32 + 3) & 0x1fffffffcull) + (v42 ? v9 : 0);
+	if (v43 <= 4294967295u) goto L4;
+	su32(v6, 2004);
+	su32(v6+4, 0);
+	su64(v6+8, 0);
+	v27 = 3; goto L37;
+L4:
+	if (v4 >= v43) goto L5;
+	su32(v6, 0);
+	su32(v6+4, 0);
+	su64(v6+8, v43 - v4);
+	v27 = 9; goto L37;
+L5:;
+	u32 v44 = (u32)v43;
+	su32(v3, v28);
+	su32(v3+4, v44);
+	if ((u64)(v3+8) - (u64)v29 >= v30) goto L7;
+	v10 = 0;
+L6:
+	st8(at(v3+8, v10), ld8(at(v29, v10)));
+	u64 v45 = v10 + 1;
+	if (v45 == v30) goto L8;
+	v10 = v45; goto L6;
+L7:
+	move(v3+8, v29, v30);
+L8:;
+	u64 v46 = v30 + 8;
+	ptr v47 = at(v3, v46);
+	if ((u64)v47 - v31 >= v32) goto L10;
+	v11 = 0;
+L9:
+	st8(at(v47, v11), ld8(at((ptr)v31, v11)));
+	u64 v48 = v11 + 1;
+	if (v48 == v32) goto L11;
+	v11 = v48; goto L9;
+L10:
+	move(v47, (ptr)v31, v32);
+L11:;
+	u64 v49 = (0ull - v32) & 3, v50 = v32 + v46;
+	clear(at(v3, v50), v49);
+	u64 v51 = v49 + v50;
+	if (!v42) { v16 = v51; goto L17; }
+	if (v36) { v15 = v51; goto L16; }
+	v12 = v51; v13 = 0;
+L12:;
+	ptr v52 = at(v33, v13 * 24), v53 = at(v3, v12);
+	u16 v54 = (u16)ld64(v52+16);
+	su16(v53, ld16(v52));
+	su16(v53+2, v54);
+	u64 v55 = v12 + 4;
+	ptr v56 = ldp(v52+8);
+	u64 v57 = ld64(v52+16);
+	ptr v58 = at(v3, v55);
+	if ((u64)v58 - (u64)v56 >= v57) goto L14;
+	v14 = 0;
+L13:
+	st8(at(v58, v14), ld8(at(v56, v14)));
+	u64 v59 = v14 + 1;
+	if (v59 == v57) goto L15;
+	v14 = v59; goto L13;
+L14:
+	move(v58, v56, v57);
+L15:;
+	u64 v60 = (0ull - v57) & 3, v61 = v57 + v55;
+	clear(at(v3, v61), v60);
+	u64 v62 = v60 + v61, v63 = v13 + 1;
+	if (v63 != v34) { v12 = v62; v13 = v63; goto L12; }
+	v15 = v62;
+L16:;
+	ptr v64 = at(v3, v15);
+	su16(v64, 0);
+	su16(v64+2, 0);
+	v16 = v15 + 4;
+L17:
+	su32(at(v3, v16), v44);
+	st64(v5, v43);
+	v27 = 0; goto L37;
+L18:
+	if (v36) { v19 = 4; goto L21; }
+	v17 = 4; v18 = 0;
+L19:;
+	ptr v65 = at(v33, v18 * 24);
+	u16 v66 = ld16(v65);
+	if ((v66 == 0) | (((v66 == 9) | (v66 == 14)) & v35)) { v27 = 10; goto L37; }
+	u64 v67 = ld64(v65+16);
+	if (v67 > 65535) { v27 = 10; goto L37; }
+	u64 v68 = v17 + 4 + (((!(v67 & 3) ? 0ull : 4ull) + v67) & 131068);
+	if (v68 <= 4294967283u) goto L20;
+	su32(v6, 2004);
+	su32(v6+4, 0);
+	su64(v6+8, 0);
+	v27 = 3; goto L37;
+L20:;
+	u64 v69 = v18 + 1;
+	if (v69 != v34) { v17 = v68; v18 = v69; goto L19; }
+	v19 = v68;
+L21:
+	if (v32 <= 4294967283u) goto L22;
+	su32(v6, 2004);
+	su32(v6+4, 0);
+	su64(v6+8, 0);
+	v27 = 3; goto L37;
+L22:;
+	u8 v70 = (v34 != 0) | v35;
+	u64 v71 = v30 + 12 + ((v32 + 3) & 0x1fffffffcull) + (v70 ? v19 : 0);
+	if (v71 <= 4294967295u) goto L23;
+	su32(v6, 2004);
+	su32(v6+4, 0);
+	su64(v6+8, 0);
+	v27 = 3; goto L37;
+L23:
+	if (v4 >= v71) goto L24;
+	su32(v6, 0);
+	su32(v6+4, 0);
+	su64(v6+8, v71 - v4);
+	v27 = 9; goto L37;
+L24:
+	su32(v3, (u32)__builtin_bswap32(v28));
+	u32 v72 = (u32)__builtin_bswap32((u32)v71);
+	su32(v3+4, v72);
+	if ((u64)(v3+8) - (u64)v29 >= v30) goto L26;
+	v20 = 0;
+L25:
+	st8(at(v3+8, v20), ld8(at(v29, v20)));
+	u64 v73 = v20 + 1;
+	if (v73 == v30) goto L27;
+	v20 = v73; goto L25;
+L26:
+	move(v3+8, v29, v30);
+L27:;
+	u64 v74 = v30 + 8;
+	ptr v75 = at(v3, v74);
+	if ((u64)v75 - v31 >= v32) goto L29;
+	v21 = 0;
+L28:
+	st8(at(v75, v21), ld8(at((ptr)v31, v21)));
+	u64 v76 = v21 + 1;
+	if (v76 == v32) goto L30;
+	v21 = v76; goto L28;
+L29:
+	move(v75, (ptr)v31, v32);
+L30:;
+	u64 v77 = (0ull - v32) & 3, v78 = v32 + v74;
+	clear(at(v3, v78), v77);
+	u64 v79 = v77 + v78;
+	if (!v70) { v26 = v79; goto L36; }
+	if (v36) { v25 = v79; goto L35; }
+	v22 = v79; v23 = 0;
+L31:;
+	ptr v80 = at(v33, v23 * 24), v81 = at(v3, v22);
+	u16 v82 = (u16)ld64(v80+16);
+	su16(v81, (u16)__builtin_bswap16(ld16(v80)));
+	su16(v81+2, (u16)__builtin_bswap16(v82));
+	u64 v83 = v22 + 4;
+	ptr v84 = ldp(v80+8);
+	u64 v85 = ld64(v80+16);
+	ptr v86 = at(v3, v83);
+	if ((u64)v86 - (u64)v84 >= v85) goto L33;
+	v24 = 0;
+L32:
+	st8(at(v86, v24), ld8(at(v84, v24)));
+	u64 v87 = v24 + 1;
+	if (v87 == v85) goto L34;
+	v24 = v87; goto L32;
+L33:
+	move(v86, v84, v85);
+L34:;
+	u64 v88 = (0ull - v85) & 3, v89 = v85 + v83;
+	clear(at(v3, v89), v88);
+	u64 v90 = v88 + v89, v91 = v23 + 1;
+	if (v91 != v34) { v22 = v90; v23 = v91; goto L31; }
+	v25 = v90;
+L35:;
+	ptr v92 = at(v3, v25);
+	su16(v92, 0);
+	su16(v92+2, 0);
+	v26 = v25 + 4;
+L36:
+	su32(at(v3, v26), v72);
+	st64(v5, v71);
+	v27 = 0;
+L37:
+	return v27;
+}
 static void pcapfile_c_records_record_of(ptr v1, u16 v2, ptr v3, u64 v4) {
 	u64 v5, v8, v10, v12, v14, v15, v16, v18, v20, v22, v23, v24, v26, v28, v29, v33, v35, v37;
 	ptr v6, v11, v17, v19, v25, v27, v32, v34, v36, v38;
@@ -9727,7 +9952,7 @@ void pcapfile_rule_name(u32 v1, ptr v2) {
 	}
 L0:;
 	u8 v6 = ld8(v5+2);
-	v3 = ldp(at((ptr)&switch_table_pcapfile_rule_name, (u64)v6 * 8)); v4 = ld64(at((ptr)switch_table_pcapfile_rule_name_271, (u64)v6 * 8)); goto L5;
+	v3 = ldp(at((ptr)&switch_table_pcapfile_rule_name, (u64)v6 * 8)); v4 = ld64(at((ptr)switch_table_pcapfile_rule_name_274, (u64)v6 * 8)); goto L5;
 L1:
 	v3 = (ptr)static_43; v4 = 16; goto L5;
 L2:
@@ -9758,7 +9983,7 @@ void pcapfile_rule_text(u32 v1, ptr v2) {
 	}
 L0:;
 	u8 v7 = ld8(v6+2);
-	ptr v8 = ldp(at((ptr)&switch_table_pcapfile_rule_text_272, (u64)v7 * 8));
+	ptr v8 = ldp(at((ptr)&switch_table_pcapfile_rule_text_275, (u64)v7 * 8));
 	u64 v9 = ld64(at((ptr)switch_table_pcapfile_rule_text, (u64)v7 * 8));
 	v3 = (t_p_64){v8, v9}; goto L4;
 L1:
@@ -10322,6 +10547,317 @@ L9:
 	v12 = 3;
 L10:
 	return (int32_t)(v12);
+}
+int32_t pcapfile_put_options(ptr v1, ptr v2, u64 v3, ptr v4, u64 v5, ptr v6, ptr v7) {
+	u64 v8, v9, v10, v11, v12, v13, v14, v15, v16, v17, v18, v19;
+	u32 v20;
+	ptr v21 = at(v2, !v2 ? 4096ull : 0ull), v22 = at(v4, !v4 ? 4096ull : 0ull);
+	switch (ld32(v1)) {
+	case 439041101: goto L0;
+	case 1295788826: goto L8;
+	default: goto L16;
+	}
+L0:
+	if (!v3) { v13 = 0; goto L7; }
+	v8 = 4; v9 = 0;
+L1:;
+	ptr v23 = at(v21, v9 * 24);
+	if (!ld16(v23)) { v20 = 10; goto L17; }
+	u64 v24 = ld64(v23+16);
+	if (v24 > 65535) { v20 = 10; goto L17; }
+	u64 v25 = v8 + 4 + (((!(v24 & 3) ? 0ull : 4ull) + v24) & 131068);
+	if (v25 <= 4294967283u) goto L2;
+	su32(v7, 2004);
+	su32(v7+4, 0);
+	su64(v7+8, 0);
+	v20 = 3; goto L17;
+L2:;
+	u64 v26 = v9 + 1;
+	if (v26 != v3) { v8 = v25; v9 = v26; goto L1; }
+	if (v5 >= v25) { v10 = v11 = 0; goto L3; }
+	su32(v7, 0);
+	su32(v7+4, 0);
+	su64(v7+8, v25 - v5);
+	v20 = 9; goto L17;
+L3:;
+	ptr v27 = at(v21, v11 * 24), v28 = at(v22, v10);
+	u16 v29 = (u16)ld64(v27+16);
+	su16(v28, (u16)__builtin_bswap16(ld16(v27)));
+	su16(v28+2, (u16)__builtin_bswap16(v29));
+	u64 v30 = v10 + 4;
+	ptr v31 = ldp(v27+8);
+	u64 v32 = ld64(v27+16);
+	ptr v33 = at(v22, v30);
+	if ((u64)v33 - (u64)v31 >= v32) goto L5;
+	v12 = 0;
+L4:
+	st8(at(v33, v12), ld8(at(v31, v12)));
+	u64 v34 = v12 + 1;
+	if (v34 == v32) goto L6;
+	v12 = v34; goto L4;
+L5:
+	move(v33, v31, v32);
+L6:;
+	u64 v35 = (0ull - v32) & 3, v36 = v32 + v30;
+	clear(at(v22, v36), v35);
+	u64 v37 = v35 + v36, v38 = v11 + 1;
+	if (v38 != v3) { v10 = v37; v11 = v38; goto L3; }
+	ptr v39 = at(v22, v37);
+	su16(v39, 0);
+	su16(v39+2, 0);
+	v13 = v25;
+L7:
+	st64(v6, v13);
+	v20 = 0; goto L17;
+L8:
+	if (!v3) { v19 = 0; goto L15; }
+	v14 = 4; v15 = 0;
+L9:;
+	ptr v40 = at(v21, v15 * 24);
+	if (!ld16(v40)) { v20 = 10; goto L17; }
+	u64 v41 = ld64(v40+16);
+	if (v41 > 65535) { v20 = 10; goto L17; }
+	u64 v42 = v14 + 4 + (((!(v41 & 3) ? 0ull : 4ull) + v41) & 131068);
+	if (v42 <= 4294967283u) goto L10;
+	su32(v7, 2004);
+	su32(v7+4, 0);
+	su64(v7+8, 0);
+	v20 = 3; goto L17;
+L10:;
+	u64 v43 = v15 + 1;
+	if (v43 != v3) { v14 = v42; v15 = v43; goto L9; }
+	if (v5 >= v42) { v16 = v17 = 0; goto L11; }
+	su32(v7, 0);
+	su32(v7+4, 0);
+	su64(v7+8, v42 - v5);
+	v20 = 9; goto L17;
+L11:;
+	ptr v44 = at(v21, v17 * 24), v45 = at(v22, v16);
+	u16 v46 = (u16)ld64(v44+16);
+	su16(v45, ld16(v44));
+	su16(v45+2, v46);
+	u64 v47 = v16 + 4;
+	ptr v48 = ldp(v44+8);
+	u64 v49 = ld64(v44+16);
+	ptr v50 = at(v22, v47);
+	if ((u64)v50 - (u64)v48 >= v49) goto L13;
+	v18 = 0;
+L12:
+	st8(at(v50, v18), ld8(at(v48, v18)));
+	u64 v51 = v18 + 1;
+	if (v51 == v49) goto L14;
+	v18 = v51; goto L12;
+L13:
+	move(v50, v48, v49);
+L14:;
+	u64 v52 = (0ull - v49) & 3, v53 = v49 + v47;
+	clear(at(v22, v53), v52);
+	u64 v54 = v52 + v53, v55 = v17 + 1;
+	if (v55 != v3) { v16 = v54; v17 = v55; goto L11; }
+	ptr v56 = at(v22, v54);
+	su16(v56, 0);
+	su16(v56+2, 0);
+	v19 = v42;
+L15:
+	st64(v6, v19);
+	v20 = 0; goto L17;
+L16:
+	su32(v7, 6);
+	su32(v7+4, 0);
+	su64(v7+8, 0);
+	v20 = 3;
+L17:
+	return (int32_t)(v20);
+}
+int32_t pcapfile_put_block(ptr v1, ptr v2, ptr v3, u64 v4, ptr v5, ptr v6) {
+	u8 v7;
+	u32 v8;
+	_Alignas(8) u8 v9[1], v10[64];
+	ptr v11 = at(v3, !v3 ? 4096ull : 0ull);
+	switch (lu32(v1)) {
+	case 439041101: v7 = 0; goto L1;
+	case 1295788826: goto L0;
+	default: goto L3;
+	}
+L0:
+	v7 = 1;
+L1:;
+	u32 v12 = ld32(v2);
+	switch (v12) {
+	case 168627466: case 1: v8 = 10; goto L4;
+	default: goto L2;
+	}
+L2:
+	st32(v10, v12);
+	st32(v10+4, 0);
+	stp(v10+8, (ptr)static_41);
+	st64(v10+16, 0);
+	copy(v10+24, v2+8, 16);
+	stp(v10+40, v9);
+	clear(v10+48, 16);
+	u32 v13 = pcapfile_c_parts_put_parts(v7, v10, v11, v4, v5, v6);
+	v8 = v13; goto L4;
+L3:
+	su32(v6, 6);
+	su32(v6+4, 0);
+	su64(v6+8, 0);
+	v8 = 3;
+L4:
+	return (int32_t)(v8);
+}
+int32_t pcapfile_put_interface_with(ptr v1, ptr v2, ptr v3, u64 v4, ptr v5, u64 v6, ptr v7, ptr v8) {
+	u8 v9;
+	u64 v10;
+	u16 v11, v12, v14, v15;
+	u32 v13, v17, v18;
+	ptr v16;
+	_Alignas(4) u8 v19[44];
+	_Alignas(8) u8 v20[64];
+	ptr v21 = at(v3, !v3 ? 4096ull : 0ull), v22 = at(v5, !v5 ? 4096ull : 0ull);
+	switch (ld32(v1)) {
+	case 439041101: v9 = 0; goto L1;
+	case 1295788826: goto L0;
+	default: goto L8;
+	}
+L0:
+	v9 = 1;
+L1:
+	if (ld32(v1+8) != 4294967295u) goto L2;
+	su32(v8, 2003);
+	su32(v8+4, 0);
+	su64(v8+8, 0);
+	v18 = 3; goto L9;
+L2:;
+	u32 v23 = ld32(v2);
+	if (v23 <= 65535) goto L3;
+	su32(v8, 2001);
+	su32(v8+4, 0);
+	su64(v8+8, 0);
+	v18 = 3; goto L9;
+L3:;
+	u8 v24 = ld8(v2+9);
+	if ((s8)v24 >= 0) goto L4;
+	su32(v8, 1906);
+	su32(v8+4, 0);
+	su64(v8+8, 0);
+	v18 = 3; goto L9;
+L4:
+	clear(v19, 44);
+	t_8_32 v25 = pcap_core_link_DataLinkFromU32_from(v23);
+	u64 v26 = ld64(v2+16);
+	u8 v27 = v26 == 0;
+	u32 v28 = pcap_core_link_U32FromDataLink_from(v25.f0, v25.f1);
+	u16 v29 = (u16)v28;
+	if (!(v9 & 1)) goto L5;
+	st32(v19, 1);
+	st32(v19+4, v27 ? 32u : 44u);
+	st16(v19+8, v29);
+	st32(v19+12, ld32(v2+4));
+	u8 v30 = ld8(v2+8) == 2 ? v24 | 128 : v24;
+	st16(v19+16, 9);
+	st16(v19+18, 1);
+	st32(v19+20, (u32)v30);
+	if (v27) { v16 = v19+28; v14 = v15 = 0; v17 = 32; goto L7; }
+	v10 = v26; v11 = 14; v12 = 8; v13 = 44; goto L6;
+L5:
+	st32(v19, 16777216);
+	st32(v19+4, v27 ? 536870912u : 738197504u);
+	st16(v19+8, (u16)__builtin_bswap16(v29));
+	st32(v19+12, (u32)__builtin_bswap32(ld32(v2+4)));
+	u8 v31 = ld8(v2+8) == 2 ? v24 | 128 : v24;
+	st16(v19+16, 2304);
+	st16(v19+18, 256);
+	st32(v19+20, (u32)v31);
+	if (v27) { v16 = v19+28; v17 = 536870912; v14 = v15 = 0; goto L7; }
+	v10 = (u64)__builtin_bswap64(v26); v11 = 3584; v12 = 2048; v13 = 738197504;
+L6:
+	su64(v19+28, v10);
+	st16(v19+36, 0);
+	st16(v19+38, 0);
+	v14 = v11; v15 = v12; v16 = v19+40; v17 = v13;
+L7:
+	st16(v19+24, v14);
+	st16(v19+26, v15);
+	su32(v16, v17);
+	st32(v20, 1);
+	st32(v20+4, 0);
+	stp(v20+8, v19+8);
+	st64(v20+16, v27 ? 16ull : 28ull);
+	stp(v20+24, (ptr)static_41);
+	st64(v20+32, 0);
+	stp(v20+40, v21);
+	st64(v20+48, v4);
+	st8(v20+56, 1);
+	clear(v20+57, 7);
+	u32 v32 = pcapfile_c_parts_put_parts(v9, v20, v22, v6, v7, v8);
+	if (v32) { v18 = v32; goto L9; }
+	st32(v1+8, ld32(v1+8) + 1);
+	v18 = 0; goto L9;
+L8:
+	su32(v8, 6);
+	su32(v8+4, 0);
+	su64(v8+8, 0);
+	v18 = 3;
+L9:
+	return (int32_t)(v18);
+}
+int32_t pcapfile_put_ng_packet_with(ptr v1, ptr v2, ptr v3, u64 v4, ptr v5, u64 v6, ptr v7, ptr v8) {
+	u8 v9;
+	u32 v10, v11, v12, v13, v14, v15;
+	_Alignas(4) u8 v16[20];
+	_Alignas(8) u8 v17[64];
+	ptr v18 = at(v3, !v3 ? 4096ull : 0ull), v19 = at(v5, !v5 ? 4096ull : 0ull);
+	switch (ld32(v1)) {
+	case 439041101: v9 = 0; goto L1;
+	case 1295788826: goto L0;
+	default: goto L6;
+	}
+L0:
+	v9 = 1;
+L1:;
+	u32 v20 = ld32(v2+4);
+	if (ld32(v1+8) <= v20) goto L5;
+	u64 v21 = ld64(v2+32);
+	if (v21 <= 4294967260u) goto L2;
+	su32(v8, 2004);
+	su32(v8+4, 0);
+	su64(v8+8, 0);
+	v15 = 3; goto L7;
+L2:
+	if (!(v9 & 1)) goto L3;
+	u64 v22 = ld64(v2+16);
+	v10 = v20; v11 = (u32)(v22 >> 32); v12 = (u32)v22; v13 = (u32)v21; v14 = ld32(v2+8); goto L4;
+L3:;
+	u64 v23 = ld64(v2+16);
+	v10 = (u32)__builtin_bswap32(v20); v11 = (u32)__builtin_bswap32((u32)(v23 >> 32)); v12 = (u32)__builtin_bswap32((u32)v23); v13 = (u32)__builtin_bswap32((u32)v21); v14 = (u32)__builtin_bswap32(ld32(v2+8));
+L4:
+	st32(v16, v10);
+	st32(v16+4, v11);
+	st32(v16+8, v12);
+	st32(v16+12, v13);
+	st32(v16+16, v14);
+	st32(v17, 6);
+	st32(v17+4, 0);
+	stp(v17+8, v16);
+	st64(v17+16, 20);
+	copy(v17+24, v2+24, 16);
+	stp(v17+40, v18);
+	st64(v17+48, v4);
+	st64(v17+56, 0);
+	u32 v24 = pcapfile_c_parts_put_parts(v9, v17, v19, v6, v7, v8);
+	v15 = v24; goto L7;
+L5:
+	su32(v8, 2002);
+	su32(v8+4, 0);
+	su64(v8+8, 0);
+	v15 = 3; goto L7;
+L6:
+	su32(v8, 6);
+	su32(v8+4, 0);
+	su64(v8+8, 0);
+	v15 = 3;
+L7:
+	return (int32_t)(v15);
 }
 int32_t pcapfile_options(ptr v1, ptr v2, ptr v3, ptr v4) {
 	u8 v5, v6, v18, v21, v22, v23, v24, v25, v44, v47, v48, v49, v50, v51, v59, v60, v61;
@@ -13500,5 +14036,59 @@ L5:
 	v10 = 3;
 L6:
 	return (int32_t)(v10);
+}
+int32_t pcapfile_put_section_with(ptr v1, ptr v2, u64 v3, ptr v4, u64 v5, ptr v6, ptr v7) {
+	ptr v8;
+	u8 v9;
+	u16 v10, v11;
+	u32 v12, v13;
+	_Alignas(4) u8 v14[28];
+	_Alignas(8) u8 v15[64];
+	ptr v16 = at(v2, !v2 ? 4096ull : 0ull), v17 = at(v4, !v4 ? 4096ull : 0ull);
+	u32 v18 = ld32(v1);
+	u16 v19 = ld16(v1+4), v20 = ld16(v1+6);
+	switch (v18) {
+	case 439041101: goto L0;
+	case 1295788826: goto L1;
+	default: goto L3;
+	}
+L0:
+	st32(v14, 168627466);
+	st32(v14+4, 469762048);
+	st32(v14+8, 1295788826);
+	v8 = v14+8; v10 = (u16)__builtin_bswap16(v19); v11 = (u16)__builtin_bswap16(v20); v12 = 469762048; v9 = 0; goto L2;
+L1:
+	st32(v14, 168627466);
+	st32(v14+4, 28);
+	st32(v14+8, 439041101);
+	v8 = v14+8; v10 = v19; v11 = v20; v9 = 1; v12 = 28;
+L2:
+	st16(v14+12, v10);
+	st16(v14+14, v11);
+	su64(v14+16, ~0ull);
+	st32(v14+24, v12);
+	st32(v15, 168627466);
+	st32(v15+4, 0);
+	stp(v15+8, v8);
+	st64(v15+16, 16);
+	stp(v15+24, (ptr)static_41);
+	st64(v15+32, 0);
+	stp(v15+40, v16);
+	st64(v15+48, v3);
+	st64(v15+56, 0);
+	u32 v21 = pcapfile_c_parts_put_parts(v9, v15, v17, v5, v6, v7);
+	if (v21) { v13 = v21; goto L4; }
+	su32(v1, v18);
+	su16(v1+4, v19);
+	su16(v1+6, v20);
+	su32(v1+8, 0);
+	v13 = 0; goto L4;
+L3:
+	su32(v7, 6);
+	su32(v7+4, 0);
+	su64(v7+8, 0);
+	v13 = 3;
+L4:
+	return (int32_t)(v13);
 }
 #endif
