@@ -169,26 +169,42 @@ extern "C" {
         error: *mut Error,
     ) -> i32;
     #[cfg(feature = "std")]
-    pub fn pcapfile_put_section(
+    pub fn pcapfile_put_section_with(
         section: *mut crate::Section,
+        options: *const BlockOption,
+        options_len: usize,
         room: *mut u8,
         room_len: usize,
         written: *mut usize,
         error: *mut Error,
     ) -> i32;
     #[cfg(feature = "std")]
-    pub fn pcapfile_put_interface(
+    pub fn pcapfile_put_interface_with(
         section: *mut crate::Section,
         interface: *const crate::Interface,
+        options: *const BlockOption,
+        options_len: usize,
         room: *mut u8,
         room_len: usize,
         written: *mut usize,
         error: *mut Error,
     ) -> i32;
     #[cfg(feature = "std")]
-    pub fn pcapfile_put_ng_packet(
+    pub fn pcapfile_put_ng_packet_with(
         section: *const crate::Section,
         packet: *const NgPacket,
+        options: *const BlockOption,
+        options_len: usize,
+        room: *mut u8,
+        room_len: usize,
+        written: *mut usize,
+        error: *mut Error,
+    ) -> i32;
+    #[cfg(feature = "std")]
+    pub fn pcapfile_put_options(
+        section: *const crate::Section,
+        options: *const BlockOption,
+        options_len: usize,
         room: *mut u8,
         room_len: usize,
         written: *mut usize,

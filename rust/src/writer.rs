@@ -2,11 +2,14 @@
 
 use crate::{calls, AnyPacket, Block, BlockOption, BlockPacket, Error, Header, Interface, Packet, Rule, Section, Time};
 use core::fmt;
+use std::borrow::Cow;
 use std::io::{self, Write};
 use std::vec::Vec;
 
 const INCOMPLETE: i32 = 1;
 const NO_ROOM: i32 = 9;
+/// The status for an option that the library doesn't write.
+const BAD_CALL: i32 = 10;
 
 /// Why something cannot be written, besides the rules that `Error` names. It is inside an `io::Error` of the kind `InvalidInput`.
 #[derive(Clone, Copy, Debug, PartialEq, Eq, Hash)]
@@ -164,8 +167,6 @@ pub struct BlockWriter<W> {
     made: Vec<(u32, u32, u32)>,
 }
 
-/// Options that `put_interface` writes itself: the unit of time and its offset.
-const UNIT_OPTIONS: [u16; 2] = [9, 14];
 /// The option of an interface that declares the length of frame check sequences.
 const FCS_LEN: u16 = 13;
 const INTERFACE: u32 = 1;
@@ -199,12 +200,12 @@ impl<W: Write> BlockWriter<W> {
 
     /// Writes a section header with options, whose numbers have the byte order of the section.
     ///
-    /// It fails as `begin_section` does, and with `WriteError::BadOption`.
+    /// It fails as `begin_section` does, with `WriteError::BadOption`, and over `Error::Invalid` with `Rule::BlockTooLong`.
     pub fn begin_section_with<'o>(&mut self, section: Section, options: impl IntoIterator<Item = BlockOption<'o>>) -> io::Result<()> {
-        let options = encoded(&section, options, &[])?;
-        self.put(|_| section, &options, |section, room, room_len, written, error| {
-            // SAFETY: the pointers point to values of their own, and into the buffer.
-            unsafe { calls::pcapfile_put_section(section, room, room_len, written, error) }
+        let options = lent(options);
+        self.put(section, |section, room, room_len, written, error| {
+            // SAFETY: the pointers point to values of their own, and into the buffer; `options` shows slices that outlive the call.
+            unsafe { calls::pcapfile_put_section_with(section, options.as_ptr(), options.len(), room, room_len, written, error) }
         })?;
         self.interfaces.clear();
         self.made.clear();
@@ -223,7 +224,7 @@ impl<W: Write> BlockWriter<W> {
     /// Writes the description of an interface with options, as 2 for its name. Numbers in them have the byte order of the section. Its
     /// unit of time (9) and offset (14) are those of `interface`, so leave them out.
     ///
-    /// It fails as `add_interface` does, and with `WriteError::BadOption`.
+    /// It fails as `add_interface` does, with `WriteError::BadOption`, and over `Error::Invalid` with `Rule::BlockTooLong`.
     ///
     /// ```
     /// use pcapfile::{BlockOption, BlockWriter, Interface, Section};
@@ -239,10 +240,11 @@ impl<W: Write> BlockWriter<W> {
         interface: &Interface,
         options: impl IntoIterator<Item = BlockOption<'o>>,
     ) -> io::Result<u32> {
-        let options = encoded(&self.section, options, &UNIT_OPTIONS)?;
-        self.put(|section| section, &options, |section, room, room_len, written, error| {
-            // SAFETY: the pointers point to values of their own, and into the buffer.
-            unsafe { calls::pcapfile_put_interface(section, interface, room, room_len, written, error) }
+        let options = lent(options);
+        let (options, options_len) = (options.as_ptr(), options.len());
+        self.put(self.section, |section, room, room_len, written, error| {
+            // SAFETY: the pointers point to values of their own, and into the buffer; `options` shows slices that outlive the call.
+            unsafe { calls::pcapfile_put_interface_with(section, interface, options, options_len, room, room_len, written, error) }
         })?;
         self.interfaces.push(*interface);
         Ok(self.section.interfaces - 1)
@@ -264,11 +266,7 @@ impl<W: Write> BlockWriter<W> {
         packet: &BlockPacket<'_>,
         options: impl IntoIterator<Item = BlockOption<'o>>,
     ) -> io::Result<()> {
-        let options = encoded(&self.section, options, &[])?;
-        self.write_encoded(packet, &options)
-    }
-
-    fn write_encoded(&mut self, packet: &BlockPacket<'_>, options: &[u8]) -> io::Result<()> {
+        let options = lent(options);
         let raw = calls::NgPacket {
             type_: 6,
             interface_id: packet.interface_id,
@@ -276,9 +274,9 @@ impl<W: Write> BlockWriter<W> {
             timestamp: packet.timestamp,
             bytes: calls::Bytes::of(packet.data),
         };
-        self.put(|section| section, options, |section, room, room_len, written, error| {
-            // SAFETY: the pointers point to values of their own, and into the buffer; `raw` shows the packet's slice.
-            unsafe { calls::pcapfile_put_ng_packet(section, &raw, room, room_len, written, error) }
+        self.put(self.section, |section, room, room_len, written, error| {
+            // SAFETY: the pointers point to values of their own, and into the buffer; `raw` and `options` show slices that outlive the call.
+            unsafe { calls::pcapfile_put_ng_packet_with(section, &raw, options.as_ptr(), options.len(), room, room_len, written, error) }
         })
     }
 
@@ -310,6 +308,7 @@ impl<W: Write> BlockWriter<W> {
         let interface_id = match known {
             Some(made) => made.2,
             None => {
+                self.check_options(&options)?;
                 let fcs_len = crate::fcs_len(number).map(|len| [len]);
                 let option = fcs_len.as_ref().map(|value| BlockOption { code: FCS_LEN, value });
                 let interface_id = self.add_interface_with(&Interface::nanoseconds(crate::link_type(number), 0), option)?;
@@ -334,23 +333,32 @@ impl<W: Write> BlockWriter<W> {
         self.write_as(interface_id, &packet, &options)
     }
 
-    fn write_as(&mut self, interface_id: u32, packet: &AnyPacket<'_>, options: &[u8]) -> io::Result<()> {
+    fn write_as(&mut self, interface_id: u32, packet: &AnyPacket<'_>, options: &[PacketOption<'_>]) -> io::Result<()> {
         let none = Interface::nanoseconds(0, 0);
         let timestamp = timestamp(self.interfaces.get(interface_id as usize).unwrap_or(&none), packet.time)?;
         let packet = BlockPacket { interface_id, timestamp, original_len: packet.original_len, data: packet.data };
-        self.write_encoded(&packet, options)
+        self.write_packet_with(&packet, options.iter().map(PacketOption::as_option))
     }
 
-    /// Returns the options of a packet as bytes in the byte order of the section.
-    fn options_of(&self, packet: &AnyPacket<'_>) -> io::Result<Vec<u8>> {
-        if packet.is_big_endian() == self.section.is_big_endian() {
-            return encoded(&self.section, packet.options(), &[]);
-        }
-        let mut turned = Vec::new();
-        for option in packet.options() {
-            turned.push((option.code, turned_value(&option).ok_or(WriteError::OtherByteOrder)?));
-        }
-        encoded(&self.section, turned.iter().map(|(code, value)| BlockOption { code: *code, value }), &[])
+    /// Returns the options of a packet, with the numbers in them in the byte order of the section.
+    fn options_of<'p>(&self, packet: &AnyPacket<'p>) -> io::Result<Vec<PacketOption<'p>>> {
+        let is_same = packet.is_big_endian() == self.section.is_big_endian();
+        let option_of = |option: BlockOption<'p>| {
+            let value = if is_same { Some(Cow::Borrowed(option.value)) } else { turned_value(&option).map(Cow::Owned) };
+            Ok(PacketOption { code: option.code, value: value.ok_or(WriteError::OtherByteOrder)? })
+        };
+        packet.options().map(option_of).collect()
+    }
+
+    /// Returns why the library doesn't write these options, so that a caller can write a block before theirs.
+    fn check_options(&mut self, options: &[PacketOption<'_>]) -> io::Result<()> {
+        let section = self.section;
+        let options = lent(options.iter().map(PacketOption::as_option));
+        self.out.make(|room, room_len, written, error| {
+            // SAFETY: the pointers point to values of their own, and into the buffer; `options` shows slices that outlive the call.
+            unsafe { calls::pcapfile_put_options(&section, options.as_ptr(), options.len(), room, room_len, written, error) }
+        })?;
+        Ok(())
     }
 
     /// Writes a block of a reader byte for byte, of any kind. A section header begins a section, and an interface is added to it, so
@@ -423,17 +431,13 @@ impl<W: Write> BlockWriter<W> {
         self.out.stream
     }
 
-    /// Writes a block to the stream, and then changes the section, if that succeeded.
+    /// Writes a block of this section to the stream, and then keeps the section as the call left it, if that succeeded.
     fn put(
         &mut self,
-        start: impl Fn(Section) -> Section,
-        options: &[u8],
+        mut section: Section,
         put: impl Fn(&mut Section, *mut u8, usize, &mut usize, &mut calls::Error) -> i32,
     ) -> io::Result<()> {
-        let mut section = start(self.section);
-        let written = self.out.make(|room, room_len, written, error| put(&mut section, room, room_len, written, error))?;
-        let written = self.out.add_options(&section, written, options)?;
-        self.out.send_made(written)?;
+        self.out.write(|room, room_len, written, error| put(&mut section, room, room_len, written, error))?;
         self.section = section;
         Ok(())
     }
@@ -469,26 +473,10 @@ impl<W: Write> Out<W> {
                     self.room.try_reserve(error.missing)?;
                     self.room.resize(self.room.len() + error.missing, 0);
                 }
+                BAD_CALL => return Err(WriteError::BadOption.into()),
                 status => return Err(io::Error::new(io::ErrorKind::InvalidInput, Error::of(status, error))),
             }
         }
-    }
-
-    /// Adds options to the block in the buffer, whose options if any end with an end mark. Returns how many bytes the block then has.
-    fn add_options(&mut self, section: &Section, written: usize, options: &[u8]) -> io::Result<usize> {
-        if options.is_empty() {
-            return Ok(written);
-        }
-        // The list of an interface goes on before its mark.
-        let is_interface = section.number_at(&self.room, 0) == Some(INTERFACE);
-        let end = written - 4 - if is_interface { END.len() } else { 0 };
-        let len = end.checked_add(options.len()).and_then(|len| len.checked_add(END.len() + 4));
-        let bytes = bytes_of(section, len.and_then(|len| u32::try_from(len).ok()).ok_or(WriteError::BadLength)?);
-        let mut made = self.room[..end].to_vec();
-        made[4..8].copy_from_slice(&bytes);
-        made.extend([options, &END, &bytes].concat());
-        self.room = made;
-        Ok(self.room.len())
     }
 
     fn send_made(&mut self, written: usize) -> io::Result<()> {
@@ -515,26 +503,26 @@ impl<W: Write> Out<W> {
     }
 }
 
-/// The mark that ends a list of options.
-const END: [u8; 4] = [0; 4];
+/// An option of a packet, whose value is that of the packet or the same in the other byte order.
+struct PacketOption<'p> {
+    code: u16,
+    value: Cow<'p, [u8]>,
+}
+
+impl PacketOption<'_> {
+    fn as_option(&self) -> BlockOption<'_> {
+        BlockOption { code: self.code, value: &self.value }
+    }
+}
+
+/// Returns options as C sees them. Their values must outlive the calls that get them.
+fn lent<'o>(options: impl IntoIterator<Item = BlockOption<'o>>) -> Vec<calls::BlockOption> {
+    options.into_iter().map(|option| calls::BlockOption { code: option.code, value: calls::Bytes::of(option.value) }).collect()
+}
 
 /// Returns a number as bytes, in the byte order of a section.
 fn bytes_of(section: &Section, number: u32) -> [u8; 4] {
     if section.is_big_endian() { number.to_be_bytes() } else { number.to_le_bytes() }
-}
-
-/// Returns options as bytes without the mark that ends them. Some codes are not for callers.
-fn encoded<'o>(section: &Section, options: impl IntoIterator<Item = BlockOption<'o>>, others: &[u16]) -> io::Result<Vec<u8>> {
-    let mut bytes = Vec::new();
-    for option in options {
-        let len = u16::try_from(option.value.len()).ok().filter(|_| option.code != 0 && !others.contains(&option.code));
-        for number in [option.code, len.ok_or(WriteError::BadOption)?] {
-            bytes.extend(if section.is_big_endian() { number.to_be_bytes() } else { number.to_le_bytes() });
-        }
-        bytes.extend_from_slice(option.value);
-        bytes.resize(bytes.len().next_multiple_of(4), 0);
-    }
-    Ok(bytes)
 }
 
 /// Returns the value of a packet's option in the other byte order. None if numbers in it are unknown, or its length is another one.
