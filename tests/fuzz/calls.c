@@ -297,6 +297,77 @@ static void writes(void) {
     }
 }
 
+/* Writes a block with these options, or only the options, into room that is just long enough. Returns its status, and what it wrote. */
+static int32_t put_with(int kind, pcapfile_section *section, const pcapfile_interface *interface, const pcapfile_ng_packet *packet,
+                        const pcapfile_option *options, size_t count, pcapfile_bytes *block) {
+    pcapfile_error error = { 77, 77 }, before;
+    size_t written = 0, len = 0;
+    int32_t status;
+    for (;;) {
+        uint8_t *room = last(&written_room, len);
+        CALL(status, kind == 0 ? pcapfile_put_section_with(section, options, count, room, len, &written, &error)
+                   : kind == 1 ? pcapfile_put_interface_with(section, interface, options, count, room, len, &written, &error)
+                   : kind == 2 ? pcapfile_put_ng_packet_with(section, packet, options, count, room, len, &written, &error)
+                               : pcapfile_put_options(section, options, count, room, len, &written, &error));
+        if (status != PCAPFILE_INCOMPLETE && status != PCAPFILE_NO_ROOM) {
+            EXPECT(status != PCAPFILE_OK || written == len);
+            *block = (pcapfile_bytes){ room, len };
+            return status;
+        }
+        len += error.missing;
+    }
+}
+
+/* Checks that this list has exactly these options, besides those of an interface's clock. */
+static void lists(const pcapfile_section *section, pcapfile_bytes list, const pcapfile_option *options, size_t count) {
+    pcapfile_error error = PCAPFILE_ERROR_INIT;
+    pcapfile_option option = PCAPFILE_OPTION_INIT;
+    size_t found = 0;
+    while (pcapfile_take_option(section, &list, &option, &error) == PCAPFILE_OK) {
+        if (option.code == 9 || option.code == 14) continue;
+        EXPECT(found < count && option.code == options[found].code && option.value.len == options[found].value.len);
+        EXPECT(memcmp(option.value.ptr, options[found].value.ptr, option.value.len) == 0);
+        found++;
+    }
+    EXPECT(found == count);
+}
+
+/* Checks that a reader takes this block with these options. */
+static void reads_back(pcapfile_section *section, pcapfile_bytes left, const pcapfile_option *options, size_t count) {
+    pcapfile_error error = PCAPFILE_ERROR_INIT;
+    pcapfile_block block = PCAPFILE_BLOCK_INIT;
+    pcapfile_bytes list = PCAPFILE_NO_BYTES;
+    EXPECT(pcapfile_take_block(section, &left, &block, &error) == PCAPFILE_OK && left.len == 0);
+    EXPECT(pcapfile_options(section, &block, &list, &error) == PCAPFILE_OK);
+    lists(section, list, options, count);
+}
+
+/* Writes blocks with custom options, and one with an option that no call writes. Reads the blocks back. */
+static void writes_options(void) {
+    enum { CUSTOM = 2989, MOST_OPTIONS = 5 };
+    pcapfile_section section = PCAPFILE_SECTION_LITTLE_ENDIAN, read = PCAPFILE_SECTION_INIT;
+    if (below(2)) section.magic_number = 0x1a2b3c4d;
+    pcapfile_interface interface = { (uint32_t)below(65536), 0, below(2) ? 10 : 2, (uint8_t)below(128), (int64_t)below(2) };
+    pcapfile_bytes data = { capture_room.pages, below(2000) }, block;
+    pcapfile_ng_packet packet = { 6, 0, (uint32_t)next_number(), next_number(), data };
+    pcapfile_option options[MOST_OPTIONS];
+    size_t count = below(MOST_OPTIONS);
+    for (size_t k = 0; k < count; k++) options[k] = (pcapfile_option){ CUSTOM, { capture_room.pages + below(64), 4 + below(300) } };
+    for (int kind = 0; kind < 3; kind++) {
+        EXPECT(put_with(kind, &section, &interface, &packet, options, count, &block) == PCAPFILE_OK);
+        reads_back(&read, block, options, count);
+        EXPECT(read.interfaces == section.interfaces && read.magic_number == section.magic_number);
+    }
+    EXPECT(put_with(3, &section, &interface, &packet, options, count, &block) == PCAPFILE_OK);
+    lists(&section, block, options, count);
+    pcapfile_section was = section;
+    options[count] = (pcapfile_option){ below(2) ? 0 : CUSTOM, { capture_room.pages, 65536 } };
+    for (int kind = 0; kind < 4; kind++) {
+        EXPECT(put_with(kind, &section, &interface, &packet, options, count + 1, &block) == PCAPFILE_BAD_CALL);
+        EXPECT(memcmp(&section, &was, sizeof was) == 0);
+    }
+}
+
 static void try_one(const uint8_t *bytes, size_t len) {
     uint8_t *copy = capture_room.pages;
     memcpy(copy, bytes, len);
@@ -308,6 +379,7 @@ static void try_one(const uint8_t *bytes, size_t len) {
     size_t in_pieces = walk_pieces(capture);
     EXPECT(in_pieces == SIZE_MAX || in_pieces == walk_any(capture));
     writes();
+    writes_options();
 }
 
 int main(int count, char **words) {
