@@ -77,7 +77,7 @@ fn repair_to<W: Write + Drop>(
         return tell_io(console, asked.out, &error);
     }
     if let Some(error) = repaired.take_report_error() {
-        return Err(error);
+        return tell_io(console, STANDARD, &error);
     }
     *outcome = repaired.summary().outcome();
     if matches!(asked.opening, Opening::Own) && *outcome != Outcome::Kept {
