@@ -37,7 +37,8 @@ WORDS = (
     (["join", "in", "-o", "out"], False, False),
     (["merge", "in", "in", "-o", "out"], False, False),
     (["merge", "--repair", "flawed", "in", "-o", "out"], False, True),
-    (["repair", "in", "-o", "out"], False, False),
+    (["repair", "in", "-o", "out"], False, True),
+    (["repair", "--json", "flawed", "-o", "out"], True, False),
     (["repair", "flawed", "-o", "out"], False, True),
 )
 

@@ -246,14 +246,9 @@ impl Repaired {
         })
     }
 
-    /// Returns what was kept, changed and left out so far.
-    pub fn summary(&mut self) -> Summary {
-        self.report.summary()
-    }
-
-    /// Returns the error of the report, if it could not be written to standard output.
-    pub fn take_report_error(&mut self) -> Option<io::Error> {
-        self.report.take_error()
+    /// Ends the report, and returns what was kept, changed and left out. The errors are those of standard output.
+    pub fn finish(&mut self) -> io::Result<Summary> {
+        self.report.finish()
     }
 
     /// Returns the next bytes of the repaired capture, or none at its end.
@@ -279,7 +274,7 @@ impl Repaired {
             };
             self.tell_row(making.rows());
             if making.rows().is_at_end() {
-                self.report.end();
+                self.report.end_reading();
                 break;
             }
             let making = self.make_item(making)?;

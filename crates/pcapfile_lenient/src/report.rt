@@ -243,17 +243,24 @@ impl Report {
         self.tally.leave_out(items);
     }
 
-    /// Returns the summary so far.
-    pub(crate) fn summary(&mut self) -> Summary {
-        self.tally.summary()
+    /// Writes the changes of a capture that was read to its end. Only a report on damage ends here.
+    pub(crate) fn end_reading(&mut self) {
+        if self.reporting == Reporting::Damage {
+            self.put_summary();
+        }
+        self.flush();
     }
 
-    /// Returns the first error of the output, if it is not standard error.
-    pub(crate) fn take_error(&mut self) -> Option<io::Error> {
-        match self.output {
+    /// Ends the report, and returns its summary. The errors are those of standard output.
+    pub(crate) fn finish(&mut self) -> io::Result<Summary> {
+        if self.reporting != Reporting::Damage {
+            self.put_summary();
+        }
+        self.flush();
+        match self.error.take() {
             // A failed message doesn't stop the repair.
-            Output::Lines(_) => None,
-            Output::Json(_) => self.error.take(),
+            Some(error) if self.reporting == Reporting::Json => Err(error),
+            _ => Ok(self.tally.summary()),
         }
     }
 
@@ -268,8 +275,8 @@ impl Report {
         self.keep(told);
     }
 
-    /// Writes the end of the report.
-    pub(crate) fn end(&mut self) {
+    // Writes the end of the report.
+    fn put_summary(&mut self) {
         let summary = self.tally.summary();
         let is_told = self.reporting != Reporting::Damage || summary.outcome() != Outcome::Kept;
         let told = match &mut self.output {
@@ -281,7 +288,6 @@ impl Report {
             Output::Json(output) => put_end(output, &summary),
         };
         self.keep(told);
-        self.flush();
     }
 
     /// Writes what is buffered.

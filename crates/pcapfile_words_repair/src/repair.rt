@@ -76,10 +76,10 @@ fn repair_to<W: Write + Drop>(
     if let Err(error) = output.flush() {
         return tell_io(console, asked.out, &error);
     }
-    if let Some(error) = repaired.take_report_error() {
-        return tell_io(console, STANDARD, &error);
+    match repaired.finish() {
+        Ok(summary) => *outcome = summary.outcome(),
+        Err(error) => return tell_io(console, STANDARD, &error),
     }
-    *outcome = repaired.summary().outcome();
     if matches!(asked.opening, Opening::Own) && *outcome != Outcome::Kept {
         tell_changed(console, asked.from)?;
     }
