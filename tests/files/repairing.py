@@ -1,6 +1,8 @@
 """Checks what `pcapfile repair` makes of captures of blocks, and that other words with `--repair` read what it makes of captures of
 either format. The test states again what becomes of a block, over `as_is`, which takes blocks with struct alone."""
+import json
 import random
+import re
 import struct
 import subprocess
 import tempfile
@@ -273,6 +275,52 @@ def try_by_hand(tally, help):
             )
 
 
+def change_in(message):
+    """Returns the JSON object of a change, by the message on it."""
+    found = re.fullmatch(r"(?:packet|block) (\d+) at byte (\d+)(?: breaks rule (\d+))?: (.*)", message)
+    if found:
+        number, place, rule, action = found.groups()
+        return {"number": int(number), "offset": int(place), "skipped": None, "rule": rule and int(rule), "action": action, "guess": "guess" in action}
+    size, place, rule = re.fullmatch(r"(\d+) bytes at byte (\d+) are .*, and are left out(?: by rule (\d+): .*)?", message).groups()
+    action = message.partition(" by rule ")[0]
+    return {"number": None, "offset": int(place), "skipped": int(size), "rule": rule and int(rule), "action": action, "guess": False}
+
+
+def report_of(name, capture, said, status):
+    """Returns the JSON report of a repair, by its messages."""
+    *changes, last = [it.removeprefix(f"pcapfile: {name}: ") for it in said.splitlines()]
+    kept, repaired, guessed, left, skipped = (int(it) for it in [*re.findall(r"\d+", last), 0, 0, 0, 0][:5])
+    counts = {"kept": kept, "repaired": repaired, "guessed": guessed, "left_out": left, "skipped": skipped}
+    outcome = {DONE: "sound", REPAIRED: "repaired", GUESSED: "guessed"}[status]
+    return {"file": name, "format": as_is.stands_in(capture)[0], "changes": [change_in(it) for it in changes], "outcome": outcome, **counts}
+
+
+def try_reports(tally, help):
+    """Checks the JSON reports of repairs, and that such a repair writes what another one writes."""
+    draw = random.Random(36)
+    both = (*as_is.captures(), *as_is.gaps(), *captures(help))
+    by_chance = [it for it in both if len(it[1]) < 300000 and draw.randrange(3) == 0]
+    for name, capture in (*by_chance, *((it[0], it[1]) for order in "<>" for it in by_hand(order))):
+        out, said, status = repaired('a "name"', capture)
+        with tempfile.TemporaryDirectory() as folder:
+            help.put(folder, 'a "name"', capture)
+            ended = as_is.ran(tally, folder, "repair", "--json", 'a "name"', "-o", "out")
+            left = help.files(folder)
+        wanted = None if out is None else report_of('a "name"', capture, said, status)
+        found = json.loads(ended[1] or "null")
+        tally.note(
+            f"repair --json of {name}",
+            (ended[0], ended[2]) != (status, said * (out is None)) and f"it ended with {ended[0]} and said {ended[2]!r}",
+            found != wanted and f"it gave {found}, and not {wanted}",
+            ended[1].count(b"\n") != (out is not None) and "it wrote no line, or several",
+            left.get("out") != out and "it wrote another capture",
+        )
+    with tempfile.TemporaryDirectory() as folder:
+        help.put(folder, "in", section("<"))
+        ended = as_is.ran(tally, folder, "repair", "--json", "in", "-o", "-")
+    tally.note("repair --json to standard output", (ended[:2] != (USAGE, b"") or not ended[2].startswith("error: ")) and f"it gave {ended}")
+
+
 def shown(help, capture):
     """Returns time, stored length and length on the wire of each packet, if each has an interface."""
     try:
@@ -379,5 +427,5 @@ def try_parts(tally, help):
 
 
 def try_all(tally, help):
-    for tries in (try_blocks, try_by_hand, try_words, try_older_spelling, try_parts):
+    for tries in (try_blocks, try_by_hand, try_reports, try_words, try_older_spelling, try_parts):
         tries(tally, help)

@@ -105,16 +105,8 @@ const STATUSES: &str = "Exit status:
   2    the arguments are wrong
   3    a file can't be opened or read, or the output can't be written
   4    memory ran out
-  141  the reader of the output has gone";
-
-const REPAIR_STATUSES: &str = "Exit status:
-  0    the capture is not damaged, and OUT is the same
-  1    the file is not a capture
-  2    the arguments are wrong
-  3    a file can't be opened or read, or the output can't be written
-  4    memory ran out
-  5    the capture was damaged, and OUT is well-formed
-  6    the same, and a part of OUT is a guess
+  5    'repair' made a well-formed capture of a damaged one
+  6    the same, and a part of it is a guess
   141  the reader of the output has gone";
 
 const CHECK: &str =
@@ -341,13 +333,9 @@ impl Word {
 
     // Adds the arguments and the help of the word.
     fn command<'a>(self, alloc: Global) -> Result<Command<'a>, AllocError> {
-        let statuses = match self {
-            Word::Repair => REPAIR_STATUSES,
-            _ => STATUSES,
-        };
         let command = Command::new(alloc, self.name())
             .about(self.summary())
-            .after_help(statuses);
+            .after_help(STATUSES);
         match self {
             Word::Check => check(alloc, command),
             Word::Info => info(alloc, command),
