@@ -126,7 +126,7 @@ impl Named {
 
 impl Change {
     /// Returns the number and the place of the packet or block, when the reader is behind what is counted.
-    pub fn spot(&self, counted: &Counted) -> Spot {
+    pub(crate) fn spot(&self, counted: &Counted) -> Spot {
         match *self {
             Change::Unconfirmed(len) => Spot {
                 number: counted.items,
@@ -140,7 +140,7 @@ impl Change {
     }
 
     /// Returns whether the packet or block is a guess.
-    pub fn is_guess(&self) -> bool {
+    pub(crate) fn is_guess(&self) -> bool {
         match *self {
             Change::Length { is_guess, .. } => is_guess,
             Change::Found | Change::Unconfirmed(_) => true,

@@ -55,7 +55,7 @@ pub(crate) struct Tally {
 
 impl Outcome {
     /// Returns the worse of two outcomes.
-    pub fn or(self, other: Outcome) -> Outcome
+    pub(crate) fn or(self, other: Outcome) -> Outcome
         ensures { result ≡ worse self other }
     {
         match (self, other) {
@@ -77,7 +77,7 @@ impl Outcome {
     }
 
     /// Returns the name of the outcome of a capture.
-    pub fn name(self) -> &'static str {
+    pub(crate) fn name(self) -> &'static str {
         match self {
             Outcome::Kept => "sound",
             Outcome::Repaired => "repaired",
@@ -88,7 +88,7 @@ impl Outcome {
 
 impl Summary {
     /// Returns the summary of a capture of which no packet or block was read.
-    pub fn new(format: Format, opening: Outcome) -> Summary {
+    pub(crate) fn new(format: Format, opening: Outcome) -> Summary {
         Summary {
             format,
             opening,
@@ -101,7 +101,7 @@ impl Summary {
     }
 
     /// Counts a packet or block with this outcome.
-    pub fn count(&mut self, outcome: Outcome) {
+    pub(crate) fn count(&mut self, outcome: Outcome) {
         let count = match outcome {
             Outcome::Kept => &mut self.kept,
             Outcome::Repaired => &mut self.repaired,
@@ -111,12 +111,12 @@ impl Summary {
     }
 
     /// Counts packets or blocks that were left out.
-    pub fn leave_out(&mut self, items: u64) {
+    pub(crate) fn leave_out(&mut self, items: u64) {
         self.left_out = self.left_out.saturating_add(items);
     }
 
     /// Counts bytes that were skipped.
-    pub fn skip(&mut self, bytes: u64) {
+    pub(crate) fn skip(&mut self, bytes: u64) {
         self.skipped = self.skipped.saturating_add(bytes);
     }
 
