@@ -22,13 +22,6 @@ pub struct Listing<'a> {
     pub most: Option<u64>,
 }
 
-/// The end of each line of a packet with a malformed body: in the forms for people, as CSV and as JSON.
-const REFUSED: [&[u8]; 3] = [
-    b" refused\n",
-    b",,,,,\n",
-    b",\"captured\":null,\"original\":null,\"interface\":null}\n",
-];
-
 /// An output of lines, each of which is one write. It counts the lines of packets with a malformed body.
 #[derive(Drop)]
 struct Lines<'a, W> {
@@ -41,7 +34,7 @@ impl<W: Write> Write for Lines<'_, W> {
 
     fn write(&mut self, buf: &[u8]) -> io::Result<usize> {
         let len = self.output.write(buf)?;
-        if len == buf.len() && REFUSED.iter().any(|end| buf.ends_with(end)) {
+        if len == buf.len() && is_refused(buf) {
             self.refused = self.refused.saturating_add(1);
         }
         Ok(len)
@@ -119,6 +112,13 @@ fn tell_refused(console: &Console, name: &str, refused: u64) -> io::Result<u8> {
         "pcapfile: {shown}: {packets}; 'pcapfile list --as-is' names the rules"
     )?;
     Ok(AT_FAULT)
+}
+
+// Returns whether a line is that of a packet with a malformed body, in a form for people, as CSV, or as JSON.
+fn is_refused(line: &[u8]) -> bool {
+    line.ends_with(b" refused\n")
+        || line.ends_with(b",,,,,\n")
+        || line.starts_with(b"{\"captured\":null,")
 }
 
 fn is_read_by_people(form: Option<Form>) -> bool {
