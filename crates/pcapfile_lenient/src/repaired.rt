@@ -17,6 +17,9 @@ use std::alloc::{AllocError, Global};
 use std::io::{ErrorKind, Read};
 use std::{io, str};
 
+/// The room for the messages on a packet or block, in bytes. They need no more memory, so that none is lost.
+const NOTES: usize = 1_024;
+
 /// The message on a text-mode transfer that is undone.
 const UNDONE: &str =
     "its line ends are undone: a text-mode transfer turned each LF into CR LF; bytes are counted without these CRs";
@@ -92,10 +95,11 @@ impl Packets {
     // Reports what became of a packet.
     fn tell(&mut self, report: &mut Report, item: Item) {
         if item.is_changed {
-            let mut rules = match self.repairs.flaws {
-                Some(flaws) => rules_of(flaws).into_iter().flatten(),
-                None => [None; 3].into_iter().flatten(),
+            let rules = match self.repairs.flaws {
+                Some(flaws) => rules_of(flaws),
+                None => [None; 3],
             };
+            let mut rules = rules.into_iter().flatten();
             let notes = &mut self.repairs.teller.notes;
             for line in str::from_utf8(notes.as_slice()).unwrap_or_default().lines() {
                 report.tell_repair(item.at, rules.next(), action_in(line));
@@ -139,24 +143,24 @@ impl Blocks {
 }
 
 impl Making {
-    fn of_packets(alloc: Global, rows: PacketRows) -> Making {
+    fn of_packets(alloc: Global, rows: PacketRows) -> Result<Making, AllocError> {
         let teller = Repairs {
             order: rows.endianness(),
             prefix: String::new(alloc),
-            notes: Vec::new(alloc),
+            notes: Vec::with_capacity(alloc, NOTES)?,
             room: Vec::new(alloc),
         };
         let repairs = NotedPackets {
             teller,
             flaws: None,
         };
-        Making::Packets(Packets { rows, repairs })
+        Ok(Making::Packets(Packets { rows, repairs }))
     }
 
-    fn of_blocks(alloc: Global, rows: BlockRows) -> Making {
+    fn of_blocks(alloc: Global, rows: BlockRows) -> Result<Making, AllocError> {
         let teller = BlockRepairs {
             prefix: String::new(alloc),
-            notes: Vec::new(alloc),
+            notes: Vec::with_capacity(alloc, NOTES)?,
             body: Vec::new(alloc),
             text: Vec::new(alloc),
         };
@@ -165,7 +169,7 @@ impl Making {
             rule: None,
             is_sound_section: false,
         };
-        Making::Blocks(Blocks { rows, repairs })
+        Ok(Making::Blocks(Blocks { rows, repairs }))
     }
 
     fn format(&self) -> Format {
@@ -226,8 +230,8 @@ impl Repaired {
             _ => 0,
         };
         let (making, made, bytes) = match standing {
-            Standing::Packets(made, rows) => (Making::of_packets(alloc, rows), made, first),
-            Standing::Blocks(rows) => (Making::of_blocks(alloc, rows), Vec::new(alloc), 0),
+            Standing::Packets(made, rows) => (Making::of_packets(alloc, rows)?, made, first),
+            Standing::Blocks(rows) => (Making::of_blocks(alloc, rows)?, Vec::new(alloc), 0),
             Standing::Neither(_, error) => return Err(error),
         };
         let format = making.format();
