@@ -6,6 +6,9 @@ function splitName(name) {
   return dot > 0 ? [name.slice(0, dot), name.slice(dot)] : [name, ""];
 }
 
+/** The statuses of runs that wrote all of their output: a repair of a damaged capture ends with 5, or with 6 if a part of it is a guess. */
+const WHOLE = [0, 5, 6];
+
 const BEFORE_FAULT = "The capture has a fault. What stands before it was written.";
 const NOTHING_WRITTEN = "The capture has a fault, and nothing was written.";
 
@@ -36,7 +39,7 @@ class Job {
 
   async end(result) {
     const failure = failureOf(result), { lines, isAll } = await messagesOf(result);
-    const isWhole = !failure && result.status === 0;
+    const isWhole = !failure && WHOLE.includes(result.status);
     const said = failure ?? (isWhole ? null : result.written.length ? BEFORE_FAULT : NOTHING_WRITTEN);
     this.body.replaceChildren(
       ...(said ? [make("p.note", said)] : []),

@@ -25,8 +25,12 @@ _CARRIED = Path(__file__).parent / "bin" / "pcapfile"
 # The program's exit statuses other than 0.
 _REFUSED, _NOT_UNDERSTOOD, _NO_MEMORY = 1, 2, 4
 
-# The beginning of each line that the program prints, and the beginning of its hint for users of the command line.
-_HEAD, _HINT = "pcapfile: ", "--repair reads on"
+# The exit statuses of a repair that wrote its output: the capture was sound, is repaired, or is repaired with guesses.
+_REPAIRS = 0, 5, 6
+
+# The beginning of each line that the program prints, the beginning of its hint for users of the command line, and a part of the line on a
+# sound capture.
+_HEAD, _HINT, _SOUND = "pcapfile: ", "--repair reads on", ": no damage found; "
 
 # The most lines that a warning shows.
 _SHOWN = 10
@@ -50,7 +54,7 @@ class ProgramError(CaptureError):
         ...     pcapfile.convert("broken.pcap", "converted.pcapng")
         ... except pcapfile.ProgramError as error:
         ...     print(error)
-        broken.pcap: cut short
+        broken.pcap: cut short at byte 24
     """
 
     # Every other CaptureError has a place, and callers of those need not ask for None.
@@ -205,7 +209,9 @@ def convert(file: Name, out: Name, *, to: Optional[str] = None, repaired: bool =
 
 def repair(file: Name, out: Name, *, header: Optional[str] = None, guess: bool = False, link: Optional[int] = None) -> List[str]:
     """Writes what can be read of a damaged capture as a capture that breaks no rule. It returns a message, with its place, for
-    each packet and block that it changed or left out. It raises a ProgramError if the header is malformed.
+    each packet and block that it changed or left out. The last message counts the packets or blocks that were kept, repaired,
+    guessed and left out, and the skipped bytes. There is no message if the capture is sound. It raises a ProgramError if the header
+    is malformed.
 
     If a classic capture has lost its header, give it as `header`, such as "little,micro,1": the byte order, the resolution and the
     link type. With `guess=True` the program chooses the byte order and resolution with the longest run of packets; the link type is
@@ -221,13 +227,13 @@ def repair(file: Name, out: Name, *, header: Optional[str] = None, guess: bool =
         words.append(f"--header={header}")
     if link is not None:
         words.append(f"--link={_arguments.whole('link', link, 0)}")
-    return _written(words, [_named("file", file)], out)
+    return _written(words, [_named("file", file)], out, _REPAIRS)
 
 
-def _written(words: List[str], files: Sequence[Name], out: Name) -> List[str]:
+def _written(words: List[str], files: Sequence[Name], out: Name, statuses: Sequence[int] = (0,)) -> List[str]:
     done = _run([*words, b"--output=" + os.fsencode(_named("out", out)), "--", *files])
     lines = _lines(done.stderr)
-    if done.returncode != 0:
+    if done.returncode not in statuses:
         raise _error_of(done.returncode, lines)
     _warn(lines, 2)
     return lines
@@ -268,16 +274,20 @@ def _seconds(nanoseconds: int) -> str:
 
 
 def _lines(said: bytes) -> List[str]:
-    """Returns the lines that the program printed, without its name and its hint."""
+    """Returns the lines that the program printed, without its name, its hint and the line on a sound capture."""
     lines = [line[len(_HEAD) :] if line.startswith(_HEAD) else line for line in os.fsdecode(said).split("\n")]
-    return [line for line in lines if line and not line.startswith(_HINT)]
+    return [line for line in lines if line and not line.startswith(_HINT) and _SOUND not in line]
 
 
 def _warn(lines: List[str], depth: int) -> None:
     """Issues a warning in the name of the caller `depth` functions above this one."""
     if lines:
-        more = [f"and {len(lines) - _SHOWN} lines more"] if len(lines) > _SHOWN else []
+        more = [f"and {_more(len(lines) - _SHOWN)}"] if len(lines) > _SHOWN else []
         warnings.warn("\n".join(lines[:_SHOWN] + more), CaptureWarning, stacklevel=depth + 2)
+
+
+def _more(count: int) -> str:
+    return "1 line more" if count == 1 else f"{count} lines more"
 
 
 def _error_of(status: int, lines: List[str]) -> Exception:

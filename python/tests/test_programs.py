@@ -86,7 +86,7 @@ class Programs(InFolder):
     def test_merge_of_a_capture_that_is_cut_short(self):
         Path("a.pcap").write_bytes(HEADER + packet(1, 0, b"a") + packet(3, 0, b"c")[:-1])
         Path("b.pcap").write_bytes(HEADER + packet(2, 0, b"b"))
-        with self.assertRaisesRegex(pcapfile.ProgramError, "^a.pcap: cut short") as told:
+        with self.assertRaisesRegex(pcapfile.ProgramError, "^a.pcap: cut short at byte 41") as told:
             pcapfile.merge(["a.pcap", "b.pcap"], "both.pcapng")
         self.assertIsInstance(told.exception, pcapfile.CaptureError)
         self.assertEqual(texts("both.pcapng"), [b"a", b"b"])
@@ -186,7 +186,7 @@ class Programs(InFolder):
 
     def test_convert_says_what_it_leaves_out(self):
         Path("a.pcapng").write_bytes(SECTION + interface(1) + INTERFACE + enhanced(0, 1, b"a") + enhanced(1, 2, b"b"))
-        with self.assertWarnsRegex(pcapfile.CaptureWarning, "1 packets have no place there") as told:
+        with self.assertWarnsRegex(pcapfile.CaptureWarning, "1 packet has no place there") as told:
             lines = pcapfile.convert("a.pcapng", "a.pcap")
         self.assertEqual(told.filename, __file__)
         self.assertEqual(str(told.warning), "\n".join(lines))
@@ -197,7 +197,7 @@ class Programs(InFolder):
         with self.assertWarns(pcapfile.CaptureWarning):
             lines = pcapfile.repair("a.pcap", "b.pcap")
         self.assertEqual(Path("b.pcap").read_bytes(), HEADER + packet(1, 0, b"abc", 3) + packet(2, 0, b"d"))
-        self.assertEqual(lines[-1], "a.pcap: 1 of 2 packets are changed")
+        self.assertEqual(lines[-1], "a.pcap: 1 packet kept, 1 repaired, 0 guessed, 0 left out, 0 bytes skipped")
         self.assertEqual(pcapfile.repair("b.pcap", "c.pcap"), [])
 
     def test_repair_without_a_header(self):
@@ -205,7 +205,9 @@ class Programs(InFolder):
         Path("a.pcap").write_bytes(b"".join(whole))
         with self.assertRaises(pcapfile.ProgramError):
             pcapfile.repair("a.pcap", "b.pcap")
-        self.assertEqual(pcapfile.repair("a.pcap", "b.pcap", header="little,micro,101"), [])
+        with self.assertWarns(pcapfile.CaptureWarning):
+            lines = pcapfile.repair("a.pcap", "b.pcap", header="little,micro,101")
+        self.assertEqual(lines, ["a.pcap: 6 packets kept, 0 repaired, 0 guessed, 0 left out, 0 bytes skipped"])
         with self.assertWarns(pcapfile.CaptureWarning):
             pcapfile.repair("a.pcap", "c.pcap", guess=True, link=101)
         for name in ("b.pcap", "c.pcap"):

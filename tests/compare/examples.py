@@ -15,7 +15,7 @@ TOOLS = ("tcpdump", "tshark", "capinfos", "editcap")
 SECONDS = 600
 PROGRAMS = ("pcapfile", "example_dissect", "example_feed", "example_replay")
 # The offset after the snaplen of a classic capture, and the message about packets that a conversion leaves out.
-LINK, LEFT_OUT = 20, re.compile(rb"(\d+) packets have no place there")
+LINK, LEFT_OUT = 20, re.compile(rb"(\d+) packets? ha(?:ve|s) no place there")
 
 SAME, BEGINNING, DIFFERENT = range(3)
 

@@ -8,7 +8,7 @@ import tempfile
 
 import lenient
 
-DONE, AT_FAULT, FAILED = 0, 1, 3
+DONE, AT_FAULT, FAILED, REPAIRED, GUESSED = 0, 1, 3, 5, 6
 LONGEST, MOST = 262144, 16777216
 BILLION = 10**9
 MAGICS = {0xA1B2C3D4: 1000, 0xA1B23C4D: 1}
@@ -189,10 +189,33 @@ def said_on(item):
     """Returns the messages of a list on a packet, a block, a changed length or a gap. A list doesn't count blocks, and names no number of
     one."""
     if isinstance(item, Gap):
-        return [CUT if is_torn(item) else left_out(item)]
+        return [f"{CUT} at byte {item.place}" if is_torn(item) else left_out(item)]
     if isinstance(item, Mending):
         return [mending(item).replace(f"block {item.number} ", "a block ")]
     return [*said_before(item), *said_behind(item)] if isinstance(item, Packet) else []
+
+
+def counted(number, word):
+    """Returns a number of things with the word for one of them or for several."""
+    return f"{number} {word}{'s' * (number != 1)}"
+
+
+def summary(item, outcomes, gaps, others=0, opening=DONE):
+    """Returns the last message of a repair, and its status: `outcomes` are those of the packets or blocks that it wrote, `gaps` are the
+    bytes that it skipped, and it left out `others` beside these. The word for an item is `item`."""
+    left, skipped = sum(map(is_torn, gaps)) + others, sum(it.size for it in gaps)
+    worst = max([opening, *outcomes, REPAIRED * (left + skipped > 0)])
+    kept = f"{counted(outcomes.count(DONE), item)} kept"
+    if worst == DONE:
+        return f"no damage found; {kept}", DONE
+    repaired, guessed = outcomes.count(REPAIRED), outcomes.count(GUESSED)
+    return f"{kept}, {repaired} repaired, {guessed} guessed, {left} left out, {counted(skipped, 'byte')} skipped", worst
+
+
+def outcome_of(packet):
+    """Returns what becomes of a packet, as the status of a repair of it alone."""
+    is_guess = packet.is_found or packet.is_unconfirmed or packet.is_guess and changed_length(packet)
+    return GUESSED if is_guess else REPAIRED if packet.flaws or changed_length(packet) else DONE
 
 
 def flaw_lines(name, item):
@@ -453,7 +476,7 @@ def blocks_and_gaps(whole, at):
 def refusal(capture, refused):
     """Returns the message on a file that is no capture."""
     if refused == CUT:
-        return CUT if capture else "is empty"
+        return f"{CUT} at byte 0" if capture else "is empty"
     is_text = all(it in b" \t\r\n" or 33 <= it < 127 for it in capture[:512])
     return "is a text file, not a capture" if is_text and capture[:4] != MAGIC[: len(capture)] else f"Invalid field value: {MESSAGES[refused]}"
 
@@ -537,17 +560,17 @@ def block_lines(blocks):
 
 
 def mended(packet, unit, data):
-    """Returns the numbers and the bytes of the packet after the repair, and a message for each change."""
+    """Returns the numbers and the bytes of the packet after the repair, and for each change the rule and a message."""
     seconds, nanoseconds, changes = packet.seconds, packet.fraction * unit, []
     if 2 in packet.flaws:
         seconds, nanoseconds = min(divmod(packet.time, BILLION), (0xFFFFFFFF, 999999000))
-        changes.append(f"a fraction of {packet.fraction} is too large, so its time is {seconds}.{nanoseconds:09}")
+        changes.append((2, f"a fraction of {packet.fraction} is too large, so its time is {seconds}.{nanoseconds:09}"))
     kept = data[:LONGEST]
     if len(kept) < len(data):
-        changes.append(f"the first {len(kept)} of its {len(data)} bytes are kept")
+        changes.append((3, f"the first {len(kept)} of its {len(data)} bytes are kept"))
     wire = max(min(packet.wire, LONGEST), len(kept))
     if wire != packet.wire:
-        changes.append(f"its original length is {wire} and not {packet.wire}")
+        changes.append((4 if packet.wire > LONGEST else 5, f"its original length is {wire} and not {packet.wire}"))
     return (seconds, nanoseconds // unit, len(kept), wire), kept, changes
 
 
@@ -557,18 +580,18 @@ def repaired(name, capture):
     _, items, refused = stands_in(capture)
     if refused:
         return None, f"{prefix}{refusal(capture, refused)}\n", AT_FAULT
-    (order, unit), out, said, packets, flawed = opened(capture), [capture[:24]], [], 0, 0
+    (order, unit), out, said, outcomes = opened(capture), [capture[:24]], [], []
     for it in items:
         if isinstance(it, Gap):
-            said.append(left_out(it))
+            said.append(left_out(it) + by_rule(it.rule))
             continue
         said += said_before(it)
         numbers, data, changes = mended(it, unit, capture[it.place + 16 : it.place + 16 + it.stored])
         out.append(struct.pack(order + "IIII", *numbers) + data)
-        said += [f"packet {it.number} at byte {it.place}: {change}" for change in changes] + said_behind(it)
-        packets, flawed = packets + 1, flawed + bool(it.flaws)
-    said += [f"{flawed} of {packets} packets are changed"] * (flawed > 0)
-    return b"".join(out), "".join(f"{prefix}{it}\n" for it in said), DONE
+        said += [f"packet {it.number} at byte {it.place} breaks rule {rule}: {change}" for rule, change in changes] + said_behind(it)
+        outcomes.append(outcome_of(it))
+    last, status = summary("packet", outcomes, [it for it in items if isinstance(it, Gap)])
+    return b"".join(out), "".join(f"{prefix}{it}\n" for it in (*said, last)), status
 
 
 def capture_of(order, magic, packets):
@@ -715,7 +738,7 @@ pcapfile: in: packet 3 at byte 64: kept, a guess: nothing confirms where it ends
 pcapfile: in: 30 bytes at byte 84 are no packets, and are left out
 pcapfile: in: packet 4 at byte 114: kept, a guess: it may lie inside another packet
 pcapfile: in: packet 5 at byte 134: kept, a guess: it may lie inside another packet
-pcapfile: in: cut short
+pcapfile: in: cut short at byte 154
 """
     section = help.block("<", SECTION, struct.pack("<IHHq", 0x1A2B3C4D, 1, 0, -1))
     packet = help.block("<", ENHANCED, struct.pack("<IIIII", 0, 0, 7000000, 4, 5) + b"data")
@@ -756,6 +779,7 @@ def try_repairs(tally, help):
             ended = ran(tally, folder, "repair", "in", "-o", "out")
             left = help.files(folder)
             again = ran(tally, folder, "repair", "out", "-o", "-")
+            packets = counted(ran(tally, folder, "list", "out")[1].count(b"\n"), "packet")
             check = ran(tally, folder, "check", "out")
         with tempfile.TemporaryDirectory() as folder:
             piped = ran(tally, folder, "repair", "-", "-o", "-", given=capture)
@@ -764,7 +788,7 @@ def try_repairs(tally, help):
             ended != (status, b"", said) and f"it gave {str(ended)[-300:]}, and not {str((status, said))[-300:]}",
             left != wanted and f"it left {sorted(left)}, and not the capture of {len(out or b'')} bytes",
             piped != (status, out or b"", said.replace("pcapfile: in: ", "pcapfile: -: ")) and f"through pipes it gave {str(piped)[-300:]}",
-            out is not None and (again != (DONE, out, "") or check[0] != DONE) and f"again it gave {str(again)[-300:]}, and {check}",
+            out is not None and (again != (DONE, out, f"pcapfile: out: no damage found; {packets} kept\n") or check[0] != DONE) and f"again it gave {str(again)[-300:]}, and {check}",
         )
 
 

@@ -159,7 +159,7 @@ def try_faults(tally, help):
         if at in ends:
             continue
         before = [it for it in ends if it < at]
-        said = f"pcapfile: in: cut short at byte {before[-1]}\n" if before else "pcapfile: in: cut short\n" if at else "pcapfile: in: is empty\n"
+        said = f"pcapfile: in: cut short at byte {before[-1]}\n" if before else "pcapfile: in: cut short at byte 0\n" if at else "pcapfile: in: is empty\n"
         held = {"in": capture[:at], "out": b"old"}
         expects(tally, help, f"{at} bytes", held, ["cut", "in", "-o", "out"], {}, AT_FAULT, said)
         wanted = numbered([header + it for it in texts[: len(before) - 1]]) if before else {}

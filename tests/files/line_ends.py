@@ -6,7 +6,8 @@ import tempfile
 
 import cutting
 
-DONE, AT_FAULT = 0, 1
+DONE, AT_FAULT, REPAIRED, GUESSED = 0, 1, 5, 6
+SOUND = "pcapfile: in: no damage found; "
 UNDONE = "pcapfile: in: its line ends are undone: a text-mode transfer turned each LF into CR LF; bytes are counted without these CRs\n"
 NAMED = "pcapfile: in: looks as if a text-mode transfer turned LF into CR LF; 'pcapfile repair --guess' undoes it\n"
 TEXT = b"HTTP/1.1 200 OK\r\nContent-Length: 4\r\n\r\nabcd"
@@ -42,14 +43,23 @@ def differs(ended, wanted):
     return ended != wanted and f"it ended with {ended[0]}, wrote {len(ended[1])} bytes and said {ended[2]!r}"
 
 
+def kept_of(name):
+    """Returns the message that all packets, or all blocks with the section and the interface, of the capture with this name are kept."""
+    count = int(re.search(r"(\d+) packets", name)[1])
+    return f"{count + 2} blocks kept" if name.startswith("PcapNg") else f"{count} packets kept"
+
+
 def try_undoing(tally, help):
     """Checks that a transfer is undone, and that a sound capture stays."""
     for name, capture in captures(help):
-        tally.note(f"{name}, sound", differs(repaired(tally, help, capture, "--guess"), (DONE, capture, "")))
-        tally.note(f"{name}, transferred", differs(repaired(tally, help, transferred(capture), "--guess"), (DONE, capture, UNDONE)))
+        kept = kept_of(name)
+        wanted = DONE, capture, f"{SOUND}{kept}\n"
+        tally.note(f"{name}, sound", differs(repaired(tally, help, capture, "--guess"), wanted))
+        wanted = REPAIRED, capture, f"{UNDONE}pcapfile: in: {kept}, 0 repaired, 0 guessed, 0 left out, 0 bytes skipped\n"
+        tally.note(f"{name}, transferred", differs(repaired(tally, help, transferred(capture), "--guess"), wanted))
         if name.endswith("00 packets") and name.startswith("classic"):
             code, written, told = repaired(tally, help, transferred(capture[24:]), "--guess")
-            tally.note(f"{name}, without its header", (code, written[24:]) != (DONE, capture[24:]) and f"it ended with {code}", not told.startswith(UNDONE) and f"it said {told!r}")
+            tally.note(f"{name}, without its header", (code, written[24:]) != (GUESSED, capture[24:]) and f"it ended with {code}", not told.startswith(UNDONE) and f"it said {told!r}")
 
 
 def try_texts(tally, help):
@@ -58,7 +68,8 @@ def try_texts(tally, help):
         capture, _ = help.classic("<", 0xA1B2C3D4, 1000, 1, [(FIRST + k * 10**9, len(TEXT), TEXT) for k in range(16, 16 + count)])
         faults = [re.search(rb"(?<!\r)\n", capture) is not None and "it has another LF"]
         for words in ((), ("--guess",)):
-            faults.append(differs(repaired(tally, help, capture, *words), (DONE, capture, "")))
+            kept = "1 packet kept" if count == 1 else f"{count} packets kept"
+            faults.append(differs(repaired(tally, help, capture, *words), (DONE, capture, f"{SOUND}{kept}\n")))
         tally.note(f"{count} packets of text", *faults)
 
 
@@ -74,8 +85,8 @@ def try_names(tally, help):
                 code, _, told = cutting.ran(tally, folder, *words)
             tally.note(f"{words} of {name}", code != AT_FAULT and f"it ended with {code}", NAMED not in told and f"it said {told!r}")
         code, _, told = repaired(tally, help, transferred(capture)[:100000])
-        wanted = AT_FAULT if is_blocks else DONE
-        tally.note(f"repair of {name}", code != wanted and f"it ended with {code}", not told.endswith(NAMED) and f"it said {told!r}")
+        wanted = [AT_FAULT] if is_blocks else [REPAIRED, GUESSED]
+        tally.note(f"repair of {name}", code not in wanted and f"it ended with {code}", not told.endswith(NAMED) and f"it said {told!r}")
 
 
 def try_all(tally, help):

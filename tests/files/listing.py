@@ -3,6 +3,7 @@ import datetime
 import itertools
 import json
 import os
+import re
 import select
 import struct
 import subprocess
@@ -107,6 +108,12 @@ def objects(capture):
 HEADING = ",".join(COLUMNS) + "\n"
 
 
+def malformed(refused):
+    """Returns the message that so many packets have a malformed body."""
+    packets = "1 packet has" if refused == 1 else f"{refused} packets have"
+    return f"pcapfile: {{0}}: {packets} a malformed body; 'pcapfile list --as-is' names the rules\n" if refused else ""
+
+
 class Lists:
     def __init__(self, tally, lib):
         self.tally, self.lib = tally, lib
@@ -126,8 +133,11 @@ class Lists:
     def lists(self, name, capture, status=DONE, said="", whole=None):
         """Checks the lines of a capture in each form, from a file and from a pipe. If only a part has lines, `whole` is that part."""
         whole = capture if whole is None else whole
+        refused = sum(row[3] is None for row, _ in rows_of(whole))
+        status, said = max(status, AT_FAULT * (refused > 0)), malformed(refused) + said
         for piped in (False, True):
-            told = said.format("-" if piped else "in")
+            # A pipe can't be read again to find where its last packet begins.
+            told = re.sub("cut short at byte .*", "cut short", said.format("-")) if piped else said.format("in")
             for form, wanted in (("--utc", "".join(utc(whole))), ("--csv", HEADING + "".join(csv(whole)))):
                 ended = self.run({"in": capture}, [form], piped)
                 self.tally.note(f"list {form}, {name}", ended != (status, wanted, told) and f"it gives {ended}, and not {wanted!r}")
@@ -180,10 +190,11 @@ def try_cut(lists):
         for at in range(ends[0], len(capture)):
             if at not in ends:
                 whole = capture[: max(it for it in ends if it <= at)]
-                lists.lists(f"cut at {at} of {len(capture)}", capture[:at], AT_FAULT, "pcapfile: {}: cut short\n", whole)
+                said = f"pcapfile: {{0}}: cut short at byte {len(whole)}\n"
+                lists.lists(f"cut at {at} of {len(capture)}", capture[:at], AT_FAULT, said, whole)
     capture, _ = lib.classic("<", 0xA1B23C4D, 1, lib.RAW, lib.FEW)
     longer = struct.pack("<IIII", 1, 0, 2, 1) + b"hi"
-    said = "pcapfile: {}: Invalid field value: PacketHeader incl_len > orig_len\n"
+    said = "pcapfile: {0}: Invalid field value: PacketHeader incl_len > orig_len\n"
     lists.lists("a packet longer than on the wire", capture + longer, AT_FAULT, said, capture)
 
 

@@ -13,6 +13,7 @@ MILLION = 10**6
 # second. On a slow machine it may print that earlier as well.
 HALF = 12 * MILLION
 LINE = r"(\d+)(?: of (\d+))? MB read, (\d+) packets, (\d+) MB a second\x1b\[K\r"
+REPAIRED = 5
 HEADER = struct.pack("<IHHiIII", 0xA1B23C4D, 2, 4, 0, 0, 262144, 1)
 TAKEN_AWAY = "\x1b[K"
 
@@ -131,7 +132,7 @@ def try_faults(tally, folder):
         _, behind, status = said_by(tally, [*word, "-"], folder, 1.3, last=torn)
         said = behind.rpartition(TAKEN_AWAY)[2]
         told = said.startswith("pcapfile: -: ") and said.endswith("\r\n") and " MB " not in said
-        wanted = 0 if word[0] == "repair" else 1
+        wanted = REPAIRED if word[0] == "repair" else 1
         tally.note(f"{word[0]}, a fault behind it", not (told and TAKEN_AWAY in behind) and f"it said {behind!r}", status != wanted and f"it ended with {status}")
 
 

@@ -1,13 +1,15 @@
 """Checks what `pcapfile repair` makes of captures of blocks, and that other words with `--repair` read what it makes of captures of
 either format. The test states again what becomes of a block, over `as_is`, which takes blocks with struct alone."""
+import json
 import random
+import re
 import struct
 import subprocess
 import tempfile
 
 import as_is
 import left_out
-from as_is import DONE, ENHANCED, INTERFACE, MOST, OBSOLETE, SECTION, SIMPLE, options_flaws, sound_options
+from as_is import DONE, ENHANCED, GUESSED, INTERFACE, MOST, OBSOLETE, REPAIRED, SECTION, SIMPLE, options_flaws, sound_options
 
 UNSTATED = b"\xff" * 8
 USAGE = 2
@@ -41,6 +43,14 @@ def mended(order, number, body):
     return made, LEFT * is_flawed
 
 
+def broken_rule(it):
+    """Returns the text with the rule of a block's first flaw, if a rule names it."""
+    flaws = [flaw for _, flaw in it.flaws]
+    if it.type in (OBSOLETE, SIMPLE, ENHANCED):
+        flaws = as_is.packet_in(it.order, it.type, it.body, [])[1]
+    return f" breaks rule {flaws[0]}" if flaws and not isinstance(flaws[0], str) else ""
+
+
 def block(order, number, body):
     return struct.pack(order + "II", number, len(body) + 12) + body + struct.pack(order + "I", len(body) + 12)
 
@@ -50,20 +60,26 @@ def repaired(name, capture):
     kind, items, refused = as_is.stands_in(capture)
     if kind == "pcap" or refused:
         return as_is.repaired(name, capture)
-    out, said, count, changed = b"", [], 0, 0
+    out, said, outcomes, others, next_one = b"", [], [], 0, DONE
     for it in items:
         if isinstance(it, as_is.Gap):
-            said.append(as_is.left_out(it))
+            said.append(as_is.left_out(it) + as_is.by_rule(it.rule))
             continue
         if isinstance(it, as_is.Mending):
             said.append(as_is.mending(it))
+            next_one = max(next_one, GUESSED if it.is_guess else REPAIRED)
             continue
         made, change = mended(it.order, it.type, it.body)
-        count, changed = count + 1, changed + bool(change)
-        said += [f"block {it.number} at byte {it.place}: {change}"] * bool(change)
-        out += b"" if made is None else block(it.order, it.type, made)
-    said += [f"{changed} of {count} blocks are changed or left out"] * (changed > 0)
-    return out, "".join(f"pcapfile: {name}: {it}\n" for it in said), DONE
+        said += [f"block {it.number} at byte {it.place}{broken_rule(it)}: {change}"] * bool(change)
+        is_sound = not change or it.type == SECTION and not it.flaws
+        if made is None:
+            others += 1
+        else:
+            outcomes.append(max(next_one, DONE if is_sound else REPAIRED))
+            out += block(it.order, it.type, made)
+        next_one = DONE
+    last, status = as_is.summary("block", outcomes, [it for it in items if isinstance(it, as_is.Gap)], others)
+    return out, "".join(f"pcapfile: {name}: {it}\n" for it in (*said, last)), status
 
 
 def section(order, options=b"", length=-1):
@@ -84,8 +100,20 @@ def with_others(order, options, place, code, value):
     return options[:place] + option(order, code, value) + options[place:]
 
 
+def said_last(counts):
+    """Returns the last message of a repair, and its status, by the numbers of blocks that it kept, repaired, guessed and left out, and of the
+    bytes that it skipped."""
+    kept, repaired, guessed, left, skipped = counts
+    blocks = f"{as_is.counted(kept, 'block')} kept"
+    if not any(counts[1:]):
+        return f"pcapfile: in: no damage found; {blocks}\n", DONE
+    told = f"{blocks}, {repaired} repaired, {guessed} guessed, {left} left out, {as_is.counted(skipped, 'byte')} skipped"
+    return f"pcapfile: in: {told}\n", GUESSED if guessed else REPAIRED
+
+
 def flawed_options(order):
-    """Yields captures with an option that breaks a rule before, between and after good ones, what they become, and the messages."""
+    """Yields captures with an option that breaks a rule before, between and after good ones, what they become, the messages,
+    and the counts of `said_last`."""
     good = option(order, 1, b"good") + option(order, 1, b"and good")
     clock = option(order, 9, b"\x09")
     head, packet = struct.pack(order + "HHI", 1, 0, 0), enhanced(order, 0, 1700000000000000001, b"data")
@@ -94,20 +122,17 @@ def flawed_options(order):
         broken, whole = (section(order, it) + interface + packet for it in (with_others(order, good, place, 4, b"\xff"), good))
         yield f"an option {where} others of a section", broken, whole, """\
 pcapfile: in: block 1 at byte 0: options that break rules are left out
-pcapfile: in: 1 of 3 blocks are changed or left out
-"""
+""", (2, 1, 0, 0, 0)
         bodies = (head + it + clock for it in (with_others(order, good, place, 8, b"short"), good))
         broken, whole = (section(order) + block(order, INTERFACE, it) + packet for it in bodies)
         yield f"an option {where} others of an interface", broken, whole, """\
-pcapfile: in: block 2 at byte 28: options that break rules are left out
-pcapfile: in: 1 of 3 blocks are changed or left out
-"""
+pcapfile: in: block 2 at byte 28 breaks rule 1905: options that break rules are left out
+""", (2, 1, 0, 0, 0)
         packets = (enhanced(order, 0, 5, b"x", it) for it in (with_others(order, good, place, 2, b"\1\2"), good))
         broken, whole = (section(order) + interface + it + packet for it in packets)
         yield f"an option {where} others of a packet", broken, whole, """\
-pcapfile: in: block 3 at byte 56: options that break rules are left out
-pcapfile: in: 1 of 4 blocks are changed or left out
-"""
+pcapfile: in: block 3 at byte 56 breaks rule 1911: options that break rules are left out
+""", (3, 1, 0, 0, 0)
 
 
 # The last packet of captures by hand that is obsolete, or simple and without a time: what tshark shows of it.
@@ -115,72 +140,69 @@ LAST = {"a block of type 2": "0.000000005\t4\t4", "a block of type 3": "\t4\t4"}
 
 
 def by_hand(order):
-    """Yields captures, what they become, and the messages. They have a section of 28 bytes, an interface of 28 and four packets of 36."""
+    """Yields captures, what they become, the messages, and the counts of `said_last`. They have a section of 28 bytes, an
+    interface of 28 and four packets of 36."""
     interface = block(order, INTERFACE, struct.pack(order + "HHI", 1, 0, 0) + option(order, 9, b"\x09"))
     packets = [enhanced(order, 0, 1700000000000000001 + k, bytes([k] * (k + 1))) for k in range(4)]
     sound = section(order) + interface + b"".join(packets)
     other = enhanced(order, 1, 5, b"data")
     packet = enhanced(order, 0, 5, b"datadata", option(order, 1, b"text"))
-    yield "a sound capture", sound, sound, ""
-    yield "a packet of an unknown interface", sound + other, sound + other, ""
+    yield "a sound capture", sound, sound, "", (6, 0, 0, 0, 0)
+    yield "a packet of an unknown interface", sound + other, sound + other, "", (7, 0, 0, 0, 0)
     past, kept = (sound + enhanced(order, 0, 5, b"data", it) for it in (struct.pack(order + "HH", 1, 5) + b"1234", b""))
     yield "an option that goes on past the body", past, kept, """\
-pcapfile: in: block 7 at byte 200: options that break rules are left out
-pcapfile: in: 1 of 7 blocks are changed or left out
-"""
+pcapfile: in: block 7 at byte 200 breaks rule 18: options that break rules are left out
+""", (6, 1, 0, 0, 0)
     short, filled = (block(order, INTERFACE, b"\1\0\0\0" + it) for it in (b"", bytes(4)))
     yield "an interface too short", sound[:28] + short + interface + other, sound[:28] + filled + interface + other, """\
-pcapfile: in: block 2 at byte 28: its body is too short for an interface, and is filled up with zeros, so that its packets get a link type and times
-pcapfile: in: 1 of 4 blocks are changed or left out
-"""
+pcapfile: in: block 2 at byte 28 breaks rule 12: its body is too short for an interface, and is filled up with zeros, so that its packets get a link type and times
+""", (3, 1, 0, 0, 0)
     yield "packets with no room", sound + block(order, ENHANCED, bytes(16)) + block(order, SIMPLE, b"") + other, sound + other, """\
-pcapfile: in: block 7 at byte 200: its body breaks a rule, and it is left out
-pcapfile: in: block 8 at byte 228: its body breaks a rule, and it is left out
-pcapfile: in: 2 of 9 blocks are changed or left out
-"""
+pcapfile: in: block 7 at byte 200 breaks rule 13: its body breaks a rule, and it is left out
+pcapfile: in: block 8 at byte 228 breaks rule 15: its body breaks a rule, and it is left out
+""", (7, 0, 0, 2, 0)
     yield "a section that states its length", section(order, length=172) + sound[28:], sound, """\
 pcapfile: in: block 1 at byte 0: the length of its section is stated no more
-pcapfile: in: 1 of 6 blocks are changed or left out
-"""
+""", (6, 0, 0, 0, 0)
     yield "garbage between blocks", sound[:92] + b"\xff" * 21 + sound[92:164] + b"text" * 5 + sound[164:], sound, """\
-pcapfile: in: 21 bytes at byte 92 are no blocks, and are left out
+pcapfile: in: 21 bytes at byte 92 are no blocks, and are left out by rule 7: Block: (initial_len % 4) != 0
 pcapfile: in: 20 bytes at byte 185 are no blocks, and are left out
-"""
+""", (6, 0, 0, 0, 41)
     yield "a wrong length", sound[:96] + struct.pack(order + "I", 40) + sound[100:], sound, """\
 pcapfile: in: block 4 at byte 92: its stored length is 36 and not 40
-"""
+""", (5, 1, 0, 0, 0)
     for name, place, length in (("long", 20, 300), ("short", 20, 1), ("huge", 20, 0xFFFFFFFF)):
         broken = sound[:200] + packet + sound[200:]
         at = 200 + place
         yield f"a stored length that is too {name}", broken[:at] + struct.pack(order + "I", length) + broken[at + 4 :], broken, f"""\
 pcapfile: in: block 7 at byte 200: its stored length is 8 and not {length}
-"""
+""", (6, 1, 0, 0, 0)
     at = 200 + 20
     longer = sound + enhanced(order, 0, 5, b"data", option(order, 1, b"text"))
     broken, guess = (longer[:at] + struct.pack(order + "II", it, 999) + longer[at + 8 :] for it in (99, 12))
     yield "a stored length that nothing replaces", broken, guess, """\
 pcapfile: in: block 7 at byte 200: its stored length is 12 and not 99, by a guess
-"""
-    yield "garbage before the first section", b"no" * 9 + sound, sound, "pcapfile: in: 18 bytes at byte 0 are no blocks, and are left out\n"
-    yield "garbage at the end", sound + bytes(40), sound, "pcapfile: in: 40 bytes at byte 200 are no blocks, and are left out\n"
+""", (6, 0, 1, 0, 0)
+    yield "garbage before the first section", b"no" * 9 + sound, sound, "pcapfile: in: 18 bytes at byte 0 are no blocks, and are left out by rule 10: SectionHeader missing\n", (6, 0, 0, 0, 18)
+    yield "garbage at the end", sound + bytes(40), sound, "pcapfile: in: 40 bytes at byte 200 are no blocks, and are left out by rule 8: Block: initial_len < 12\n", (6, 0, 0, 0, 40)
     yield "a torn last block", sound[:-5], sound[:164], """\
 pcapfile: in: 31 bytes at byte 164 are of a block that is cut short, and are left out
-"""
+""", (5, 0, 0, 1, 31)
     end = "its end is missing: its packet is kept, without options that are cut off or break rules"
     for size in (32, 33, 34, 35):
-        yield f"{size} bytes of a last block", sound[: 164 + size], sound, f"pcapfile: in: block 6 at byte 164: {end}\n"
+        yield f"{size} bytes of a last block", sound[: 164 + size], sound, f"pcapfile: in: block 6 at byte 164: {end}\n", (5, 1, 0, 0, 0)
     texts = [option(order, 1, it) for it in (b"good", b"and good")]
     with_two = enhanced(order, 0, 5, b"dat", b"".join(texts))
     for size in range(31, len(with_two)):
         kept = enhanced(order, 0, 5, b"dat", b"".join(texts[: (size >= 40) + (size >= 52)]))
-        yield f"{size} bytes of a block with options", sound + with_two[:size], sound + kept, f"pcapfile: in: block 7 at byte 200: {end}\n"
+        yield f"{size} bytes of a block with options", sound + with_two[:size], sound + kept, f"pcapfile: in: block 7 at byte 200: {end}\n", (6, 1, 0, 0, 0)
     for number, body in ((OBSOLETE, struct.pack(order + "HHIIII", 0, 0, 0, 5, 4, 4)), (SIMPLE, struct.pack(order + "I", 4))):
         other = block(order, number, body + b"data")
         for size in range(len(other) - 4, len(other)):
-            yield f"{size} bytes of a block of type {number}", sound + other[:size], sound + other, f"pcapfile: in: block 7 at byte 200: {end}\n"
+            yield f"{size} bytes of a block of type {number}", sound + other[:size], sound + other, f"pcapfile: in: block 7 at byte 200: {end}\n", (6, 1, 0, 0, 0)
     yield "three bytes of a last block", sound[:167], sound[:164], """\
 pcapfile: in: 3 bytes at byte 164 are of a block that is cut short, and are left out
-"""
+""", (5, 0, 0, 1, 3)
 
 
 def captures(help):
@@ -241,15 +263,62 @@ def try_blocks(tally, help):
 def try_by_hand(tally, help):
     """Checks the captures that are broken by hand: what they become, and the messages."""
     for order in "<>":
-        for name, capture, wanted, said in (*by_hand(order), *flawed_options(order)):
+        for name, capture, wanted, said, counts in (*by_hand(order), *flawed_options(order)):
             ended, left, check, _ = repair(tally, help, capture)
+            last, status = said_last(counts)
             tally.note(
                 f"repair of {name}, {order}",
-                ended != (DONE, b"", said) and f"it gave {ended}, and not {said!r}",
+                ended != (status, b"", said + last) and f"it gave {ended}, and not {(status, said + last)}",
                 left["out"] != wanted and f"it wrote {left['out'].hex()}, and not {wanted.hex()}",
                 check[0] != DONE and f"a check gives {check}",
                 shown_by_tshark(left["out"]) not in (None, shown_with_last(help, name, left["out"])) and "tshark reads other packets",
             )
+
+
+def change_in(message):
+    """Returns the JSON object of a change, by the message on it."""
+    found = re.fullmatch(r"(?:packet|block) (\d+) at byte (\d+)(?: breaks rule (\d+))?: (.*)", message)
+    if found:
+        number, place, rule, action = found.groups()
+        return {"number": int(number), "offset": int(place), "skipped": None, "rule": rule and int(rule), "action": action, "guess": "guess" in action}
+    size, place, rule = re.fullmatch(r"(\d+) bytes at byte (\d+) are .*, and are left out(?: by rule (\d+): .*)?", message).groups()
+    action = message.partition(" by rule ")[0]
+    return {"number": None, "offset": int(place), "skipped": int(size), "rule": rule and int(rule), "action": action, "guess": False}
+
+
+def report_of(name, capture, said, status):
+    """Returns the JSON report of a repair, by its messages."""
+    *changes, last = [it.removeprefix(f"pcapfile: {name}: ") for it in said.splitlines()]
+    kept, repaired, guessed, left, skipped = (int(it) for it in [*re.findall(r"\d+", last), 0, 0, 0, 0][:5])
+    counts = {"kept": kept, "repaired": repaired, "guessed": guessed, "left_out": left, "skipped": skipped}
+    outcome = {DONE: "sound", REPAIRED: "repaired", GUESSED: "guessed"}[status]
+    return {"file": name, "format": as_is.stands_in(capture)[0], "changes": [change_in(it) for it in changes], "outcome": outcome, **counts}
+
+
+def try_reports(tally, help):
+    """Checks the JSON reports of repairs, and that such a repair writes what another one writes."""
+    draw = random.Random(36)
+    both = (*as_is.captures(), *as_is.gaps(), *captures(help))
+    by_chance = [it for it in both if len(it[1]) < 300000 and draw.randrange(3) == 0]
+    for name, capture in (*by_chance, *((it[0], it[1]) for order in "<>" for it in by_hand(order))):
+        out, said, status = repaired('a "name"', capture)
+        with tempfile.TemporaryDirectory() as folder:
+            help.put(folder, 'a "name"', capture)
+            ended = as_is.ran(tally, folder, "repair", "--json", 'a "name"', "-o", "out")
+            left = help.files(folder)
+        wanted = None if out is None else report_of('a "name"', capture, said, status)
+        found = json.loads(ended[1] or "null")
+        tally.note(
+            f"repair --json of {name}",
+            (ended[0], ended[2]) != (status, said * (out is None)) and f"it ended with {ended[0]} and said {ended[2]!r}",
+            found != wanted and f"it gave {found}, and not {wanted}",
+            ended[1].count(b"\n") != (out is not None) and "it wrote no line, or several",
+            left.get("out") != out and "it wrote another capture",
+        )
+    with tempfile.TemporaryDirectory() as folder:
+        help.put(folder, "in", section("<"))
+        ended = as_is.ran(tally, folder, "repair", "--json", "in", "-o", "-")
+    tally.note("repair --json to standard output", (ended[:2] != (USAGE, b"") or not ended[2].startswith("error: ")) and f"it gave {ended}")
 
 
 def shown(help, capture):
@@ -310,6 +379,7 @@ def as_repaired(tally, help, words, capture, out, said, status):
         help.put(folder, "sound", sound)
         wanted = as_is.ran(tally, folder, *words)
         wanted_left = {**help.files(folder), "in": capture}
+    said = "".join(it for it in said.splitlines(True) if ": no damage found; " not in it)
     lines, told = sorted(ended[2].splitlines()), sorted(said.splitlines() * words.count("in") + wanted[2].splitlines())
     is_whole = "--packets" not in words
     return (
@@ -357,5 +427,5 @@ def try_parts(tally, help):
 
 
 def try_all(tally, help):
-    for tries in (try_blocks, try_by_hand, try_words, try_older_spelling, try_parts):
+    for tries in (try_blocks, try_by_hand, try_reports, try_words, try_older_spelling, try_parts):
         tries(tally, help)

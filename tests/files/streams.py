@@ -16,7 +16,8 @@ REMEDIES = (
     "pcapfile: 'pcapfile repair' writes a well-formed capture of the malformed part\n",
 )
 FLAWED = CAPTURE + struct.pack("<IIII", 9, 0, 4, 1) + b"data"
-CAPCOPY = os.path.join(os.path.dirname(os.path.dirname(os.path.dirname(os.path.abspath(__file__)))), "crates/capcopy/out/capcopy")
+TOP = os.path.dirname(os.path.dirname(os.path.dirname(os.path.abspath(__file__))))
+CAPCOPY = os.path.join(TOP, "crates/capcopy/out/capcopy")
 # The words, with what they write to standard output, and whether a sound run prints a message on standard error.
 WORDS = (
     (["check", "in"], True, False),
@@ -37,7 +38,8 @@ WORDS = (
     (["join", "in", "-o", "out"], False, False),
     (["merge", "in", "in", "-o", "out"], False, False),
     (["merge", "--repair", "flawed", "in", "-o", "out"], False, True),
-    (["repair", "in", "-o", "out"], False, False),
+    (["repair", "in", "-o", "out"], False, True),
+    (["repair", "--json", "flawed", "-o", "out"], True, False),
     (["repair", "flawed", "-o", "out"], False, True),
 )
 
@@ -270,6 +272,20 @@ def try_first_block(tally):
             tally.note(f"{word} of {name}", (status, written) != (FAILED, b"") and f"it ended with {status} and wrote {written}", faults and said)
 
 
+def try_about(tally):
+    """Checks that capcopy prints its usage and its version on request, on standard output, and its usage on standard error otherwise."""
+    if not os.path.exists(CAPCOPY):
+        return
+    usage = b"usage: capcopy list | copy [big|little micro|nano] | blocks\n"
+    with open(f"{TOP}/VERSION", "rb") as it:
+        version = b"capcopy " + it.read()
+    wanted = {("--help",): usage, ("-h",): usage, ("--version",): version, ("-V",): version}
+    for words in (*wanted, ("--help", "list"), ("list", "--help"), ("--hel",), ("--version.",), ("help",), ()):
+        ran = subprocess.run([CAPCOPY, *words], input=CAPTURE, capture_output=True, timeout=SECONDS)
+        ended = ran.returncode, ran.stdout, ran.stderr
+        tally.note(f"capcopy {' '.join(words)}", ended != ((0, wanted[words], b"") if words in wanted else (USAGE, b"", usage)) and f"it gave {ended}")
+
+
 def try_all(tally):
-    for tries in (try_closed, try_unread, try_shown, try_other_names, try_remedies, try_foreign, try_times, try_first_block):
+    for tries in (try_about, try_closed, try_unread, try_shown, try_other_names, try_remedies, try_foreign, try_times, try_first_block):
         tries(tally)

@@ -16,7 +16,8 @@ import refusals  # noqa: E402
 import runs  # noqa: E402
 
 SECONDS = 20
-DONE, AT_FAULT, USAGE, FAILED, NO_MEMORY = range(5)
+DONE, AT_FAULT, USAGE, FAILED, NO_MEMORY, REPAIRED, GUESSED = range(7)
+REPAIRS = DONE, REPAIRED, GUESSED
 # Bytes that no content of a capture may bring to a terminal: all controls of ASCII except tab and newline, DEL, and as UTF-8 the controls
 # of Latin-1, the marks of direction and the separators of lines.
 CONTROLS = [bytes([it]) for it in [*range(9), 11, 12, *range(14, 32), 127]]
@@ -107,7 +108,7 @@ def lenient_is_strict_on_sound(folder, random, capture):
 def repair_is_stable(folder, random, capture):
     """Checks that a repaired capture is sound, and that a second repair changes nothing."""
     folder.write("in", capture)
-    if folder.run("repair", "in", "-o", "out", statuses=(DONE, AT_FAULT, FAILED)).returncode != DONE:
+    if folder.run("repair", "in", "-o", "out", statuses=(AT_FAULT, FAILED, *REPAIRS)).returncode not in REPAIRS:
         assert not os.path.exists(f"{folder.room}/out")
         return
     folder.run("check", "out", statuses=[DONE])

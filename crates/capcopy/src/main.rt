@@ -1,10 +1,13 @@
 //! Lists or copies the capture on standard input.
 #![tactic(auto)]
 
+mod help;
 mod program;
 
 use capcopy_run::Exit;
+use help::About;
 use pcap_file::PcapError;
+use std::io;
 use std::io::ErrorKind;
 use std::process::ExitCode;
 
@@ -12,7 +15,10 @@ use std::process::ExitCode;
 const UNREAD: u8 = 141;
 
 fn main(rt: HostRuntime) -> ExitCode {
-    let exit = program::run(&rt);
+    let exit = match About::asked_for(&rt) {
+        Some(about) => exit_of(about.print(&rt)),
+        None => program::run(&rt),
+    };
     if is_unread(&exit) {
         return ExitCode::from(UNREAD);
     }
@@ -21,6 +27,14 @@ fn main(rt: HostRuntime) -> ExitCode {
         let _ = eprintln!(rt; "{exit}");
     }
     ExitCode::from(exit.status())
+}
+
+// Returns the exit of a text about the program, which was printed or not.
+fn exit_of(printed: io::Result<()>) -> Exit {
+    match printed {
+        Ok(()) => Exit::Done,
+        Err(error) => Exit::from(error),
+    }
 }
 
 // Returns whether nobody reads the output any more.

@@ -90,7 +90,13 @@ impl<'a> Task<'a> {
 
     /// Returns whether the task writes lines for people while it reads; these lines show the progress.
     pub(crate) fn tells_meanwhile(&self) -> bool {
-        matches!(self, Task::CheckAsIs(_) | Task::List(_) | Task::ListAsIs(_))
+        matches!(
+            self,
+            Task::CheckAsIs(_)
+                | Task::List(_)
+                | Task::ListAsIs(_)
+                | Task::Repair(Repair { as_json: true, .. })
+        )
     }
 
     /// Returns the name of the output and its format, if the name's extension stands for another format.
@@ -316,6 +322,7 @@ fn repairing<'a>(words: &ArgMatches<'a>) -> Result<Repair<'a>, Refusal> {
         from: words.get_str(words::BROKEN).unwrap_or_default(),
         out: words.get_str(words::OUT).unwrap_or_default(),
         opening: opening_of(header, is_guess, link).ok_or(Refusal::Value(words::HEADER, HEADERS))?,
+        as_json: words.get_flag(words::JSON),
     })
 }
 

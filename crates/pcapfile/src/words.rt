@@ -105,6 +105,8 @@ const STATUSES: &str = "Exit status:
   2    the arguments are wrong
   3    a file can't be opened or read, or the output can't be written
   4    memory ran out
+  5    'repair' made a well-formed capture of a damaged one
+  6    the same, and a part of it is a guess
   141  the reader of the output has gone";
 
 const CHECK: &str =
@@ -136,8 +138,8 @@ const LIST: &str =
     "Writes a line for each packet: index, time, stored/original length, and for PcapNg the interface.
 
 The time is in seconds since 1970 with nanoseconds, or - where the packet has none. A packet of PcapNg
-with a malformed body has the line 'index refused'. With several captures, the name of each is written
-before its lines.
+with a malformed body has the line 'index refused', and the exit status is then 1. With several captures,
+the name of each is written before its lines.
 
 With --utc times are in UTC, as 2023-11-14T22:13:20.250000000Z. With --csv each packet is a row of
 index, seconds, nanoseconds, captured, original (the lengths) and interface, below a row of these
@@ -249,7 +251,13 @@ declare are left out, and sections declare no length. Everything else is unchang
 Corrupt bytes are skipped up to the next section header, or up to two packets or blocks in a row that
 break no rule. A truncated last block is completed if all data of its packet are there; any other
 truncated last item is left out. Each change and each skip is reported on standard error with its byte
-offset. The output is written as OUT.part, and renamed to OUT when it is complete.";
+offset. The output is written as OUT.part, and renamed to OUT when it is complete.
+
+The last line on standard error counts the packets, or for PcapNg the blocks, that were kept, repaired,
+guessed and left out, and the bytes that were skipped. With --json standard output has one object in place
+of these lines: file, format, changes, outcome (sound, repaired or guessed), kept, repaired, guessed,
+left_out and skipped. Each change has number (of the packet or block), offset, skipped (bytes), rule,
+action and guess; unknown values are null.";
 
 /// A word of the program.
 #[derive(Clone, Copy)]
@@ -592,6 +600,7 @@ fn repair<'a>(alloc: Global, command: Command<'a>) -> Result<Command<'a>, AllocE
         )?)?
         .arg(guess)?
         .arg(link)?
+        .arg(report(alloc))?
         .arg(output(alloc, OUT_HELP)?)
 }
 
@@ -614,6 +623,10 @@ fn repaired<'a>(alloc: Global) -> Arg<'a> {
 // Returns the spelling that `--repair` had in version 0.2.
 fn once_as_is<'a>(alloc: Global) -> Arg<'a> {
     flag(alloc, AS_IS).hide(true)
+}
+
+fn report<'a>(alloc: Global) -> Arg<'a> {
+    flag(alloc, JSON).help("A report as a JSON object on standard output")
 }
 
 fn json<'a>(alloc: Global) -> Arg<'a> {

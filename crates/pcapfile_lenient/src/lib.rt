@@ -3,19 +3,28 @@
 #![tactic(auto)]
 
 mod captured;
+mod count;
+mod cut_short;
 mod frames;
+mod noted;
 mod opening;
 mod packets;
 mod repaired;
+mod report;
 mod rows;
 mod standing;
 mod stored;
+mod summary;
 mod torn;
 mod window;
 
 pub use captured::Captured;
+pub use count::Count;
+pub use cut_short::{tell_cut_short, tell_fault, tell_unopened};
 pub use opening::{Found, Guessed, Opening, header_with, magic_of};
 pub use packets::{Change, Named};
 pub use repaired::Repaired;
+pub use report::Reporting;
 pub use rows::{Changed, Rows};
 pub use standing::{BlockRows, HEADER, PacketRows, Standing, Stop};
+pub use summary::{GUESSED, Outcome, REPAIRED, Summary};

@@ -6,9 +6,9 @@ use pcap_damaged::{
 };
 use pcap_file::pcap::PcapHeader;
 use pcap_file::{Endianness, PcapParser, ResultParsing, Rule, TsResolution};
-use pcapfile_as_is::Counted;
+use pcapfile_as_is::{Counted, Spot};
 use std::alloc::{AllocError, Global};
-use std::io;
+use std::{fmt, io};
 
 /// The longest packet that lenient reading returns, in bytes.
 pub(crate) const LIMIT: u32 = 16_777_216;
@@ -125,6 +125,29 @@ impl Named {
 }
 
 impl Change {
+    /// Returns the number and the place of the packet or block, when the reader is behind what is counted.
+    pub(crate) fn spot(&self, counted: &Counted) -> Spot {
+        match *self {
+            Change::Unconfirmed(len) => Spot {
+                number: counted.items,
+                place: counted.bytes.saturating_sub(len as u64),
+            },
+            _ => Spot {
+                number: counted.items.saturating_add(1),
+                place: counted.bytes,
+            },
+        }
+    }
+
+    /// Returns whether the packet or block is a guess.
+    pub(crate) fn is_guess(&self) -> bool {
+        match *self {
+            Change::Length { is_guess, .. } => is_guess,
+            Change::Found | Change::Unconfirmed(_) => true,
+            Change::CutOff { .. } => false,
+        }
+    }
+
     /// Returns the message on a packet or block, when the reader is behind what is counted.
     pub fn text(
         &self,
@@ -132,12 +155,15 @@ impl Change {
         named: Named,
         counted: &Counted,
     ) -> Result<String, AllocError> {
-        let (number, place) = match *self {
-            Change::Unconfirmed(len) => (counted.items, counted.bytes.saturating_sub(len as u64)),
-            _ => (counted.items.saturating_add(1), counted.bytes),
-        };
+        let Spot { number, place } = self.spot(counted);
         let item = named.name(alloc, number)?;
-        let item = item.as_str();
+        format!(in alloc; "{item} at byte {place}: {self}")
+    }
+}
+
+/// Writes what is done with the packet or block, and why.
+impl fmt::Display for Change {
+    fn fmt<W: fmt::Write>(&self, f: &mut fmt::Formatter<W>) -> fmt::Result {
         match *self {
             Change::Length {
                 stated,
@@ -145,18 +171,12 @@ impl Change {
                 is_guess,
             } => {
                 let how = if is_guess { ", by a guess" } else { "" };
-                format!(in alloc;
-                    "{item} at byte {place}: its stored length is {length} and not {stated}{how}"
-                )
+                write!(f, "its stored length is {length} and not {stated}{how}")
             }
-            Change::Found => format!(in alloc;
-                "{item} at byte {place}: kept, a guess: it may lie inside another packet"
-            ),
-            Change::Unconfirmed(_) => format!(in alloc;
-                "{item} at byte {place}: kept, a guess: nothing confirms where it ends"
-            ),
-            Change::CutOff { .. } => format!(in alloc;
-                "{item} at byte {place}: its end is missing: its packet is kept, without options that are cut off or break rules"
+            Change::Found => f.write_str("kept, a guess: it may lie inside another packet"),
+            Change::Unconfirmed(_) => f.write_str("kept, a guess: nothing confirms where it ends"),
+            Change::CutOff { .. } => f.write_str(
+                "its end is missing: its packet is kept, without options that are cut off or break rules",
             ),
         }
     }

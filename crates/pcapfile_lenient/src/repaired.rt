@@ -2,36 +2,43 @@
 
 ghost use Rattle.std.specs.Prelude.{None};
 
+use crate::noted::{NotedBlocks, NotedPackets, rules_of};
 use crate::opening::{Found, Guessed, Opening};
-use crate::packets::{Change, Named};
+use crate::report::{Report, Reporting};
 use crate::rows::Rows;
 use crate::standing::{BlockRows, HEADER, PacketRows, Standing, Stop};
+use crate::summary::{Outcome, Summary, Tally};
 use capcopy_run::Exit;
 use pcap_file::{PcapError, ResultParsing};
-use pcapfile_as_is::{BlockRepairs, Counted, Gap, Place, Repairs};
-use pcapfile_files::{Console, Notes, OUTPUT, Shown, Watched};
+use pcapfile_as_is::{BlockRepairs, Counted, Place, Repairs, Spot};
+use pcapfile_files::{Console, Watched};
+use pcapfile_run::Format;
 use std::alloc::{AllocError, Global};
-use std::io;
-use std::io::{BufWriter, ErrorKind, Read, Write};
+use std::io::{ErrorKind, Read};
+use std::{io, str};
+
+/// The room for the messages on a packet or block, in bytes. They need no more memory, so that none is lost.
+const NOTES: usize = 1_024;
+
+/// The message on a text-mode transfer that is undone.
+const UNDONE: &str =
+    "its line ends are undone: a text-mode transfer turned each LF into CR LF; bytes are counted without these CRs";
 
 /// The number of bytes that are produced at once, to which the rest of the last packet or block is added.
 const ENOUGH: usize = 65_536;
-
-/// Buffered standard error, for lines that are printed while a capture is read.
-type Lines = BufWriter<Notes>;
 
 /// The packets that are repaired.
 #[derive(Drop)]
 struct Packets {
     rows: PacketRows,
-    repairs: Repairs<Lines>,
+    repairs: NotedPackets<Repairs<Vec<u8>>>,
 }
 
 /// The blocks that are mended.
 #[derive(Drop)]
 struct Blocks {
     rows: BlockRows,
-    repairs: BlockRepairs<Lines>,
+    repairs: NotedBlocks<BlockRepairs<Vec<u8>>>,
 }
 
 /// The items that are repaired.
@@ -41,7 +48,17 @@ enum Making {
     Blocks(Blocks),
 }
 
-/// A capture repaired while it is read, which has no flaws. It reports on standard error what it changes or leaves out.
+/// A packet or block that was produced.
+#[derive(Clone, Copy)]
+struct Item {
+    at: Spot,
+    /// Whether it was changed or left out.
+    is_changed: bool,
+    /// Whether it was left out.
+    is_left_out: bool,
+}
+
+/// A capture repaired while it is read, which has no flaws. It reports what it changes or leaves out.
 #[derive(Drop)]
 pub struct Repaired {
     alloc: Global,
@@ -55,6 +72,9 @@ pub struct Repaired {
     place: Place,
     /// The number of changes that were reported.
     changed: u64,
+    /// The number of packets of other link types that were counted.
+    others: u64,
+    report: Report,
 }
 
 impl Packets {
@@ -68,8 +88,25 @@ impl Packets {
         let Packets { rows, mut repairs } = self;
         match rows.tell(alloc, &mut repairs, made, 1, counted) {
             Ok(rows) => Ok(Packets { rows, repairs }),
-            Err(stop) => Err(given_up(&mut repairs.notes, stop)),
+            Err(stop) => Err(exit_of(stop)),
         }
+    }
+
+    // Reports what became of a packet.
+    fn tell(&mut self, report: &mut Report, item: Item) {
+        if item.is_changed {
+            let rules = match self.repairs.flaws {
+                Some(flaws) => rules_of(flaws),
+                None => [None; 3],
+            };
+            let mut rules = rules.into_iter().flatten();
+            let notes = &mut self.repairs.teller.notes;
+            for line in str::from_utf8(notes.as_slice()).unwrap_or_default().lines() {
+                report.tell_repair(item.at, rules.next(), action_in(line));
+            }
+            notes.clear();
+        }
+        report.count(outcome_if(item.is_changed));
     }
 }
 
@@ -84,12 +121,64 @@ impl Blocks {
         let Blocks { rows, mut repairs } = self;
         match rows.tell(alloc, &mut repairs, made, 1, counted) {
             Ok(rows) => Ok(Blocks { rows, repairs }),
-            Err(stop) => Err(given_up(&mut repairs.notes, stop)),
+            Err(stop) => Err(exit_of(stop)),
+        }
+    }
+
+    // Reports what became of a block.
+    fn tell(&mut self, report: &mut Report, item: Item) {
+        if item.is_changed {
+            let notes = &mut self.repairs.teller.notes;
+            for line in str::from_utf8(notes.as_slice()).unwrap_or_default().lines() {
+                report.tell_repair(item.at, self.repairs.rule, action_in(line));
+            }
+            notes.clear();
+        }
+        if item.is_left_out {
+            report.leave_out(1);
+        } else {
+            report.count(outcome_if(item.is_changed && !self.repairs.is_sound_section));
         }
     }
 }
 
 impl Making {
+    fn of_packets(alloc: Global, rows: PacketRows) -> Result<Making, AllocError> {
+        let teller = Repairs {
+            order: rows.endianness(),
+            prefix: String::new(alloc),
+            notes: Vec::with_capacity(alloc, NOTES)?,
+            room: Vec::new(alloc),
+        };
+        let repairs = NotedPackets {
+            teller,
+            flaws: None,
+        };
+        Ok(Making::Packets(Packets { rows, repairs }))
+    }
+
+    fn of_blocks(alloc: Global, rows: BlockRows) -> Result<Making, AllocError> {
+        let teller = BlockRepairs {
+            prefix: String::new(alloc),
+            notes: Vec::with_capacity(alloc, NOTES)?,
+            body: Vec::new(alloc),
+            text: Vec::new(alloc),
+        };
+        let repairs = NotedBlocks {
+            teller,
+            rule: None,
+            is_sound_section: false,
+        };
+        Ok(Making::Blocks(Blocks { rows, repairs }))
+    }
+
+    fn format(&self) -> Format {
+        match self {
+            Making::Packets(_) => Format::Pcap,
+            Making::Blocks(_) => Format::PcapNg,
+        }
+    }
+
     // Produces the next packet or block, if one follows in its row.
     fn make(
         self,
@@ -111,142 +200,59 @@ impl Making {
         }
     }
 
-    // Reports the bytes that are left out.
-    fn say_left_out(&mut self, gap: &Gap) {
-        // A failed message doesn't stop the repair.
-        let _ = match self {
-            Making::Packets(packets) => {
-                let prefix = packets.repairs.prefix.as_str();
-                writeln!(packets.repairs.notes, "{prefix}{gap}")
-            }
-            Making::Blocks(blocks) => {
-                let prefix = blocks.repairs.prefix.as_str();
-                writeln!(blocks.repairs.notes, "{prefix}{gap}")
-            }
-        };
-    }
-
-    // Reports what became of a packet or block.
-    fn say_change(&mut self, alloc: Global, change: Option<Change>, counted: &Counted) {
-        let Some(change) = change else {
-            return;
-        };
-        let named = match self {
-            Making::Packets(_) => Named::Packet,
-            Making::Blocks(_) => Named::Block,
-        };
-        let Ok(text) = change.text(alloc, named, counted) else {
-            return;
-        };
-        // A failed message doesn't stop the repair.
-        let _ = match self {
-            Making::Packets(packets) => {
-                let prefix = packets.repairs.prefix.as_str();
-                writeln!(packets.repairs.notes, "{prefix}{text}")
-            }
-            Making::Blocks(blocks) => {
-                let prefix = blocks.repairs.prefix.as_str();
-                writeln!(blocks.repairs.notes, "{prefix}{text}")
-            }
-        };
-    }
-
-    // Reports the number of packets or blocks that are changed.
-    fn say_changed(&mut self, counted: &Counted) {
-        let (changed, of) = (counted.flawed, counted.items);
-        if changed == 0 {
-            return;
-        }
-        // A failed message doesn't stop the repair.
+    // Reports what became of an item.
+    fn tell(&mut self, report: &mut Report, item: Item) {
         match self {
-            Making::Packets(packets) => {
-                let prefix = packets.repairs.prefix.as_str();
-                let notes = &mut packets.repairs.notes;
-                let _ = writeln!(notes, "{prefix}{changed} of {of} packets are changed");
-            }
-            Making::Blocks(blocks) => {
-                let prefix = blocks.repairs.prefix.as_str();
-                let notes = &mut blocks.repairs.notes;
-                let _ = writeln!(
-                    notes,
-                    "{prefix}{changed} of {of} blocks are changed or left out"
-                );
-            }
+            Making::Packets(packets) => packets.tell(report, item),
+            Making::Blocks(blocks) => blocks.tell(report, item),
         }
-    }
-
-    // Writes the buffered messages to standard error.
-    fn flush(&mut self) {
-        let _ = match self {
-            Making::Packets(packets) => packets.repairs.notes.flush(),
-            Making::Blocks(blocks) => blocks.repairs.notes.flush(),
-        };
     }
 }
 
 impl Repaired {
     /// Returns the repaired form of the capture with this name. The errors are those of the beginning of the capture.
     pub fn new(console: &Console, name: &str, stream: Watched) -> ResultParsing<Repaired> {
-        Repaired::opened_as(console, name, stream, Opening::Own)
+        Repaired::opened_as(console, name, stream, Opening::Own, Reporting::Damage)
     }
 
-    /// Returns the same, with a given or guessed header if the capture has none.
+    /// Returns the same, with a given or guessed header if the capture has none, and with this report.
     pub fn opened_as(
         console: &Console,
         name: &str,
         stream: Watched,
         opening: Opening,
+        reporting: Reporting,
     ) -> ResultParsing<Repaired> {
         let alloc = console.alloc();
-        let shown = Shown(name);
-        let prefix = format!(in alloc; "pcapfile: {shown}: ")?;
-        let mut notes = BufWriter::with_capacity(alloc, OUTPUT, console.notes()?)?;
         let (standing, found) = Standing::open_as(alloc, stream, opening)?;
         let first = match (opening, &found.guessed) {
             (Opening::Guess(_), None) | (Opening::Own, _) => HEADER as u64,
             _ => 0,
         };
-        say_found(&mut notes, prefix.as_str(), &found);
-        match standing {
-            Standing::Packets(made, rows) => {
-                let repairs = Repairs {
-                    order: rows.endianness(),
-                    prefix,
-                    notes,
-                    room: Vec::new(alloc),
-                };
-                let making = Making::Packets(Packets { rows, repairs });
-                Ok(Repaired::with(alloc, making, made, first))
-            }
-            Standing::Blocks(rows) => {
-                let repairs = BlockRepairs {
-                    prefix,
-                    notes,
-                    body: Vec::new(alloc),
-                    text: Vec::new(alloc),
-                };
-                let making = Making::Blocks(Blocks { rows, repairs });
-                Ok(Repaired::with(alloc, making, Vec::new(alloc), 0))
-            }
-            Standing::Neither(_, error) => Err(error),
-        }
-    }
-
-    // Returns a capture whose first bytes are produced, from this many bytes of the original.
-    fn with(alloc: Global, making: Making, made: Vec<u8>, bytes: u64) -> Repaired {
-        Repaired {
+        let (making, made, bytes) = match standing {
+            Standing::Packets(made, rows) => (Making::of_packets(alloc, rows)?, made, first),
+            Standing::Blocks(rows) => (Making::of_blocks(alloc, rows)?, Vec::new(alloc), 0),
+            Standing::Neither(_, error) => return Err(error),
+        };
+        let format = making.format();
+        let tally = Tally::new(format, outcome_at(opening, &found));
+        let mut report = Report::open(console, name, reporting, tally, format)?;
+        tell_found(alloc, &mut report, &found)?;
+        Ok(Repaired {
             alloc,
             making: Some(making),
             made,
             given: 0,
             place: Place::new(bytes),
             changed: 0,
-        }
+            others: 0,
+            report,
+        })
     }
 
-    /// Returns whether something was changed or left out so far.
-    pub fn is_changed(&self) -> bool {
-        self.changed > 0 || self.place.left_out > 0 || self.place.counted.flawed > 0
+    /// Ends the report, and returns what was kept, changed and left out. The errors are those of standard output.
+    pub fn finish(&mut self) -> io::Result<Summary> {
+        self.report.finish()
     }
 
     /// Returns the next bytes of the repaired capture, or none at its end.
@@ -267,37 +273,69 @@ impl Repaired {
         self.made.clear();
         self.given = 0;
         for _ in 0..u64::MAX {
-            let Some(mut making) = self.making.take() else {
+            let Some(making) = self.making.take() else {
                 break;
             };
-            if let Some(gap) = self.place.pass(making.rows().left_out()) {
-                making.say_left_out(&gap);
-            }
-            let changed = making.rows().changed();
-            if changed.count > self.changed {
-                making.say_change(self.alloc, changed.last, &self.place.counted);
-                self.changed = changed.count;
-            }
+            self.tell_row(making.rows());
             if making.rows().is_at_end() {
-                making.say_changed(&self.place.counted);
-                making.flush();
+                self.report.end_reading();
                 break;
             }
-            let counted = &mut self.place.counted;
-            let mut making = match making.make(self.alloc, &mut self.made, counted) {
-                Ok(making) => making,
-                Err(exit) => return Err(io_error(exit)),
-            };
-            let is_enough = self.made.len() >= ENOUGH;
-            if is_enough {
-                making.flush();
-            }
+            let making = self.make_item(making)?;
             self.making = Some(making);
-            if is_enough {
+            if self.made.len() >= ENOUGH {
+                self.report.flush();
                 break;
             }
         }
         Ok(())
+    }
+
+    // Reports what was left out or changed before the next item.
+    fn tell_row(&mut self, rows: &Rows) {
+        if let Some(gap) = self.place.pass(rows.left_out()) {
+            self.report.tell_gap(&gap);
+        }
+        let others = rows.others();
+        if others > self.others {
+            self.report.leave_out(others - self.others);
+            self.others = others;
+        }
+        let changed = rows.changed();
+        if changed.count > self.changed {
+            self.changed = changed.count;
+            if let Some(change) = changed.last {
+                self.report.tell_change(change, &self.place.counted);
+            }
+        }
+    }
+
+    // Produces the next packet or block, if one follows in its row, and reports what became of it.
+    fn make_item(&mut self, making: Making) -> io::Result<Making> {
+        let before = self.place.counted;
+        let len = self.made.len();
+        let counted = &mut self.place.counted;
+        let mut making = match making.make(self.alloc, &mut self.made, counted) {
+            Ok(making) => making,
+            Err(exit) => {
+                self.report.flush();
+                return Err(io_error(exit));
+            }
+        };
+        let now = self.place.counted;
+        if now.items > before.items {
+            let at = Spot {
+                number: before.items.saturating_add(1),
+                place: before.bytes,
+            };
+            let item = Item {
+                at,
+                is_changed: now.flawed > before.flawed,
+                is_left_out: self.made.len() == len,
+            };
+            making.tell(&mut self.report, item);
+        }
+        Ok(making)
     }
 }
 
@@ -313,32 +351,53 @@ impl Read for Repaired {
     }
 }
 
-// Returns the error that ended the capture, after it has written all buffered messages.
-fn given_up(notes: &mut Lines, stop: Stop) -> Exit {
-    // A failed message doesn't stop the repair.
-    let _ = notes.flush();
+// Returns the exit of a row that ended with an error.
+fn exit_of(stop: Stop) -> Exit {
     match stop {
         Stop::Unread(error) => Exit::from(error),
         Stop::Untold(exit) => exit,
     }
 }
 
-// Reports what was found at the beginning of the capture.
-fn say_found(notes: &mut Lines, prefix: &str, found: &Found) {
-    if found.is_undone {
-        // A failed message doesn't stop the repair.
-        let _ = writeln!(
-            notes,
-            "{prefix}its line ends are undone: a text-mode transfer turned each LF into CR LF; bytes are counted without these CRs"
-        );
-    }
-    if let Some(guessed) = &found.guessed {
-        say_guess(notes, prefix, guessed);
+// Returns what a line says, without the number and the place before it.
+fn action_in(line: &str) -> &str {
+    match line.split_once(": ") {
+        Some((_place, action)) => action,
+        None => line,
     }
 }
 
-// Reports a guessed header.
-fn say_guess(notes: &mut Lines, prefix: &str, guessed: &Guessed) {
+// Returns the outcome of a packet or block, which may be damaged.
+fn outcome_if(is_damaged: bool) -> Outcome {
+    if is_damaged {
+        Outcome::Repaired
+    } else {
+        Outcome::Kept
+    }
+}
+
+// Returns what became of the beginning of a capture.
+fn outcome_at(opening: Opening, found: &Found) -> Outcome {
+    if found.guessed.is_some() {
+        return Outcome::Guessed;
+    }
+    outcome_if(found.is_undone || matches!(opening, Opening::Given(_)))
+}
+
+// Reports what was found at the beginning of the capture.
+fn tell_found(alloc: Global, report: &mut Report, found: &Found) -> Result<(), AllocError> {
+    if found.is_undone {
+        report.tell_opening(UNDONE, false);
+    }
+    if let Some(guessed) = &found.guessed {
+        let text = text_of(alloc, guessed)?;
+        report.tell_opening(text.as_str(), true);
+    }
+    Ok(())
+}
+
+// Returns the message on a guessed header.
+fn text_of(alloc: Global, guessed: &Guessed) -> Result<String, AllocError> {
     let order = match guessed.header.magic_number {
         0xA1B2_C3D4 | 0xA1B2_3C4D => "big",
         _ => "little",
@@ -353,11 +412,9 @@ fn say_guess(notes: &mut Lines, prefix: &str, guessed: &Guessed) {
     } else {
         ""
     };
-    // A failed message doesn't stop the repair.
-    let _ = writeln!(
-        notes,
-        "{prefix}its header is a guess: {order},{resolution},{link}, of link type {link}{how}"
-    );
+    format!(in alloc;
+        "its header is a guess: {order},{resolution},{link}, of link type {link}{how}"
+    )
 }
 
 fn io_error(exit: Exit) -> io::Error {

@@ -66,6 +66,8 @@ pub struct Rows {
     changed: Changed,
     /// Whether the last packets were left out for their link type.
     is_leaving_out: bool,
+    /// The number of packets that were left out for their link type.
+    others: u64,
     /// Whether nothing follows.
     is_at_end: bool,
 }
@@ -155,6 +157,7 @@ impl Rows {
                 last: None,
             },
             is_leaving_out: false,
+            others: 0,
             is_at_end: false,
         }
     }
@@ -167,6 +170,11 @@ impl Rows {
     /// Returns whether the capture is at its end.
     pub fn is_at_end(&self) -> bool {
         self.is_at_end
+    }
+
+    /// Returns the number of packets that were left out for their link type.
+    pub fn others(&self) -> u64 {
+        self.others
     }
 
     /// Returns the reports so far.
@@ -208,6 +216,7 @@ impl Rows {
             self.window.pass(len);
             self.leave_out(len as u64, Scrap::OtherLink, None);
             self.is_leaving_out = true;
+            self.others = self.others.saturating_add(1);
             return Ok(Step::Further);
         }
         if let Here::Changed(_) = here {

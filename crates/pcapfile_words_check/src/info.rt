@@ -7,7 +7,7 @@ use pcapfile_files::{
     AT_FAULT, Console, OUTPUT, Shown, ShownJson, buffered, tell_error, tell_foreign, tell_io,
 };
 use pcapfile_info::{Information, inform_blocks, inform_packets};
-use pcapfile_lenient::Captured;
+use pcapfile_lenient::{Captured, tell_unopened};
 use pcapfile_run::{End, Format, format_of};
 use pcapfile_shown::{Report, Unwritten, write_json};
 use std::io::{BufWriter, ErrorKind, Write};
@@ -57,7 +57,7 @@ pub fn inform_files(console: &Console, asked: &Informing) -> io::Result<u8> {
             Ok(information) => {
                 write_told(console, name, &information, asked.as_json, &mut output)?
             }
-            Err(error) => tell_error(console, name, &error)?,
+            Err(error) => tell_unopened(console, name, &error)?,
         };
         status = told.max(status);
     }

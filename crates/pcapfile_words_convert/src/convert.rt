@@ -9,7 +9,7 @@ use pcap_file::run::{
 };
 use pcap_file::{DataLink, PcapError, PcapNgReader, PcapReader, PcapWriter, ResultParsing};
 use pcapfile_files::{Console, OUTPUT, Shown, buffered, tell_error, tell_io, write_named};
-use pcapfile_lenient::Captured;
+use pcapfile_lenient::{Captured, tell_fault};
 use pcapfile_run::{Format, format_of};
 use std::alloc::Global;
 use std::io;
@@ -85,7 +85,7 @@ fn tell_ended(console: &Console, asked: &Conversion, ended: &io::Result<Ended>) 
         Some(error) if ended.write_failed && error.rule().is_none() => {
             tell_error(console, asked.out, error)
         }
-        Some(error) => tell_error(console, asked.from, error),
+        Some(error) => tell_fault(console, asked.from, error),
     }
 }
 

@@ -5,6 +5,7 @@ use pcap_file::pcapng::enhanced::split_body;
 use pcap_file::pcapng::{BlockType, InterfaceDescriptionBlock, InterfaceDescriptionOption};
 use pcap_file::{Endianness, PcapNgReader};
 use pcapfile_files::{Console, Shown};
+use pcapfile_lenient::Count;
 use pcapfile_run::holds_packet;
 use std::io;
 
@@ -72,36 +73,59 @@ impl LeftOut {
         *count = count.saturating_add(1);
     }
 
+    // Returns the numbers of packets and blocks that were left out, by kind.
+    fn counts<'a>(&self) -> [Count<'a>; 7] {
+        [
+            Count(
+                self.packets,
+                "packet has no place there, and is left out",
+                "packets have no place there, and are left out",
+            ),
+            Count(
+                self.sections,
+                "block of sections is left out",
+                "blocks of sections are left out",
+            ),
+            Count(
+                self.interfaces,
+                "block of interfaces is left out",
+                "blocks of interfaces are left out",
+            ),
+            Count(
+                self.names,
+                "block of names is left out",
+                "blocks of names are left out",
+            ),
+            Count(
+                self.statistics,
+                "block of statistics is left out",
+                "blocks of statistics are left out",
+            ),
+            Count(
+                self.secrets,
+                "block of secrets is left out",
+                "blocks of secrets are left out",
+            ),
+            Count(
+                self.others,
+                "block of other types is left out",
+                "blocks of other types are left out",
+            ),
+        ]
+    }
+
     /// Prints what was left out of the capture of this name, and how often.
     pub(crate) fn tell(&self, console: &Console, name: &str) -> io::Result<()> {
         let from = Shown(name);
-        let LeftOut {
-            packets,
-            bare_packets,
-            ..
-        } = self;
-        if *packets > 0 {
-            eprintln!(console.for_line();
-                "pcapfile: {from}: {packets} packets have no place there, and are left out"
-            )?;
-        }
-        for (count, kind) in [
-            (self.sections, "sections"),
-            (self.interfaces, "interfaces"),
-            (self.names, "names"),
-            (self.statistics, "statistics"),
-            (self.secrets, "secrets"),
-            (self.others, "other types"),
-        ] {
-            if count > 0 {
-                eprintln!(console.for_line();
-                    "pcapfile: {from}: {count} blocks of {kind} are left out"
-                )?;
+        for left_out in self.counts() {
+            if left_out.0 > 0 {
+                eprintln!(console.for_line(); "pcapfile: {from}: {left_out}")?;
             }
         }
-        if *bare_packets > 0 {
+        if self.bare_packets > 0 {
+            let packets = Count(self.bare_packets, "packet", "packets");
             eprintln!(console.for_line();
-                "pcapfile: {from}: the options of {bare_packets} packets are left out"
+                "pcapfile: {from}: the options of {packets} are left out"
             )?;
         }
         if self.has_bare_opening {

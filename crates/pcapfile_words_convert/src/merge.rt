@@ -10,7 +10,7 @@ use pcapfile_files::{
     AT_FAULT, Console, OUTPUT, Shown, Watched, buffered, open_further, tell_error, tell_io,
     write_named,
 };
-use pcapfile_lenient::Captured;
+use pcapfile_lenient::{Captured, Count, tell_fault, tell_unopened};
 use pcapfile_merge::{BufferedBlocks, BufferedPackets, Reader, Source, merge_packets};
 use pcapfile_run::{Format, format_of};
 use std::alloc::Global;
@@ -76,7 +76,7 @@ fn merge_to<W: Write + Drop>(console: &Console, asked: &Merge, output: W) -> io:
                 readers.push(Opened::new(reader))?;
                 opened.push(*name)?;
             }
-            Err(error) => status = tell_error(console, name, &error)?.max(status),
+            Err(error) => status = tell_unopened(console, name, &error)?.max(status),
         }
         if status > AT_FAULT {
             return Ok(Ended::given_up(status));
@@ -104,15 +104,35 @@ fn tell_left_out(console: &Console, names: &[&str], sources: &[Source<Input>]) -
         if let Reader::Blocks(blocks) = source.reader() {
             let left_out = blocks.left_out();
             let packet_options = source.left_out();
-            for (count, kind) in [
-                (left_out.names, "blocks of names"),
-                (left_out.statistics, "blocks of statistics"),
-                (left_out.secrets, "blocks of secrets"),
-                (left_out.others, "blocks of other types"),
-                (left_out.section_options, "options of section headers"),
-                (packet_options, "options of obsolete packets"),
+            for count in [
+                Count(left_out.names, "block of names is", "blocks of names are"),
+                Count(
+                    left_out.statistics,
+                    "block of statistics is",
+                    "blocks of statistics are",
+                ),
+                Count(
+                    left_out.secrets,
+                    "block of secrets is",
+                    "blocks of secrets are",
+                ),
+                Count(
+                    left_out.others,
+                    "block of other types is",
+                    "blocks of other types are",
+                ),
+                Count(
+                    left_out.section_options,
+                    "option of section headers is",
+                    "options of section headers are",
+                ),
+                Count(
+                    packet_options,
+                    "option of obsolete packets is",
+                    "options of obsolete packets are",
+                ),
             ] {
-                tell_kind(console, name, count, kind)?;
+                tell_kind(console, name, count)?;
             }
         }
     }
@@ -120,10 +140,10 @@ fn tell_left_out(console: &Console, names: &[&str], sources: &[Source<Input>]) -
 }
 
 // Reports how many blocks or options of one kind were left out of a capture, if there were any.
-fn tell_kind(console: &Console, name: &str, count: u64, kind: &str) -> io::Result<()> {
-    if count > 0 {
+fn tell_kind(console: &Console, name: &str, count: Count<'_>) -> io::Result<()> {
+    if count.0 > 0 {
         let shown = Shown(name);
-        eprintln!(console.for_line(); "pcapfile: {shown}: {count} {kind} are left out")?;
+        eprintln!(console.for_line(); "pcapfile: {shown}: {count} left out")?;
     }
     Ok(())
 }
@@ -133,7 +153,7 @@ fn tell_faults(console: &Console, names: &[&str], sources: &[Source<Input>]) -> 
     let mut status = 0;
     for (name, source) in names.iter().zip(sources) {
         if let Some(error) = source.fault() {
-            status = tell_error(console, name, error)?.max(status);
+            status = tell_fault(console, name, error)?.max(status);
         }
     }
     Ok(status)

@@ -9,9 +9,9 @@ use pcap_filter::Filter;
 use pcap_parts::to_next_end;
 use pcapfile_cut::{Outcome, Wanted};
 use pcapfile_files::{
-    Console, OUTPUT, STANDARD, Shown, USAGE, buffered, tell_error, tell_io, unnumbered, write_named,
+    Console, OUTPUT, STANDARD, Shown, USAGE, buffered, tell_io, unnumbered, write_named,
 };
-use pcapfile_lenient::Captured;
+use pcapfile_lenient::{Captured, Count, tell_unopened};
 use pcapfile_run::{Format, format_of};
 use std::alloc::Global;
 use std::io;
@@ -122,7 +122,7 @@ fn cut_capture(console: &Console, asked: &Cutting, filter: Option<&Filter>) -> i
             (None, Way::Parts(_)) => tell_no_length(console),
             (length, _) => cut_stream(console, asked, tests, capture, length.unwrap_or_default()),
         },
-        Err(error) => tell_error(console, asked.from, &error),
+        Err(error) => tell_unopened(console, asked.from, &error),
     }
 }
 
@@ -153,14 +153,9 @@ fn tell_packets(
     if count == 0 {
         return Ok(());
     }
-    let (from, s) = (Shown(from), plural(count));
-    eprintln!(console.for_line(); "pcapfile: {from}: {done} {count} packet{s} {kind}")?;
+    let (from, packets) = (Shown(from), Count(count, "packet", "packets"));
+    eprintln!(console.for_line(); "pcapfile: {from}: {done} {packets} {kind}")?;
     Ok(())
-}
-
-// Returns the ending of a noun that this many things have.
-fn plural(count: u64) -> &'static str {
-    if count == 1 { "" } else { "s" }
 }
 
 // Reports that `--parts` needs a file with a known length, and returns the exit status.
@@ -183,11 +178,11 @@ fn cut_stream<R: Read + Drop>(
         Err(error) => tell_io(console, asked.from, &error),
         Ok(Format::Pcap) => match Packets::new(input) {
             Ok(mut packets) => cut_source(console, asked, tests, &mut packets, length),
-            Err(error) => tell_error(console, asked.from, &error),
+            Err(error) => tell_unopened(console, asked.from, &error),
         },
         Ok(Format::PcapNg) => match Blocks::new(console.alloc(), input) {
             Ok(mut blocks) => cut_source(console, asked, tests, &mut blocks, length),
-            Err(error) => tell_error(console, asked.from, &error),
+            Err(error) => tell_unopened(console, asked.from, &error),
         },
     }
 }

@@ -6,9 +6,10 @@ use crate::tell::tell_outcome;
 use capcopy_run::Uninterrupted;
 use pcapfile_cut::{Joined, Opening, Wanted, join_part};
 use pcapfile_files::{
-    AT_FAULT, Console, OUTPUT, Shown, Watched, buffered, open_watched, tell_error, tell_io,
-    tell_other_file, write_named,
+    AT_FAULT, Console, OUTPUT, Shown, Watched, buffered, open_watched, tell_io, tell_other_file,
+    write_named,
 };
+use pcapfile_lenient::tell_unopened;
 use pcapfile_run::{Format, format_of};
 use std::io;
 use std::io::{BufReader, BufWriter, Write};
@@ -58,14 +59,14 @@ fn join_parts<W: Write>(console: &Console, asked: &Joining, output: &mut W) -> i
                 let status = write_first(console, asked, first, &mut packets, output)?;
                 join_packets(console, asked, others, &opening, status, output)
             }
-            Err(error) => tell_error(console, first, &error),
+            Err(error) => tell_unopened(console, first, &error),
         },
         Format::PcapNg => match Blocks::new(console.alloc(), input) {
             Ok(mut blocks) => {
                 let status = write_first(console, asked, first, &mut blocks, output)?;
                 join_others(console, asked, others, blocks, status, output)
             }
-            Err(error) => tell_error(console, first, &error),
+            Err(error) => tell_unopened(console, first, &error),
         },
     }
 }
@@ -132,7 +133,7 @@ fn join_next<W: Write>(
     output: &mut W,
 ) -> io::Result<u8> {
     match join_part(console.alloc(), opening, &mut input, output) {
-        Joined::Unopened(error) => tell_error(console, part, &error),
+        Joined::Unopened(error) => tell_unopened(console, part, &error),
         Joined::OtherHeader => {
             let shown = Shown(part);
             eprintln!(console.for_line();
@@ -169,7 +170,7 @@ fn join_others<W: Write>(
         };
         let mut blocks = match Blocks::new(console.alloc(), input) {
             Ok(blocks) => blocks,
-            Err(error) => return tell_error(console, part, &error),
+            Err(error) => return tell_unopened(console, part, &error),
         };
         let place = blocks.opening_len();
         let outcome = join_blocks(console.alloc(), &mut blocks, before.in_force(), output);

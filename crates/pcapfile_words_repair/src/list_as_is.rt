@@ -2,8 +2,10 @@
 
 use crate::as_is::{Between, Telling};
 use capcopy_run::{Exit, Uninterrupted};
+use pcap_file::PcapError;
 use pcapfile_as_is::{BlockPacketLines, PacketLines};
 use pcapfile_files::{AT_FAULT, Console, OUTPUT, Shown, tell_error, tell_exit, tell_unwritten};
+use pcapfile_lenient::tell_cut_short;
 use std::io;
 use std::io::{BufWriter, Write};
 
@@ -49,6 +51,9 @@ fn list_file<W: Write>(
     let status = if is_sound { 0 } else { AT_FAULT };
     Ok(match fault {
         None => status,
+        Some(PcapError::IncompleteBuffer(_)) => {
+            tell_cut_short(console, name, place.counted.bytes)?.max(status)
+        }
         Some(error) => tell_exit(console, name, &Exit::from(error))?.max(status),
     })
 }

@@ -1,9 +1,9 @@
 //! The word `repair`.
 
 use pcapfile_files::{
-    Console, OUTPUT, open_watched, tell_changed, tell_error, tell_io, write_named,
+    Console, OUTPUT, STANDARD, USAGE, open_watched, tell_changed, tell_io, write_named,
 };
-use pcapfile_lenient::{Opening, Repaired};
+use pcapfile_lenient::{Opening, Outcome, Repaired, Reporting, tell_unopened};
 use std::io;
 use std::io::{BufWriter, Write};
 
@@ -16,23 +16,47 @@ pub struct Repair<'a> {
     pub out: &'a str,
     /// Where the header of a classic capture comes from.
     pub opening: Opening,
+    /// Whether the report is a JSON object on standard output.
+    pub as_json: bool,
 }
 
-/// Writes a capture that breaks no rule from what can be read of another one, and returns the exit status.
+/// Writes a capture that breaks no rule from what can be read of another one, and returns the exit status, which says whether the
+/// capture was sound, is repaired, or is repaired with guesses.
 pub fn repair_file(console: &Console, asked: &Repair) -> io::Result<u8> {
-    write_named(console, asked.out, &[asked.from], |output| {
-        repair_to(console, asked, output)
-    })
+    if asked.as_json && asked.out == STANDARD {
+        eprintln!(console.for_line();
+            "error: --json writes to standard output, so the repaired capture needs the name of a file"
+        )?;
+        return Ok(USAGE);
+    }
+    let mut outcome = Outcome::Kept;
+    let told = write_named(console, asked.out, &[asked.from], |output| {
+        repair_to(console, asked, output, &mut outcome)
+    })?;
+    Ok(told.max(outcome.status()))
 }
 
-fn repair_to<W: Write + Drop>(console: &Console, asked: &Repair, output: W) -> io::Result<u8> {
+// Writes the repaired capture and the report, and returns the exit status of a failure, or 0. The outcome is set if the repair
+// is complete.
+fn repair_to<W: Write + Drop>(
+    console: &Console,
+    asked: &Repair,
+    output: W,
+    outcome: &mut Outcome,
+) -> io::Result<u8> {
+    let reporting = if asked.as_json {
+        Reporting::Json
+    } else {
+        Reporting::Lines
+    };
     let stream = match open_watched(console, asked.from) {
         Ok(stream) => stream,
         Err(error) => return tell_io(console, asked.from, &error),
     };
-    let mut repaired = match Repaired::opened_as(console, asked.from, stream, asked.opening) {
+    let opened = Repaired::opened_as(console, asked.from, stream, asked.opening, reporting);
+    let mut repaired = match opened {
         Ok(repaired) => repaired,
-        Err(error) => return tell_error(console, asked.from, &error),
+        Err(error) => return tell_unopened(console, asked.from, &error),
     };
     let mut output = BufWriter::with_capacity(console.alloc(), OUTPUT, output)?;
     for _ in 0..u64::MAX {
@@ -52,7 +76,11 @@ fn repair_to<W: Write + Drop>(console: &Console, asked: &Repair, output: W) -> i
     if let Err(error) = output.flush() {
         return tell_io(console, asked.out, &error);
     }
-    if matches!(asked.opening, Opening::Own) && repaired.is_changed() {
+    match repaired.finish() {
+        Ok(summary) => *outcome = summary.outcome(),
+        Err(error) => return tell_io(console, STANDARD, &error),
+    }
+    if matches!(asked.opening, Opening::Own) && *outcome != Outcome::Kept {
         tell_changed(console, asked.from)?;
     }
     Ok(0)
