@@ -3,7 +3,9 @@
 #![tactic(auto)]
 
 mod captured;
+mod describing;
 mod frames;
+mod lost;
 mod opening;
 mod packets;
 mod repaired;
@@ -14,6 +16,8 @@ mod torn;
 mod window;
 
 pub use captured::Captured;
+pub use describing::{Fate, Source, Undescribed};
+pub use lost::FirstSection;
 pub use opening::{Found, Guessed, Opening, header_with, magic_of};
 pub use packets::{Change, Named};
 pub use repaired::Repaired;

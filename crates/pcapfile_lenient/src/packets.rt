@@ -1,5 +1,6 @@
 //! Packets of a damaged classic capture: which of its bytes are packets.
 
+use crate::describing::Undescribed;
 use crate::window::Window;
 use pcap_damaged::{
     Numbers, Weight, begins_capture, begins_near, can_be_this_long, follows, head_at, resync, weigh,
@@ -100,6 +101,8 @@ pub enum Change {
         /// The number of bytes that are written.
         whole: usize,
     },
+    /// The interface of the next packet is not described.
+    Undescribed(Undescribed),
 }
 
 /// How a message names a packet or a block.
@@ -158,6 +161,11 @@ impl Change {
             Change::CutOff { .. } => format!(in alloc;
                 "{item} at byte {place}: its end is missing: its packet is kept, without options that are cut off or break rules"
             ),
+            Change::Undescribed(undescribed) => {
+                let text = undescribed.text(alloc)?;
+                let text = text.as_str();
+                format!(in alloc; "{item} at byte {place}: {text}")
+            }
         }
     }
 }

@@ -2,12 +2,13 @@
 
 ghost use Rattle.std.specs.Prelude.{None};
 
+use crate::lost::FirstSection;
 use crate::opening::{Found, Guessed, Opening};
 use crate::packets::{Change, Named};
 use crate::rows::Rows;
 use crate::standing::{BlockRows, HEADER, PacketRows, Standing, Stop};
 use capcopy_run::Exit;
-use pcap_file::{PcapError, ResultParsing};
+use pcap_file::{Endianness, PcapError, ResultParsing};
 use pcapfile_as_is::{BlockRepairs, Counted, Gap, Place, Repairs};
 use pcapfile_files::{Console, Notes, OUTPUT, Shown, Watched};
 use std::alloc::{AllocError, Global};
@@ -85,6 +86,17 @@ impl Blocks {
         match rows.tell(alloc, &mut repairs, made, 1, counted) {
             Ok(rows) => Ok(Blocks { rows, repairs }),
             Err(stop) => Err(given_up(&mut repairs.notes, stop)),
+        }
+    }
+}
+
+impl Blocks {
+    // Produces a section header that is no block of the capture.
+    fn make_header(self, alloc: Global, made: &mut Vec<u8>) -> io::Result<Blocks> {
+        let mut uncounted = Place::new(0).counted;
+        match self.make(alloc, made, &mut uncounted) {
+            Ok(blocks) => Ok(blocks),
+            Err(exit) => Err(io_error(exit)),
         }
     }
 }
@@ -207,6 +219,7 @@ impl Repaired {
             _ => 0,
         };
         say_found(&mut notes, prefix.as_str(), &found);
+        say_section(&mut notes, prefix.as_str(), opening, found.section);
         match standing {
             Standing::Packets(made, rows) => {
                 let repairs = Repairs {
@@ -225,8 +238,12 @@ impl Repaired {
                     body: Vec::new(alloc),
                     text: Vec::new(alloc),
                 };
-                let making = Making::Blocks(Blocks { rows, repairs });
-                Ok(Repaired::with(alloc, making, Vec::new(alloc), 0))
+                let mut blocks = Blocks { rows, repairs };
+                let mut made = Vec::new(alloc);
+                if let FirstSection::Written(_) = found.section {
+                    blocks = blocks.make_header(alloc, &mut made)?;
+                }
+                Ok(Repaired::with(alloc, Making::Blocks(blocks), made, 0))
             }
             Standing::Neither(_, error) => Err(error),
         }
@@ -277,6 +294,7 @@ impl Repaired {
             if changed.count > self.changed {
                 making.say_change(self.alloc, changed.last, &self.place.counted);
                 self.changed = changed.count;
+                self.made.extend_from_slice(making.rows().descriptions())?;
             }
             if making.rows().is_at_end() {
                 making.say_changed(&self.place.counted);
@@ -335,6 +353,31 @@ fn say_found(notes: &mut Lines, prefix: &str, found: &Found) {
     if let Some(guessed) = &found.guessed {
         say_guess(notes, prefix, guessed);
     }
+}
+
+// Reports what became of the first section header of a PcapNg capture.
+fn say_section(notes: &mut Lines, prefix: &str, opening: Opening, section: FirstSection) {
+    let order = match section {
+        FirstSection::Found => return,
+        FirstSection::Lost => {
+            // A failed message doesn't stop the repair.
+            let _ = writeln!(
+                notes,
+                "{prefix}has blocks without a section header, which are left out; 'pcapfile repair --guess' keeps them"
+            );
+            return;
+        }
+        FirstSection::Written(Endianness::Little) => "little",
+        FirstSection::Written(Endianness::Big) => "big",
+    };
+    let how = match opening {
+        Opening::Given(_) => "as --header gives it",
+        _ => "which is a guess",
+    };
+    let _ = writeln!(
+        notes,
+        "{prefix}its section header is lost: one of byte order {order} is written, {how}"
+    );
 }
 
 // Reports a guessed header.

@@ -2,7 +2,9 @@
 
 ghost use Rattle.std.specs.Prelude.{None};
 
+use crate::describing::{Describing, Next};
 use crate::frames::mend_frame;
+use crate::lost::{Lost, section_text};
 use crate::packets::{Change, HEADER, Here, LIMIT, Packets};
 use crate::stored::mend_stored;
 use crate::torn::complete_last;
@@ -17,7 +19,10 @@ use std::io;
 use std::io::Read;
 
 /// The first bytes of a section header.
-const SECTION: [u8; 4] = [0x0A, 0x0D, 0x0D, 0x0A];
+pub(crate) const SECTION: [u8; 4] = [0x0A, 0x0D, 0x0D, 0x0A];
+
+/// The length of the shortest block, in bytes.
+const SHORTEST: usize = 12;
 
 /// The kind of the items in a capture.
 #[derive(Drop)]
@@ -57,10 +62,12 @@ pub struct Rows {
     window: Window,
     /// The number of buffered bytes that belong to a packet or block.
     ready: usize,
-    /// The whole text of the last block, if its end was missing. The window is then empty.
+    /// The whole text of the last block, if its end was missing, when the window is empty; or of a first section header that was lost.
     last: Vec<u8>,
     /// The number of bytes of this text that were read.
     given: usize,
+    /// How undescribed interfaces are described.
+    describing: Describing,
     left_out: LeftOut,
     /// The last change, and how many there are so far.
     changed: Changed,
@@ -113,14 +120,22 @@ impl Rows {
         window: Window,
     ) -> ResultParsing<Rows> {
         let kind = Kind::Packets(Packets::new(header)?);
-        Ok(Rows::new(alloc, kind, window, 0))
+        Ok(Rows::new(alloc, kind, window, Describing::off(alloc)))
     }
 
     /// Returns the rows of the blocks from the first section header in the window on, and leaves out what is before it. If there is none,
     /// the errors are those of the first bytes.
-    pub(crate) fn of_blocks(alloc: Global, mut window: Window) -> ResultParsing<Rows> {
+    pub(crate) fn of_blocks(
+        alloc: Global,
+        mut window: Window,
+        describing: Describing,
+    ) -> ResultParsing<Rows> {
         let refusal = match open(alloc, &mut window) {
-            Ok((parser, len)) => return Ok(Rows::new(alloc, Kind::Blocks(parser), window, len)),
+            Ok((parser, len)) => {
+                let mut rows = Rows::new(alloc, Kind::Blocks(parser), window, describing);
+                rows.ready = len;
+                return Ok(rows);
+            }
             Err(error) => error,
         };
         if let PcapError::OutOfMemory(_) | PcapError::IoError(_) = &refusal {
@@ -131,12 +146,30 @@ impl Rows {
             return Err(refusal);
         }
         let (parser, len) = first_section(alloc, window.shown())?;
-        let mut rows = Rows::new(alloc, Kind::Blocks(parser), window, len);
+        let mut rows = Rows::new(alloc, Kind::Blocks(parser), window, describing);
+        rows.ready = len;
         rows.leave_out(passed.bytes, Scrap::NoBlocks, refusal.rule());
         Ok(rows)
     }
 
-    fn new(alloc: Global, kind: Kind, window: Window, ready: usize) -> Rows {
+    /// Returns the rows of blocks whose section header is lost, after a header that is written for them.
+    pub(crate) fn of_lost(
+        alloc: Global,
+        lost: Lost,
+        mut window: Window,
+        describing: Describing,
+    ) -> ResultParsing<Rows> {
+        let text = section_text(alloc, lost.order)?;
+        let (parser, len) = first_section(alloc, text.as_slice())?;
+        window.pass(lost.place);
+        let mut rows = Rows::new(alloc, Kind::Blocks(parser), window, describing);
+        rows.last = text;
+        rows.ready = len;
+        rows.leave_out(lost.place as u64, Scrap::NoBlocks, None);
+        Ok(rows)
+    }
+
+    fn new(alloc: Global, kind: Kind, window: Window, describing: Describing) -> Rows {
         let left_out = LeftOut {
             bytes: 0,
             scrap: kind.garbage(),
@@ -146,9 +179,10 @@ impl Rows {
             alloc,
             kind,
             window,
-            ready,
+            ready: 0,
             last: Vec::new(alloc),
             given: 0,
+            describing,
             left_out,
             changed: Changed {
                 count: 0,
@@ -172,6 +206,11 @@ impl Rows {
     /// Returns the reports so far.
     pub fn changed(&self) -> Changed {
         self.changed
+    }
+
+    /// Returns the descriptions of interfaces that are written before the next block, as the last report says.
+    pub(crate) fn descriptions(&self) -> &[u8] {
+        self.describing.text()
     }
 
     // Returns the bytes from which the next packet or block is read.
@@ -247,7 +286,7 @@ impl Rows {
     // Takes a step before a block, or before other bytes of a PcapNg capture.
     fn step_before(&mut self, front: Front) -> io::Result<Step> {
         match front {
-            Front::Block(len) => self.pass_block(len),
+            Front::Block(len) => return self.pass_block(len),
             Front::Garbage(rule) => self.pass_blocks(rule)?,
             Front::Missing(n) => {
                 if self.window.show(n)? {
@@ -267,16 +306,36 @@ impl Rows {
         };
     }
 
-    // Takes a block of this many bytes, or mends the stored length of its packet first.
-    fn pass_block(&mut self, len: usize) {
-        let change = match &self.kind {
-            Kind::Packets(_) => None,
-            Kind::Blocks(parser) => mend_stored(parser, &mut self.window, len),
+    // Takes a block of this many bytes, or leaves it out. First it mends the stored length of its packet, and describes its interface.
+    fn pass_block(&mut self, len: usize) -> io::Result<Step> {
+        let Kind::Blocks(parser) = &mut self.kind else {
+            return Ok(Step::Done);
         };
-        match change {
-            Some(change) => self.note(change),
-            None => self.ready = len,
+        if let Some(change) = mend_stored(parser, &mut self.window, len) {
+            self.note(change);
+            return Ok(Step::Done);
         }
+        let bytes = self.window.shown();
+        self.describing.follow(parser, bytes);
+        match self.describing.judge(parser, bytes)? {
+            Next::Take => self.ready = len,
+            Next::Report(undescribed) => self.note(Change::Undescribed(undescribed)),
+            Next::LeaveOut => return self.leave_out_block(len),
+        }
+        Ok(Step::Done)
+    }
+
+    // Leaves out a block of this many bytes. The row ends here unless the next one is left out too.
+    fn leave_out_block(&mut self, len: usize) -> io::Result<Step> {
+        self.window.pass(len);
+        self.leave_out(len as u64, Scrap::Undescribed, None);
+        self.window.reach(SHORTEST)?;
+        Ok(match &self.kind {
+            Kind::Blocks(parser) if self.describing.leaves_out(parser, self.window.shown()) => {
+                Step::Further
+            }
+            _ => Step::Done,
+        })
     }
 
     // Mends the frame of a block, or skips corrupt bytes that break this rule, if any.
@@ -330,9 +389,9 @@ impl Rows {
         Ok(())
     }
 
-    // Mends the frame of the last block, or completes it, and returns whether that was done.
+    // Mends the frame of the last block, or completes it, or describes its interface, and returns whether that was done.
     fn mend_last(&mut self, missing: usize) -> io::Result<bool> {
-        let Kind::Blocks(parser) = &self.kind else {
+        let Kind::Blocks(parser) = &mut self.kind else {
             return Ok(false);
         };
         let len = self.window.shown().len();
@@ -346,6 +405,14 @@ impl Rows {
         let Some(text) = complete_last(self.alloc, parser, &self.window)? else {
             return Ok(false);
         };
+        match self.describing.judge(parser, self.window.shown())? {
+            Next::Take => {}
+            Next::Report(undescribed) => {
+                self.note(Change::Undescribed(undescribed));
+                return Ok(true);
+            }
+            Next::LeaveOut => return Ok(false),
+        }
         self.note(Change::CutOff {
             present: len,
             whole: text.len(),
@@ -388,6 +455,10 @@ impl Read for Rows {
         } else {
             self.given = self.given.saturating_add(len);
         }
+        if self.given >= self.last.len() {
+            self.last.clear();
+            self.given = 0;
+        }
         self.ready = self.ready.saturating_sub(len);
         Ok(len)
     }
@@ -416,6 +487,23 @@ fn open(alloc: Global, window: &mut Window) -> ResultParsing<(PcapNgParserAsIs, 
         }
     }
     Err(PcapError::IncompleteBuffer(1))
+}
+
+/// Returns whether the window begins with a section header, which may not be longer than the longest packet.
+pub(crate) fn begins_section(alloc: Global, window: &mut Window) -> ResultParsing<bool> {
+    for _ in 0..u64::MAX {
+        match first_section(alloc, window.shown()) {
+            Ok(_) => return Ok(true),
+            Err(PcapError::IncompleteBuffer(n)) if n <= LIMIT as usize => {
+                if !window.show(n)? {
+                    break;
+                }
+            }
+            Err(PcapError::OutOfMemory(error)) => return Err(PcapError::OutOfMemory(error)),
+            Err(_) => break,
+        }
+    }
+    Ok(false)
 }
 
 // Returns a parser after the section header at the front of these bytes, and the length of this header.
