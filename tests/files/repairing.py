@@ -7,6 +7,7 @@ import tempfile
 
 import as_is
 import left_out
+import undescribed
 from as_is import DONE, ENHANCED, INTERFACE, MOST, OBSOLETE, SECTION, SIMPLE, options_flaws, sound_options
 
 UNSTATED = b"\xff" * 8
@@ -45,13 +46,20 @@ def block(order, number, body):
     return struct.pack(order + "II", number, len(body) + 12) + body + struct.pack(order + "I", len(body) + 12)
 
 
-def repaired(name, capture):
-    """Returns the repaired capture, or None, the messages, and the status."""
+def repaired(name, capture, supposed=None):
+    """Returns the repaired capture, or None, the messages, and the status. `supposed` describes interfaces in sections that describe none."""
     kind, items, refused = as_is.stands_in(capture)
     if kind == "pcap" or refused:
         return as_is.repaired(name, capture)
-    out, said, count, changed = b"", [], 0, 0
-    for it in items:
+    is_lost = not supposed and as_is.rows_without_section(capture) is not None
+    out, said, count, changed = b"", [as_is.NO_SECTION] * is_lost, 0, 0
+    for it in undescribed.settled(items, len(capture), supposed):
+        if isinstance(it, bytes):
+            out += it
+            continue
+        if isinstance(it, str):
+            said.append(it)
+            continue
         if isinstance(it, as_is.Gap):
             said.append(as_is.left_out(it))
             continue
@@ -122,7 +130,9 @@ def by_hand(order):
     other = enhanced(order, 1, 5, b"data")
     packet = enhanced(order, 0, 5, b"datadata", option(order, 1, b"text"))
     yield "a sound capture", sound, sound, ""
-    yield "a packet of an unknown interface", sound + other, sound + other, ""
+    described = block(order, INTERFACE, struct.pack(order + "HHI", 1, 0, 0) + option(order, 9, b"\x09") + bytes(4))
+    like = "interface 1 is not described: a description of link type 1, like those of the other interfaces of its section, is written before it"
+    yield "a packet of an unknown interface", sound + other, sound + described + other, f"pcapfile: in: block 7 at byte 200: {like}\n"
     past, kept = (sound + enhanced(order, 0, 5, b"data", it) for it in (struct.pack(order + "HH", 1, 5) + b"1234", b""))
     yield "an option that goes on past the body", past, kept, """\
 pcapfile: in: block 7 at byte 200: options that break rules are left out
@@ -133,9 +143,10 @@ pcapfile: in: 1 of 7 blocks are changed or left out
 pcapfile: in: block 2 at byte 28: its body is too short for an interface, and is filled up with zeros, so that its packets get a link type and times
 pcapfile: in: 1 of 4 blocks are changed or left out
 """
-    yield "packets with no room", sound + block(order, ENHANCED, bytes(16)) + block(order, SIMPLE, b"") + other, sound + other, """\
+    yield "packets with no room", sound + block(order, ENHANCED, bytes(16)) + block(order, SIMPLE, b"") + other, sound + described + other, f"""\
 pcapfile: in: block 7 at byte 200: its body breaks a rule, and it is left out
 pcapfile: in: block 8 at byte 228: its body breaks a rule, and it is left out
+pcapfile: in: block 9 at byte 240: {like}
 pcapfile: in: 2 of 9 blocks are changed or left out
 """
     yield "a section that states its length", section(order, length=172) + sound[28:], sound, """\

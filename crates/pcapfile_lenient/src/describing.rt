@@ -12,6 +12,12 @@ use std::io::ErrorKind;
 /// The most interfaces that are described at once. A higher number of an interface is taken for corrupt.
 const MOST: usize = 16;
 
+/// The offset of the first length in a block.
+const LENGTH: usize = 4;
+
+/// The length of the shortest block whose body has room for an interface, in bytes.
+const SHORTEST: u32 = 16;
+
 /// The offset of the interface in a packet or in statistics.
 const INTERFACE: usize = 8;
 
@@ -112,8 +118,8 @@ pub(crate) struct Describing {
     first_written: Option<u32>,
     /// Whether a later description differs from those that were written.
     is_disputed: bool,
-    /// The interface that was reported last.
-    reported: Option<u32>,
+    /// The last report on the section.
+    reported: Option<Undescribed>,
     /// The descriptions that were written last.
     text: Vec<u8>,
 }
@@ -292,8 +298,8 @@ impl Describing {
         match (fate, self.reported) {
             (Fate::Described(..), _) => self.describe_up_to(parser, interface)?,
             (Fate::Kept, Some(_)) => return Ok(Next::Take),
-            (_, Some(reported)) if reported == interface => return Ok(Next::LeaveOut),
-            _ => self.reported = Some(interface),
+            _ if self.has_left_out(interface) && fate.is_left_out() => return Ok(Next::LeaveOut),
+            _ => self.reported = Some(undescribed),
         }
         Ok(Next::Report(undescribed))
     }
@@ -301,9 +307,14 @@ impl Describing {
     /// Returns whether the next block is left out as the last one was. Its first bytes are enough.
     pub(crate) fn leaves_out(&self, parser: &PcapNgParserAsIs, bytes: &[u8]) -> bool {
         match self.undescribed(parser, bytes) {
-            Some(next) => next.fate.is_left_out() && self.reported == Some(next.interface),
+            Some(next) => next.fate.is_left_out() && self.has_left_out(next.interface),
             None => false,
         }
+    }
+
+    // Returns whether the last report was that packets of this interface are left out.
+    fn has_left_out(&self, interface: u32) -> bool {
+        self.reported.is_some_and(|last| last.interface == interface && last.fate.is_left_out())
     }
 
     // Returns the interface of the block at the front of these bytes, if it isn't described, and what becomes of the block.
@@ -376,8 +387,20 @@ fn read_description(parser: &mut PcapNgParserAsIs, text: &[u8]) -> io::Result<()
     }
 }
 
+/// Returns whether the block at the front of these bytes names no interface that is taken for corrupt.
+pub(crate) fn names_a_near_interface(parser: &PcapNgParserAsIs, bytes: &[u8]) -> bool {
+    let most = parser.interface_count().saturating_add(MOST);
+    match interface_in(parser.section().endianness(), bytes) {
+        Some(interface) => (interface as usize) < most,
+        None => true,
+    }
+}
+
 // Returns the interface of the packet or statistics at the front of these bytes.
 fn interface_in(order: Endianness, bytes: &[u8]) -> Option<u32> {
+    if number_at(order, bytes, LENGTH)? < SHORTEST {
+        return None;
+    }
     let number = number_at(order, bytes, INTERFACE)?;
     match (number_at(order, bytes, 0)?, order) {
         (SIMPLE, _) => Some(0),

@@ -1,5 +1,6 @@
 //! PcapNg captures whose first section header is lost.
 
+use crate::describing::names_a_near_interface;
 use crate::rows::SECTION;
 use crate::window::IN_A_ROW;
 use pcap_file::{Endianness, PcapError, PcapNgWriter, ResultParsing};
@@ -30,6 +31,19 @@ pub(crate) struct Lost {
     pub(crate) place: usize,
     /// The number of blocks in a row.
     pub(crate) blocks: u64,
+    /// Whether the row reaches the end of the bytes.
+    is_to_end: bool,
+}
+
+impl Lost {
+    // Returns whether these blocks are more likely than those in another byte order. Blocks with small lengths also look like blocks in the
+    // other order that begin within them, but for the last one.
+    fn is_likelier(&self, other: &Lost) -> bool {
+        if self.is_to_end == other.is_to_end {
+            return self.blocks > other.blocks;
+        }
+        self.is_to_end
+    }
 }
 
 /// Returns the header of a section in this byte order.
@@ -39,12 +53,12 @@ pub(crate) fn section_text(alloc: Global, order: Endianness) -> ResultParsing<Ve
 }
 
 /// Returns the blocks at the front of these bytes that have no section header before them. If there are some in both byte orders, they
-/// are those in the order with the longer row.
+/// are those in the order with the row that reaches the end, or that is longer.
 pub(crate) fn lost_blocks(alloc: Global, bytes: &[u8]) -> ResultParsing<Option<Lost>> {
     let little = lost_blocks_in(alloc, Endianness::Little, bytes)?;
     let big = lost_blocks_in(alloc, Endianness::Big, bytes)?;
     Ok(match (little, big) {
-        (Some(little), Some(big)) if big.blocks > little.blocks => Some(big),
+        (Some(little), Some(big)) if big.is_likelier(&little) => Some(big),
         (None, big) => big,
         (little, _) => little,
     })
@@ -63,7 +77,7 @@ pub(crate) fn lost_blocks_in(
         return Ok(None);
     };
     let row = bytes.get(place..).unwrap_or_default();
-    let blocks = blocks_in_a_row(&mut parser, row)?;
+    let (blocks, is_to_end) = blocks_in_a_row(&mut parser, row)?;
     if blocks < FEWEST {
         return Ok(None);
     }
@@ -71,15 +85,19 @@ pub(crate) fn lost_blocks_in(
         order,
         place,
         blocks,
+        is_to_end,
     }))
 }
 
-// Returns the number of blocks that follow each other from the front of these bytes to the next section header.
-fn blocks_in_a_row(parser: &mut PcapNgParserAsIs, bytes: &[u8]) -> ResultParsing<u64> {
+// Returns the number of blocks that follow each other from the front of these bytes, and whether they reach the end or a section header.
+fn blocks_in_a_row(parser: &mut PcapNgParserAsIs, bytes: &[u8]) -> ResultParsing<(u64, bool)> {
     let mut left = bytes;
     let mut blocks: u64 = 0;
     for _ in 0..u64::MAX {
         if left.starts_with(&SECTION) {
+            return Ok((blocks, true));
+        }
+        if !names_a_near_interface(parser, left) {
             break;
         }
         match parser.next_block_as_is(left) {
@@ -89,5 +107,5 @@ fn blocks_in_a_row(parser: &mut PcapNgParserAsIs, bytes: &[u8]) -> ResultParsing
         }
         blocks = blocks.saturating_add(1);
     }
-    Ok(blocks)
+    Ok((blocks, left.is_empty()))
 }

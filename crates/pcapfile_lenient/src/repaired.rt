@@ -363,7 +363,7 @@ fn say_section(notes: &mut Lines, prefix: &str, opening: Opening, section: First
             // A failed message doesn't stop the repair.
             let _ = writeln!(
                 notes,
-                "{prefix}has blocks without a section header, which are left out; 'pcapfile repair --guess' keeps them"
+                "{prefix}begins with blocks that have no section header; 'pcapfile repair --guess' or --header keeps them"
             );
             return;
         }

@@ -71,7 +71,7 @@ pub struct Rows {
     left_out: LeftOut,
     /// The last change, and how many there are so far.
     changed: Changed,
-    /// Whether the last packets were left out for their link type.
+    /// Whether the last packets were left out for their link type, or blocks for their interface.
     is_leaving_out: bool,
     /// Whether nothing follows.
     is_at_end: bool,
@@ -285,6 +285,10 @@ impl Rows {
 
     // Takes a step before a block, or before other bytes of a PcapNg capture.
     fn step_before(&mut self, front: Front) -> io::Result<Step> {
+        if self.is_leaving_out && !matches!(front, Front::Block(_)) {
+            self.is_leaving_out = false;
+            return Ok(Step::Done);
+        }
         match front {
             Front::Block(len) => return self.pass_block(len),
             Front::Garbage(rule) => self.pass_blocks(rule)?,
@@ -311,6 +315,7 @@ impl Rows {
         let Kind::Blocks(parser) = &mut self.kind else {
             return Ok(Step::Done);
         };
+        self.is_leaving_out = false;
         if let Some(change) = mend_stored(parser, &mut self.window, len) {
             self.note(change);
             return Ok(Step::Done);
@@ -330,12 +335,14 @@ impl Rows {
         self.window.pass(len);
         self.leave_out(len as u64, Scrap::Undescribed, None);
         self.window.reach(SHORTEST)?;
-        Ok(match &self.kind {
-            Kind::Blocks(parser) if self.describing.leaves_out(parser, self.window.shown()) => {
-                Step::Further
-            }
-            _ => Step::Done,
-        })
+        self.is_leaving_out = match &self.kind {
+            Kind::Packets(_) => false,
+            Kind::Blocks(parser) => self.describing.leaves_out(parser, self.window.shown()),
+        };
+        if self.is_leaving_out {
+            return Ok(Step::Further);
+        }
+        Ok(Step::Done)
     }
 
     // Mends the frame of a block, or skips corrupt bytes that break this rule, if any.

@@ -164,8 +164,9 @@ impl Standing {
             Err(error) => error,
         };
         if !begins_section(alloc, &mut window)? {
-            window.reach_row()?;
-            if lost_blocks(alloc, window.shown())?.is_some() {
+            let sure = window.reach_row()?;
+            let (run, _guessed) = guess_in(window.shown(), sure, None)?;
+            if lost_blocks(alloc, window.shown())?.is_some_and(|lost| lost.blocks >= run.packets) {
                 found.section = FirstSection::Lost;
             }
         }
