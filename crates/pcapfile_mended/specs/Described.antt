@@ -6,9 +6,9 @@ use Rattle.pcap_blocks.specs.InterfaceDescription.{Interface}
 use Rattle.pcap_blocks.specs.ParsedBlock.{InterfaceBody}
 use Rattle.pcap_options.specs.Held.{first_under, number_in}
 use Rattle.pcap_written.specs.Bodies.{text_of}
-use Rattle.pcap_written.specs.Puts.{RefusesPut}
 use Rattle.pcap_written.specs.Writing.{FlawIn, IsFitIn}
 use Rattle.pcap_written.specs.declared.unwritable.Unput.{Unput}
+use Rattle.pcap_written.specs.declared.unwritable.Unput.TheVariants.{Memory, Unfit}
 use Rattle.pcapfile_mended.specs.declared.described.Described.{Described}
 
 -- The interface has this link type, this snapshot length, and this clock: the number of its first if_tsresol, or 6 for microseconds, and
@@ -25,7 +25,8 @@ pub record Agree (one other : Described) : Type 0 where
   pub resolution : one.resolution ≡ other.resolution
   pub offset : one.offset ≡ other.offset
 
--- The text is an interface described so, which strict reading takes; or it can't be written, or memory ran out.
+-- The text is an interface described so, which strict reading takes; or it can't be written for this reason, or memory ran out.
 abbrev pub WritesDescription : Endianness → Described → List ℕ → Result (Unit {0}) Unput → Type 0
 WritesDescription order like text (Ok u) = (interface : Interface) × IsDescribed like interface × IsFitIn order (InterfaceBody interface) × (text ≡ text_of (number_bytes order) (InterfaceBody interface))
-WritesDescription order like text (Err e) = (interface : Interface) × IsDescribed like interface × RefusesPut (FlawIn order (InterfaceBody interface)) e
+WritesDescription order like text (Err (Memory e)) = Unit {0}
+WritesDescription order like text (Err (Unfit flaw)) = (interface : Interface) × IsDescribed like interface × FlawIn order (InterfaceBody interface) flaw

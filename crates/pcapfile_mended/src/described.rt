@@ -42,10 +42,18 @@ impl Described {
     pub fn agrees(self, other: Described) -> bool
         ensures { IsTrue result ↔ Agree self other }
     {
-        self.link == other.link
-            && self.resolution == other.resolution
-            && self.offset == other.offset
+        if self.link != other.link {
+            return false;
+        }
+        has_clock(self, other.resolution, other.offset)
     }
+}
+
+// Returns whether the clock of a description has this resolution and this offset.
+fn has_clock(described: Described, resolution: u8, offset: u64) -> bool
+    ensures { IsTrue result ↔ ((described.resolution ≡ resolution) × (described.offset ≡ offset)) }
+{
+    described.resolution == resolution && described.offset == offset
 }
 
 // Returns the byte of the first `IfTsResol`.
