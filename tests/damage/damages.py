@@ -7,6 +7,10 @@ import struct
 from captures import BILLION, MAGICS, Capture, Packet, Place, front, sound
 
 
+# The size of the section header of `captures`.
+SECTION_SIZE = 28
+
+
 class Damaged:
     """A damaged capture. `exists` are the packets that still exist, `was` all packets before the damage, `words` the options of
     `repair` that the kind of damage needs."""
@@ -170,6 +174,36 @@ def header_lost(draw, capture):
     return it
 
 
+def header_words(capture):
+    """Returns the options that give a capture's byte order, resolution and link type."""
+    order, unit = {"<": "little", ">": "big"}[capture.order], {10**6: "micro", BILLION: "nano"}[capture.per]
+    return "--header", f"{order},{unit},1"
+
+
+def interface_lost(draw, capture):
+    """Removes or overwrites the description of the interface."""
+    it = Damaged(capture, header_words(capture))
+    size = it.places[0].start - SECTION_SIZE
+    if draw.randrange(2):
+        it.remove(SECTION_SIZE, size)
+    else:
+        it.overwrite(SECTION_SIZE, draw.choice((bytes(size), draw.randbytes(size))))
+    return it
+
+
+def section_lost(draw, capture):
+    """Removes the section header, or overwrites it, or cuts the capture within the description of the interface."""
+    kind = draw.randrange(3)
+    it = Damaged(capture, header_words(capture) if kind == 2 else ("--guess",))
+    if kind == 0:
+        it.remove(0, SECTION_SIZE)
+    elif kind == 1:
+        it.overwrite(0, draw.choice((bytes(SECTION_SIZE), draw.randbytes(SECTION_SIZE))))
+    else:
+        it.remove(0, draw.randrange(SECTION_SIZE + 1, it.places[0].start))
+    return it
+
+
 def lines_of_text(draw, capture):
     """Replaces each line feed by a carriage return and a line feed, as a transfer of text does."""
     it = Damaged(capture, ("--guess",))
@@ -190,5 +224,8 @@ KINDS = {
     "concatenated": concatenated,
     "header lost": header_lost,
     "LF to CRLF": lines_of_text,
+    "interface lost": interface_lost,
+    "section header lost": section_lost,
 }
 CLASSIC_ONLY = {"header lost"}
+BLOCKS_ONLY = {"interface lost", "section header lost"}

@@ -37,6 +37,10 @@ MESSAGES = {
     1913: "PacketOption: Flags length != 4",
 }
 SECTION, INTERFACE, OBSOLETE, SIMPLE, ENHANCED = 0x0A0D0D0A, 1, 2, 3, 6
+NO_HEADER = "if its header is lost, --guess guesses one, and --header ORDER,RESOLUTION,LINK gives one"
+NO_SECTION = "begins with blocks that have no section header; 'pcapfile repair --guess' or --header keeps them"
+# The number of bytes at its front at which a repair looks for blocks without a section header.
+WINDOW = 2097152
 MAGIC, CUT = b"\n\r\r\n", "cut short"
 # The options that are strings, except comments, by the block's type and their codes.
 STRINGS = {(SECTION, 2), (SECTION, 4), (INTERFACE, 2)}
@@ -348,6 +352,24 @@ def stands_behind(capture, start, order):
     return next((it for it in range(start, len(capture)) if stand(capture, it, order)), None)
 
 
+def rows_without_section(capture):
+    """Returns the byte order of two or more blocks in a row before a first section header, and where they begin, or None."""
+    if is_section(capture, 0):
+        return None
+    shown, rows = capture[:WINDOW], []
+    for order in "<>":
+        start, count, interfaces = stands_behind(shown, 0, order), 0, 0
+        at = start
+        while at is not None and not shown.startswith(MAGIC, at) and isinstance(found := framed(shown, at, order), tuple):
+            _, number, body = found
+            if number in (ENHANCED, 5, OBSOLETE) and len(body) >= 4 and struct.unpack_from(order + ("H" if number == OBSOLETE else "I"), body)[0] >= interfaces + 16:
+                break
+            count, interfaces, at = count + 1, interfaces + (number == INTERFACE), at + len(body) + 12
+        if count >= 2:
+            rows.append((at == len(shown) or shown.startswith(MAGIC, at), count, order == "<", order, start))
+    return max(rows)[3:] if rows else None
+
+
 def may_be_cut(capture, at, order):
     """Returns whether the truncated block at this offset states no length that is too large."""
     if len(capture) - at < 12:
@@ -579,7 +601,9 @@ def repaired(name, capture):
     prefix = f"pcapfile: {name}: "
     _, items, refused = stands_in(capture)
     if refused:
-        return None, f"{prefix}{refusal(capture, refused)}\n", AT_FAULT
+        why = refusal(capture, refused)
+        said = [NO_SECTION] * (rows_without_section(capture) is not None) + [why] + [NO_HEADER] * why.startswith("Invalid")
+        return None, "".join(f"{prefix}{it}\n" for it in said), AT_FAULT
     (order, unit), out, said, outcomes = opened(capture), [capture[:24]], [], []
     for it in items:
         if isinstance(it, Gap):

@@ -9,6 +9,7 @@ import tempfile
 
 import as_is
 import left_out
+import undescribed
 from as_is import DONE, ENHANCED, GUESSED, INTERFACE, MOST, OBSOLETE, REPAIRED, SECTION, SIMPLE, options_flaws, sound_options
 
 UNSTATED = b"\xff" * 8
@@ -55,30 +56,43 @@ def block(order, number, body):
     return struct.pack(order + "II", number, len(body) + 12) + body + struct.pack(order + "I", len(body) + 12)
 
 
-def repaired(name, capture):
-    """Returns the repaired capture, or None, the messages, and the status."""
+def repaired(name, capture, supposed=None):
+    """Returns the repaired capture, or None, the messages, and the status. `supposed` describes interfaces in sections that describe none."""
     kind, items, refused = as_is.stands_in(capture)
     if kind == "pcap" or refused:
         return as_is.repaired(name, capture)
-    out, said, outcomes, others, next_one = b"", [], [], 0, DONE
-    for it in items:
+    is_lost = not supposed and as_is.rows_without_section(capture) is not None
+    out, said, outcomes, gaps, others = b"", [as_is.NO_SECTION] * is_lost, [], [], 0
+    next_one = of_section = DONE
+    for it in undescribed.settled(items, len(capture), supposed):
+        if isinstance(it, undescribed.Described):
+            said.append(it.text)
+            out += it.blocks
+            next_one, of_section = max(next_one, it.outcome), max(of_section, it.outcome * (it.outcome == GUESSED))
+            continue
+        if isinstance(it, undescribed.LeftOut):
+            others += 1
+            next_one = DONE
+            continue
         if isinstance(it, as_is.Gap):
             said.append(as_is.left_out(it) + as_is.by_rule(it.rule))
+            gaps.append(it)
             continue
         if isinstance(it, as_is.Mending):
             said.append(as_is.mending(it))
             next_one = max(next_one, GUESSED if it.is_guess else REPAIRED)
             continue
+        of_section = DONE if it.type == SECTION else of_section
         made, change = mended(it.order, it.type, it.body)
         said += [f"block {it.number} at byte {it.place}{broken_rule(it)}: {change}"] * bool(change)
         is_sound = not change or it.type == SECTION and not it.flaws
         if made is None:
             others += 1
         else:
-            outcomes.append(max(next_one, DONE if is_sound else REPAIRED))
+            outcomes.append(max(next_one, of_section, DONE if is_sound else REPAIRED))
             out += block(it.order, it.type, made)
         next_one = DONE
-    last, status = as_is.summary("block", outcomes, [it for it in items if isinstance(it, as_is.Gap)], others)
+    last, status = as_is.summary("block", outcomes, gaps, others)
     return out, "".join(f"pcapfile: {name}: {it}\n" for it in (*said, last)), status
 
 
@@ -148,7 +162,9 @@ def by_hand(order):
     other = enhanced(order, 1, 5, b"data")
     packet = enhanced(order, 0, 5, b"datadata", option(order, 1, b"text"))
     yield "a sound capture", sound, sound, "", (6, 0, 0, 0, 0)
-    yield "a packet of an unknown interface", sound + other, sound + other, "", (7, 0, 0, 0, 0)
+    described = block(order, INTERFACE, struct.pack(order + "HHI", 1, 0, 0) + option(order, 9, b"\x09") + bytes(4))
+    like = "interface 1 is not described: a description of link type 1, like those of the other interfaces of its section, is written before it"
+    yield "a packet of an unknown interface", sound + other, sound + described + other, f"pcapfile: in: block 7 at byte 200: {like}\n", (6, 1, 0, 0, 0)
     past, kept = (sound + enhanced(order, 0, 5, b"data", it) for it in (struct.pack(order + "HH", 1, 5) + b"1234", b""))
     yield "an option that goes on past the body", past, kept, """\
 pcapfile: in: block 7 at byte 200 breaks rule 18: options that break rules are left out
@@ -157,10 +173,11 @@ pcapfile: in: block 7 at byte 200 breaks rule 18: options that break rules are l
     yield "an interface too short", sound[:28] + short + interface + other, sound[:28] + filled + interface + other, """\
 pcapfile: in: block 2 at byte 28 breaks rule 12: its body is too short for an interface, and is filled up with zeros, so that its packets get a link type and times
 """, (3, 1, 0, 0, 0)
-    yield "packets with no room", sound + block(order, ENHANCED, bytes(16)) + block(order, SIMPLE, b"") + other, sound + other, """\
+    yield "packets with no room", sound + block(order, ENHANCED, bytes(16)) + block(order, SIMPLE, b"") + other, sound + described + other, f"""\
 pcapfile: in: block 7 at byte 200 breaks rule 13: its body breaks a rule, and it is left out
 pcapfile: in: block 8 at byte 228 breaks rule 15: its body breaks a rule, and it is left out
-""", (7, 0, 0, 2, 0)
+pcapfile: in: block 9 at byte 240: {like}
+""", (6, 1, 0, 2, 0)
     yield "a section that states its length", section(order, length=172) + sound[28:], sound, """\
 pcapfile: in: block 1 at byte 0: the length of its section is stated no more
 """, (6, 0, 0, 0, 0)

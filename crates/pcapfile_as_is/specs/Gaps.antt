@@ -8,7 +8,7 @@ use Rattle.pcapfile_as_is.specs.declared.gaps.Gap.{Gap}
 use Rattle.pcapfile_as_is.specs.declared.gaps.LeftOut.{LeftOut}
 use Rattle.pcapfile_as_is.specs.declared.gaps.Place.{Place}
 use Rattle.pcapfile_as_is.specs.declared.gaps.Scrap.{Scrap}
-use Rattle.pcapfile_as_is.specs.declared.gaps.Scrap.TheVariants.{NoPackets, NoBlocks, PacketFront, BlockFront, OtherHeader, OtherLink}
+use Rattle.pcapfile_as_is.specs.declared.gaps.Scrap.TheVariants.{NoPackets, NoBlocks, PacketFront, BlockFront, OtherHeader, OtherLink, Undescribed}
 
 -- The words for the kind of such bytes.
 abbrev pub scrap_text : Scrap → List ℕ
@@ -18,6 +18,7 @@ scrap_text PacketFront = codes "of a packet that is cut short"
 scrap_text BlockFront = codes "of a block that is cut short"
 scrap_text OtherHeader = codes "the header of another capture"
 scrap_text OtherLink = codes "packets of another link type"
+scrap_text Undescribed = codes "blocks of an interface that is not described"
 
 -- The text of a gap has its number of bytes, their offset and kind, and that they are left out.
 abbrev pub gap_text : Gap → List ℕ

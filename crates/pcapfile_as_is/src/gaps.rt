@@ -27,6 +27,8 @@ pub enum Scrap {
     OtherHeader,
     /// Packets of another link type.
     OtherLink,
+    /// Blocks of an interface that isn't described.
+    Undescribed,
 }
 
 /// The bytes of a capture that were left out so far.
@@ -73,6 +75,7 @@ impl Scrap {
             Scrap::BlockFront => "of a block that is cut short",
             Scrap::OtherHeader => "the header of another capture",
             Scrap::OtherLink => "packets of another link type",
+            Scrap::Undescribed => "blocks of an interface that is not described",
         }
     }
 }

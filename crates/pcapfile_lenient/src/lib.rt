@@ -5,7 +5,9 @@
 mod captured;
 mod count;
 mod cut_short;
+mod describing;
 mod frames;
+mod lost;
 mod noted;
 mod opening;
 mod packets;
@@ -21,6 +23,8 @@ mod window;
 pub use captured::Captured;
 pub use count::Count;
 pub use cut_short::{tell_cut_short, tell_fault, tell_unopened};
+pub use describing::{Fate, Source, Undescribed};
+pub use lost::FirstSection;
 pub use opening::{Found, Guessed, Opening, header_with, magic_of};
 pub use packets::{Change, Named};
 pub use repaired::Repaired;

@@ -1,5 +1,6 @@
 //! The header of a capture whose own one is lost.
 
+use crate::lost::FirstSection;
 use crate::window::Window;
 use byteorder::{BigEndian, LittleEndian};
 use pcap_altered::is_transferred;
@@ -22,17 +23,18 @@ const HEAD: usize = 16;
 const FEWEST: u64 = 4;
 
 /// The link type that is assumed: Ethernet.
-const ETHERNET: u32 = 1;
+pub(crate) const ETHERNET: u32 = 1;
 
 /// The first bytes of a section header after a text-mode transfer.
 const TRANSFERRED_SECTION: [u8; 6] = [0x0D, 0x0A, 0x0D, 0x0D, 0x0D, 0x0A];
 
-/// Where the header of a classic capture comes from.
+/// Where the header of a capture comes from, if it is lost.
 #[derive(Clone, Copy)]
 pub enum Opening {
     /// From the capture.
     Own,
-    /// From the caller, before the first byte of the capture.
+    /// From the caller, before the first byte of a classic capture. A section header of a PcapNg capture has its byte order, and undescribed
+    /// interfaces have its resolution and link type.
     Given(PcapHeader),
     /// From the packets, where the capture has none. The link type may be given. A text-mode transfer is undone.
     Guess(Option<u32>),
@@ -45,13 +47,15 @@ pub struct Found {
     pub guessed: Option<Guessed>,
     /// Whether a text-mode transfer is undone.
     pub is_undone: bool,
+    /// What became of the first section header of a PcapNg capture.
+    pub section: FirstSection,
 }
 
 /// A run of packets.
 #[derive(Clone, Copy)]
-struct Run {
+pub(crate) struct Run {
     /// The number of its packets.
-    packets: u64,
+    pub(crate) packets: u64,
     /// Whether it reaches the end of the capture.
     is_to_end: bool,
 }
@@ -85,6 +89,16 @@ pub fn magic_of(order: Endianness, resolution: TsResolution) -> u32 {
         (Endianness::Big, TsResolution::MicroSecond) => 0xA1B2_C3D4,
         (Endianness::Little, TsResolution::NanoSecond) => 0x4D3C_B2A1,
         (Endianness::Big, TsResolution::NanoSecond) => 0xA1B2_3C4D,
+    }
+}
+
+/// Returns the byte order and the resolution of a header.
+pub(crate) fn kind_of(header: &PcapHeader) -> (Endianness, TsResolution) {
+    match header.magic_number {
+        0xA1B2_C3D4 => (Endianness::Big, TsResolution::MicroSecond),
+        0xA1B2_3C4D => (Endianness::Big, TsResolution::NanoSecond),
+        0x4D3C_B2A1 => (Endianness::Little, TsResolution::NanoSecond),
+        _ => (Endianness::Little, TsResolution::MicroSecond),
     }
 }
 
@@ -142,14 +156,8 @@ fn longest_run(bytes: &[u8], bound: usize, link: Option<u32>) -> ResultParsing<R
     }
 }
 
-/// Returns the header under which the window has the longest run of packets, if one has a run.
-pub(crate) fn guess(window: &mut Window, link: Option<u32>) -> ResultParsing<Option<Guessed>> {
-    let sure = window.reach_row()?;
-    Ok(guess_in(window.shown(), sure, link)?.1)
-}
-
-// Returns the longest run of packets in these bytes under one of the headers, and this header, if one has a run.
-fn guess_in(
+/// Returns the longest run of packets in these bytes under one of the headers, and this header, if one has a run.
+pub(crate) fn guess_in(
     bytes: &[u8],
     bound: usize,
     link: Option<u32>,
@@ -171,8 +179,8 @@ fn guess_in(
     Ok((longest, best))
 }
 
-// Returns the packets that follow each other from the first place at which packets go on.
-fn run_of(parser: &PcapParser, bytes: &[u8], bound: usize) -> Run {
+/// Returns the packets that follow each other from the first place at which packets go on.
+pub(crate) fn run_of(parser: &PcapParser, bytes: &[u8], bound: usize) -> Run {
     let Some(mut at) = resync(parser, 0, bytes, bound) else {
         return Run::NONE;
     };

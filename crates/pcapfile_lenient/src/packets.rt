@@ -1,5 +1,7 @@
 //! Packets of a damaged classic capture: which of its bytes are packets.
 
+use crate::describing::Undescribed;
+use crate::summary::Outcome;
 use crate::window::Window;
 use pcap_damaged::{
     Numbers, Weight, begins_capture, begins_near, can_be_this_long, follows, head_at, resync, weigh,
@@ -100,6 +102,8 @@ pub enum Change {
         /// The number of bytes that are written.
         whole: usize,
     },
+    /// The interface of the next packet is not described.
+    Undescribed(Undescribed),
 }
 
 /// How a message names a packet or a block.
@@ -139,12 +143,18 @@ impl Change {
         }
     }
 
-    /// Returns whether the packet or block is a guess.
-    pub(crate) fn is_guess(&self) -> bool {
+    /// Returns what becomes of the packet or block, unless it is left out.
+    pub(crate) fn outcome(&self) -> Option<Outcome> {
         match *self {
-            Change::Length { is_guess, .. } => is_guess,
-            Change::Found | Change::Unconfirmed(_) => true,
-            Change::CutOff { .. } => false,
+            Change::Length {
+                is_guess: false,
+                ..
+            }
+            | Change::CutOff { .. } => Some(Outcome::Repaired),
+            Change::Length { .. } | Change::Found | Change::Unconfirmed(_) => Some(
+                Outcome::Guessed,
+            ),
+            Change::Undescribed(undescribed) => undescribed.fate.outcome(),
         }
     }
 
@@ -178,6 +188,7 @@ impl fmt::Display for Change {
             Change::CutOff { .. } => f.write_str(
                 "its end is missing: its packet is kept, without options that are cut off or break rules",
             ),
+            Change::Undescribed(undescribed) => write!(f, "{undescribed}"),
         }
     }
 }

@@ -2,6 +2,7 @@
 
 ghost use Rattle.std.specs.Prelude.{None};
 
+use crate::lost::FirstSection;
 use crate::noted::{NotedBlocks, NotedPackets, rules_of};
 use crate::opening::{Found, Guessed, Opening};
 use crate::report::{Report, Reporting};
@@ -9,7 +10,7 @@ use crate::rows::Rows;
 use crate::standing::{BlockRows, HEADER, PacketRows, Standing, Stop};
 use crate::summary::{Outcome, Summary, Tally};
 use capcopy_run::Exit;
-use pcap_file::{PcapError, ResultParsing};
+use pcap_file::{Endianness, PcapError, ResultParsing};
 use pcapfile_as_is::{BlockRepairs, Counted, Place, Repairs, Spot};
 use pcapfile_files::{Console, Watched};
 use pcapfile_run::Format;
@@ -23,6 +24,10 @@ const NOTES: usize = 1_024;
 /// The message on a text-mode transfer that is undone.
 const UNDONE: &str =
     "its line ends are undone: a text-mode transfer turned each LF into CR LF; bytes are counted without these CRs";
+
+/// The message on blocks at the beginning that are left out.
+const NO_SECTION: &str =
+    "begins with blocks that have no section header; 'pcapfile repair --guess' or --header keeps them";
 
 /// The number of bytes that are produced at once, to which the rest of the last packet or block is added.
 const ENOUGH: usize = 65_536;
@@ -136,8 +141,21 @@ impl Blocks {
         }
         if item.is_left_out {
             report.leave_out(1);
+        } else if self.rows.rows().is_guess() {
+            report.count(Outcome::Guessed);
         } else {
             report.count(outcome_if(item.is_changed && !self.repairs.is_sound_section));
+        }
+    }
+}
+
+impl Blocks {
+    // Produces a section header that is no block of the capture.
+    fn make_header(self, alloc: Global, made: &mut Vec<u8>) -> io::Result<Blocks> {
+        let mut uncounted = Place::new(0).counted;
+        match self.make(alloc, made, &mut uncounted) {
+            Ok(blocks) => Ok(blocks),
+            Err(exit) => Err(io_error(exit)),
         }
     }
 }
@@ -157,7 +175,12 @@ impl Making {
         Ok(Making::Packets(Packets { rows, repairs }))
     }
 
-    fn of_blocks(alloc: Global, rows: BlockRows) -> Result<Making, AllocError> {
+    // Returns the blocks of these rows, and the header of their section if it is written.
+    fn of_blocks(
+        alloc: Global,
+        rows: BlockRows,
+        section: FirstSection,
+    ) -> io::Result<(Making, Vec<u8>)> {
         let teller = BlockRepairs {
             prefix: String::new(alloc),
             notes: Vec::with_capacity(alloc, NOTES)?,
@@ -169,7 +192,12 @@ impl Making {
             rule: None,
             is_sound_section: false,
         };
-        Ok(Making::Blocks(Blocks { rows, repairs }))
+        let mut blocks = Blocks { rows, repairs };
+        let mut made = Vec::new(alloc);
+        if let FirstSection::Written(_) = section {
+            blocks = blocks.make_header(alloc, &mut made)?;
+        }
+        Ok((Making::Blocks(blocks), made))
     }
 
     fn format(&self) -> Format {
@@ -231,13 +259,17 @@ impl Repaired {
         };
         let (making, made, bytes) = match standing {
             Standing::Packets(made, rows) => (Making::of_packets(alloc, rows)?, made, first),
-            Standing::Blocks(rows) => (Making::of_blocks(alloc, rows)?, Vec::new(alloc), 0),
+            Standing::Blocks(rows) => {
+                let (making, made) = Making::of_blocks(alloc, rows, found.section)?;
+                (making, made, 0)
+            }
             Standing::Neither(_, error) => return Err(error),
         };
         let format = making.format();
-        let tally = Tally::new(format, outcome_at(opening, &found));
+        let tally = Tally::new(format, outcome_at(opening, &found, format));
         let mut report = Report::open(console, name, reporting, tally, format)?;
         tell_found(alloc, &mut report, &found)?;
+        tell_section(alloc, &mut report, opening, found.section)?;
         Ok(Repaired {
             alloc,
             making: Some(making),
@@ -276,7 +308,7 @@ impl Repaired {
             let Some(making) = self.making.take() else {
                 break;
             };
-            self.tell_row(making.rows());
+            self.tell_row(making.rows())?;
             if making.rows().is_at_end() {
                 self.report.end_reading();
                 break;
@@ -292,7 +324,7 @@ impl Repaired {
     }
 
     // Reports what was left out or changed before the next item.
-    fn tell_row(&mut self, rows: &Rows) {
+    fn tell_row(&mut self, rows: &Rows) -> Result<(), AllocError> {
         if let Some(gap) = self.place.pass(rows.left_out()) {
             self.report.tell_gap(&gap);
         }
@@ -307,7 +339,9 @@ impl Repaired {
             if let Some(change) = changed.last {
                 self.report.tell_change(change, &self.place.counted);
             }
+            self.made.extend_from_slice(rows.descriptions())?;
         }
+        Ok(())
     }
 
     // Produces the next packet or block, if one follows in its row, and reports what became of it.
@@ -377,11 +411,15 @@ fn outcome_if(is_damaged: bool) -> Outcome {
 }
 
 // Returns what became of the beginning of a capture.
-fn outcome_at(opening: Opening, found: &Found) -> Outcome {
-    if found.guessed.is_some() {
-        return Outcome::Guessed;
+fn outcome_at(opening: Opening, found: &Found, format: Format) -> Outcome {
+    let is_written = match format {
+        Format::Pcap => found.guessed.is_some() || matches!(opening, Opening::Given(_)),
+        Format::PcapNg => matches!(found.section, FirstSection::Written(_)),
+    };
+    match opening {
+        Opening::Guess(_) if is_written => Outcome::Guessed,
+        _ => outcome_if(is_written || found.is_undone),
     }
-    outcome_if(found.is_undone || matches!(opening, Opening::Given(_)))
 }
 
 // Reports what was found at the beginning of the capture.
@@ -393,6 +431,33 @@ fn tell_found(alloc: Global, report: &mut Report, found: &Found) -> Result<(), A
         let text = text_of(alloc, guessed)?;
         report.tell_opening(text.as_str(), true);
     }
+    Ok(())
+}
+
+// Reports what became of the first section header of a PcapNg capture.
+fn tell_section(
+    alloc: Global,
+    report: &mut Report,
+    opening: Opening,
+    section: FirstSection,
+) -> Result<(), AllocError> {
+    let order = match section {
+        FirstSection::Found => return Ok(()),
+        FirstSection::Lost => {
+            report.tell_opening(NO_SECTION, false);
+            return Ok(());
+        }
+        FirstSection::Written(Endianness::Little) => "little",
+        FirstSection::Written(Endianness::Big) => "big",
+    };
+    let (how, is_guess) = match opening {
+        Opening::Given(_) => ("as --header gives it", false),
+        _ => ("which is a guess", true),
+    };
+    let text = format!(in alloc;
+        "its section header is lost: one of byte order {order} is written, {how}"
+    )?;
+    report.tell_opening(text.as_str(), is_guess);
     Ok(())
 }
 

@@ -206,11 +206,11 @@ impl Report {
 
     /// Reports what becomes of a packet or block, when the reader is behind what is counted.
     pub(crate) fn tell_change(&mut self, change: Change, counted: &Counted) {
-        let is_guess = change.is_guess();
-        match change {
-            Change::Unconfirmed(_) => self.tally.doubt_last(),
-            _ if is_guess => self.tally.expect(Outcome::Guessed),
-            _ => self.tally.expect(Outcome::Repaired),
+        let outcome = change.outcome();
+        match (change, outcome) {
+            (Change::Unconfirmed(_), _) => self.tally.doubt_last(),
+            (_, Some(outcome)) => self.tally.expect(outcome),
+            (_, None) => {}
         }
         let Spot { number, place } = change.spot(counted);
         self.tell(&Entry {
@@ -218,7 +218,7 @@ impl Report {
             place,
             rule: None,
             action: Action::Change(change),
-            is_guess,
+            is_guess: outcome == Some(Outcome::Guessed),
         });
     }
 

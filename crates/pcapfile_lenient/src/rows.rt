@@ -2,7 +2,9 @@
 
 ghost use Rattle.std.specs.Prelude.{None};
 
+use crate::describing::{Describing, Next};
 use crate::frames::mend_frame;
+use crate::lost::{Lost, section_text};
 use crate::packets::{Change, HEADER, Here, LIMIT, Packets};
 use crate::stored::mend_stored;
 use crate::torn::complete_last;
@@ -17,7 +19,10 @@ use std::io;
 use std::io::Read;
 
 /// The first bytes of a section header.
-const SECTION: [u8; 4] = [0x0A, 0x0D, 0x0D, 0x0A];
+pub(crate) const SECTION: [u8; 4] = [0x0A, 0x0D, 0x0D, 0x0A];
+
+/// The length of the shortest block, in bytes.
+const SHORTEST: usize = 12;
 
 /// The kind of the items in a capture.
 #[derive(Drop)]
@@ -57,16 +62,18 @@ pub struct Rows {
     window: Window,
     /// The number of buffered bytes that belong to a packet or block.
     ready: usize,
-    /// The whole text of the last block, if its end was missing. The window is then empty.
+    /// The whole text of the last block, if its end was missing, when the window is empty; or of a first section header that was lost.
     last: Vec<u8>,
     /// The number of bytes of this text that were read.
     given: usize,
+    /// How undescribed interfaces are described.
+    describing: Describing,
     left_out: LeftOut,
     /// The last change, and how many there are so far.
     changed: Changed,
-    /// Whether the last packets were left out for their link type.
+    /// Whether the last packets were left out for their link type, or blocks for their interface.
     is_leaving_out: bool,
-    /// The number of packets that were left out for their link type.
+    /// The number of packets that were left out for their link type, and of blocks for their interface.
     others: u64,
     /// Whether nothing follows.
     is_at_end: bool,
@@ -115,14 +122,22 @@ impl Rows {
         window: Window,
     ) -> ResultParsing<Rows> {
         let kind = Kind::Packets(Packets::new(header)?);
-        Ok(Rows::new(alloc, kind, window, 0))
+        Ok(Rows::new(alloc, kind, window, Describing::off(alloc)))
     }
 
     /// Returns the rows of the blocks from the first section header in the window on, and leaves out what is before it. If there is none,
     /// the errors are those of the first bytes.
-    pub(crate) fn of_blocks(alloc: Global, mut window: Window) -> ResultParsing<Rows> {
+    pub(crate) fn of_blocks(
+        alloc: Global,
+        mut window: Window,
+        describing: Describing,
+    ) -> ResultParsing<Rows> {
         let refusal = match open(alloc, &mut window) {
-            Ok((parser, len)) => return Ok(Rows::new(alloc, Kind::Blocks(parser), window, len)),
+            Ok((parser, len)) => {
+                let mut rows = Rows::new(alloc, Kind::Blocks(parser), window, describing);
+                rows.ready = len;
+                return Ok(rows);
+            }
             Err(error) => error,
         };
         if let PcapError::OutOfMemory(_) | PcapError::IoError(_) = &refusal {
@@ -133,12 +148,30 @@ impl Rows {
             return Err(refusal);
         }
         let (parser, len) = first_section(alloc, window.shown())?;
-        let mut rows = Rows::new(alloc, Kind::Blocks(parser), window, len);
+        let mut rows = Rows::new(alloc, Kind::Blocks(parser), window, describing);
+        rows.ready = len;
         rows.leave_out(passed.bytes, Scrap::NoBlocks, refusal.rule());
         Ok(rows)
     }
 
-    fn new(alloc: Global, kind: Kind, window: Window, ready: usize) -> Rows {
+    /// Returns the rows of blocks whose section header is lost, after a header that is written for them.
+    pub(crate) fn of_lost(
+        alloc: Global,
+        lost: Lost,
+        mut window: Window,
+        describing: Describing,
+    ) -> ResultParsing<Rows> {
+        let text = section_text(alloc, lost.order)?;
+        let (parser, len) = first_section(alloc, text.as_slice())?;
+        window.pass(lost.place);
+        let mut rows = Rows::new(alloc, Kind::Blocks(parser), window, describing);
+        rows.last = text;
+        rows.ready = len;
+        rows.leave_out(lost.place as u64, Scrap::NoBlocks, None);
+        Ok(rows)
+    }
+
+    fn new(alloc: Global, kind: Kind, window: Window, describing: Describing) -> Rows {
         let left_out = LeftOut {
             bytes: 0,
             scrap: kind.garbage(),
@@ -148,9 +181,10 @@ impl Rows {
             alloc,
             kind,
             window,
-            ready,
+            ready: 0,
             last: Vec::new(alloc),
             given: 0,
+            describing,
             left_out,
             changed: Changed {
                 count: 0,
@@ -172,7 +206,7 @@ impl Rows {
         self.is_at_end
     }
 
-    /// Returns the number of packets that were left out for their link type.
+    /// Returns the number of packets that were left out for their link type, and of blocks for their interface.
     pub fn others(&self) -> u64 {
         self.others
     }
@@ -180,6 +214,16 @@ impl Rows {
     /// Returns the reports so far.
     pub fn changed(&self) -> Changed {
         self.changed
+    }
+
+    /// Returns the descriptions of interfaces that are written before the next block, as the last report says.
+    pub(crate) fn descriptions(&self) -> &[u8] {
+        self.describing.text()
+    }
+
+    /// Returns whether the link type of the section's packets is a guess.
+    pub(crate) fn is_guess(&self) -> bool {
+        self.describing.is_guess()
     }
 
     // Returns the bytes from which the next packet or block is read.
@@ -255,8 +299,12 @@ impl Rows {
 
     // Takes a step before a block, or before other bytes of a PcapNg capture.
     fn step_before(&mut self, front: Front) -> io::Result<Step> {
+        if self.is_leaving_out && !matches!(front, Front::Block(_)) {
+            self.is_leaving_out = false;
+            return Ok(Step::Done);
+        }
         match front {
-            Front::Block(len) => self.pass_block(len),
+            Front::Block(len) => return self.pass_block(len),
             Front::Garbage(rule) => self.pass_blocks(rule)?,
             Front::Missing(n) => {
                 if self.window.show(n)? {
@@ -276,16 +324,40 @@ impl Rows {
         };
     }
 
-    // Takes a block of this many bytes, or mends the stored length of its packet first.
-    fn pass_block(&mut self, len: usize) {
-        let change = match &self.kind {
-            Kind::Packets(_) => None,
-            Kind::Blocks(parser) => mend_stored(parser, &mut self.window, len),
+    // Takes a block of this many bytes, or leaves it out. First it mends the stored length of its packet, and describes its interface.
+    fn pass_block(&mut self, len: usize) -> io::Result<Step> {
+        let Kind::Blocks(parser) = &mut self.kind else {
+            return Ok(Step::Done);
         };
-        match change {
-            Some(change) => self.note(change),
-            None => self.ready = len,
+        self.is_leaving_out = false;
+        if let Some(change) = mend_stored(parser, &mut self.window, len) {
+            self.note(change);
+            return Ok(Step::Done);
         }
+        let bytes = self.window.shown();
+        self.describing.follow(parser, bytes);
+        match self.describing.judge(parser, bytes)? {
+            Next::Take => self.ready = len,
+            Next::Report(undescribed) => self.note(Change::Undescribed(undescribed)),
+            Next::LeaveOut => return self.leave_out_block(len),
+        }
+        Ok(Step::Done)
+    }
+
+    // Leaves out a block of this many bytes. The row ends here unless the next one is left out too.
+    fn leave_out_block(&mut self, len: usize) -> io::Result<Step> {
+        self.window.pass(len);
+        self.leave_out(len as u64, Scrap::Undescribed, None);
+        self.others = self.others.saturating_add(1);
+        self.window.reach(SHORTEST)?;
+        self.is_leaving_out = match &self.kind {
+            Kind::Packets(_) => false,
+            Kind::Blocks(parser) => self.describing.leaves_out(parser, self.window.shown()),
+        };
+        if self.is_leaving_out {
+            return Ok(Step::Further);
+        }
+        Ok(Step::Done)
     }
 
     // Mends the frame of a block, or skips corrupt bytes that break this rule, if any.
@@ -339,9 +411,9 @@ impl Rows {
         Ok(())
     }
 
-    // Mends the frame of the last block, or completes it, and returns whether that was done.
+    // Mends the frame of the last block, or completes it, or describes its interface, and returns whether that was done.
     fn mend_last(&mut self, missing: usize) -> io::Result<bool> {
-        let Kind::Blocks(parser) = &self.kind else {
+        let Kind::Blocks(parser) = &mut self.kind else {
             return Ok(false);
         };
         let len = self.window.shown().len();
@@ -355,6 +427,14 @@ impl Rows {
         let Some(text) = complete_last(self.alloc, parser, &self.window)? else {
             return Ok(false);
         };
+        match self.describing.judge(parser, self.window.shown())? {
+            Next::Take => {}
+            Next::Report(undescribed) => {
+                self.note(Change::Undescribed(undescribed));
+                return Ok(true);
+            }
+            Next::LeaveOut => return Ok(false),
+        }
         self.note(Change::CutOff {
             present: len,
             whole: text.len(),
@@ -397,6 +477,10 @@ impl Read for Rows {
         } else {
             self.given = self.given.saturating_add(len);
         }
+        if self.given >= self.last.len() {
+            self.last.clear();
+            self.given = 0;
+        }
         self.ready = self.ready.saturating_sub(len);
         Ok(len)
     }
@@ -425,6 +509,23 @@ fn open(alloc: Global, window: &mut Window) -> ResultParsing<(PcapNgParserAsIs, 
         }
     }
     Err(PcapError::IncompleteBuffer(1))
+}
+
+/// Returns whether the window begins with a section header, which may not be longer than the longest packet.
+pub(crate) fn begins_section(alloc: Global, window: &mut Window) -> ResultParsing<bool> {
+    for _ in 0..u64::MAX {
+        match first_section(alloc, window.shown()) {
+            Ok(_) => return Ok(true),
+            Err(PcapError::IncompleteBuffer(n)) if n <= LIMIT as usize => {
+                if !window.show(n)? {
+                    break;
+                }
+            }
+            Err(PcapError::OutOfMemory(error)) => return Err(PcapError::OutOfMemory(error)),
+            Err(_) => break,
+        }
+    }
+    Ok(false)
 }
 
 // Returns a parser after the section header at the front of these bytes, and the length of this header.

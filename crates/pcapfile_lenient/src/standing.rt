@@ -4,9 +4,13 @@ ghost use Rattle.std.specs.Prelude.{◌≡◌, ◌<◌, ◌^◌, false};
 ghost use Rattle.pcap_tolerant.specs.ReaderAsIs.{is_done, has_failed};
 ghost use Rattle.pcap_tolerant_captures.specs.ReaderAsIs.{is_done as is_done_with_blocks, has_failed as has_failed_in_blocks};
 
-use crate::opening::{Found, Opening, bytes_of, guess, undo_transfer};
+use crate::describing::{Describing, Supposed};
+use crate::lost::{FirstSection, Lost, lost_blocks, lost_blocks_in};
+use crate::opening::{
+    ETHERNET, Found, Opening, bytes_of, guess_in, kind_of, run_of, undo_transfer,
+};
 use crate::packets::{HEADER as HEADER_LEN, LIMIT};
-use crate::rows::Rows;
+use crate::rows::{Rows, begins_section};
 use crate::window::Window;
 use capcopy_run::Exit;
 use pcap_file::pcap::PcapHeader;
@@ -127,11 +131,12 @@ impl Standing {
         window.show(HEADER)?;
         match header_in(window.shown()) {
             Ok(header) => Standing::after_header(alloc, header, window),
-            Err(error) => Standing::of_blocks(alloc, error, window),
+            Err(error) => Standing::of_blocks(alloc, error, window, Describing::off(alloc)),
         }
     }
 
-    /// Returns the same, with a given or guessed header if the capture has none, and what was found at the beginning.
+    /// Returns the same, with a given or guessed header if the capture has none, and what was found at the beginning. Undescribed interfaces are
+    /// described.
     pub fn open_as(
         alloc: Global,
         stream: Watched,
@@ -140,40 +145,87 @@ impl Standing {
         let mut found = Found {
             guessed: None,
             is_undone: false,
+            section: FirstSection::Found,
         };
+        let window = Window::new(alloc, buffered(alloc, stream)?);
         let standing = match opening {
-            Opening::Own => Standing::open(alloc, stream)?,
-            Opening::Given(header) => {
-                let window = Window::new(alloc, buffered(alloc, stream)?);
-                Standing::without_header(alloc, header, window)?
-            }
-            Opening::Guess(link) => Standing::guessed(alloc, stream, link, &mut found)?,
+            Opening::Own => Standing::own(alloc, window, &mut found)?,
+            Opening::Given(header) => Standing::given(alloc, window, header, &mut found)?,
+            Opening::Guess(link) => Standing::guessed(alloc, window, link, &mut found)?,
         };
         Ok((standing, found))
+    }
+
+    // Returns the items under the capture's own header. It notes whether blocks are left out with a lost section header.
+    fn own(alloc: Global, mut window: Window, found: &mut Found) -> ResultParsing<Standing> {
+        window.show(HEADER)?;
+        let error = match header_in(window.shown()) {
+            Ok(header) => return Standing::after_header(alloc, header, window),
+            Err(error) => error,
+        };
+        if !begins_section(alloc, &mut window)? {
+            let sure = window.reach_row()?;
+            let (run, _guessed) = guess_in(window.shown(), sure, None)?;
+            if lost_blocks(alloc, window.shown())?.is_some_and(|lost| lost.blocks >= run.packets) {
+                found.section = FirstSection::Lost;
+            }
+        }
+        Standing::of_blocks(alloc, error, window, Describing::on(alloc, None))
+    }
+
+    // Returns the items under a given header, which for blocks is that of their section, if they have none, and of undescribed interfaces.
+    fn given(
+        alloc: Global,
+        mut window: Window,
+        header: PcapHeader,
+        found: &mut Found,
+    ) -> ResultParsing<Standing> {
+        let sure = window.reach_row()?;
+        let (order, resolution) = kind_of(&header);
+        let supposed = Supposed::by_header(u32::from(header.datalink), resolution);
+        let describing = Describing::on(alloc, Some(supposed));
+        if begins_section(alloc, &mut window)? {
+            let rows = Rows::of_blocks(alloc, window, describing)?;
+            return Ok(Standing::of_rows(alloc, rows));
+        }
+        let run = run_of(&PcapParser::with_header(header)?, window.shown(), sure);
+        match lost_blocks_in(alloc, order, window.shown())? {
+            Some(lost) if lost.blocks >= run.packets => {
+                Standing::of_lost(alloc, lost, window, describing, found)
+            }
+            _ => Standing::without_header(alloc, header, window),
+        }
     }
 
     // Returns the items after a text-mode transfer is undone, and with a guessed header if the capture has none.
     fn guessed(
         alloc: Global,
-        stream: Watched,
+        mut window: Window,
         link: Option<u32>,
         found: &mut Found,
     ) -> ResultParsing<Standing> {
-        let mut window = Window::new(alloc, buffered(alloc, stream)?);
         found.is_undone = undo_transfer(alloc, &mut window, link)?;
         let error = match header_in(window.shown()) {
             Ok(header) => return Standing::after_header(alloc, header, window),
             Err(error) => error,
         };
-        if window.shown().first() == Some(&FIRST_OF_BLOCKS) {
-            return Standing::of_blocks(alloc, error, window);
+        let supposed = Supposed::by_guess(link.unwrap_or(ETHERNET), link.is_none());
+        let describing = Describing::on(alloc, Some(supposed));
+        if begins_section(alloc, &mut window)? {
+            return Standing::of_blocks(alloc, error, window, describing);
         }
-        match guess(&mut window, link)? {
-            None => Standing::of_blocks(alloc, error, window),
-            Some(guessed) => {
+        let sure = window.reach_row()?;
+        let (run, guessed) = guess_in(window.shown(), sure, link)?;
+        let is_of_blocks = window.shown().first() == Some(&FIRST_OF_BLOCKS);
+        match (lost_blocks(alloc, window.shown())?, guessed) {
+            (Some(lost), _) if lost.blocks >= run.packets => {
+                Standing::of_lost(alloc, lost, window, describing, found)
+            }
+            (_, Some(guessed)) if !is_of_blocks => {
                 found.guessed = Some(guessed);
                 Standing::without_header(alloc, guessed.header, window)
             }
+            _ => Standing::of_blocks(alloc, error, window, describing),
         }
     }
 
@@ -214,17 +266,40 @@ impl Standing {
 
     // Returns the blocks. If the capture has no section header, and doesn't begin as a PcapNg capture, it is refused with `error`, the
     // error of its first bytes as a classic header.
-    fn of_blocks(alloc: Global, error: PcapError, window: Window) -> ResultParsing<Standing> {
+    fn of_blocks(
+        alloc: Global,
+        error: PcapError,
+        window: Window,
+        describing: Describing,
+    ) -> ResultParsing<Standing> {
         let is_of_blocks = window.shown().first() == Some(&FIRST_OF_BLOCKS);
-        let rows = match Rows::of_blocks(alloc, window) {
+        let rows = match Rows::of_blocks(alloc, window, describing) {
             Ok(rows) => rows,
             Err(PcapError::IoError(error)) => return Err(PcapError::IoError(error)),
             Err(PcapError::OutOfMemory(error)) => return Err(PcapError::OutOfMemory(error)),
             Err(refusal) if is_of_blocks => return Ok(Standing::Neither(Format::PcapNg, refusal)),
             Err(_) => return Ok(Standing::Neither(Format::Pcap, error)),
         };
+        Ok(Standing::of_rows(alloc, rows))
+    }
+
+    // Returns blocks whose section header is lost, and notes that one is written.
+    fn of_lost(
+        alloc: Global,
+        lost: Lost,
+        window: Window,
+        describing: Describing,
+        found: &mut Found,
+    ) -> ResultParsing<Standing> {
+        found.section = FirstSection::Written(lost.order);
+        let rows = Rows::of_lost(alloc, lost, window, describing)?;
+        Ok(Standing::of_rows(alloc, rows))
+    }
+
+    // Returns the blocks in these rows.
+    fn of_rows(alloc: Global, rows: Rows) -> Standing {
         let reader = PcapNgReaderAsIs::new(alloc, rows);
-        Ok(Standing::Blocks(BlockRows { reader }))
+        Standing::Blocks(BlockRows { reader })
     }
 }
 

@@ -2,11 +2,16 @@
 
 ghost use Rattle.std.specs.Prelude.{◌≡◌, ℕ, List, [], true};
 ghost use Rattle.pcap_core.specs.Answer.{Order, number_in};
+ghost use Rattle.pcap_blocks.specs.InterfaceDescription.{Interface};
+ghost use Rattle.pcap_blocks.specs.InterfaceTimes.{IsClockOf};
 ghost use Rattle.pcap_options.specs.Options.{may_end_with_body, OptionList};
 ghost use Rattle.pcap_options.specs.Values.{Entry, Kind};
+ghost use Rattle.pcap_times.specs.declared.clock.Clock.{Clock};
 ghost use Rattle.pcap_tolerant_blocks.specs.SoundOptions.{SoundOptions};
 ghost use Rattle.pcap_written.specs.Raw.{Raw};
+ghost use Rattle.pcapfile_mended.specs.Described.{IsDescribed};
 ghost use Rattle.pcapfile_mended.specs.Mended.{Becomes, IsTaken, IsTakenAfter, Mends, stays, unstated};
+ghost use Rattle.pcapfile_mended.specs.declared.described.Described.{Described};
 
 /// The sound options of a body, concatenated, are a strict list of options that ends with the body.
 pub fn sound_options_are_a_list()
@@ -28,4 +33,10 @@ pub fn mended_blocks_are_one()
 pub fn sound_blocks_stay()
     ensures { (raw : Raw) (becomes : Becomes) → IsTaken (number_in raw.endianness) raw.type_ raw.body true → unstated raw.type_ raw.body ≡ raw.body
         → Mends raw becomes → becomes ≡ stays }
+{}
+
+/// Interfaces that are described alike have the same clock, so that packets have the same times by both.
+pub fn alike_interfaces_have_one_clock()
+    ensures { (like : Described) (given made : Interface) (clock : Clock) → IsDescribed like given → IsDescribed like made → IsClockOf given clock
+        → IsClockOf made clock }
 {}

@@ -1,7 +1,9 @@
 //! The word `repair`.
 
+use pcap_file::PcapError;
 use pcapfile_files::{
-    Console, OUTPUT, STANDARD, USAGE, open_watched, tell_changed, tell_io, write_named,
+    AT_FAULT, Console, OUTPUT, STANDARD, Shown, USAGE, open_watched, tell_changed, tell_error,
+    tell_foreign, tell_io, write_named,
 };
 use pcapfile_lenient::{Opening, Outcome, Repaired, Reporting, tell_unopened};
 use std::io;
@@ -56,7 +58,7 @@ fn repair_to<W: Write + Drop>(
     let opened = Repaired::opened_as(console, asked.from, stream, asked.opening, reporting);
     let mut repaired = match opened {
         Ok(repaired) => repaired,
-        Err(error) => return tell_unopened(console, asked.from, &error),
+        Err(error) => return tell_refused(console, asked, &error),
     };
     let mut output = BufWriter::with_capacity(console.alloc(), OUTPUT, output)?;
     for _ in 0..u64::MAX {
@@ -84,4 +86,21 @@ fn repair_to<W: Write + Drop>(
         tell_changed(console, asked.from)?;
     }
     Ok(0)
+}
+
+// Prints why a capture can't be opened, and if its header may be lost, which options help. Returns the exit status.
+fn tell_refused(console: &Console, asked: &Repair, error: &PcapError) -> io::Result<u8> {
+    let is_refused = matches!(error, PcapError::InvalidField(_));
+    if !is_refused || !matches!(asked.opening, Opening::Own) {
+        return tell_unopened(console, asked.from, error);
+    }
+    if tell_foreign(console, asked.from)? {
+        return Ok(AT_FAULT);
+    }
+    let status = tell_error(console, asked.from, error)?;
+    let shown = Shown(asked.from);
+    eprintln!(console.for_line();
+        "pcapfile: {shown}: if its header is lost, --guess guesses one, and --header ORDER,RESOLUTION,LINK gives one"
+    )?;
+    Ok(status)
 }
