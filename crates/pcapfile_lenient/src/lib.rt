@@ -11,6 +11,8 @@ mod rows;
 mod standing;
 mod stored;
 mod torn;
+mod undo;
+mod variants;
 mod window;
 
 pub use captured::Captured;
@@ -19,3 +21,4 @@ pub use packets::{Change, Named};
 pub use repaired::Repaired;
 pub use rows::{Changed, Rows};
 pub use standing::{BlockRows, HEADER, PacketRows, Standing, Stop};
+pub use variants::LeftOutHeads;

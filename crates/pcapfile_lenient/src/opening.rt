@@ -6,6 +6,7 @@ use pcap_altered::is_transferred;
 use pcap_damaged::{begins_near, head_at, resync};
 use pcap_file::pcap::PcapHeader;
 use pcap_file::{DataLink, Endianness, PcapParser, ResultParsing, TsResolution};
+use pcap_variants::Variant;
 use std::alloc::Global;
 use std::io;
 
@@ -45,6 +46,8 @@ pub struct Found {
     pub guessed: Option<Guessed>,
     /// Whether a text-mode transfer is undone.
     pub is_undone: bool,
+    /// The variant of classic captures, if the capture is of one.
+    pub variant: Option<Variant>,
 }
 
 /// A run of packets.

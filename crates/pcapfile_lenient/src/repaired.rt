@@ -6,6 +6,7 @@ use crate::opening::{Found, Guessed, Opening};
 use crate::packets::{Change, Named};
 use crate::rows::Rows;
 use crate::standing::{BlockRows, HEADER, PacketRows, Standing, Stop};
+use crate::variants::LeftOutHeads;
 use capcopy_run::Exit;
 use pcap_file::{PcapError, ResultParsing};
 use pcapfile_as_is::{BlockRepairs, Counted, Gap, Place, Repairs};
@@ -331,6 +332,10 @@ fn say_found(notes: &mut Lines, prefix: &str, found: &Found) {
             notes,
             "{prefix}its line ends are undone: a text-mode transfer turned each LF into CR LF; bytes are counted without these CRs"
         );
+    }
+    if let Some(variant) = &found.variant {
+        // A failed message doesn't stop the repair.
+        let _ = writeln!(notes, "{prefix}{}", LeftOutHeads(*variant));
     }
     if let Some(guessed) = &found.guessed {
         say_guess(notes, prefix, guessed);

@@ -7,6 +7,7 @@ ghost use Rattle.pcap_tolerant_captures.specs.ReaderAsIs.{is_done as is_done_wit
 use crate::opening::{Found, Opening, bytes_of, guess, undo_transfer};
 use crate::packets::{HEADER as HEADER_LEN, LIMIT};
 use crate::rows::Rows;
+use crate::variants::make_plain;
 use crate::window::Window;
 use capcopy_run::Exit;
 use pcap_file::pcap::PcapHeader;
@@ -121,17 +122,8 @@ impl BlockRows {
 }
 
 impl Standing {
-    /// Returns the items of the capture in a stream. The errors are those of reads and of memory.
-    pub fn open(alloc: Global, stream: Watched) -> ResultParsing<Standing> {
-        let mut window = Window::new(alloc, buffered(alloc, stream)?);
-        window.show(HEADER)?;
-        match header_in(window.shown()) {
-            Ok(header) => Standing::after_header(alloc, header, window),
-            Err(error) => Standing::of_blocks(alloc, error, window),
-        }
-    }
-
-    /// Returns the same, with a given or guessed header if the capture has none, and what was found at the beginning.
+    /// Returns the items of the capture in a stream, with a given or guessed header if the capture has none, and what was found at the
+    /// beginning. The errors are those of reads and of memory.
     pub fn open_as(
         alloc: Global,
         stream: Watched,
@@ -140,27 +132,40 @@ impl Standing {
         let mut found = Found {
             guessed: None,
             is_undone: false,
+            variant: None,
         };
+        let mut window = Window::new(alloc, buffered(alloc, stream)?);
         let standing = match opening {
-            Opening::Own => Standing::open(alloc, stream)?,
-            Opening::Given(header) => {
-                let window = Window::new(alloc, buffered(alloc, stream)?);
-                Standing::without_header(alloc, header, window)?
+            Opening::Own => {
+                window.show(HEADER)?;
+                found.variant = make_plain(alloc, &mut window)?;
+                Standing::own(alloc, window)?
             }
-            Opening::Guess(link) => Standing::guessed(alloc, stream, link, &mut found)?,
+            Opening::Given(header) => Standing::without_header(alloc, header, window)?,
+            Opening::Guess(link) => Standing::guessed(alloc, window, link, &mut found)?,
         };
         Ok((standing, found))
+    }
+
+    // Returns the items of the capture in the window.
+    fn own(alloc: Global, window: Window) -> ResultParsing<Standing> {
+        match header_in(window.shown()) {
+            Ok(header) => Standing::after_header(alloc, header, window),
+            Err(error) => Standing::of_blocks(alloc, error, window),
+        }
     }
 
     // Returns the items after a text-mode transfer is undone, and with a guessed header if the capture has none.
     fn guessed(
         alloc: Global,
-        stream: Watched,
+        mut window: Window,
         link: Option<u32>,
         found: &mut Found,
     ) -> ResultParsing<Standing> {
-        let mut window = Window::new(alloc, buffered(alloc, stream)?);
         found.is_undone = undo_transfer(alloc, &mut window, link)?;
+        if !found.is_undone {
+            found.variant = make_plain(alloc, &mut window)?;
+        }
         let error = match header_in(window.shown()) {
             Ok(header) => return Standing::after_header(alloc, header, window),
             Err(error) => error,

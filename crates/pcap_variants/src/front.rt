@@ -1,0 +1,109 @@
+//! One step from the front of the bytes that are held.
+
+ghost use Rattle.std.specs.Prelude.{◌≤◌, ◌<◌, ◌+◌, length};
+ghost use Rattle.pcap_variants.specs.Fronts.{Looks, Skips, Stores};
+ghost use Rattle.pcap_variants.specs.Variants.{further_len};
+
+use crate::heads::{HEAD, can_be_head, included, is_row};
+use crate::variant::Variant;
+
+/// The number of packets in a row that show where packets go on.
+const IN_A_ROW: usize = 2;
+
+/// The most bytes of two packets with heads of a variant.
+const ROW: usize = 524_344;
+
+/// The number of bytes that are searched at once.
+const SEARCHED: usize = 1_048_576;
+
+/// A step from the front of the bytes that are held.
+#[derive(Clone, Copy)]
+pub(crate) struct Step {
+    /// The number of bytes that are written.
+    pub(crate) written: usize,
+    /// The number of bytes that are passed.
+    pub(crate) passed: usize,
+    /// The number of bytes before the next head.
+    pub(crate) left: usize,
+}
+
+// Returns the first place from `from` on at which packets follow each other, or `sure` if there is none before it.
+fn next_place(variant: &Variant, slice: &[u8], from: usize, sure: usize) -> usize
+    requires bounds { from ≤ sure }
+    requires within { sure ≤ length slice.now }
+    ensures first { from ≤ result }
+    ensures last { result ≤ sure }
+{
+    let further = variant.further.len();
+    for at in from..sure {
+        if is_row(variant.order, further, &slice[at..], IN_A_ROW) {
+            return at;
+        }
+    }
+    sure
+}
+
+// Returns the step over corrupt bytes, up to the place where packets go on. `None` if more bytes are needed to find it.
+fn skip(variant: &Variant, slice: &[u8], is_all: bool) -> Option<Step>
+    requires { 0 < length slice.now }
+    ensures { Skips is_all slice.now result }
+{
+    let len = slice.len();
+    if !is_all && len < SEARCHED {
+        return None;
+    }
+    let sure = if is_all { len } else { len - ROW };
+    let passed = next_place(variant, slice, 1, sure);
+    Some(Step {
+        written: passed,
+        passed,
+        left: 0,
+    })
+}
+
+// Returns the number of data bytes of the packet at the front: its stored length, unless what follows is no head, and packets go on
+// before. `None` if more bytes are needed.
+fn stored(variant: &Variant, slice: &[u8], is_all: bool) -> Option<usize>
+    requires { 16 + further_len variant.now.further ≤ length slice.now }
+    ensures { Stores variant.now is_all slice.now result }
+{
+    let begin = HEAD + variant.further.len();
+    let included = included(variant.order, &slice[..HEAD]);
+    let end = begin + included;
+    if slice.len() < end + begin {
+        return if is_all { Some(included) } else { None };
+    }
+    let behind = &slice[end..];
+    if can_be_head(variant.order, &behind[..HEAD]) {
+        return Some(included);
+    }
+    Some(next_place(variant, slice, begin, end) - begin)
+}
+
+/// Looks at the front of a slice, `left` bytes before the next head.
+pub(crate) fn look(variant: &Variant, left: usize, slice: &[u8], is_all: bool) -> Option<Step>
+    requires { 0 < length slice.now }
+    ensures { Looks variant.now left is_all slice.now result }
+{
+    if left > 0 {
+        let len = left.min(slice.len());
+        return Some(Step {
+            written: len,
+            passed: len,
+            left: left - len,
+        });
+    }
+    let begin = HEAD + variant.further.len();
+    if slice.len() < begin {
+        return None;
+    }
+    if !can_be_head(variant.order, &slice[..HEAD]) {
+        return skip(variant, slice, is_all);
+    }
+    let left = stored(variant, slice, is_all)?;
+    Some(Step {
+        written: HEAD,
+        passed: begin,
+        left,
+    })
+}
