@@ -1,11 +1,11 @@
 -- What is ahead, byte by byte and head by head.
-use Rattle.std.proofs.Common.{◌≡◌, ◌≤◌, ◌<◌, ◌+◌, ◌-◌, ◌++◌, ◌∷◌, [], ℕ, List, Bool, true, false, Option, None, Some, inl, inr, length, drop, take, refl, sym, ap, subst, ◌∙◌, arith}
+use Rattle.std.proofs.Common.{◌≡◌, ◌≤◌, ◌<◌, ◌+◌, ◌-◌, ◌++◌, ◌∷◌, [], ℕ, List, Bool, false, Option, None, Some, inl, inr, length, drop, take, refl, sym, ap, subst, ◌∙◌, arith}
 use Rattle.std.specs.Prelude.{◌⊎◌, IsTrue}
 use Rattle.std.proofs.lemmas.Bool.{false≢true}
 use Rattle.std.proofs.lemmas.List.{take-append-le, drop-append-le, take-append-drop, take_all, drop_all, length-append, length-drop, drop-drop, append_assoc, append-nil}
-use Rattle.pcap_variants.specs.Variants.{Packet, IsPacket, ArePackets, CanBeHead, further_len, included_in, text_of, plain_of}
+use Rattle.pcap_variants.specs.Variants.{Packet, ArePackets, CanBeHead, further_len, included_in, text_of, plain_of}
 use Rattle.pcap_variants.specs.Ahead.{Ahead}
-use Rattle.pcap_variants.specs.Fronts.{IsShort, Looks, Skips, Steps}
+use Rattle.pcap_variants.specs.Fronts.{IsShort, Looks, MayFollow, Skips, Steps}
 use Rattle.pcap_variants.specs.declared.front.Step.{Step}
 use Rattle.pcap_variants.specs.declared.variant.Variant.{Variant}
 
@@ -36,17 +36,18 @@ module _ (variant : Variant) where
   pub stay : (left len : ℕ) (s next plain : List ℕ) → len ≤ left → len ≤ length s → Ahead variant left (s ++ next) plain → Goes len len (left - len) s next plain
   stay left len s next plain in_left in_s a =
       let same = both len s next a.stays (text_of a.packets) a.text in_s (omega (arith, in_left, a.length_is)) in
-      let whole : a.stays ≡ take len s ++ drop len a.stays = sym (take-append-drop len a.stays) ∙ ap (λ (l : List ℕ). l ++ drop len a.stays) (sym same.front) in
-      (drop len a.stays ++ plain_of a.packets,
-       a.same ∙ (ap (λ (l : List ℕ). l ++ plain_of a.packets) whole ∙ append_assoc (take len s) (drop len a.stays) (plain_of a.packets)),
-       record {
-         stays = drop len a.stays;
-         packets = a.packets;
-         length_is = length-drop len a.stays ∙ ap (λ (k : ℕ). k - len) a.length_is;
-         are = a.are;
-         text = same.behind;
-         same = refl;
-       })
+      let whole : a.stays ≡ take len s ++ drop len a.stays = sym (take-append-drop len a.stays) ∙ ap (λ (l : List ℕ). l ++ drop len a.stays) (sym same.front) in (
+        drop len a.stays ++ plain_of a.packets,
+        a.same ∙ (ap (λ (l : List ℕ). l ++ plain_of a.packets) whole ∙ append_assoc (take len s) (drop len a.stays) (plain_of a.packets)),
+        record {
+          stays = drop len a.stays;
+          packets = a.packets;
+          length_is = length-drop len a.stays ∙ ap (λ (k : ℕ). k - len) a.length_is;
+          are = a.are;
+          text = same.behind;
+          same = refl;
+        },
+      )
 
   -- A head is ahead: it can be one, and the packet's data is behind it.
   pub record HeadAhead (s next plain : List ℕ) : Type 0 where
@@ -65,7 +66,9 @@ module _ (variant : Variant) where
       let none : drop (16 + n) begin ≡ [] = drop_all (16 + n) begin (omega (arith, len)) in
       record {
         can = subst (CanBeHead variant.order) (sym head) are.0.can;
-        goes = (p.stored ++ plain_of ps, ap (λ (l : List ℕ). l ++ (p.stored ++ plain_of ps)) (sym head),
+        goes = (
+          p.stored ++ plain_of ps,
+          ap (λ (l : List ℕ). l ++ (p.stored ++ plain_of ps)) (sym head),
           record {
             stays = p.stored;
             packets = ps;
@@ -73,7 +76,8 @@ module _ (variant : Variant) where
             are = are.1;
             text = whole.behind ∙ ap (λ (l : List ℕ). l ++ (p.stored ++ text_of ps)) none;
             same = refl;
-          });
+          },
+        );
       }
 
   pub head_ahead : (s next plain : List ℕ) → 16 + n ≤ length s → Ahead variant 0 (s ++ next) plain → HeadAhead s next plain
@@ -99,25 +103,43 @@ module _ (variant : Variant) where
 
   -- A step over corrupt bytes is one where no packet of the variant is ahead.
   pub skipped : (left : ℕ) (is_all : Bool) (s : List ℕ) (step : Option Step) → ((next plain : List ℕ) → Ahead variant left (s ++ next) plain → ⊥) → Skips is_all s step → Looks variant left is_all s step
-  skipped left is_all s (Some step) none within = (within, λ next plain a. absurd (none next plain a))
+  skipped left is_all s (Some step) none within = (within, λ next plain may a. absurd (none next plain a))
   skipped left is_all s None none more = λ all. absurd (false≢true (sym more ∙ all))
 
   -- A step goes on from what was written so far.
-  pub go_on : (left here : ℕ) (step : Step) (held before now next plain : List ℕ)
+  pub go_on : (is_all : Bool) (left here : ℕ) (step : Step) (held before now next plain : List ℕ)
       → (rest : List ℕ) × (before ++ plain ≡ now ++ rest) × Ahead variant left (drop here held ++ next) rest
-      → Steps variant left (drop here held) step
+      → Steps variant is_all left (drop here held) step → MayFollow is_all next
       → (rest : List ℕ) × (before ++ plain ≡ (now ++ take step.written (drop here held)) ++ rest) × Ahead variant step.left (drop (here + step.passed) held ++ next) rest
-  go_on left here step held before now next plain far steps =
-      let goes = steps next far.0 far.2 in
-      (goes.0,
-       far.1 ∙ (ap (λ (l : List ℕ). now ++ l) goes.1 ∙ sym (append_assoc now (take step.written (drop here held)) goes.0)),
-       subst (λ (l : List ℕ). Ahead variant step.left (l ++ next) goes.0) (drop-drop step.passed here held) goes.2)
+  go_on is_all left here step held before now next plain far steps may =
+      let goes = steps next far.0 may far.2 in (
+        goes.0,
+        far.1 ∙ (ap (λ (l : List ℕ). now ++ l) goes.1 ∙ sym (append_assoc now (take step.written (drop here held)) goes.0)),
+        subst (λ (l : List ℕ). Ahead variant step.left (l ++ next) goes.0) (drop-drop step.passed here held) goes.2,
+      )
 
   -- Fewer bytes than a head has are those of no packet.
   none_of : (packets : List Packet) → ArePackets variant packets → length (text_of packets) < 16 + n → (text_of packets ≡ []) × (plain_of packets ≡ [])
   none_of [] are short = (refl, refl)
   none_of (p ∷ ps) are short =
       absurd (omega (arith, short, length-append p.head (p.further ++ (p.stored ++ text_of ps)), length-append p.further (p.stored ++ text_of ps), are.0.head, are.0.further))
+
+  -- The bytes of packets are none, or at least those of a head.
+  some_of : (packets : List Packet) → ArePackets variant packets → (length (text_of packets) ≡ 0) ⊎ (16 + n ≤ length (text_of packets))
+  some_of [] are = inl refl
+  some_of (p ∷ ps) are =
+      inr (omega (arith, length-append p.head (p.further ++ (p.stored ++ text_of ps)), length-append p.further (p.stored ++ text_of ps), are.0.head, are.0.further))
+
+  -- If nothing follows, the bytes end with the packet, or another head is behind it.
+  pub whole_end : (s plain : List ℕ) → 16 + n ≤ length s → Ahead variant 0 (s ++ []) plain
+      → (length s ≡ 16 + n + included_in variant.order (take 16 s)) ⊎ (16 + n + included_in variant.order (take 16 s) + (16 + n) ≤ length s)
+  whole_end s plain long a =
+      let behind = (head_ahead s [] plain long a).goes.2 in
+      let t = drop (16 + n) s in
+      let text = text_of behind.packets in
+      let len : length t ≡ included_in variant.order (take 16 s) + length text = omega (arith, ap length behind.text, length-append t [], length-append behind.stays text, behind.length_is) in
+      let whole : length t ≡ length s - (16 + n) = length-drop (16 + n) s in
+      elim (some_of behind.packets behind.are) [ inl none ↦ inl (omega (arith, none, len, whole, long)) | inr some ↦ inr (omega (arith, some, len, whole, long)) ]
 
   rest_of : (left : ℕ) (held rest : List ℕ) (a : Ahead variant left (held ++ []) rest) → length a.stays ≡ 0 → length held < 16 + n → held ≡ rest
   rest_of left held rest a none short =

@@ -1,6 +1,5 @@
 -- Rows of heads, as the code goes through them.
 use Rattle.std.proofs.Common.{◌≡◌, ◌<◌, ◌-◌, ℕ, zero, suc, List, length, sym, subst, arith, inl, inr, Option, Some, drop}
-use Rattle.std.specs.Prelude.{◌⊎◌}
 use Rattle.pcap_core.specs.declared.common.Endianness.{Endianness}
 use Rattle.pcap_variants.specs.Rows.{BeginsPacket, Row, length_of, seconds_of}
 

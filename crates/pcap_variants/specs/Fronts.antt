@@ -1,5 +1,5 @@
 -- One step from the front of the bytes that are held.
-use Rattle.std.specs.Prelude.{◌≡◌, ◌<◌, ◌≤◌, ◌+◌, ◌++◌, ℕ, List, length, drop, take, Option, None, Some, Bool, true, false}
+use Rattle.std.specs.Prelude.{◌≡◌, ◌<◌, ◌≤◌, ◌+◌, ◌++◌, [], ℕ, List, length, drop, take, Option, None, Some, Bool, true, false}
 use Rattle.pcap_variants.specs.Variants.{further_len, included_in}
 use Rattle.pcap_variants.specs.Ahead.{Ahead}
 use Rattle.pcap_variants.specs.declared.variant.Variant.{Variant}
@@ -11,9 +11,13 @@ pub record IsWithin (step : Step) (s : List ℕ) : Type 0 where
   pub written : step.written ≤ step.passed
   pub passed : step.passed ≤ length s
 
+-- After the last bytes nothing follows.
+abbrev pub MayFollow : Bool → List ℕ → Type 0
+MayFollow is_all next = is_all ≡ true → next ≡ []
+
 -- Whatever follows: what is to be written is what the step writes, and then what is to be written behind it.
-abbrev pub Steps : Variant → ℕ → List ℕ → Step → Type 0
-Steps variant left s step = (next plain : List ℕ) → Ahead variant left (s ++ next) plain
+abbrev pub Steps : Variant → Bool → ℕ → List ℕ → Step → Type 0
+Steps variant is_all left s step = (next plain : List ℕ) → MayFollow is_all next → Ahead variant left (s ++ next) plain
     → (rest : List ℕ) × (plain ≡ take step.written s ++ rest) × Ahead variant step.left (drop step.passed s ++ next) rest
 
 -- Where nothing stays, the bytes are fewer than a head has.
@@ -23,7 +27,7 @@ pub record IsShort (variant : Variant) (left : ℕ) (s : List ℕ) : Type 0 wher
 
 -- The result of a look at the front: a step, or none. After the last bytes there is none only if they are fewer than a head has.
 abbrev pub Looks : Variant → ℕ → Bool → List ℕ → Option Step → Type 0
-Looks variant left is_all s (Some step) = IsWithin step s × Steps variant left s step
+Looks variant left is_all s (Some step) = IsWithin step s × Steps variant is_all left s step
 Looks variant left is_all s None = is_all ≡ true → IsShort variant left s
 
 -- The result of a step over corrupt bytes. After the last bytes there is one.
@@ -33,5 +37,5 @@ Skips is_all s None = is_all ≡ false
 
 -- The result of a look at a packet's data: where packets of the variant are ahead, their stored length. After the last bytes there is one.
 abbrev pub Stores : Variant → Bool → List ℕ → Option ℕ → Type 0
-Stores variant is_all s (Some len) = (next plain : List ℕ) → Ahead variant 0 (s ++ next) plain → len ≡ included_in variant.order (take 16 s)
+Stores variant is_all s (Some len) = (next plain : List ℕ) → MayFollow is_all next → Ahead variant 0 (s ++ next) plain → len ≡ included_in variant.order (take 16 s)
 Stores variant is_all s None = is_all ≡ false

@@ -1,8 +1,8 @@
 -- How a capture of a variant is written as a plain capture.
-use Rattle.std.specs.Prelude.{◌≡◌, ◌⊎◌, ◌++◌, [], ℕ, List, length}
+use Rattle.std.specs.Prelude.{◌≡◌, ◌⊎◌, ◌++◌, [], Bool, ℕ, List, length}
 use Rattle.pcap_variants.specs.Variants.{Packet, ArePackets, text_of, plain_of}
 use Rattle.pcap_variants.specs.Ahead.{Ahead}
-use Rattle.pcap_variants.specs.Fronts.{IsShort}
+use Rattle.pcap_variants.specs.Fronts.{IsShort, MayFollow}
 use Rattle.pcap_variants.specs.declared.variant.Variant.{Variant}
 use Rattle.pcap_variants.specs.declared.plain.Plain.{Plain}
 
@@ -18,6 +18,11 @@ Begins variant step = (header : List ℕ) (packets : List Packet) → length hea
 -- Whatever follows a piece: what was to be written behind `before` is what is now written behind it, and then what is still to be written.
 abbrev pub Goes : Plain → List ℕ → List ℕ → Plain → List ℕ → Type 0
 Goes step before piece step_now now = (next plain : List ℕ) → Writes step (piece ++ next) plain
+    → (rest : List ℕ) × (before ++ plain ≡ now ++ rest) × Writes step_now next rest
+
+-- The same without a piece. With `true`, nothing follows.
+abbrev pub GoesBy : Bool → Plain → List ℕ → Plain → List ℕ → Type 0
+GoesBy is_all step before step_now now = (next plain : List ℕ) → MayFollow is_all next → Writes step next plain
     → (rest : List ℕ) × (before ++ plain ≡ now ++ rest) × Writes step_now next rest
 
 -- If nothing follows, all that was to be written is written.

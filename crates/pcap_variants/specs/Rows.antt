@@ -1,10 +1,7 @@
 -- Packets that follow each other, and the variant that they show.
-use Rattle.std.specs.Prelude.{◌≡◌, ◌<◌, ◌≤◌, ◌+◌, ◌⊎◌, ◌++◌, ℕ, zero, suc, List, length, drop, take, Option, None, Some}
+use Rattle.std.specs.Prelude.{◌≡◌, ◌<◌, ◌≤◌, ◌+◌, ◌⊎◌, ℕ, zero, suc, List, length, drop, take, Option, None, Some}
 use Rattle.pcap_core.specs.declared.common.Endianness.{Endianness}
-use Rattle.pcap_variants.specs.Variants.{CanBeHead, included_in, number_at, plain_magic_in, modified_magic_in}
-use Rattle.pcap_variants.specs.declared.variant.Further.{Further}
-use Rattle.pcap_variants.specs.declared.variant.Further.TheVariants.{Four, Eight, Twelve}
-use Rattle.pcap_variants.specs.declared.variant.Variant.{Variant}
+use Rattle.pcap_variants.specs.Variants.{CanBeHead, included_in, number_at}
 
 -- Two times, in seconds, are at most a day apart.
 pub record Near (a b : ℕ) : Type 0 where

@@ -1,5 +1,5 @@
 -- The variant that the first bytes of a capture show.
-use Rattle.std.specs.Prelude.{◌≡◌, ◌<◌, ◌==◌, ◌×◌, ◌⊎◌, ℕ, List, length, drop, Option, None, Some, nat_lt, if◌then◌else◌}
+use Rattle.std.specs.Prelude.{◌≡◌, ◌<◌, ◌≤◌, ◌⊎◌, ℕ, List, length, drop, Option, None, Some}
 use Rattle.pcap_core.specs.declared.common.Endianness.{Endianness}
 use Rattle.pcap_core.specs.declared.common.Endianness.TheVariants.{Big, Little}
 use Rattle.pcap_variants.specs.Rows.{Row, length_of}
@@ -27,6 +27,13 @@ ShowsPlain order s (Some Four) = (Row order 0 None 2 s → ⊥) × LongRow order
 ShowsPlain order s (Some Eight) = (Row order 0 None 2 s → ⊥) × (LongRow order 4 s → ⊥) × LongRow order 8 s
 ShowsPlain order s (Some Twelve) = ⊥
 
+-- The magic number is neither the plain one nor the modified one.
+pub record IsOther (magic : ℕ) : Type 0 where
+  pub modified : magic ≡ 0xa1b2cd34 → ⊥
+  pub modified_little : magic ≡ 0x34cdb2a1 → ⊥
+  pub plain : magic ≡ 0xa1b2c3d4 → ⊥
+  pub plain_little : magic ≡ 0xd4c3b2a1 → ⊥
+
 -- It is the variant in this byte order of a capture of a modified libpcap with these packets.
 abbrev pub IsModified : Endianness → List ℕ → Option Variant → Type 0
 IsModified order s None = ⊥
@@ -38,14 +45,14 @@ IsPlain order s None = ShowsPlain order s None
 IsPlain order s (Some variant) = (variant.order ≡ order) × ShowsPlain order s (Some variant.further)
 
 -- It is the variant of a capture with this magic number, read with the highest byte first, and these packets, if that is of one.
-abbrev pub Shows : ℕ → List ℕ → Option Variant → Type 0
-Shows magic s result =
-    if magic == 0xa1b2cd34 then IsModified Big s result
-    else if magic == 0x34cdb2a1 then IsModified Little s result
-    else if magic == 0xa1b2c3d4 then IsPlain Big s result
-    else if magic == 0xd4c3b2a1 then IsPlain Little s result
-    else result ≡ None
+pub record Shows (magic : ℕ) (s : List ℕ) (result : Option Variant) : Type 0 where
+  pub modified : magic ≡ 0xa1b2cd34 → IsModified Big s result
+  pub modified_little : magic ≡ 0x34cdb2a1 → IsModified Little s result
+  pub plain : magic ≡ 0xa1b2c3d4 → IsPlain Big s result
+  pub plain_little : magic ≡ 0xd4c3b2a1 → IsPlain Little s result
+  pub other : IsOther magic → result ≡ None
 
 -- It is the variant of the capture that begins with `s`, behind whose file header the packets follow, if that is of one.
-abbrev pub Recognizes : List ℕ → Option Variant → Type 0
-Recognizes s result = if nat_lt (length s) 24 then result ≡ None else Shows (number_at Big 0 s) (drop 24 s) result
+pub record Recognizes (s : List ℕ) (result : Option Variant) : Type 0 where
+  pub short : length s < 24 → result ≡ None
+  pub long : 24 ≤ length s → Shows (number_at Big 0 s) (drop 24 s) result

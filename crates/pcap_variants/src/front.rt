@@ -1,8 +1,8 @@
 //! One step from the front of the bytes that are held.
 
-ghost use Rattle.std.specs.Prelude.{◌≤◌, ◌<◌, ◌+◌, length};
+ghost use Rattle.std.specs.Prelude.{◌≤◌, ◌<◌, ◌+◌, ◌↔◌, IsTrue, drop, length, take};
 ghost use Rattle.pcap_variants.specs.Fronts.{Looks, Skips, Stores};
-ghost use Rattle.pcap_variants.specs.Variants.{further_len};
+ghost use Rattle.pcap_variants.specs.Variants.{CanBeHead, further_len};
 
 use crate::heads::{HEAD, can_be_head, included, is_row};
 use crate::variant::Variant;
@@ -61,6 +61,30 @@ fn skip(variant: &Variant, slice: &[u8], is_all: bool) -> Option<Step>
     })
 }
 
+// Returns whether a head can be at this place.
+fn is_head_at(variant: &Variant, slice: &[u8], place: usize) -> bool
+    requires { place + 16 ≤ length slice.now }
+    ensures { IsTrue result ↔ CanBeHead variant.now.order (take 16 (drop place slice.now)) }
+{
+    let behind = &slice[place..];
+    can_be_head(variant.order, &behind[..HEAD])
+}
+
+// Returns the number of data bytes of the packet at the front, behind whose stated end there is no packet: those before the place where
+// packets go on, if that is before the stated end, and otherwise all.
+fn shortened(variant: &Variant, slice: &[u8], begin: usize, end: usize) -> usize
+    requires from { begin ≤ end }
+    requires within { begin ≤ length slice.now }
+{
+    let sure = end.min(slice.len());
+    let place = next_place(variant, slice, begin, sure);
+    if place < sure {
+        place - begin
+    } else {
+        end - begin
+    }
+}
+
 // Returns the number of data bytes of the packet at the front: its stored length, unless what follows is no head, and packets go on
 // before. `None` if more bytes are needed.
 fn stored(variant: &Variant, slice: &[u8], is_all: bool) -> Option<usize>
@@ -70,14 +94,19 @@ fn stored(variant: &Variant, slice: &[u8], is_all: bool) -> Option<usize>
     let begin = HEAD + variant.further.len();
     let included = included(variant.order, &slice[..HEAD]);
     let end = begin + included;
-    if slice.len() < end + begin {
-        return if is_all { Some(included) } else { None };
+    if slice.len() >= end + begin {
+        if is_head_at(variant, slice, end) {
+            return Some(included);
+        }
+        return Some(shortened(variant, slice, begin, end));
     }
-    let behind = &slice[end..];
-    if can_be_head(variant.order, &behind[..HEAD]) {
+    if !is_all {
+        return None;
+    }
+    if slice.len() == end {
         return Some(included);
     }
-    Some(next_place(variant, slice, begin, end) - begin)
+    Some(shortened(variant, slice, begin, end))
 }
 
 /// Looks at the front of a slice, `left` bytes before the next head.

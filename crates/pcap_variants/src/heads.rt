@@ -59,8 +59,8 @@ fn is_timely(time: Option<u32>, seconds: u32) -> bool
     }
 }
 
-// Returns the bytes of a slice behind this many, or none if it has fewer.
-fn behind(slice: &[u8], len: usize) -> &[u8]
+/// Returns the bytes of a slice behind this many, or none if it has fewer.
+pub(crate) fn behind(slice: &[u8], len: usize) -> &[u8]
     ensures { result.now ≡ drop len slice.now }
 {
     slice.get(len..).unwrap_or_default()

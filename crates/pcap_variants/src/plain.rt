@@ -1,9 +1,10 @@
 //! The plain capture that has the packets of a capture of a variant.
 
-ghost use Rattle.std.specs.Prelude.{◌≡◌, ◌≤◌, [], IsTrue, OnOk, drop, length};
-ghost use Rattle.pcap_variants.specs.Plainly.{Begins, Ends, Goes, IsDone};
+ghost use Rattle.std.specs.Prelude.{◌≡◌, ◌≤◌, IsTrue, OnOk, drop, length};
+ghost use Rattle.pcap_variants.specs.Plainly.{Begins, Ends, Goes, GoesBy, IsDone};
 
 use crate::front::look;
+use crate::heads::behind;
 use crate::variant::Variant;
 use std::alloc::{AllocError, Global};
 
@@ -56,12 +57,12 @@ impl Plain {
 
     // Appends what is known of the plain capture. If no piece follows, only the beginning of a head stays.
     fn write(&mut self, room: &mut Vec<u8>, is_all: bool) -> Result<(), AllocError>
-        ensures goes { OnOk result (Goes self.old room.old.items [] self.new room.new.items) }
+        ensures goes { OnOk result (GoesBy is_all self.old room.old.items self.new room.new.items) }
         ensures all { OnOk result (IsTrue is_all → IsDone self.new) }
     {
         let mut passed: usize = 0;
         while passed < self.held.len() {
-            let bytes = &self.held.as_slice()[passed..];
+            let bytes = behind(self.held.as_slice(), passed);
             let Some(step) = look(&self.variant, self.left, bytes, is_all) else {
                 drop_front(&mut self.held, passed);
                 return Ok(());

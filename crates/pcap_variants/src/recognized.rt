@@ -3,7 +3,7 @@
 ghost use Rattle.std.specs.Prelude.{◌≤◌, ◌↔◌, IsTrue};
 ghost use Rattle.pcap_variants.specs.Shown.{IsPlain, LongRow, Recognizes, Shows, ShowsModified, ShowsPlain};
 
-use crate::heads::{HEAD, included, is_row};
+use crate::heads::{HEAD, behind, included, is_row};
 use crate::variant::{Further, Variant};
 use byteorder::{BigEndian, ByteOrder};
 use pcap_core::Endianness;
@@ -25,11 +25,13 @@ fn is_long_row(order: Endianness, further: usize, packets: &[u8]) -> bool
 fn modified(order: Endianness, packets: &[u8]) -> Further
     ensures { ShowsModified order packets.now result }
 {
-    if !is_row(order, 8, packets, 2) && is_row(order, 12, packets, 2) {
-        Further::Twelve
-    } else {
-        Further::Eight
+    if is_row(order, 8, packets, 2) {
+        return Further::Eight;
     }
+    if is_row(order, 12, packets, 2) {
+        return Further::Twelve;
+    }
+    Further::Eight
 }
 
 // Returns the further bytes that the packets of a capture with the plain magic number have, if they have any.
@@ -90,5 +92,5 @@ pub fn variant_of(bytes: &[u8]) -> Option<Variant>
     if bytes.len() < HEADER {
         return None;
     }
-    shown(BigEndian::read_u32(bytes), &bytes[HEADER..])
+    shown(BigEndian::read_u32(bytes), behind(bytes, HEADER))
 }

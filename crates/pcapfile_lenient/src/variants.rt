@@ -46,9 +46,8 @@ pub(crate) fn make_plain(alloc: Global, window: &mut Window) -> ResultParsing<Op
 // Returns whether the first packet of the capture in the window is before another one of a plain capture, or the capture is of no
 // variant by its first bytes. It reads no further than that head.
 fn is_plain(window: &mut Window) -> ResultParsing<bool> {
-    let magic = window.shown().get(..4).unwrap_or_default();
-    let is_modified = magic == b"\xa1\xb2\xcd\x34" || magic == b"\x34\xcd\xb2\xa1";
-    if is_modified {
+    let bytes = window.shown();
+    if bytes.starts_with(b"\xa1\xb2\xcd\x34") || bytes.starts_with(b"\x34\xcd\xb2\xa1") {
         return Ok(false);
     }
     let Ok((rest, parser)) = PcapParser::new(window.shown()) else {

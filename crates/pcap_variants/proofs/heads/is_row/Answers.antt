@@ -1,4 +1,4 @@
-use Rattle.std.proofs.Common.{◌≡◌, ◌<◌, ◌+◌, ◌-◌, ℕ, List, Some, length, refl, sym, ap, subst, ◌∙◌, arith, take, drop}
+use Rattle.std.proofs.Common.{◌≡◌, ◌<◌, ◌+◌, ◌-◌, ℕ, List, Some, length, refl, sym, ap, subst, ◌∙◌, arith, drop}
 use Rattle.pcap_variants.specs.Rows.{Row, length_of, seconds_of}
 use Rattle.pcap_variants.proofs.Rows.{row_first, row_down, row_up, row_end}
 use Rattle.pcap_variants.proofs.heads.is_row.Goals as goal
@@ -34,9 +34,9 @@ loop-more-preserved c =
       down = λ row.
           let next = row_down order further c.loop-more.time c.loop-more.more left some on (c.loop-more.invariant.down row) in
           subst (λ (t : ℕ). Row order further (Some t) (c.loop-more.more - 1) c.behind-left.result.now) (sym time)
-              (subst (λ (s : List ℕ). Row order further (Some (seconds_of order left)) (c.loop-more.more - 1) s) (sym behind) next);
+          (subst (λ (s : List ℕ). Row order further (Some (seconds_of order left)) (c.loop-more.more - 1) s) (sym behind) next);
       up = λ row.
           let next = subst (λ (s : List ℕ). Row order further (Some (seconds_of order left)) (c.loop-more.more - 1) s) behind
-              (subst (λ (t : ℕ). Row order further (Some t) (c.loop-more.more - 1) c.behind-left.result.now) time row) in
+          (subst (λ (t : ℕ). Row order further (Some t) (c.loop-more.more - 1) c.behind-left.result.now) time row) in
           c.loop-more.invariant.up (row_up order further c.loop-more.time c.loop-more.more left some begins next);
     }
