@@ -24,6 +24,8 @@ def files(capture):
     yield bz2.compress(capture), READS.format("a bzip2", "bzcat")
     yield bytes.fromhex("28b52ffd") + capture, READS.format("a zstd", "zstdcat")
     yield bytes.fromhex("04224d18") + capture, READS.format("an lz4", "lz4cat")
+    for magic in ("a1b2cd34", "34cdb2a1"):
+        yield bytes.fromhex(magic) + capture[4:], "has packet headers of 24 bytes, as a modified libpcap writes them; 'pcapfile repair' makes it a plain capture"
     yield b"snoop\0\0\0" + bytes(8) + capture, CONVERTS.format("snoop")
     yield ERF * 3, CONVERTS.format("ERF")
     for page in (b"<!DOCTYPE html>\n<html>", b"  \n<HTML lang=en>", b"<!doctype HTML"):
@@ -41,7 +43,7 @@ def try_names(tally, help):
         with tempfile.TemporaryDirectory() as folder:
             code, written, told = cutting.ran(tally, folder, "info", "--json", "-", given=content)
         tally.note(f"JSON of {content[:8]}", (code, told) != (AT_FAULT, f"pcapfile: -: {said}\n") and f"it said {told!r}", written.count(b"\n") != 1 and f"it wrote {written}")
-    for content in (bytes(40), b"\x0b", b"a text\0", bytes.fromhex("a1b2cd34") + capture[4:], ERF[:12], b"\xc3\xa4"):
+    for content in (bytes(40), b"\x0b", b"a text\0", ERF[:12], b"\xc3\xa4"):
         with tempfile.TemporaryDirectory() as folder:
             help.put(folder, "in", content)
             code, written, told = cutting.ran(tally, folder, "check", "in")

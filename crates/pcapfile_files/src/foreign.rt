@@ -1,7 +1,8 @@
-//! Files that are not captures, and captures that a text-mode transfer changed.
+//! Files that are not plain captures, and captures that a text-mode transfer changed.
 
 use crate::walk::{Walk, begins_capture};
 use pcap_altered::is_transferred;
+use pcap_variants::{Further, variant_of};
 use std::fmt;
 
 /// The number of first bytes by which a text is recognized.
@@ -47,6 +48,8 @@ pub(crate) enum Foreign {
     ChangedBlocks,
     /// It looks like a classic capture that a text-mode transfer changed.
     ChangedPackets,
+    /// It is a classic capture with further bytes in the header of each packet.
+    Variant(Further),
     /// It is something else.
     Unknown,
 }
@@ -106,13 +109,16 @@ impl Packing {
 }
 
 impl Foreign {
-    /// Returns what a file with these first bytes is, or `None` if it begins like a capture that no text-mode transfer changed.
+    /// Returns what a file with these first bytes is, or `None` if it begins like a plain capture that no text-mode transfer changed.
     pub(crate) fn of_front(bytes: &[u8]) -> Option<Foreign> {
         if bytes.is_empty() {
             return Some(Foreign::Empty);
         }
         if bytes.starts_with(CHANGED_SECTION) {
             return Some(Foreign::ChangedBlocks);
+        }
+        if let Some(variant) = variant_of(bytes) {
+            return Some(Foreign::Variant(variant.further));
         }
         if begins_capture(bytes) {
             return if is_changed(bytes) {
@@ -155,6 +161,10 @@ impl fmt::Display for Foreign {
             Foreign::Page => f.write_str("is an HTML page, not a capture"),
             Foreign::Text => f.write_str("is a text file, not a capture"),
             Foreign::ChangedBlocks | Foreign::ChangedPackets => f.write_str(CHANGED),
+            Foreign::Variant(further) => write!(
+                f,
+                "has {further}; 'pcapfile repair' makes it a plain capture"
+            ),
             Foreign::Unknown => f.write_str("is not a capture"),
         }
     }

@@ -18,6 +18,8 @@ mod standing;
 mod stored;
 mod summary;
 mod torn;
+mod undo;
+mod variants;
 mod window;
 
 pub use captured::Captured;
@@ -32,3 +34,4 @@ pub use report::Reporting;
 pub use rows::{Changed, Rows};
 pub use standing::{BlockRows, HEADER, PacketRows, Standing, Stop};
 pub use summary::{GUESSED, Outcome, REPAIRED, Summary};
+pub use variants::LeftOutHeads;

@@ -7,6 +7,7 @@ use pcap_altered::is_transferred;
 use pcap_damaged::{begins_near, head_at, resync};
 use pcap_file::pcap::PcapHeader;
 use pcap_file::{DataLink, Endianness, PcapParser, ResultParsing, TsResolution};
+use pcap_variants::Variant;
 use std::alloc::Global;
 use std::io;
 
@@ -49,6 +50,8 @@ pub struct Found {
     pub is_undone: bool,
     /// What became of the first section header of a PcapNg capture.
     pub section: FirstSection,
+    /// The variant of classic captures, if the capture is of one.
+    pub variant: Option<Variant>,
 }
 
 /// A run of packets.

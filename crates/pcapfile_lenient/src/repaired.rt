@@ -9,6 +9,7 @@ use crate::report::{Report, Reporting};
 use crate::rows::Rows;
 use crate::standing::{BlockRows, HEADER, PacketRows, Standing, Stop};
 use crate::summary::{Outcome, Summary, Tally};
+use crate::variants::LeftOutHeads;
 use capcopy_run::Exit;
 use pcap_file::{Endianness, PcapError, ResultParsing};
 use pcapfile_as_is::{BlockRepairs, Counted, Place, Repairs, Spot};
@@ -418,7 +419,7 @@ fn outcome_at(opening: Opening, found: &Found, format: Format) -> Outcome {
     };
     match opening {
         Opening::Guess(_) if is_written => Outcome::Guessed,
-        _ => outcome_if(is_written || found.is_undone),
+        _ => outcome_if(is_written || found.is_undone || found.variant.is_some()),
     }
 }
 
@@ -426,6 +427,11 @@ fn outcome_at(opening: Opening, found: &Found, format: Format) -> Outcome {
 fn tell_found(alloc: Global, report: &mut Report, found: &Found) -> Result<(), AllocError> {
     if found.is_undone {
         report.tell_opening(UNDONE, false);
+    }
+    if let Some(variant) = found.variant {
+        let left_out = LeftOutHeads(variant);
+        let text = format!(in alloc; "{left_out}")?;
+        report.tell_opening(text.as_str(), false);
     }
     if let Some(guessed) = &found.guessed {
         let text = text_of(alloc, guessed)?;

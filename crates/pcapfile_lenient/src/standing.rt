@@ -11,12 +11,14 @@ use crate::opening::{
 };
 use crate::packets::{HEADER as HEADER_LEN, LIMIT};
 use crate::rows::{Rows, begins_section};
+use crate::variants::make_plain;
 use crate::window::Window;
 use capcopy_run::Exit;
 use pcap_file::pcap::PcapHeader;
 use pcap_file::{Endianness, PcapError, PcapParser, ResultParsing};
 use pcap_tolerant::ReaderAsIs;
 use pcap_tolerant_captures::PcapNgReaderAsIs;
+use pcap_variants::Variant;
 use pcapfile_as_is::{BlockTeller, Counted, Teller, tell_blocks, tell_packets};
 use pcapfile_files::{Watched, buffered};
 use pcapfile_run::Format;
@@ -125,18 +127,21 @@ impl BlockRows {
 }
 
 impl Standing {
-    /// Returns the items of the capture in a stream. The errors are those of reads and of memory.
-    pub fn open(alloc: Global, stream: Watched) -> ResultParsing<Standing> {
+    /// Returns the items of the capture in a stream, and its variant of classic captures, if it is of one. The errors are those of reads and
+    /// of memory.
+    pub fn open(alloc: Global, stream: Watched) -> ResultParsing<(Standing, Option<Variant>)> {
         let mut window = Window::new(alloc, buffered(alloc, stream)?);
         window.show(HEADER)?;
-        match header_in(window.shown()) {
-            Ok(header) => Standing::after_header(alloc, header, window),
-            Err(error) => Standing::of_blocks(alloc, error, window, Describing::off(alloc)),
-        }
+        let variant = make_plain(alloc, &mut window)?;
+        let standing = match header_in(window.shown()) {
+            Ok(header) => Standing::after_header(alloc, header, window)?,
+            Err(error) => Standing::of_blocks(alloc, error, window, Describing::off(alloc))?,
+        };
+        Ok((standing, variant))
     }
 
-    /// Returns the same, with a given or guessed header if the capture has none, and what was found at the beginning. Undescribed interfaces are
-    /// described.
+    /// Returns the items with a given or guessed header if the capture has none, and what was found at the beginning. Undescribed interfaces
+    /// are described.
     pub fn open_as(
         alloc: Global,
         stream: Watched,
@@ -146,6 +151,7 @@ impl Standing {
             guessed: None,
             is_undone: false,
             section: FirstSection::Found,
+            variant: None,
         };
         let window = Window::new(alloc, buffered(alloc, stream)?);
         let standing = match opening {
@@ -159,6 +165,7 @@ impl Standing {
     // Returns the items under the capture's own header. It notes whether blocks are left out with a lost section header.
     fn own(alloc: Global, mut window: Window, found: &mut Found) -> ResultParsing<Standing> {
         window.show(HEADER)?;
+        found.variant = make_plain(alloc, &mut window)?;
         let error = match header_in(window.shown()) {
             Ok(header) => return Standing::after_header(alloc, header, window),
             Err(error) => error,
@@ -205,6 +212,9 @@ impl Standing {
         found: &mut Found,
     ) -> ResultParsing<Standing> {
         found.is_undone = undo_transfer(alloc, &mut window, link)?;
+        if !found.is_undone {
+            found.variant = make_plain(alloc, &mut window)?;
+        }
         let error = match header_in(window.shown()) {
             Ok(header) => return Standing::after_header(alloc, header, window),
             Err(error) => error,

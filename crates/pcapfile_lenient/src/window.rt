@@ -1,12 +1,13 @@
 //! Looking ahead at the bytes of a capture before they are read.
 
 use crate::packets::ROW;
+use crate::undo::Undo;
 use capcopy_run::Uninterrupted;
-use pcap_altered::LineEnds;
 use pcap_damaged::resync as first_packets;
 use pcap_file::PcapParser;
 use pcap_tolerant_captures::PcapNgParserAsIs;
 use pcap_tolerant_captures::resync::{resync as first_blocks, resync_section};
+use pcap_variants::Variant;
 use pcapfile_files::Watched;
 use std::alloc::Global;
 use std::io;
@@ -50,15 +51,15 @@ pub(crate) struct Window {
     passed: usize,
     /// Whether nothing follows the bytes in the buffer.
     is_all: bool,
-    /// How a text-mode transfer of the input is undone, if it is.
-    line_ends: Option<LineEnds>,
+    /// What is undone in the bytes of the input, if anything is.
+    undo: Option<Undo>,
 }
 
-/// The bytes of a window after a text-mode transfer was undone.
+/// The bytes of a window after what was done to the input was undone.
 #[derive(Drop)]
 pub(crate) struct Undone {
     room: Vec<u8>,
-    line_ends: LineEnds,
+    undo: Undo,
 }
 
 impl Undone {
@@ -87,27 +88,38 @@ impl Window {
             room: Vec::new(alloc),
             passed: 0,
             is_all: false,
-            line_ends: None,
+            undo: None,
         }
     }
 
     /// Returns the bytes in the window after a text-mode transfer of the input is undone.
     pub(crate) fn undone(&self, alloc: Global) -> io::Result<Undone> {
         let mut room = Vec::new(alloc);
-        let mut line_ends = LineEnds::new();
-        line_ends.put(&mut room, self.shown())?;
-        if self.is_all {
-            line_ends.finish(&mut room)?;
-        }
-        Ok(Undone { room, line_ends })
+        let undo = Undo::transfer(&mut room, self.shown())?;
+        self.finished(room, undo)
     }
 
-    /// Puts these bytes into the window, and goes on undoing the transfer in the bytes behind it.
+    /// Returns the bytes in the window as those of a plain capture, if the input is a capture of this variant.
+    pub(crate) fn plain(&self, alloc: Global, variant: Variant) -> io::Result<Undone> {
+        let mut room = Vec::new(alloc);
+        let undo = Undo::variant(alloc, variant, &mut room, self.shown())?;
+        self.finished(room, undo)
+    }
+
+    // Returns these bytes, and the rest if nothing follows the window.
+    fn finished(&self, mut room: Vec<u8>, mut undo: Undo) -> io::Result<Undone> {
+        if self.is_all {
+            undo.finish(&mut room)?;
+        }
+        Ok(Undone { room, undo })
+    }
+
+    /// Puts these bytes into the window, and goes on undoing in the bytes behind it.
     pub(crate) fn put_undone(&mut self, undone: Undone) {
-        let Undone { room, line_ends } = undone;
+        let Undone { room, undo } = undone;
         self.room = room;
         self.passed = 0;
-        self.line_ends = Some(line_ends);
+        self.undo = Some(undo);
     }
 
     /// Returns the bytes in the window.
@@ -199,13 +211,13 @@ impl Window {
         let came = self.input.fill_buf()?;
         let len = came.len();
         self.is_all = len == 0;
-        match &mut self.line_ends {
+        match &mut self.undo {
             None => self.room.extend_from_slice(came)?,
-            Some(line_ends) if len > 0 => line_ends.put(&mut self.room, came)?,
-            Some(line_ends) => line_ends.finish(&mut self.room)?,
+            Some(undo) if len > 0 => undo.put(&mut self.room, came)?,
+            Some(undo) => undo.finish(&mut self.room)?,
         }
         self.input.consume(len);
-        Ok(len > 0 || self.line_ends.is_some())
+        Ok(len > 0 || self.undo.is_some())
     }
 
     // Drops the consumed bytes once they outnumber the rest, so that a move never copies more bytes than were consumed.

@@ -3,8 +3,8 @@
 use capcopy_run::Exit;
 use pcap_file::{PcapError, ResultParsing};
 use pcapfile_as_is::{BlockTeller, Counted, Gap, LeftOut, Place, Scrap, Teller};
-use pcapfile_files::{Console, open_watched};
-use pcapfile_lenient::{Change, HEADER, Named, Rows, Standing, Stop};
+use pcapfile_files::{Console, Shown, open_watched};
+use pcapfile_lenient::{Change, HEADER, LeftOutHeads, Named, Rows, Standing, Stop};
 use pcapfile_run::Format;
 use std::alloc::{AllocError, Global};
 use std::io::Write;
@@ -43,7 +43,13 @@ pub(crate) enum Between {
 impl Telling {
     /// Opens the capture of this name. It returns errors of reads and of memory.
     pub(crate) fn open(console: &Console, name: &str) -> ResultParsing<Telling> {
-        let standing = Standing::open(console.alloc(), open_watched(console, name)?)?;
+        let stream = open_watched(console, name)?;
+        let (standing, variant) = Standing::open(console.alloc(), stream)?;
+        if let Some(variant) = variant {
+            let shown = Shown(name);
+            let left_out = LeftOutHeads(variant);
+            eprintln!(console.for_line(); "pcapfile: {shown}: {left_out}")?;
+        }
         let (format, bytes) = opening_of(&standing);
         Ok(Telling {
             standing: Some(standing),

@@ -1,0 +1,68 @@
+//! Classic captures whose packets have further bytes in their headers.
+
+use crate::packets::HEADER;
+use crate::window::Window;
+use pcap_damaged::{begins_near, head_at};
+use pcap_file::{PcapParser, ResultParsing};
+use pcap_variants::{Variant, variant_of};
+use std::alloc::Global;
+use std::fmt;
+
+/// The longest packet that breaks no rule, in bytes.
+const PACKET_LIMIT: u32 = 262_144;
+
+/// The length of a packet's head, in bytes.
+const HEAD: usize = 16;
+
+/// The message that a capture of a variant is read as a plain one.
+#[derive(Clone, Copy)]
+pub struct LeftOutHeads(pub Variant);
+
+impl fmt::Display for LeftOutHeads {
+    fn fmt<W: fmt::Write>(&self, f: &mut fmt::Formatter<W>) -> fmt::Result {
+        let further = self.0.further;
+        write!(
+            f,
+            "{further}: the {} further bytes of each are left out, and bytes are counted without them",
+            further.len()
+        )
+    }
+}
+
+/// Makes the capture in the window a plain one if it is of a variant, and returns that variant.
+pub(crate) fn make_plain(alloc: Global, window: &mut Window) -> ResultParsing<Option<Variant>> {
+    if is_plain(window)? {
+        return Ok(None);
+    }
+    window.reach_row()?;
+    let Some(variant) = variant_of(window.shown()) else {
+        return Ok(None);
+    };
+    let plain = window.plain(alloc, variant)?;
+    window.put_undone(plain);
+    Ok(Some(variant))
+}
+
+// Returns whether the first packet of the capture in the window is before another one of a plain capture, or the capture is of no
+// variant by its first bytes. It reads no further than that head.
+fn is_plain(window: &mut Window) -> ResultParsing<bool> {
+    let bytes = window.shown();
+    if bytes.starts_with(b"\xa1\xb2\xcd\x34") || bytes.starts_with(b"\x34\xcd\xb2\xa1") {
+        return Ok(false);
+    }
+    let Ok((rest, parser)) = PcapParser::new(window.shown()) else {
+        return Ok(true);
+    };
+    let Some((head, _data)) = head_at(&parser, rest) else {
+        return Ok(false);
+    };
+    if head.included > PACKET_LIMIT {
+        return Ok(false);
+    }
+    let end = HEADER + HEAD + head.included as usize;
+    if !window.reach(end + HEAD)? {
+        return Ok(false);
+    }
+    let behind = window.shown().get(end..).unwrap_or_default();
+    Ok(begins_near(&parser, head.seconds, behind))
+}
