@@ -147,7 +147,11 @@ def try_damage(tally, help):
         whole = header(order, magic) + b"".join(each_piece)
         for less in (1, len(packets[-1][2]), len(packets[-1][2]) + number, len(each_piece[-1]) - 1):
             code, _, made, told = ran(tally, help, whole[:-less], "repair", "in", "-o", "out")
-            tally.note(f"{less} bytes less in {title}", code != DONE and f"it ended with {code}", not made.startswith(start + b"".join(plain[:-1])) and f"it lost packets: {told!r}", told == left_out_line(number, name) and "it reports no torn packet")
+            torn = start + b"".join(plain)
+            torn = torn[: -min(less, len(packets[-1][2]))]
+            listed, wanted = (ran(tally, help, it, "list", "--as-is", "in") for it in (whole[:-less], torn))
+            is_listed = (listed[0], listed[1], listed[3]) == (wanted[0], wanted[1], left_out_line(number, name) + wanted[3])
+            tally.note(f"{less} bytes less in {title}", not is_listed and f"it ended with {listed[0]} and said {listed[3]!r}", code != DONE and f"it ended with {code}", not made.startswith(start + b"".join(plain[:-1])) and f"it lost packets: {told!r}", told == left_out_line(number, name) and "it reports no torn packet")
 
 
 def try_tools(tally, help):
