@@ -3,13 +3,8 @@
 use capcopy_run::Exit;
 use pcap_file::{PcapError, ResultParsing};
 use pcapfile_as_is::{BlockTeller, Counted, Gap, LeftOut, Place, Scrap, Teller};
-<<<<<<< ours
-use pcapfile_files::{Console, Shown, open_watched};
-use pcapfile_lenient::{Change, HEADER, LeftOutHeads, Named, Rows, Standing, Stop};
-=======
 use pcapfile_files::{Console, Shown, open_watched, tell_changed};
-use pcapfile_lenient::{Change, HEADER, LeftOutHeads, Named, Opening, Rows, Standing, Stop};
->>>>>>> theirs
+use pcapfile_lenient::{Change, HEADER, LeftOutHeads, Named, Rows, Standing, Stop};
 use pcapfile_run::Format;
 use std::alloc::{AllocError, Global};
 use std::io::Write;
