@@ -2,6 +2,7 @@
 repaired captures are read with struct alone, and by `check`, `merge`, capinfos and tshark."""
 import itertools
 import random
+import re
 import struct
 import subprocess
 import tempfile
@@ -10,7 +11,7 @@ import as_is
 import cutting
 import left_out
 import undescribed
-from as_is import DONE, ENHANCED, INTERFACE, OBSOLETE, SIMPLE
+from as_is import DONE, ENHANCED, GUESSED, INTERFACE, OBSOLETE, REPAIRED, SIMPLE
 from repairing import block, enhanced, option, repaired, section
 from undescribed import STATISTICS
 
@@ -19,8 +20,8 @@ MARK = bytes(4)
 ORDERS = {"<": "little", ">": "big"}
 TIME = 1_700_000_000_123_456
 LIKE = "interface {} is not described: a description of link type {}, like those of the other interfaces of its section, is written before it"
-GUESSED = "interface {} is not described: a description of link type {} and times in microseconds, which makes its packets guesses, is written before it"
-ASSUMED = GUESSED.replace(" and times", ", which is assumed, and times")
+BY_GUESS = "interface {} is not described: a description of link type {} and times in microseconds, which makes its packets guesses, is written before it"
+ASSUMED = BY_GUESS.replace(" and times", ", which is assumed, and times")
 GIVEN = "interface {} is not described: a description of link type {}, as --header gives it, is written before it"
 KEPT = f"interface {{}} is not described: {undescribed.FATES['kept']}"
 DIFFER = f"interface {{}} is not described: {undescribed.FATES['differ']}"
@@ -92,7 +93,7 @@ def without_any(order):
     for words, link, options, how in (
         ([], None, b"", KEPT),
         (["--guess"], 1, b"", ASSUMED),
-        (["--guess", "--link", "101"], 101, b"", GUESSED),
+        (["--guess", "--link", "101"], 101, b"", BY_GUESS),
         (["--header", given], 147, nanoseconds(order), GIVEN),
         (["--header", given.replace("nano", "micro")], 147, b"", GIVEN),
     ):
@@ -117,21 +118,36 @@ def refusals(tally, folder, path):
     return faults
 
 
-def expects(tally, help, name, capture, wanted, said, words=(), is_accepted=True):
-    """Checks what a repair makes of a capture, that all programs accept it, and that another repair changes nothing."""
+def faults_at_the_end(capture, ended, said):
+    """Returns what is wrong with the status and the last message of a repair, by the messages before it. The counts must add up to the
+    blocks of the capture, and to the bytes that the messages name."""
+    status, _, told = ended
+    *before, last = told.splitlines(True) or [""]
+    numbers = [int(it) for it in re.findall(r"\d+", last.removeprefix("pcapfile: in: "))]
+    blocks, skipped = len(capture), sum(int(it) for it in re.findall(r": (\d+) bytes at byte", said))
+    wanted = GUESSED if "guess" in said else REPAIRED if said else DONE
+    return (
+        "".join(before) != said and f"it said {told!r}, and not {said!r}",
+        status != wanted and f"it ended with {status}, and not {wanted}",
+        sum(numbers[:4]) != blocks and f"it counts {last!r}, and not {blocks} blocks",
+        sum(numbers[4:]) != skipped and f"it counts {last!r}, and not {skipped} bytes",
+    )
+
+
+def expects(tally, help, name, front, capture, wanted, said, words=(), is_accepted=True):
+    """Checks what a repair makes of these blocks behind other bytes, that all programs accept it, and that another repair changes nothing."""
     with tempfile.TemporaryDirectory() as folder:
-        help.put(folder, "in", capture)
-        ended = cutting.ran(tally, folder, "repair", "in", "-o", "out", *words)
+        help.put(folder, "in", front + b"".join(capture))
+        ended = as_is.ran(tally, folder, "repair", "in", "-o", "out", *words)
         out = help.files(folder).get("out", b"")
-        again = cutting.ran(tally, folder, "repair", "out", "-o", "again")
+        again = as_is.ran(tally, folder, "repair", "out", "-o", "again")
         same = help.files(folder).get("again") == out
         faults = refusals(tally, folder, "out") if is_accepted and out else []
     tally.note(
         f"{name} {' '.join(words)}",
-        ended != (DONE, b"", said) and f"it gave {ended}, and not {said!r}",
-        out != wanted and f"it wrote {out.hex()}, and not {wanted.hex()}",
-        (again[0], same) != (DONE, True) and f"again it gave {again}",
-        is_accepted and again[2] and f"again it said {again[2]!r}",
+        *faults_at_the_end(capture, ended, said),
+        out != b"".join(wanted) and f"it wrote {out.hex()}, and not {b''.join(wanted).hex()}",
+        (again[0], same) != (DONE if is_accepted else GUESSED, True) and f"again it gave {again}",
         *faults,
     )
 
@@ -141,12 +157,12 @@ def try_interfaces(tally, help):
     for order in "<>":
         for name, capture, wanted, said in (*like_others(order), *left(order)):
             for words in ((), ("--guess",)):
-                expects(tally, help, f"{name}, {order}", b"".join(capture), b"".join(wanted), text(said), words)
+                expects(tally, help, f"{name}, {order}", b"", capture, wanted, text(said), words)
         for words, capture, wanted, said in without_any(order):
-            expects(tally, help, f"no description, {order}", b"".join(capture), b"".join(wanted), text(said), words, bool(words))
-        sound = b"".join([section(order), interface(order), *packets(order, 0, 0)])
+            expects(tally, help, f"no description, {order}", b"", capture, wanted, text(said), words, bool(words))
+        sound = [section(order), interface(order), *packets(order, 0, 0)]
         for words in ([], ["--guess"], ["--header", f"{ORDERS[order]},nano,101"]):
-            expects(tally, help, f"a sound capture, {order}", sound, sound, "", words)
+            expects(tally, help, f"a sound capture, {order}", b"", sound, sound, "", words)
 
 
 def try_later(tally, help):
@@ -154,44 +170,43 @@ def try_later(tally, help):
     for order in "<>":
         head, one, raw, it = section(order), interface(order), interface(order, 101), packets(order, 1, 1, 0)
         like = (3, 48, LIKE.format(1, 1))
-        expects(tally, help, f"the same later, {order}", b"".join([head, one, it[0], one, it[1]]), b"".join([head, one, one, it[0], one, it[1]]), text([like]))
+        expects(tally, help, f"the same later, {order}", b"", [head, one, it[0], one, it[1]], [head, one, one, it[0], one, it[1]], text([like]))
         said = [like, (5, 132, f"interface 1 is not described: {undescribed.FATES['disputed']}"), GONE.format(64, 132)]
         wanted = [head, one, one, it[0], raw, it[2]]
-        expects(tally, help, f"another one later, {order}", b"".join([head, one, it[0], raw, *it[1:]]), b"".join(wanted), text(said))
+        expects(tally, help, f"another one later, {order}", b"", [head, one, it[0], raw, *it[1:]], wanted, text(said))
 
 
 def sections(order, draw):
-    """Yields captures whose section header is lost, what is left out of them at their front, and the rest."""
-    parts = [interface(order, 1), *packets(order, 0, 0, 0), *packets(order, 0, 0, 0, 0)]
-    rest, after = b"".join(parts), section(order) + interface(order, 101) + packets(order, 0)[0]
+    """Yields names of captures whose section header is lost, the bytes at their front that are no blocks, and their blocks."""
+    blocks = [interface(order, 1), *packets(order, 0, 0, 0), *packets(order, 0, 0, 0, 0)]
     for size in (0, 1, 4, 27, 28):
-        yield f"{size} bytes of a section header", section(order)[28 - size :] if size < 28 else bytes(28), rest
-        yield f"{size} other bytes", draw.randbytes(size).replace(b"\n", b"\0"), rest
-    yield "a wrong magic number", section(order)[:8] + b"\1\2\3\4" + section(order)[12:], rest
-    yield "another section behind", b"", rest + after
+        yield f"{size} bytes of a section header", section(order)[28 - size :] if size < 28 else bytes(28), blocks
+        yield f"{size} other bytes", draw.randbytes(size).replace(b"\n", b"\0"), blocks
+    yield "a wrong magic number", section(order)[:8] + b"\1\2\3\4" + section(order)[12:], blocks
+    yield "another section behind", b"", [*blocks, section(order), interface(order, 101), *packets(order, 0)]
     for at in (1, 19):
-        yield f"cut at {at}", rest[at:20], rest[20:]
-    for at in (21, 50, 83):
-        yield f"cut at {at}", rest[at:84], rest[84:]
+        yield f"cut at {at} of the interface", blocks[0][at:], blocks[1:]
+    for at in (1, 30, 63):
+        yield f"cut at {at} of the first packet", blocks[1][at:], blocks[2:]
 
 
 def try_sections(tally, help):
     """Checks blocks whose section header is lost."""
     draw = random.Random(17)
     for order, name in ORDERS.items():
-        for kind, front, rest in sections(order, draw):
+        for kind, front, blocks in sections(order, draw):
             lost = [f"{len(front)} bytes at byte 0 are no blocks, and are left out"] * bool(front)
-            is_described = rest[:4] == struct.pack(order + "I", INTERFACE)
+            is_described = blocks[0] == interface(order, 1)
             for words, how, link, message in (
                 (["--guess"], "which is a guess", 1, ASSUMED),
-                (["--guess", "--link", "101"], "which is a guess", 101, GUESSED),
+                (["--guess", "--link", "101"], "which is a guess", 101, BY_GUESS),
                 (["--header", f"{name},micro,101"], "as --header gives it", 101, GIVEN),
             ):
                 said = [f"its section header is lost: one of byte order {name} is written, {how}", *lost]
                 said += [(1, len(front), message.format(0, link))] * (not is_described)
-                wanted = section(order) + (b"" if is_described else interface(order, link)) + rest
-                expects(tally, help, f"{kind}, {order}", front + rest, wanted, text(said), words)
-            try_named(tally, help, f"{kind}, {order}", front + rest)
+                wanted = [section(order), *[interface(order, link)] * (not is_described), *blocks]
+                expects(tally, help, f"{kind}, {order}", front, blocks, wanted, text(said), words)
+            try_named(tally, help, f"{kind}, {order}", front + b"".join(blocks))
 
 
 def try_named(tally, help, name, capture):
