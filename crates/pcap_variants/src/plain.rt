@@ -13,8 +13,8 @@ const REST_OF_HEADER: usize = 20;
 
 /// Turns a capture of a variant into a plain capture, piece by piece: it leaves out the further bytes of each head.
 ///
-/// Behind a packet there may be corrupt bytes, which can't be a head. They are kept, up to a place where two packets of the variant
-/// follow each other.
+/// Bytes that can't be a head are corrupt. They are kept up to a place where two packets of the variant follow each other, which is a
+/// guess. So is the end of a packet whose stored length leads to no head.
 #[derive(Debug, Drop)]
 pub struct Plain {
     /// The variant.

@@ -3,7 +3,7 @@
 use capcopy_run::Exit;
 use pcap_file::{PcapError, ResultParsing};
 use pcapfile_as_is::{BlockTeller, Counted, Gap, LeftOut, Place, Scrap, Teller};
-use pcapfile_files::{Console, Shown, open_watched};
+use pcapfile_files::{Console, Shown, open_watched, tell_changed};
 use pcapfile_lenient::{Change, HEADER, LeftOutHeads, Named, Opening, Rows, Standing, Stop};
 use pcapfile_run::Format;
 use std::alloc::{AllocError, Global};
@@ -49,6 +49,8 @@ impl Telling {
             let shown = Shown(name);
             let left_out = LeftOutHeads(variant);
             eprintln!(console.for_line(); "pcapfile: {shown}: {left_out}")?;
+            // No later message names the variant again.
+            tell_changed(console, name)?;
         }
         let (format, bytes) = opening_of(&standing);
         Ok(Telling {
