@@ -165,9 +165,11 @@ impl Standing {
         };
         if !begins_section(alloc, &mut window)? {
             let sure = window.reach_row()?;
-            let (run, _guessed) = guess_in(window.shown(), sure, None)?;
-            if lost_blocks(alloc, window.shown())?.is_some_and(|lost| lost.blocks >= run.packets) {
-                found.section = FirstSection::Lost;
+            if let Some(lost) = lost_blocks(alloc, window.shown())? {
+                let (run, _guessed) = guess_in(window.shown(), sure, None)?;
+                if lost.blocks >= run.packets {
+                    found.section = FirstSection::Lost;
+                }
             }
         }
         Standing::of_blocks(alloc, error, window, Describing::on(alloc, None))
