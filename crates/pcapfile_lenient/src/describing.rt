@@ -302,8 +302,8 @@ impl Describing {
                 self.reported = None;
             }
             Some(DESCRIPTION) => {
-                let last = parser.interface_count().saturating_sub(1);
-                let described = parser.interface(last as u32).map(Described::of);
+                let last = count_in(parser).saturating_sub(1);
+                let described = parser.interface(last).map(Described::of);
                 self.common = self.common.with(described);
                 let is_different = matches!(self.common, Common::Different);
                 self.is_disputed = self.first_written.is_some() && is_different;
@@ -391,10 +391,7 @@ impl Describing {
             Err(Unput::Memory(error)) => return Err(io::Error::from(error)),
             Err(Unput::Unfit(_)) => return Err(io::Error::from(ErrorKind::InvalidData)),
         }
-        self.first_written = Some(
-            self.first_written
-                .unwrap_or(parser.interface_count() as u32),
-        );
+        self.first_written = Some(self.first_written.unwrap_or(count_in(parser)));
         self.common = Common::Alike(like);
         for _ in 0..MOST {
             if (interface as usize) < parser.interface_count() {
@@ -405,6 +402,11 @@ impl Describing {
         }
         Ok(())
     }
+}
+
+// Returns the number of interfaces that the section in force describes, as far as a packet can name them.
+fn count_in(parser: &PcapNgParserAsIs) -> u32 {
+    u32::try_from(parser.interface_count()).unwrap_or(u32::MAX)
 }
 
 // Lets the parser read a description.

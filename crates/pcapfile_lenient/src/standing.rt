@@ -172,9 +172,11 @@ impl Standing {
         };
         if !begins_section(alloc, &mut window)? {
             let sure = window.reach_row()?;
-            let (run, _guessed) = guess_in(window.shown(), sure, None)?;
-            if lost_blocks(alloc, window.shown())?.is_some_and(|lost| lost.blocks >= run.packets) {
-                found.section = FirstSection::Lost;
+            if let Some(lost) = lost_blocks(alloc, window.shown())? {
+                let (run, _guessed) = guess_in(window.shown(), sure, None)?;
+                if lost.blocks >= run.packets {
+                    found.section = FirstSection::Lost;
+                }
             }
         }
         Standing::of_blocks(alloc, error, window, Describing::on(alloc, None))
@@ -196,12 +198,12 @@ impl Standing {
             return Ok(Standing::of_rows(alloc, rows));
         }
         let run = run_of(&PcapParser::with_header(header)?, window.shown(), sure);
-        match lost_blocks_in(alloc, order, window.shown())? {
-            Some(lost) if lost.blocks >= run.packets => {
-                Standing::of_lost(alloc, lost, window, describing, found)
+        if let Some(lost) = lost_blocks_in(alloc, order, window.shown())? {
+            if lost.blocks >= run.packets {
+                return Standing::of_lost(alloc, lost, window, describing, found);
             }
-            _ => Standing::without_header(alloc, header, window),
         }
+        Standing::without_header(alloc, header, window)
     }
 
     // Returns the items after a text-mode transfer is undone, and with a guessed header if the capture has none.
@@ -227,11 +229,13 @@ impl Standing {
         let sure = window.reach_row()?;
         let (run, guessed) = guess_in(window.shown(), sure, link)?;
         let is_of_blocks = window.shown().first() == Some(&FIRST_OF_BLOCKS);
-        match (lost_blocks(alloc, window.shown())?, guessed) {
-            (Some(lost), _) if lost.blocks >= run.packets => {
-                Standing::of_lost(alloc, lost, window, describing, found)
+        if let Some(lost) = lost_blocks(alloc, window.shown())? {
+            if lost.blocks >= run.packets {
+                return Standing::of_lost(alloc, lost, window, describing, found);
             }
-            (_, Some(guessed)) if !is_of_blocks => {
+        }
+        match guessed {
+            Some(guessed) if !is_of_blocks => {
                 found.guessed = Some(guessed);
                 Standing::without_header(alloc, guessed.header, window)
             }
