@@ -602,7 +602,7 @@ def repaired(name, capture):
     _, items, refused = stands_in(capture)
     if refused:
         why = refusal(capture, refused)
-        said = [NO_SECTION] * (rows_without_section(capture) is not None) + [why] + [NO_HEADER] * why.startswith("Invalid")
+        said = [why] + [NO_HEADER] * why.startswith("Invalid")
         return None, "".join(f"{prefix}{it}\n" for it in said), AT_FAULT
     (order, unit), out, said, outcomes = opened(capture), [capture[:24]], [], []
     for it in items:
