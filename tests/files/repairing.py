@@ -298,6 +298,8 @@ def change_in(message):
     if found:
         number, place, rule, action = found.groups()
         return {"number": int(number), "offset": int(place), "skipped": None, "rule": rule and int(rule), "action": action, "guess": "guess" in action}
+    if message == as_is.NO_SECTION:
+        return {"number": None, "offset": 0, "skipped": None, "rule": None, "action": message, "guess": False}
     size, place, rule = re.fullmatch(r"(\d+) bytes at byte (\d+) are .*, and are left out(?: by rule (\d+): .*)?", message).groups()
     action = message.partition(" by rule ")[0]
     return {"number": None, "offset": int(place), "skipped": int(size), "rule": rule and int(rule), "action": action, "guess": False}

@@ -8,7 +8,7 @@ import tempfile
 import cutting
 import left_out
 
-DONE, AT_FAULT = 0, 1
+DONE, AT_FAULT, REPAIRED, GUESSED = 0, 1, 5, 6
 PLAIN, MODIFIED = 0xA1B2C3D4, 0xA1B2CD34
 FIRST = 1_600_000_000 * 10**9
 # The magic number, the number of further bytes, and how a message names the variant.
@@ -54,6 +54,15 @@ def left_out_line(number, name):
     return f"pcapfile: in: {name}: the {number} further bytes of each are left out, and bytes are counted without them\n"
 
 
+def summary(count):
+    return f"pcapfile: in: {count} packets kept, 0 repaired, 0 guessed, 0 left out, 0 bytes skipped\n"
+
+
+def names_no_change(told):
+    """Returns whether a repair names only the variant, and counts packets."""
+    return told.count("\n") < 3
+
+
 def ran(tally, help, capture, *words):
     with tempfile.TemporaryDirectory() as folder:
         help.put(folder, "in", capture)
@@ -72,13 +81,14 @@ def try_reading(tally, help):
             title = f"{order}, {magic:x}, {number} further bytes, {count} packets"
             for words in (("repair", "in", "-o", "out"), ("repair", "--guess", "in", "-o", "out"), ("convert", "--repair", "in", "-o", "out", "--to", "pcap")):
                 code, _, made, told = ran(tally, help, capture, *words)
-                tally.note(f"{words[:2]} of {title}", (code, told) != (DONE, line) and f"it ended with {code} and said {told!r}", made != plain and f"it wrote {len(made)} bytes")
+                wanted = REPAIRED if words[0] == "repair" else DONE, line + summary(count)
+                tally.note(f"{words[:2]} of {title}", (code, told) != wanted and f"it ended with {code} and said {told!r}", made != plain and f"it wrote {len(made)} bytes")
             for words in (("check", "--as-is", "in"), ("list", "--as-is", "in")):
                 code, written, _, told = ran(tally, help, capture, *words)
                 wanted = ran(tally, help, plain, *words)
                 tally.note(f"{words} of {title}", (code, told) != (DONE, line) and f"it ended with {code} and said {told!r}", written != wanted[1] and f"it wrote {written[:200]}")
             code, _, made, told = ran(tally, help, plain, "repair", "in", "-o", "out")
-            tally.note(f"repair of a plain capture, {title}", (code, told, made) != (DONE, "", plain) and f"it ended with {code} and said {told!r}")
+            tally.note(f"repair of a plain capture, {title}", (code, told, made) != (DONE, f"pcapfile: in: no damage found; {count} packets kept\n", plain) and f"it ended with {code} and said {told!r}")
 
 
 def try_pipe(tally, help):
@@ -89,7 +99,7 @@ def try_pipe(tally, help):
         with tempfile.TemporaryDirectory() as folder:
             code, _, told = cutting.ran(tally, folder, "repair", "-", "-o", "out", given=capture)
             made = help.files(folder).get("out", b"")
-        tally.note(f"a pipe, {order}, {number} further bytes", (code, made) != (DONE, plain) and f"it ended with {code} and said {told!r}")
+        tally.note(f"a pipe, {order}, {number} further bytes", (code, made) != (REPAIRED, plain) and f"it ended with {code} and said {told!r}")
 
 
 def try_names(tally, help):
@@ -139,14 +149,14 @@ def try_damage(tally, help):
                 capture = header(order, magic) + b"".join(each_piece[:90]) + gap + b"".join(each_piece[90:])
                 code, _, made, told = ran(tally, help, capture, "repair", "in", "-o", "out")
                 kept = made.endswith(b"".join(plain[91:])) and made.startswith(start + b"".join(plain[:89]))
-                tally.note(f"{size} bytes {gap[:2]} in {title}", code != DONE and f"it ended with {code}", not kept and f"it lost packets: {told!r}", told == left_out_line(number, name) and "it reports no gap")
+                tally.note(f"{size} bytes {gap[:2]} in {title}", code not in (REPAIRED, GUESSED) and f"it ended with {code}", not kept and f"it lost packets: {told!r}", names_no_change(told) and "it reports no gap")
         for wrong in (0, 1, 40_000, 200_000, 0x7FFFFFFF):
             torn = bytearray(each_piece[90])
             torn[8:12] = struct.pack(order + "I", wrong)
             capture = header(order, magic) + b"".join(each_piece[:90]) + bytes(torn) + b"".join(each_piece[91:])
             code, _, made, told = ran(tally, help, capture, "repair", "in", "-o", "out")
             kept = made.endswith(b"".join(plain[91:])) and made.startswith(start + b"".join(plain[:90]))
-            tally.note(f"the length {wrong} in {title}", code != DONE and f"it ended with {code}", not kept and f"it lost packets: {told!r}", told == left_out_line(number, name) and "it reports no change")
+            tally.note(f"the length {wrong} in {title}", code not in (REPAIRED, GUESSED) and f"it ended with {code}", not kept and f"it lost packets: {told!r}", names_no_change(told) and "it reports no change")
         whole = header(order, magic) + b"".join(each_piece)
         for less in (1, len(packets[-1][2]), len(packets[-1][2]) + number, len(each_piece[-1]) - 1):
             code, _, made, told = ran(tally, help, whole[:-less], "repair", "in", "-o", "out")
@@ -154,7 +164,7 @@ def try_damage(tally, help):
             torn = torn[: -min(less, len(packets[-1][2]))]
             listed, wanted = (ran(tally, help, it, "list", "--as-is", "in") for it in (whole[:-less], torn))
             is_listed = (listed[0], listed[1], listed[3]) == (wanted[0], wanted[1], left_out_line(number, name) + wanted[3])
-            tally.note(f"{less} bytes less in {title}", not is_listed and f"it ended with {listed[0]} and said {listed[3]!r}", code != DONE and f"it ended with {code}", not made.startswith(start + b"".join(plain[:-1])) and f"it lost packets: {told!r}", told == left_out_line(number, name) and "it reports no torn packet")
+            tally.note(f"{less} bytes less in {title}", not is_listed and f"it ended with {listed[0]} and said {listed[3]!r}", code not in (REPAIRED, GUESSED) and f"it ended with {code}", not made.startswith(start + b"".join(plain[:-1])) and f"it lost packets: {told!r}", names_no_change(told) and "it reports no torn packet")
 
 
 def try_tools(tally, help):
