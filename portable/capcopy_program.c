@@ -5,9 +5,9 @@
  * the translator that wrote this file, nor the compiler that you use.
  *
  * Toolchain: rattle-kit-13f logic dac8208d650f15bf
- * Proof of the crate capcopy: logic=proved functions=3 axioms=12 target=x86_64-unknown-linux-gnu cpu=x86-64-v2
+ * Proof of the crate capcopy: logic=proved functions=6 axioms=12 target=x86_64-unknown-linux-gnu cpu=x86-64-v2
  * sum=dac8208d650f15bf native=nat,char,string
- * Sources: sha256 dd8efa48efbd7a5d2a5576bfc48cb2a10b954044f914bff01082a9848f1dce23
+ * Sources: sha256 0a8509201bac94f584da1258289b01ee1f2f4a9f4c3019f072871db618b41b7d
  * (of src and specs of capcopy, capcopy_run, pcap_blocks, pcap_classic, pcap_core, pcap_file, pcap_items, pcap_ng,
  * pcap_options, pcap_times, pcap_written)
  *
@@ -154,88 +154,90 @@ typedef struct { u8 f0; u32 f1; } t_8_32;
 u64 os_arg(u64, ptr, u64);
 void os_set_errno(u32);
 u32 os_errno(void);
-u64 os_read(u32, ptr, u64);
 u64 os_write(u32, ptr, u64);
+u64 os_read(u32, ptr, u64);
 
 int32_t program_main(void);
 
-static const u8 static_3[3] = "big";
-static const u8 static_5[4] = "nano";
-static const u8 static_6[6] = "little";
-static const u8 static_10[29] = "PcapHeader wrong magic number";
-static const u8 static_11[40] = "PacketHeader ts_usec * 1000 > 0xFFFFFFFF";
-static const u8 static_12[31] = "PacketHeader incl_len > 0x40000";
-static const u8 static_13[31] = "PacketHeader orig_len > 0x40000";
-static const u8 static_14[32] = "PacketHeader incl_len > orig_len";
-static const u8 static_15[40] = "SectionHeaderBlock: invalid magic number";
-static const u8 static_16[29] = "Block: (initial_len % 4) != 0";
-static const u8 static_17[23] = "Block: initial_len < 12";
-static const u8 static_18[38] = "Block initial_length != trailer_length";
-static const u8 static_19[21] = "SectionHeader missing";
-static const u8 static_20[37] = "SectionHeaderBlock: block length < 16";
-static const u8 static_21[43] = "InterfaceDescriptionBlock: block length < 8";
-static const u8 static_22[45] = "EnhancedPacketBlock: block length length < 20";
-static const u8 static_23[58] = "EnhancedPacketBlock: captured_len + padding > block length";
-static const u8 static_24[35] = "SimplePacketBlock: block length < 4";
-static const u8 static_25[43] = "InterfaceStatisticsBlock: block length < 12";
-static const u8 static_26[23] = "Option: slice.len() < 4";
-static const u8 static_27[40] = "Option: length + pad.len() > slice.len()";
-static const u8 static_28[50] = "InterfaceDescriptionOption: IfIpv4Addr length != 8";
-static const u8 static_29[51] = "InterfaceDescriptionOption: IfIpv6Addr length != 17";
-static const u8 static_30[49] = "InterfaceDescriptionOption: IfMacAddr length != 6";
-static const u8 static_31[49] = "InterfaceDescriptionOption: IfEuIAddr length != 8";
-static const u8 static_32[47] = "InterfaceDescriptionOption: IfSpeed length != 8";
-static const u8 static_33[49] = "InterfaceDescriptionOption: IfTsResol length != 1";
-static const u8 static_34[47] = "InterfaceDescriptionOption: IfTzone length != 4";
-static const u8 static_35[45] = "InterfaceDescriptionOption: IfFilter is empty";
-static const u8 static_36[48] = "InterfaceDescriptionOption: IfFcsLen length != 1";
-static const u8 static_37[50] = "InterfaceDescriptionOption: IfTsOffset length != 8";
-static const u8 static_38[39] = "EnhancedPacketOption: Flags length != 4";
-static const u8 static_39[43] = "EnhancedPacketOption: DropCount length != 8";
-static const u8 static_40[31] = "PacketOption: Flags length != 4";
-static const u8 static_41[47] = "NameResolutionOption: NsDnsIpv4Addr length != 4";
-static const u8 static_42[48] = "NameResolutionOption: NsDnsIpv6Addr length != 16";
-static const u8 static_43[48] = "NameResolutionBlock: Record length > slice.len()";
-static const u8 static_44[47] = "NameResolutionBlock: nrb_record_end length != 0";
-static const u8 static_45[39] = "NameResolutionBlock: Ipv4Record len < 6";
-static const u8 static_46[40] = "NameResolutionBlock: Ipv6Record len < 18";
-static const u8 static_47[26] = "Non null terminated string";
-static const u8 static_48[49] = "NameResolutionBlock: Record padding > slice.len()";
-static const u8 static_49[33] = "UnknownBlock: length > 0xFFFFFFFF";
-static const u8 static_51[200] = "0001020304050607080910111213141516171819202122232425262728293031323334353637383940414243444546474849"
+static const u8 static_4[8] = "capcopy ";
+static _Alignas(8) const struct __attribute__((packed)) { ptr f0; u8 f1[16]; } static_5 = { (ptr)&static_5+16, {5,0,0,0,0,0,0,0,48,46,50,46,48,0,0,0} };
+static const u8 static_6[1] = {10};
+static const u8 static_7[9] = "capcopy: ";
+static const u8 static_8[22] = "capcopy: limit reached";
+static const u8 static_9[59] = "usage: capcopy list | copy [big|little micro|nano] | blocks";
+static const u8 static_10[46] = "capcopy: input or output failed or ended early";
+static const u8 static_11[22] = "capcopy: out of memory";
+static const u8 static_12[14] = "Need at least ";
+static const u8 static_13[11] = " more bytes";
+static const u8 static_14[19] = "Error reading bytes";
+static const u8 static_15[21] = "Invalid field value: ";
+static const u8 static_16[13] = "Out of memory";
+static const u8 static_17[21] = "Writer failed earlier";
+static const u8 static_18[10] = "UTF8 error";
+static const u8 static_23[4] = "    ";
+static const u8 static_28[3] = "big";
+static const u8 static_30[4] = "nano";
+static const u8 static_31[6] = "little";
+static const u8 static_35[29] = "PcapHeader wrong magic number";
+static const u8 static_36[40] = "PacketHeader ts_usec * 1000 > 0xFFFFFFFF";
+static const u8 static_37[31] = "PacketHeader incl_len > 0x40000";
+static const u8 static_38[31] = "PacketHeader orig_len > 0x40000";
+static const u8 static_39[32] = "PacketHeader incl_len > orig_len";
+static const u8 static_40[40] = "SectionHeaderBlock: invalid magic number";
+static const u8 static_41[29] = "Block: (initial_len % 4) != 0";
+static const u8 static_42[23] = "Block: initial_len < 12";
+static const u8 static_43[38] = "Block initial_length != trailer_length";
+static const u8 static_44[21] = "SectionHeader missing";
+static const u8 static_45[37] = "SectionHeaderBlock: block length < 16";
+static const u8 static_46[43] = "InterfaceDescriptionBlock: block length < 8";
+static const u8 static_47[45] = "EnhancedPacketBlock: block length length < 20";
+static const u8 static_48[58] = "EnhancedPacketBlock: captured_len + padding > block length";
+static const u8 static_49[35] = "SimplePacketBlock: block length < 4";
+static const u8 static_50[43] = "InterfaceStatisticsBlock: block length < 12";
+static const u8 static_51[23] = "Option: slice.len() < 4";
+static const u8 static_52[40] = "Option: length + pad.len() > slice.len()";
+static const u8 static_53[50] = "InterfaceDescriptionOption: IfIpv4Addr length != 8";
+static const u8 static_54[51] = "InterfaceDescriptionOption: IfIpv6Addr length != 17";
+static const u8 static_55[49] = "InterfaceDescriptionOption: IfMacAddr length != 6";
+static const u8 static_56[49] = "InterfaceDescriptionOption: IfEuIAddr length != 8";
+static const u8 static_57[47] = "InterfaceDescriptionOption: IfSpeed length != 8";
+static const u8 static_58[49] = "InterfaceDescriptionOption: IfTsResol length != 1";
+static const u8 static_59[47] = "InterfaceDescriptionOption: IfTzone length != 4";
+static const u8 static_60[45] = "InterfaceDescriptionOption: IfFilter is empty";
+static const u8 static_61[48] = "InterfaceDescriptionOption: IfFcsLen length != 1";
+static const u8 static_62[50] = "InterfaceDescriptionOption: IfTsOffset length != 8";
+static const u8 static_63[39] = "EnhancedPacketOption: Flags length != 4";
+static const u8 static_64[43] = "EnhancedPacketOption: DropCount length != 8";
+static const u8 static_65[31] = "PacketOption: Flags length != 4";
+static const u8 static_66[47] = "NameResolutionOption: NsDnsIpv4Addr length != 4";
+static const u8 static_67[48] = "NameResolutionOption: NsDnsIpv6Addr length != 16";
+static const u8 static_68[48] = "NameResolutionBlock: Record length > slice.len()";
+static const u8 static_69[47] = "NameResolutionBlock: nrb_record_end length != 0";
+static const u8 static_70[39] = "NameResolutionBlock: Ipv4Record len < 6";
+static const u8 static_71[40] = "NameResolutionBlock: Ipv6Record len < 18";
+static const u8 static_72[26] = "Non null terminated string";
+static const u8 static_73[49] = "NameResolutionBlock: Record padding > slice.len()";
+static const u8 static_74[33] = "UnknownBlock: length > 0xFFFFFFFF";
+static const u8 static_76[200] = "0001020304050607080910111213141516171819202122232425262728293031323334353637383940414243444546474849"
 "5051525354555657585960616263646566676869707172737475767778798081828384858687888990919293949596979899";
-static const u8 static_53[33] = "failed to write the buffered data";
-static const u8 static_54[43] = "gave up reading or writing after 2^64 tries";
-static const u8 static_58[8] = "section ";
-static const u8 static_59[1] = " ";
-static const u8 static_60[1] = ".";
-static const u8 static_61[1] = {10};
-static const u8 static_62[4] = "    ";
-static const u8 static_66[2] = "ok";
-static const u8 static_67[7] = "refused";
-static const u8 static_68[7] = "section";
-static const u8 static_69[9] = "interface";
-static const u8 static_70[6] = "packet";
-static const u8 static_71[6] = "simple";
-static const u8 static_72[5] = "names";
-static const u8 static_73[10] = "statistics";
-static const u8 static_74[8] = "enhanced";
-static const u8 static_75[7] = "journal";
-static const u8 static_76[8] = "unknown:";
-static const u8 static_78[9] = "capcopy: ";
-static const u8 static_79[22] = "capcopy: limit reached";
-static const u8 static_80[59] = "usage: capcopy list | copy [big|little micro|nano] | blocks";
-static const u8 static_81[46] = "capcopy: input or output failed or ended early";
-static const u8 static_82[22] = "capcopy: out of memory";
-static const u8 static_83[14] = "Need at least ";
-static const u8 static_84[11] = " more bytes";
-static const u8 static_85[19] = "Error reading bytes";
-static const u8 static_86[21] = "Invalid field value: ";
-static const u8 static_87[13] = "Out of memory";
-static const u8 static_88[21] = "Writer failed earlier";
-static const u8 static_89[10] = "UTF8 error";
+static const u8 static_78[33] = "failed to write the buffered data";
+static const u8 static_79[43] = "gave up reading or writing after 2^64 tries";
+static const u8 static_83[8] = "section ";
+static const u8 static_84[1] = " ";
+static const u8 static_85[1] = ".";
+static const u8 static_86[2] = "ok";
+static const u8 static_87[7] = "refused";
+static const u8 static_88[7] = "section";
+static const u8 static_89[9] = "interface";
+static const u8 static_90[6] = "packet";
+static const u8 static_91[6] = "simple";
+static const u8 static_92[5] = "names";
+static const u8 static_93[10] = "statistics";
+static const u8 static_94[8] = "enhanced";
+static const u8 static_95[7] = "journal";
+static const u8 static_96[8] = "unknown:";
 static const u8 switch_table_pcap_options_refusal_PcapErrorFromRefusal_from[40] = "\035(\037\037 (\035\027&\025%+-:#+\027(2311/1/-02'+\037/00/'(\0321!";
-static _Alignas(8) const struct __attribute__((packed)) { ptr f0; ptr f1; ptr f2; ptr f3; ptr f4; ptr f5; ptr f6; ptr f7; ptr f8; ptr f9; ptr f10; ptr f11; ptr f12; ptr f13; ptr f14; ptr f15; ptr f16; ptr f17; ptr f18; ptr f19; ptr f20; ptr f21; ptr f22; ptr f23; ptr f24; ptr f25; ptr f26; ptr f27; ptr f28; ptr f29; ptr f30; ptr f31; ptr f32; ptr f33; ptr f34; ptr f35; ptr f36; ptr f37; ptr f38; ptr f39; } switch_table_pcap_options_refusal_PcapErrorFromRefusal_from_252 = { (ptr)static_10, (ptr)static_11, (ptr)static_12, (ptr)static_13, (ptr)static_14, (ptr)static_15, (ptr)static_16, (ptr)static_17, (ptr)static_18, (ptr)static_19, (ptr)static_20, (ptr)static_21, (ptr)static_22, (ptr)static_23, (ptr)static_24, (ptr)static_25, (ptr)static_26, (ptr)static_27, (ptr)static_28, (ptr)static_29, (ptr)static_30, (ptr)static_31, (ptr)static_32, (ptr)static_33, (ptr)static_34, (ptr)static_35, (ptr)static_36, (ptr)static_37, (ptr)static_38, (ptr)static_39, (ptr)static_40, (ptr)static_41, (ptr)static_42, (ptr)static_43, (ptr)static_44, (ptr)static_45, (ptr)static_46, (ptr)static_47, (ptr)static_48, (ptr)static_49 };
+static _Alignas(8) const struct __attribute__((packed)) { ptr f0; ptr f1; ptr f2; ptr f3; ptr f4; ptr f5; ptr f6; ptr f7; ptr f8; ptr f9; ptr f10; ptr f11; ptr f12; ptr f13; ptr f14; ptr f15; ptr f16; ptr f17; ptr f18; ptr f19; ptr f20; ptr f21; ptr f22; ptr f23; ptr f24; ptr f25; ptr f26; ptr f27; ptr f28; ptr f29; ptr f30; ptr f31; ptr f32; ptr f33; ptr f34; ptr f35; ptr f36; ptr f37; ptr f38; ptr f39; } switch_table_pcap_options_refusal_PcapErrorFromRefusal_from_260 = { (ptr)static_35, (ptr)static_36, (ptr)static_37, (ptr)static_38, (ptr)static_39, (ptr)static_40, (ptr)static_41, (ptr)static_42, (ptr)static_43, (ptr)static_44, (ptr)static_45, (ptr)static_46, (ptr)static_47, (ptr)static_48, (ptr)static_49, (ptr)static_50, (ptr)static_51, (ptr)static_52, (ptr)static_53, (ptr)static_54, (ptr)static_55, (ptr)static_56, (ptr)static_57, (ptr)static_58, (ptr)static_59, (ptr)static_60, (ptr)static_61, (ptr)static_62, (ptr)static_63, (ptr)static_64, (ptr)static_65, (ptr)static_66, (ptr)static_67, (ptr)static_68, (ptr)static_69, (ptr)static_70, (ptr)static_71, (ptr)static_72, (ptr)static_73, (ptr)static_74 };
 
 static APART u64 core_slice_words_skip_far_52f9(ptr v1, u64 v2, u64 v3) {
 	u64 v4, v5;
@@ -357,6 +359,25 @@ L21:
 	su64(v1+8, v17);
 	su64(v1+16, v18);
 	return;
+}
+static u8 core_lang_str_eq(ptr v1, u64 v2, ptr v3, u64 v4) {
+	u64 v5, v6;
+	u8 v7;
+	if (v2 != v4) { v7 = 0; goto L3; }
+	if (v2 >= 8) goto L2;
+	if (v2 <= 3) goto L0;
+	u64 v8 = v2 - 4;
+	v5 = (u64)__builtin_bswap64(((u64)lu32(at(v3, v8)) << 32) | (u64)lu32(v3)); v6 = (u64)__builtin_bswap64(((u64)lu32(at(v1, v8)) << 32) | (u64)lu32(v1)); goto L1;
+L0:;
+	u64 v9 = v2 - 1;
+	v5 = ((u64)ld8(v3+1) << 8) | ((u64)ld8(v3) << 16) | (u64)ld8(at(v3, v9)); v6 = ((u64)ld8(v1+1) << 8) | ((u64)ld8(v1) << 16) | (u64)ld8(at(v1, v9));
+L1:
+	v7 = v6 == v5; goto L3;
+L2:;
+	u64 v10 = v2 - 8;
+	v7 = (lu64(v1) == lu64(v3)) & (lu64(at(v1, v10)) == lu64(at(v3, v10)));
+L3:
+	return v7;
 }
 static void std_io_io_error_Error_from_raw_os_error(ptr v1, u32 v2) {
 	u8 v3;
@@ -482,6 +503,751 @@ L37:
 	st8(v1+3, 0);
 	su32(v1+4, v2);
 	clear(v1+8, 80);
+	return;
+}
+static u8 std_io_io_buffer_Buffer_flush(ptr v1) {
+	u64 v2, v3, v9, v10, v11, v12, v13, v14, v15, v16, v17, v18, v19, v20, v21, v22, v23, v24, v25, v26, v27, v28, v29;
+	u8 v4, v5, v6, v7, v31, v32, v33, v34, v35;
+	u32 v8, v30;
+	_Alignas(8) u8 v36[88];
+	u64 v37 = ld64(v1+1032);
+	st64(v1+1032, 0);
+	if (v37 > 1024) { v35 = 0; goto L7; }
+	u32 v38 = ld32(v1);
+	u64 v39 = v37 + 63;
+	v2 = v3 = 0;
+L0:;
+	u64 v40 = v3 + 1;
+	if (v37 <= v2) goto L6;
+	u64 v41 = v37 - v2, v42 = os_write(v38, at(v1+4, v2), v41);
+	if ((s64)v42 >= 0) goto L1;
+	u32 v43 = os_errno();
+	if (v43 == 4) { v19 = v2; goto L4; }
+	std_io_io_error_Error_from_raw_os_error(v36, v43);
+	v4 = ld8(v36); v5 = ld8(v36+1); v6 = ld8(v36+2); v7 = ld8(v36+3); v8 = ld32(v36+4); v9 = ld64(v36+8); v10 = ld64(v36+16); v11 = ld64(v36+24); v12 = ld64(v36+32); v13 = ld64(v36+40); v14 = ld64(v36+48); v15 = ld64(v36+56); v16 = ld64(v36+64); v17 = ld64(v36+72); v18 = ld64(v36+80); goto L2;
+L1:
+	if (v42) goto L3;
+	v9 = 0x742064656c696166ull; v10 = 0x206574697277206full; v11 = 0x756220656c6f6877ull; v12 = 0x2e2e2e2e72656666ull; v13 = 0x2e2e2e2e2e2e2e2eull; v14 = 0x2e2e2e2e2e2e2e2eull; v15 = 0x2e2e2e2e2e2e2e2eull; v16 = 0x2e2e2e2e2e2e2e2eull; v17 = 0x2e2e2e2e2e2e2e2eull; v18 = 0x2e2e2e2e2e2e2e2eull; v4 = 2; v5 = 23; v6 = 28; v7 = v8 = 0;
+L2:
+	v20 = v18; v21 = v17; v22 = v16; v23 = v15; v24 = v14; v25 = v13; v26 = v12; v27 = v11; v28 = v10; v29 = v9; v30 = v8; v31 = v7; v32 = v6; v33 = v5; v34 = v4; goto L5;
+L3:
+	v19 = (v42 < v41 ? v42 : v41) + v2;
+L4:
+	if (v3 != v39) { v2 = v19; v3 = v40; goto L0; }
+	if (v37 <= v19) { v35 = 1; goto L7; }
+	v20 = v21 = v22 = v23 = v24 = v25 = v26 = v27 = v28 = v29 = v31 = v32 = v34 = 0; v30 = 4; v33 = 35;
+L5:
+	su64(v1+1040, 1);
+	st8(v1+1048, v34);
+	st8(v1+1049, v33);
+	st8(v1+1050, v32);
+	st8(v1+1051, v31);
+	su32(v1+1052, v30);
+	su64(v1+1056, v29);
+	su64(v1+1064, v28);
+	su64(v1+1072, v27);
+	su64(v1+1080, v26);
+	su64(v1+1088, v25);
+	su64(v1+1096, v24);
+	su64(v1+1104, v23);
+	su64(v1+1112, v22);
+	su64(v1+1120, v21);
+	su64(v1+1128, v20);
+	v35 = 0; goto L7;
+L6:
+	v35 = 1;
+L7:
+	return v35;
+}
+static u8 core_fmt_formatter_Formatter_write_raw_bf26(ptr v1, ptr v2, u64 v3) {
+	u64 v4, v5, v6, v7, v9;
+	ptr v8;
+	u8 v10;
+	if (!v3) { v10 = 0; goto L5; }
+	v4 = 0;
+L0:;
+	u8 v11 = ld8(at(v2, v4));
+	u32 v12 = (u32)v11;
+	if ((s8)v11 > -1) { v5 = 1; goto L2; }
+	u64 v13 = v4 + 1;
+	if (v3 <= v13) { v10 = 1; goto L5; }
+	u8 v14 = ld8(at(v2, v13));
+	if ((s8)v14 > -1) { v10 = 1; goto L5; }
+	u8 v15 = (v14 < 192 ? v14 : 192) & 127;
+	u32 v16 = (u32)v15;
+	if (v11 < 194 || v15 > 63) { v10 = 1; goto L5; }
+	if (v11 < 224) { v5 = 2; goto L2; }
+	u64 v17 = v4 + 2;
+	if (v3 <= v17) { v10 = 1; goto L5; }
+	if ((s8)ld8(at(v2, v17)) >= -64) { v10 = 1; goto L5; }
+	if (v11 >= 240) goto L1;
+	u32 v18 = (v16 << 6) | ((v12 << 12) - 917504);
+	if (v18 < 2048) { v10 = 1; goto L5; }
+	if (v18 > 55295 && v11 < 238) { v10 = 1; goto L5; }
+	v5 = 3; goto L2;
+L1:;
+	u64 v19 = v4 + 3;
+	if (v3 <= v19) { v10 = 1; goto L5; }
+	if ((s8)ld8(at(v2, v19)) >= -64) { v10 = 1; goto L5; }
+	if ((v12 << 18) - 62980096 + (v16 << 12) >= 1048576) { v10 = 1; goto L5; }
+	v5 = 4;
+L2:;
+	u64 v20 = v5 + v4;
+	if (v20 < v3) { v4 = v20; goto L0; }
+	v6 = ld64(v1+1032); v7 = v3; v8 = v2;
+L3:;
+	u64 v21 = v7 - 1;
+	u8 v22 = ld8(v8);
+	if (v6 <= 1023) { v9 = v6; goto L4; }
+	u8 v23 = std_io_io_buffer_Buffer_flush(v1);
+	if (!v23) { v10 = 1; goto L5; }
+	u64 v24 = ld64(v1+1032);
+	if (v24 > 1023) { v10 = 1; goto L5; }
+	v9 = v24;
+L4:
+	st8(at(v1+4, v9), v22);
+	u64 v25 = v9 + 1;
+	st64(v1+1032, v25);
+	if (v21) { v6 = v25; v7 = v21; v8 = v8+1; goto L3; }
+	v10 = 0;
+L5:
+	return v10;
+}
+static APART RARE u8 core_fmt_formatter_Formatter_write_indented_bf26(ptr v1, ptr v2, u64 v3) {
+	u64 v4, v5, v6, v7, v8;
+	u8 v9;
+	if (!v3) { v9 = 0; goto L6; }
+	v4 = v5 = 0;
+L0:;
+	u64 v10 = v5 + 1;
+	if (ld8(at(v2, v5)) != 10) { v7 = v4; goto L3; }
+	u64 v11 = v10 - v4;
+	ptr v12 = at(v2, v4 > v10 ? 0 : v4);
+	if (v4 > v5) { v7 = v10; goto L3; }
+	if (!(ld8(v1+1168) & 1)) goto L2;
+	u64 v13 = ld64(v1+1160);
+	if (!v13) goto L2;
+	v6 = 0;
+L1:;
+	u8 v14 = core_fmt_formatter_Formatter_write_raw_bf26(v1, (ptr)static_23, 4);
+	if (v14 & 1) { v9 = 1; goto L6; }
+	u64 v15 = v6 + 1;
+	if (v15 != v13) { v6 = v15; goto L1; }
+L2:
+	st8(v1+1168, 1);
+	u8 v16 = core_fmt_formatter_Formatter_write_raw_bf26(v1, v12, v11);
+	if (v16 & 1) { v9 = 1; goto L6; }
+	v7 = v10;
+L3:
+	if (v10 != v3) { v4 = v7; v5 = v10; goto L0; }
+	u64 v17 = v3 > v7 ? v3 - v7 : 0;
+	ptr v18 = at(v2, v7 > v3 ? 0 : v7);
+	if (v3 <= v7) { v9 = 0; goto L6; }
+	if (!(ld8(v1+1168) & 1)) goto L5;
+	u64 v19 = ld64(v1+1160);
+	if (!v19) goto L5;
+	v8 = 0;
+L4:;
+	u8 v20 = core_fmt_formatter_Formatter_write_raw_bf26(v1, (ptr)static_23, 4);
+	if (v20 & 1) { v9 = 1; goto L6; }
+	u64 v21 = v8 + 1;
+	if (v21 != v19) { v8 = v21; goto L4; }
+L5:
+	st8(v1+1168, 0);
+	u8 v22 = core_fmt_formatter_Formatter_write_raw_bf26(v1, v18, v17);
+	v9 = v22;
+L6:
+	return v9;
+}
+static void std_io_io_print_to_c2b6(ptr v1, u32 v2, ptr v3) {
+	u64 v4, v5, v7, v8, v9, v11, v12, v13, v14, v15, v16, v17, v18, v20, v21, v22, v24, v25, v26, v28, v29, v30, v32, v33, v34, v36, v37, v38, v40, v41, v42, v44, v45, v46, v48, v50, v51, v53, v54, v55, v57, v58, v59, v61, v62, v63, v65, v66, v74, v75, v82, v83;
+	ptr v6, v10, v19, v23, v27, v31, v35, v39, v43, v47, v52, v56, v60, v64;
+	u8 v49, v67, v68, v69, v70, v71, v72, v76, v77, v78, v79, v80;
+	u32 v73, v81;
+	_Alignas(8) u8 v84[1136], v87[24], v88[24], v89[64] = {0}, v90[1176];
+	_Alignas(1) u8 v85[64], v86[24];
+	st32(v90, v2);
+	clear(v90+4, 1132);
+	st32(v90+1136, 32);
+	clear(v90+1140, 12);
+	st64(v90+1152, ~0ull);
+	clear(v90+1160, 16);
+	copy(v88, v90+1136, 24);
+	st32(v90+1136, 32);
+	clear(v90+1140, 12);
+	st64(v90+1152, ~0ull);
+	st32(v90+1136, 32);
+	clear(v90+1140, 12);
+	st64(v90+1152, ~0ull);
+	switch (ld8(v3)) {
+	case 0: goto L59;
+	case 1: goto L0;
+	case 2: goto L46;
+	case 3: goto L49;
+	case 4: goto L52;
+	case 5: goto L55;
+	default: goto L69;
+	}
+L0:
+	st32(v90+1136, 32);
+	clear(v90+1140, 12);
+	st64(v90+1152, ~0ull);
+	v4 = ld64(v90+1032); v6 = (ptr)static_7; v5 = 9;
+L1:;
+	u64 v91 = v5 - 1;
+	u8 v92 = ld8(v6);
+	if (v4 <= 1023) { v7 = v4; goto L2; }
+	u8 v93 = std_io_io_buffer_Buffer_flush(v90);
+	u64 v94 = ld64(v90+1032);
+	if (!(v93 && v94 < 1024)) { v49 = 1; goto L44; }
+	v7 = v94;
+L2:
+	st8(at(v90+4, v7), v92);
+	u64 v95 = v7 + 1;
+	st64(v90+1032, v95);
+	if (v91) { v4 = v95; v5 = v91; v6 = v6+1; goto L1; }
+	st32(v90+1136, 32);
+	clear(v90+1140, 12);
+	st64(v90+1152, ~0ull);
+	switch (ld8(v3+8)) {
+	case 0: goto L3;
+	case 1: goto L20;
+	case 2: goto L24;
+	case 3: case 4: goto L32;
+	case 5: goto L36;
+	case 6: goto L40;
+	default: goto L45;
+	}
+L3:
+	if (ld64(v90+1160)) goto L6;
+	v8 = v95; v10 = (ptr)static_12; v9 = 14;
+L4:;
+	u64 v96 = v9 - 1;
+	u8 v97 = ld8(v10);
+	if (v8 <= 1023) { v11 = v8; goto L5; }
+	u8 v98 = std_io_io_buffer_Buffer_flush(v90);
+	u64 v99 = ld64(v90+1032);
+	if (!(v98 && v99 < 1024)) { v49 = 1; goto L44; }
+	v11 = v99;
+L5:
+	st8(at(v90+4, v11), v97);
+	u64 v100 = v11 + 1;
+	st64(v90+1032, v100);
+	if (!v96) goto L7;
+	v8 = v100; v9 = v96; v10 = v10+1; goto L4;
+L6:;
+	u8 v101 = core_fmt_formatter_Formatter_write_indented_bf26(v90, (ptr)static_12, 14);
+	if (v101) { v49 = 1; goto L44; }
+L7:
+	st32(v90+1136, 32);
+	clear(v90+1140, 12);
+	st64(v90+1152, ~0ull);
+	u64 v102 = ld64(v3+16);
+	clear(v86, 24);
+	if (v102 <= 99) { v14 = v102; v15 = 24; goto L9; }
+	v13 = v102; v12 = 24;
+L8:;
+	u8 v103 = (u8)(v13 % 100);
+	ptr v104 = at(v86, v12);
+	st8(v104-1, (v103 % 10) | 48);
+	st8(v104-2, (v103 / 10) | 48);
+	u64 v105 = v13 / 100, v106 = v12 - 2;
+	if (v13 > 9999) { v12 = v106; v13 = v105; goto L8; }
+	v14 = v105; v15 = v106;
+L9:;
+	u8 v107 = (u8)v14;
+	if (v14 <= 9) goto L10;
+	ptr v108 = at(v86, v15);
+	st8(v108-1, (v107 % 10) | 48);
+	st8(v108-2, (v107 / 10) | 48);
+	v16 = v15 - 2; goto L11;
+L10:;
+	u64 v109 = v15 - 1;
+	st8(at(v86, v109), v107 | 48);
+	v16 = v109;
+L11:;
+	ptr v110 = at(v86, v16);
+	st8(v110-1, 45);
+	u64 v111 = 24ull - v16;
+	if (ld64(v90+1160)) goto L15;
+	if (v16 == 24) goto L14;
+	v17 = ld64(v90+1032); v18 = v111; v19 = v110;
+L12:;
+	u64 v112 = v18 - 1;
+	u8 v113 = ld8(v19);
+	if (v17 <= 1023) { v20 = v17; goto L13; }
+	u8 v114 = std_io_io_buffer_Buffer_flush(v90);
+	u64 v115 = ld64(v90+1032);
+	if (v114 && v115 < 1024) { v20 = v115; goto L13; }
+	v49 = 1; goto L44;
+L13:
+	st8(at(v90+4, v20), v113);
+	u64 v116 = v20 + 1;
+	st64(v90+1032, v116);
+	if (v112) { v17 = v116; v18 = v112; v19 = v19+1; goto L12; }
+L14:
+	goto L16;
+L15:;
+	u8 v117 = core_fmt_formatter_Formatter_write_indented_bf26(v90, v110, v111);
+	if (v117) { v49 = 1; goto L44; }
+L16:
+	st32(v90+1136, 32);
+	clear(v90+1140, 12);
+	st64(v90+1152, ~0ull);
+	if (ld64(v90+1160)) goto L19;
+	v21 = ld64(v90+1032); v23 = (ptr)static_13; v22 = 11;
+L17:;
+	u64 v118 = v22 - 1;
+	u8 v119 = ld8(v23);
+	if (v21 <= 1023) { v24 = v21; goto L18; }
+	u8 v120 = std_io_io_buffer_Buffer_flush(v90);
+	u64 v121 = ld64(v90+1032);
+	if (!(v120 && v121 < 1024)) { v49 = 1; goto L44; }
+	v24 = v121;
+L18:
+	st8(at(v90+4, v24), v119);
+	u64 v122 = v24 + 1;
+	st64(v90+1032, v122);
+	if (!v118) { v49 = 0; goto L44; }
+	v21 = v122; v22 = v118; v23 = v23+1; goto L17;
+L19:;
+	u8 v123 = core_fmt_formatter_Formatter_write_indented_bf26(v90, (ptr)static_13, 11);
+	v49 = v123; goto L44;
+L20:
+	if (ld64(v90+1160)) goto L23;
+	v25 = v95; v27 = (ptr)static_14; v26 = 19;
+L21:;
+	u64 v124 = v26 - 1;
+	u8 v125 = ld8(v27);
+	if (v25 <= 1023) { v28 = v25; goto L22; }
+	u8 v126 = std_io_io_buffer_Buffer_flush(v90);
+	u64 v127 = ld64(v90+1032);
+	if (!(v126 && v127 < 1024)) { v49 = 1; goto L44; }
+	v28 = v127;
+L22:
+	st8(at(v90+4, v28), v125);
+	u64 v128 = v28 + 1;
+	st64(v90+1032, v128);
+	if (!v124) { v49 = 0; goto L44; }
+	v25 = v128; v26 = v124; v27 = v27+1; goto L21;
+L23:;
+	u8 v129 = core_fmt_formatter_Formatter_write_indented_bf26(v90, (ptr)static_14, 19);
+	v49 = v129; goto L44;
+L24:
+	if (ld64(v90+1160)) goto L27;
+	v29 = v95; v31 = (ptr)static_15; v30 = 21;
+L25:;
+	u64 v130 = v30 - 1;
+	u8 v131 = ld8(v31);
+	if (v29 <= 1023) { v32 = v29; goto L26; }
+	u8 v132 = std_io_io_buffer_Buffer_flush(v90);
+	u64 v133 = ld64(v90+1032);
+	if (!(v132 && v133 < 1024)) { v49 = 1; goto L44; }
+	v32 = v133;
+L26:
+	st8(at(v90+4, v32), v131);
+	u64 v134 = v32 + 1;
+	st64(v90+1032, v134);
+	if (!v130) goto L28;
+	v29 = v134; v30 = v130; v31 = v31+1; goto L25;
+L27:;
+	u8 v135 = core_fmt_formatter_Formatter_write_indented_bf26(v90, (ptr)static_15, 21);
+	if (v135) { v49 = 1; goto L44; }
+L28:
+	st32(v90+1136, 32);
+	clear(v90+1140, 12);
+	st64(v90+1152, ~0ull);
+	ptr v136 = lup(v3+16);
+	u64 v137 = lu64(v3+24);
+	if (ld64(v90+1160)) goto L31;
+	if (!v137) { v49 = 0; goto L44; }
+	v33 = ld64(v90+1032); v34 = v137; v35 = v136;
+L29:;
+	u64 v138 = v34 - 1;
+	u8 v139 = ld8(v35);
+	if (v33 <= 1023) { v36 = v33; goto L30; }
+	u8 v140 = std_io_io_buffer_Buffer_flush(v90);
+	u64 v141 = ld64(v90+1032);
+	if (!(v140 && v141 < 1024)) { v49 = 1; goto L44; }
+	v36 = v141;
+L30:
+	st8(at(v90+4, v36), v139);
+	u64 v142 = v36 + 1;
+	st64(v90+1032, v142);
+	if (!v138) { v49 = 0; goto L44; }
+	v33 = v142; v34 = v138; v35 = v35+1; goto L29;
+L31:;
+	u8 v143 = core_fmt_formatter_Formatter_write_indented_bf26(v90, v136, v137);
+	v49 = v143; goto L44;
+L32:
+	if (ld64(v90+1160)) goto L35;
+	v37 = v95; v39 = (ptr)static_18; v38 = 10;
+L33:;
+	u64 v144 = v38 - 1;
+	u8 v145 = ld8(v39);
+	if (v37 <= 1023) { v40 = v37; goto L34; }
+	u8 v146 = std_io_io_buffer_Buffer_flush(v90);
+	u64 v147 = ld64(v90+1032);
+	if (!(v146 && v147 < 1024)) { v49 = 1; goto L44; }
+	v40 = v147;
+L34:
+	st8(at(v90+4, v40), v145);
+	u64 v148 = v40 + 1;
+	st64(v90+1032, v148);
+	if (!v144) { v49 = 0; goto L44; }
+	v37 = v148; v38 = v144; v39 = v39+1; goto L33;
+L35:;
+	u8 v149 = core_fmt_formatter_Formatter_write_indented_bf26(v90, (ptr)static_18, 10);
+	v49 = v149; goto L44;
+L36:
+	if (ld64(v90+1160)) goto L39;
+	v41 = v95; v43 = (ptr)static_16; v42 = 13;
+L37:;
+	u64 v150 = v42 - 1;
+	u8 v151 = ld8(v43);
+	if (v41 <= 1023) { v44 = v41; goto L38; }
+	u8 v152 = std_io_io_buffer_Buffer_flush(v90);
+	u64 v153 = ld64(v90+1032);
+	if (!(v152 && v153 < 1024)) { v49 = 1; goto L44; }
+	v44 = v153;
+L38:
+	st8(at(v90+4, v44), v151);
+	u64 v154 = v44 + 1;
+	st64(v90+1032, v154);
+	if (!v150) { v49 = 0; goto L44; }
+	v41 = v154; v42 = v150; v43 = v43+1; goto L37;
+L39:;
+	u8 v155 = core_fmt_formatter_Formatter_write_indented_bf26(v90, (ptr)static_16, 13);
+	v49 = v155; goto L44;
+L40:
+	if (ld64(v90+1160)) goto L43;
+	v45 = v95; v47 = (ptr)static_17; v46 = 21;
+L41:;
+	u64 v156 = v46 - 1;
+	u8 v157 = ld8(v47);
+	if (v45 <= 1023) { v48 = v45; goto L42; }
+	u8 v158 = std_io_io_buffer_Buffer_flush(v90);
+	u64 v159 = ld64(v90+1032);
+	if (!(v158 && v159 < 1024)) { v49 = 1; goto L44; }
+	v48 = v159;
+L42:
+	st8(at(v90+4, v48), v157);
+	u64 v160 = v48 + 1;
+	st64(v90+1032, v160);
+	if (!v156) { v49 = 0; goto L44; }
+	v45 = v160; v46 = v156; v47 = v47+1; goto L41;
+L43:;
+	u8 v161 = core_fmt_formatter_Formatter_write_indented_bf26(v90, (ptr)static_17, 21);
+	v49 = v161;
+L44:
+	copy(v90+1136, v88, 24);
+	if (!v49) goto L60;
+	v68 = 0; goto L64;
+L45:
+	__builtin_trap();
+L46:
+	v50 = ld64(v90+1032); v52 = (ptr)static_8; v51 = 22;
+L47:;
+	u64 v162 = v51 - 1;
+	u8 v163 = ld8(v52);
+	if (v50 <= 1023) { v53 = v50; goto L48; }
+	u8 v164 = std_io_io_buffer_Buffer_flush(v90);
+	u64 v165 = ld64(v90+1032);
+	if (!(v164 && v165 < 1024)) goto L57;
+	v53 = v165;
+L48:
+	st8(at(v90+4, v53), v163);
+	u64 v166 = v53 + 1;
+	st64(v90+1032, v166);
+	if (!v162) goto L59;
+	v50 = v166; v51 = v162; v52 = v52+1; goto L47;
+L49:
+	v54 = ld64(v90+1032); v56 = (ptr)static_9; v55 = 59;
+L50:;
+	u64 v167 = v55 - 1;
+	u8 v168 = ld8(v56);
+	if (v54 <= 1023) { v57 = v54; goto L51; }
+	u8 v169 = std_io_io_buffer_Buffer_flush(v90);
+	u64 v170 = ld64(v90+1032);
+	if (!(v169 && v170 < 1024)) goto L57;
+	v57 = v170;
+L51:
+	st8(at(v90+4, v57), v168);
+	u64 v171 = v57 + 1;
+	st64(v90+1032, v171);
+	if (!v167) goto L59;
+	v54 = v171; v55 = v167; v56 = v56+1; goto L50;
+L52:
+	v58 = ld64(v90+1032); v60 = (ptr)static_10; v59 = 46;
+L53:;
+	u64 v172 = v59 - 1;
+	u8 v173 = ld8(v60);
+	if (v58 <= 1023) { v61 = v58; goto L54; }
+	u8 v174 = std_io_io_buffer_Buffer_flush(v90);
+	u64 v175 = ld64(v90+1032);
+	if (!(v174 && v175 < 1024)) goto L57;
+	v61 = v175;
+L54:
+	st8(at(v90+4, v61), v173);
+	u64 v176 = v61 + 1;
+	st64(v90+1032, v176);
+	if (!v172) goto L59;
+	v58 = v176; v59 = v172; v60 = v60+1; goto L53;
+L55:
+	v62 = ld64(v90+1032); v64 = (ptr)static_11; v63 = 22;
+L56:;
+	u64 v177 = v63 - 1;
+	u8 v178 = ld8(v64);
+	if (v62 <= 1023) { v65 = v62; goto L58; }
+	u8 v179 = std_io_io_buffer_Buffer_flush(v90);
+	u64 v180 = ld64(v90+1032);
+	if (v179 && v180 < 1024) { v65 = v180; goto L58; }
+L57:
+	copy(v90+1136, v88, 24);
+	v68 = 0; goto L64;
+L58:
+	st8(at(v90+4, v65), v178);
+	u64 v181 = v65 + 1;
+	st64(v90+1032, v181);
+	if (v177) { v62 = v181; v63 = v177; v64 = v64+1; goto L56; }
+L59:
+	copy(v90+1136, v88, 24);
+L60:
+	copy(v87, v90+1136, 24);
+	st32(v90+1136, 32);
+	clear(v90+1140, 12);
+	st64(v90+1152, ~0ull);
+	if (ld64(v90+1160)) goto L62;
+	u64 v182 = ld64(v90+1032);
+	if (v182 <= 1023) { v66 = v182; goto L61; }
+	u8 v183 = std_io_io_buffer_Buffer_flush(v90);
+	u64 v184 = ld64(v90+1032);
+	if (!(v183 && v184 < 1024)) { v67 = 0; goto L63; }
+	v66 = v184;
+L61:
+	st8(at(v90+4, v66), 10);
+	st64(v90+1032, v66 + 1);
+	v67 = 1; goto L63;
+L62:;
+	u8 v185 = core_fmt_formatter_Formatter_write_indented_bf26(v90, (ptr)static_6, 1);
+	v67 = v185 == 0;
+L63:
+	copy(v90+1136, v87, 24);
+	v68 = v67;
+L64:
+	st32(v84, ld32(v90));
+	copy(v84+4, v90+4, 1132);
+	u8 v186 = std_io_io_buffer_Buffer_flush(v84);
+	if (!(v68 & v186)) goto L65;
+	clear(v89, 64);
+	v76 = v77 = v78 = v79 = v80 = v81 = v82 = v83 = 0; goto L68;
+L65:
+	if (ld8(v84+1040) != 1) goto L66;
+	u8 v187 = ld8(v84+1048), v188 = ld8(v84+1049), v189 = ld8(v84+1050), v190 = ld8(v84+1051);
+	u32 v191 = ld32(v84+1052);
+	u64 v192 = ld64(v84+1056), v193 = ld64(v84+1064);
+	copy(v85, v84+1072, 64);
+	v69 = v187; v70 = v188; v71 = v189; v72 = v190; v73 = v191; v74 = v192; v75 = v193; goto L67;
+L66:
+	fill(v85, 46, 64);
+	v74 = 0x657474616d726f66ull; v75 = 0x2e726f7272652072ull; v69 = 2; v70 = 41; v71 = 15; v72 = v73 = 0;
+L67:
+	copy(v89, v85, 64);
+	v77 = v69; v78 = v70; v79 = v71; v80 = v72; v81 = v73; v82 = v74; v83 = v75; v76 = 1;
+L68:
+	st8(v1, v76);
+	st8(v1+8, v77);
+	st8(v1+9, v78);
+	st8(v1+10, v79);
+	st8(v1+11, v80);
+	su32(v1+12, v81);
+	su64(v1+16, v82);
+	su64(v1+24, v83);
+	copy(v1+32, v89, 64);
+	return;
+L69:
+	__builtin_trap();
+}
+static void std_io_io_error_Error_from_bytes(ptr v1, u8 v2, u8 v3, ptr v4, u64 v5, u64 v6) {
+	u64 v7, v8, v9, v10, v11, v12, v13, v14, v15, v16, v17, v18, v19, v20, v21, v22, v23, v24, v25, v26, v27, v28, v29, v30, v31, v32, v33, v34, v35, v36, v37, v38, v39, v40, v41, v42, v43, v44, v46, v47, v48, v50, v51, v52, v54, v55, v56, v58, v59, v60, v62, v63, v64, v66, v67, v68, v70, v71, v72, v74, v75, v76, v78, v79, v80, v82, v83, v84, v85, v86;
+	u8 v45, v49, v53, v57, v61, v65, v69, v73, v77, v81;
+	if (!v5) { v7 = 771751936; v8 = 11776; v9 = 0x2e00000000000000ull; v10 = 0x2e0000000000ull; v11 = 771751936; v12 = 11776; v13 = 0x2e00000000000000ull; v14 = 0x2e0000000000ull; v15 = 771751936; v16 = 11776; v17 = 0x2e00000000000000ull; v18 = 0x2e0000000000ull; v19 = 771751936; v20 = 11776; v21 = 0x2e00000000000000ull; v22 = 0x2e0000000000ull; v23 = 771751936; v24 = 11776; v25 = 0x2e00000000000000ull; v26 = 0x2e0000000000ull; v27 = 771751936; v28 = 11776; v29 = 0x2e00000000000000ull; v30 = 0x2e0000000000ull; v31 = 771751936; v32 = 11776; v33 = 0x2e00000000000000ull; v34 = 0x2e0000000000ull; v35 = 771751936; v36 = 11776; v37 = 0x2e00000000000000ull; v38 = 0x2e0000000000ull; v39 = 771751936; v40 = 11776; v41 = 0x2e00000000000000ull; v42 = 0x2e0000000000ull; v43 = 771751936; v44 = 11776; v46 = 3014656; v47 = 0x2e00000000ull; v48 = 0x2e000000000000ull; v50 = 3014656; v51 = 0x2e00000000ull; v52 = 0x2e000000000000ull; v54 = 3014656; v55 = 0x2e00000000ull; v56 = 0x2e000000000000ull; v58 = 3014656; v59 = 0x2e00000000ull; v60 = 0x2e000000000000ull; v62 = 3014656; v63 = 0x2e00000000ull; v64 = 0x2e000000000000ull; v66 = 3014656; v67 = 0x2e00000000ull; v68 = 0x2e000000000000ull; v70 = 3014656; v71 = 0x2e00000000ull; v72 = 0x2e000000000000ull; v74 = 3014656; v75 = 0x2e00000000ull; v76 = 0x2e000000000000ull; v78 = 3014656; v79 = 0x2e00000000ull; v80 = 0x2e000000000000ull; v82 = 3014656; v83 = 0x2e00000000ull; v45 = v49 = v53 = v57 = v61 = v65 = v69 = v73 = v77 = v81 = 46; goto L0; }
+	u8 v87 = ld8(v4);
+	if (v5 == 1) { v7 = 771751936; v8 = 11776; v9 = 0x2e00000000000000ull; v10 = 0x2e0000000000ull; v11 = 771751936; v12 = 11776; v13 = 0x2e00000000000000ull; v14 = 0x2e0000000000ull; v15 = 771751936; v16 = 11776; v17 = 0x2e00000000000000ull; v18 = 0x2e0000000000ull; v19 = 771751936; v20 = 11776; v21 = 0x2e00000000000000ull; v22 = 0x2e0000000000ull; v23 = 771751936; v24 = 11776; v25 = 0x2e00000000000000ull; v26 = 0x2e0000000000ull; v27 = 771751936; v28 = 11776; v29 = 0x2e00000000000000ull; v30 = 0x2e0000000000ull; v31 = 771751936; v32 = 11776; v33 = 0x2e00000000000000ull; v34 = 0x2e0000000000ull; v35 = 771751936; v36 = 11776; v37 = 0x2e00000000000000ull; v38 = 0x2e0000000000ull; v39 = 771751936; v40 = 11776; v41 = 0x2e00000000000000ull; v42 = 0x2e0000000000ull; v43 = 771751936; v44 = 11776; v45 = v87; v46 = 3014656; v47 = 0x2e00000000ull; v48 = 0x2e000000000000ull; v50 = 3014656; v51 = 0x2e00000000ull; v52 = 0x2e000000000000ull; v54 = 3014656; v55 = 0x2e00000000ull; v56 = 0x2e000000000000ull; v58 = 3014656; v59 = 0x2e00000000ull; v60 = 0x2e000000000000ull; v62 = 3014656; v63 = 0x2e00000000ull; v64 = 0x2e000000000000ull; v66 = 3014656; v67 = 0x2e00000000ull; v68 = 0x2e000000000000ull; v70 = 3014656; v71 = 0x2e00000000ull; v72 = 0x2e000000000000ull; v74 = 3014656; v75 = 0x2e00000000ull; v76 = 0x2e000000000000ull; v78 = 3014656; v79 = 0x2e00000000ull; v80 = 0x2e000000000000ull; v82 = 3014656; v83 = 0x2e00000000ull; v49 = v53 = v57 = v61 = v65 = v69 = v73 = v77 = v81 = 46; goto L0; }
+	u64 v88 = (u64)ld8(v4+1) << 8;
+	if (v5 <= 2) { v7 = 771751936; v8 = 11776; v9 = 0x2e00000000000000ull; v10 = 0x2e0000000000ull; v11 = 771751936; v12 = 11776; v13 = 0x2e00000000000000ull; v14 = 0x2e0000000000ull; v15 = 771751936; v16 = 11776; v17 = 0x2e00000000000000ull; v18 = 0x2e0000000000ull; v19 = 771751936; v20 = 11776; v21 = 0x2e00000000000000ull; v22 = 0x2e0000000000ull; v23 = 771751936; v24 = 11776; v25 = 0x2e00000000000000ull; v26 = 0x2e0000000000ull; v27 = 771751936; v28 = 11776; v29 = 0x2e00000000000000ull; v30 = 0x2e0000000000ull; v31 = 771751936; v32 = 11776; v33 = 0x2e00000000000000ull; v34 = 0x2e0000000000ull; v35 = 771751936; v36 = 11776; v37 = 0x2e00000000000000ull; v38 = 0x2e0000000000ull; v39 = 771751936; v40 = 11776; v41 = 0x2e00000000000000ull; v42 = 0x2e0000000000ull; v43 = 771751936; v44 = v88; v45 = v87; v46 = 3014656; v47 = 0x2e00000000ull; v48 = 0x2e000000000000ull; v50 = 3014656; v51 = 0x2e00000000ull; v52 = 0x2e000000000000ull; v54 = 3014656; v55 = 0x2e00000000ull; v56 = 0x2e000000000000ull; v58 = 3014656; v59 = 0x2e00000000ull; v60 = 0x2e000000000000ull; v62 = 3014656; v63 = 0x2e00000000ull; v64 = 0x2e000000000000ull; v66 = 3014656; v67 = 0x2e00000000ull; v68 = 0x2e000000000000ull; v70 = 3014656; v71 = 0x2e00000000ull; v72 = 0x2e000000000000ull; v74 = 3014656; v75 = 0x2e00000000ull; v76 = 0x2e000000000000ull; v78 = 3014656; v79 = 0x2e00000000ull; v80 = 0x2e000000000000ull; v82 = 3014656; v83 = 0x2e00000000ull; v49 = v53 = v57 = v61 = v65 = v69 = v73 = v77 = v81 = 46; goto L0; }
+	u64 v89 = (u64)ld8(v4+2) << 16;
+	if (v5 == 3) { v7 = 771751936; v8 = 11776; v9 = 0x2e00000000000000ull; v10 = 0x2e0000000000ull; v11 = 771751936; v12 = 11776; v13 = 0x2e00000000000000ull; v14 = 0x2e0000000000ull; v15 = 771751936; v16 = 11776; v17 = 0x2e00000000000000ull; v18 = 0x2e0000000000ull; v19 = 771751936; v20 = 11776; v21 = 0x2e00000000000000ull; v22 = 0x2e0000000000ull; v23 = 771751936; v24 = 11776; v25 = 0x2e00000000000000ull; v26 = 0x2e0000000000ull; v27 = 771751936; v28 = 11776; v29 = 0x2e00000000000000ull; v30 = 0x2e0000000000ull; v31 = 771751936; v32 = 11776; v33 = 0x2e00000000000000ull; v34 = 0x2e0000000000ull; v35 = 771751936; v36 = 11776; v37 = 0x2e00000000000000ull; v38 = 0x2e0000000000ull; v39 = 771751936; v40 = 11776; v41 = 0x2e00000000000000ull; v42 = 0x2e0000000000ull; v43 = 771751936; v44 = v88; v45 = v87; v46 = v89; v47 = 0x2e00000000ull; v48 = 0x2e000000000000ull; v50 = 3014656; v51 = 0x2e00000000ull; v52 = 0x2e000000000000ull; v54 = 3014656; v55 = 0x2e00000000ull; v56 = 0x2e000000000000ull; v58 = 3014656; v59 = 0x2e00000000ull; v60 = 0x2e000000000000ull; v62 = 3014656; v63 = 0x2e00000000ull; v64 = 0x2e000000000000ull; v66 = 3014656; v67 = 0x2e00000000ull; v68 = 0x2e000000000000ull; v70 = 3014656; v71 = 0x2e00000000ull; v72 = 0x2e000000000000ull; v74 = 3014656; v75 = 0x2e00000000ull; v76 = 0x2e000000000000ull; v78 = 3014656; v79 = 0x2e00000000ull; v80 = 0x2e000000000000ull; v82 = 3014656; v83 = 0x2e00000000ull; v49 = v53 = v57 = v61 = v65 = v69 = v73 = v77 = v81 = 46; goto L0; }
+	u64 v90 = (u64)ld8(v4+3) << 24;
+	if (v5 <= 4) { v7 = 771751936; v8 = 11776; v9 = 0x2e00000000000000ull; v10 = 0x2e0000000000ull; v11 = 771751936; v12 = 11776; v13 = 0x2e00000000000000ull; v14 = 0x2e0000000000ull; v15 = 771751936; v16 = 11776; v17 = 0x2e00000000000000ull; v18 = 0x2e0000000000ull; v19 = 771751936; v20 = 11776; v21 = 0x2e00000000000000ull; v22 = 0x2e0000000000ull; v23 = 771751936; v24 = 11776; v25 = 0x2e00000000000000ull; v26 = 0x2e0000000000ull; v27 = 771751936; v28 = 11776; v29 = 0x2e00000000000000ull; v30 = 0x2e0000000000ull; v31 = 771751936; v32 = 11776; v33 = 0x2e00000000000000ull; v34 = 0x2e0000000000ull; v35 = 771751936; v36 = 11776; v37 = 0x2e00000000000000ull; v38 = 0x2e0000000000ull; v39 = 771751936; v40 = 11776; v41 = 0x2e00000000000000ull; v42 = 0x2e0000000000ull; v43 = v90; v44 = v88; v45 = v87; v46 = v89; v47 = 0x2e00000000ull; v48 = 0x2e000000000000ull; v50 = 3014656; v51 = 0x2e00000000ull; v52 = 0x2e000000000000ull; v54 = 3014656; v55 = 0x2e00000000ull; v56 = 0x2e000000000000ull; v58 = 3014656; v59 = 0x2e00000000ull; v60 = 0x2e000000000000ull; v62 = 3014656; v63 = 0x2e00000000ull; v64 = 0x2e000000000000ull; v66 = 3014656; v67 = 0x2e00000000ull; v68 = 0x2e000000000000ull; v70 = 3014656; v71 = 0x2e00000000ull; v72 = 0x2e000000000000ull; v74 = 3014656; v75 = 0x2e00000000ull; v76 = 0x2e000000000000ull; v78 = 3014656; v79 = 0x2e00000000ull; v80 = 0x2e000000000000ull; v82 = 3014656; v83 = 0x2e00000000ull; v49 = v53 = v57 = v61 = v65 = v69 = v73 = v77 = v81 = 46; goto L0; }
+	u64 v91 = (u64)ld8(v4+4) << 32;
+	if (v5 == 5) { v7 = 771751936; v8 = 11776; v9 = 0x2e00000000000000ull; v10 = 0x2e0000000000ull; v11 = 771751936; v12 = 11776; v13 = 0x2e00000000000000ull; v14 = 0x2e0000000000ull; v15 = 771751936; v16 = 11776; v17 = 0x2e00000000000000ull; v18 = 0x2e0000000000ull; v19 = 771751936; v20 = 11776; v21 = 0x2e00000000000000ull; v22 = 0x2e0000000000ull; v23 = 771751936; v24 = 11776; v25 = 0x2e00000000000000ull; v26 = 0x2e0000000000ull; v27 = 771751936; v28 = 11776; v29 = 0x2e00000000000000ull; v30 = 0x2e0000000000ull; v31 = 771751936; v32 = 11776; v33 = 0x2e00000000000000ull; v34 = 0x2e0000000000ull; v35 = 771751936; v36 = 11776; v37 = 0x2e00000000000000ull; v38 = 0x2e0000000000ull; v39 = 771751936; v40 = 11776; v41 = 0x2e00000000000000ull; v42 = 0x2e0000000000ull; v43 = v90; v44 = v88; v45 = v87; v46 = v89; v47 = v91; v48 = 0x2e000000000000ull; v50 = 3014656; v51 = 0x2e00000000ull; v52 = 0x2e000000000000ull; v54 = 3014656; v55 = 0x2e00000000ull; v56 = 0x2e000000000000ull; v58 = 3014656; v59 = 0x2e00000000ull; v60 = 0x2e000000000000ull; v62 = 3014656; v63 = 0x2e00000000ull; v64 = 0x2e000000000000ull; v66 = 3014656; v67 = 0x2e00000000ull; v68 = 0x2e000000000000ull; v70 = 3014656; v71 = 0x2e00000000ull; v72 = 0x2e000000000000ull; v74 = 3014656; v75 = 0x2e00000000ull; v76 = 0x2e000000000000ull; v78 = 3014656; v79 = 0x2e00000000ull; v80 = 0x2e000000000000ull; v82 = 3014656; v83 = 0x2e00000000ull; v49 = v53 = v57 = v61 = v65 = v69 = v73 = v77 = v81 = 46; goto L0; }
+	u64 v92 = (u64)ld8(v4+5) << 40;
+	if (v5 <= 6) { v7 = 771751936; v8 = 11776; v9 = 0x2e00000000000000ull; v10 = 0x2e0000000000ull; v11 = 771751936; v12 = 11776; v13 = 0x2e00000000000000ull; v14 = 0x2e0000000000ull; v15 = 771751936; v16 = 11776; v17 = 0x2e00000000000000ull; v18 = 0x2e0000000000ull; v19 = 771751936; v20 = 11776; v21 = 0x2e00000000000000ull; v22 = 0x2e0000000000ull; v23 = 771751936; v24 = 11776; v25 = 0x2e00000000000000ull; v26 = 0x2e0000000000ull; v27 = 771751936; v28 = 11776; v29 = 0x2e00000000000000ull; v30 = 0x2e0000000000ull; v31 = 771751936; v32 = 11776; v33 = 0x2e00000000000000ull; v34 = 0x2e0000000000ull; v35 = 771751936; v36 = 11776; v37 = 0x2e00000000000000ull; v38 = 0x2e0000000000ull; v39 = 771751936; v40 = 11776; v41 = 0x2e00000000000000ull; v42 = v92; v43 = v90; v44 = v88; v45 = v87; v46 = v89; v47 = v91; v48 = 0x2e000000000000ull; v50 = 3014656; v51 = 0x2e00000000ull; v52 = 0x2e000000000000ull; v54 = 3014656; v55 = 0x2e00000000ull; v56 = 0x2e000000000000ull; v58 = 3014656; v59 = 0x2e00000000ull; v60 = 0x2e000000000000ull; v62 = 3014656; v63 = 0x2e00000000ull; v64 = 0x2e000000000000ull; v66 = 3014656; v67 = 0x2e00000000ull; v68 = 0x2e000000000000ull; v70 = 3014656; v71 = 0x2e00000000ull; v72 = 0x2e000000000000ull; v74 = 3014656; v75 = 0x2e00000000ull; v76 = 0x2e000000000000ull; v78 = 3014656; v79 = 0x2e00000000ull; v80 = 0x2e000000000000ull; v82 = 3014656; v83 = 0x2e00000000ull; v49 = v53 = v57 = v61 = v65 = v69 = v73 = v77 = v81 = 46; goto L0; }
+	u64 v93 = (u64)ld8(v4+6) << 48;
+	if (v5 == 7) { v7 = 771751936; v8 = 11776; v9 = 0x2e00000000000000ull; v10 = 0x2e0000000000ull; v11 = 771751936; v12 = 11776; v13 = 0x2e00000000000000ull; v14 = 0x2e0000000000ull; v15 = 771751936; v16 = 11776; v17 = 0x2e00000000000000ull; v18 = 0x2e0000000000ull; v19 = 771751936; v20 = 11776; v21 = 0x2e00000000000000ull; v22 = 0x2e0000000000ull; v23 = 771751936; v24 = 11776; v25 = 0x2e00000000000000ull; v26 = 0x2e0000000000ull; v27 = 771751936; v28 = 11776; v29 = 0x2e00000000000000ull; v30 = 0x2e0000000000ull; v31 = 771751936; v32 = 11776; v33 = 0x2e00000000000000ull; v34 = 0x2e0000000000ull; v35 = 771751936; v36 = 11776; v37 = 0x2e00000000000000ull; v38 = 0x2e0000000000ull; v39 = 771751936; v40 = 11776; v41 = 0x2e00000000000000ull; v42 = v92; v43 = v90; v44 = v88; v45 = v87; v46 = v89; v47 = v91; v48 = v93; v50 = 3014656; v51 = 0x2e00000000ull; v52 = 0x2e000000000000ull; v54 = 3014656; v55 = 0x2e00000000ull; v56 = 0x2e000000000000ull; v58 = 3014656; v59 = 0x2e00000000ull; v60 = 0x2e000000000000ull; v62 = 3014656; v63 = 0x2e00000000ull; v64 = 0x2e000000000000ull; v66 = 3014656; v67 = 0x2e00000000ull; v68 = 0x2e000000000000ull; v70 = 3014656; v71 = 0x2e00000000ull; v72 = 0x2e000000000000ull; v74 = 3014656; v75 = 0x2e00000000ull; v76 = 0x2e000000000000ull; v78 = 3014656; v79 = 0x2e00000000ull; v80 = 0x2e000000000000ull; v82 = 3014656; v83 = 0x2e00000000ull; v49 = v53 = v57 = v61 = v65 = v69 = v73 = v77 = v81 = 46; goto L0; }
+	u64 v94 = (u64)ld8(v4+7) << 56;
+	if (v5 <= 8) { v7 = 771751936; v8 = 11776; v9 = 0x2e00000000000000ull; v10 = 0x2e0000000000ull; v11 = 771751936; v12 = 11776; v13 = 0x2e00000000000000ull; v14 = 0x2e0000000000ull; v15 = 771751936; v16 = 11776; v17 = 0x2e00000000000000ull; v18 = 0x2e0000000000ull; v19 = 771751936; v20 = 11776; v21 = 0x2e00000000000000ull; v22 = 0x2e0000000000ull; v23 = 771751936; v24 = 11776; v25 = 0x2e00000000000000ull; v26 = 0x2e0000000000ull; v27 = 771751936; v28 = 11776; v29 = 0x2e00000000000000ull; v30 = 0x2e0000000000ull; v31 = 771751936; v32 = 11776; v33 = 0x2e00000000000000ull; v34 = 0x2e0000000000ull; v35 = 771751936; v36 = 11776; v37 = 0x2e00000000000000ull; v38 = 0x2e0000000000ull; v39 = 771751936; v40 = 11776; v41 = v94; v42 = v92; v43 = v90; v44 = v88; v45 = v87; v46 = v89; v47 = v91; v48 = v93; v50 = 3014656; v51 = 0x2e00000000ull; v52 = 0x2e000000000000ull; v54 = 3014656; v55 = 0x2e00000000ull; v56 = 0x2e000000000000ull; v58 = 3014656; v59 = 0x2e00000000ull; v60 = 0x2e000000000000ull; v62 = 3014656; v63 = 0x2e00000000ull; v64 = 0x2e000000000000ull; v66 = 3014656; v67 = 0x2e00000000ull; v68 = 0x2e000000000000ull; v70 = 3014656; v71 = 0x2e00000000ull; v72 = 0x2e000000000000ull; v74 = 3014656; v75 = 0x2e00000000ull; v76 = 0x2e000000000000ull; v78 = 3014656; v79 = 0x2e00000000ull; v80 = 0x2e000000000000ull; v82 = 3014656; v83 = 0x2e00000000ull; v49 = v53 = v57 = v61 = v65 = v69 = v73 = v77 = v81 = 46; goto L0; }
+	u8 v95 = ld8(v4+8);
+	if (v5 == 9) { v7 = 771751936; v8 = 11776; v9 = 0x2e00000000000000ull; v10 = 0x2e0000000000ull; v11 = 771751936; v12 = 11776; v13 = 0x2e00000000000000ull; v14 = 0x2e0000000000ull; v15 = 771751936; v16 = 11776; v17 = 0x2e00000000000000ull; v18 = 0x2e0000000000ull; v19 = 771751936; v20 = 11776; v21 = 0x2e00000000000000ull; v22 = 0x2e0000000000ull; v23 = 771751936; v24 = 11776; v25 = 0x2e00000000000000ull; v26 = 0x2e0000000000ull; v27 = 771751936; v28 = 11776; v29 = 0x2e00000000000000ull; v30 = 0x2e0000000000ull; v31 = 771751936; v32 = 11776; v33 = 0x2e00000000000000ull; v34 = 0x2e0000000000ull; v35 = 771751936; v36 = 11776; v37 = 0x2e00000000000000ull; v38 = 0x2e0000000000ull; v39 = 771751936; v40 = 11776; v41 = v94; v42 = v92; v43 = v90; v44 = v88; v45 = v87; v46 = v89; v47 = v91; v48 = v93; v49 = v95; v50 = 3014656; v51 = 0x2e00000000ull; v52 = 0x2e000000000000ull; v54 = 3014656; v55 = 0x2e00000000ull; v56 = 0x2e000000000000ull; v58 = 3014656; v59 = 0x2e00000000ull; v60 = 0x2e000000000000ull; v62 = 3014656; v63 = 0x2e00000000ull; v64 = 0x2e000000000000ull; v66 = 3014656; v67 = 0x2e00000000ull; v68 = 0x2e000000000000ull; v70 = 3014656; v71 = 0x2e00000000ull; v72 = 0x2e000000000000ull; v74 = 3014656; v75 = 0x2e00000000ull; v76 = 0x2e000000000000ull; v78 = 3014656; v79 = 0x2e00000000ull; v80 = 0x2e000000000000ull; v82 = 3014656; v83 = 0x2e00000000ull; v53 = v57 = v61 = v65 = v69 = v73 = v77 = v81 = 46; goto L0; }
+	u64 v96 = (u64)ld8(v4+9) << 8;
+	if (v5 <= 10) { v7 = 771751936; v8 = 11776; v9 = 0x2e00000000000000ull; v10 = 0x2e0000000000ull; v11 = 771751936; v12 = 11776; v13 = 0x2e00000000000000ull; v14 = 0x2e0000000000ull; v15 = 771751936; v16 = 11776; v17 = 0x2e00000000000000ull; v18 = 0x2e0000000000ull; v19 = 771751936; v20 = 11776; v21 = 0x2e00000000000000ull; v22 = 0x2e0000000000ull; v23 = 771751936; v24 = 11776; v25 = 0x2e00000000000000ull; v26 = 0x2e0000000000ull; v27 = 771751936; v28 = 11776; v29 = 0x2e00000000000000ull; v30 = 0x2e0000000000ull; v31 = 771751936; v32 = 11776; v33 = 0x2e00000000000000ull; v34 = 0x2e0000000000ull; v35 = 771751936; v36 = 11776; v37 = 0x2e00000000000000ull; v38 = 0x2e0000000000ull; v39 = 771751936; v40 = v96; v41 = v94; v42 = v92; v43 = v90; v44 = v88; v45 = v87; v46 = v89; v47 = v91; v48 = v93; v49 = v95; v50 = 3014656; v51 = 0x2e00000000ull; v52 = 0x2e000000000000ull; v54 = 3014656; v55 = 0x2e00000000ull; v56 = 0x2e000000000000ull; v58 = 3014656; v59 = 0x2e00000000ull; v60 = 0x2e000000000000ull; v62 = 3014656; v63 = 0x2e00000000ull; v64 = 0x2e000000000000ull; v66 = 3014656; v67 = 0x2e00000000ull; v68 = 0x2e000000000000ull; v70 = 3014656; v71 = 0x2e00000000ull; v72 = 0x2e000000000000ull; v74 = 3014656; v75 = 0x2e00000000ull; v76 = 0x2e000000000000ull; v78 = 3014656; v79 = 0x2e00000000ull; v80 = 0x2e000000000000ull; v82 = 3014656; v83 = 0x2e00000000ull; v53 = v57 = v61 = v65 = v69 = v73 = v77 = v81 = 46; goto L0; }
+	u64 v97 = (u64)ld8(v4+10) << 16;
+	if (v5 == 11) { v7 = 771751936; v8 = 11776; v9 = 0x2e00000000000000ull; v10 = 0x2e0000000000ull; v11 = 771751936; v12 = 11776; v13 = 0x2e00000000000000ull; v14 = 0x2e0000000000ull; v15 = 771751936; v16 = 11776; v17 = 0x2e00000000000000ull; v18 = 0x2e0000000000ull; v19 = 771751936; v20 = 11776; v21 = 0x2e00000000000000ull; v22 = 0x2e0000000000ull; v23 = 771751936; v24 = 11776; v25 = 0x2e00000000000000ull; v26 = 0x2e0000000000ull; v27 = 771751936; v28 = 11776; v29 = 0x2e00000000000000ull; v30 = 0x2e0000000000ull; v31 = 771751936; v32 = 11776; v33 = 0x2e00000000000000ull; v34 = 0x2e0000000000ull; v35 = 771751936; v36 = 11776; v37 = 0x2e00000000000000ull; v38 = 0x2e0000000000ull; v39 = 771751936; v40 = v96; v41 = v94; v42 = v92; v43 = v90; v44 = v88; v45 = v87; v46 = v89; v47 = v91; v48 = v93; v49 = v95; v50 = v97; v51 = 0x2e00000000ull; v52 = 0x2e000000000000ull; v54 = 3014656; v55 = 0x2e00000000ull; v56 = 0x2e000000000000ull; v58 = 3014656; v59 = 0x2e00000000ull; v60 = 0x2e000000000000ull; v62 = 3014656; v63 = 0x2e00000000ull; v64 = 0x2e000000000000ull; v66 = 3014656; v67 = 0x2e00000000ull; v68 = 0x2e000000000000ull; v70 = 3014656; v71 = 0x2e00000000ull; v72 = 0x2e000000000000ull; v74 = 3014656; v75 = 0x2e00000000ull; v76 = 0x2e000000000000ull; v78 = 3014656; v79 = 0x2e00000000ull; v80 = 0x2e000000000000ull; v82 = 3014656; v83 = 0x2e00000000ull; v53 = v57 = v61 = v65 = v69 = v73 = v77 = v81 = 46; goto L0; }
+	u64 v98 = (u64)ld8(v4+11) << 24;
+	if (v5 <= 12) { v7 = 771751936; v8 = 11776; v9 = 0x2e00000000000000ull; v10 = 0x2e0000000000ull; v11 = 771751936; v12 = 11776; v13 = 0x2e00000000000000ull; v14 = 0x2e0000000000ull; v15 = 771751936; v16 = 11776; v17 = 0x2e00000000000000ull; v18 = 0x2e0000000000ull; v19 = 771751936; v20 = 11776; v21 = 0x2e00000000000000ull; v22 = 0x2e0000000000ull; v23 = 771751936; v24 = 11776; v25 = 0x2e00000000000000ull; v26 = 0x2e0000000000ull; v27 = 771751936; v28 = 11776; v29 = 0x2e00000000000000ull; v30 = 0x2e0000000000ull; v31 = 771751936; v32 = 11776; v33 = 0x2e00000000000000ull; v34 = 0x2e0000000000ull; v35 = 771751936; v36 = 11776; v37 = 0x2e00000000000000ull; v38 = 0x2e0000000000ull; v39 = v98; v40 = v96; v41 = v94; v42 = v92; v43 = v90; v44 = v88; v45 = v87; v46 = v89; v47 = v91; v48 = v93; v49 = v95; v50 = v97; v51 = 0x2e00000000ull; v52 = 0x2e000000000000ull; v54 = 3014656; v55 = 0x2e00000000ull; v56 = 0x2e000000000000ull; v58 = 3014656; v59 = 0x2e00000000ull; v60 = 0x2e000000000000ull; v62 = 3014656; v63 = 0x2e00000000ull; v64 = 0x2e000000000000ull; v66 = 3014656; v67 = 0x2e00000000ull; v68 = 0x2e000000000000ull; v70 = 3014656; v71 = 0x2e00000000ull; v72 = 0x2e000000000000ull; v74 = 3014656; v75 = 0x2e00000000ull; v76 = 0x2e000000000000ull; v78 = 3014656; v79 = 0x2e00000000ull; v80 = 0x2e000000000000ull; v82 = 3014656; v83 = 0x2e00000000ull; v53 = v57 = v61 = v65 = v69 = v73 = v77 = v81 = 46; goto L0; }
+	u64 v99 = (u64)ld8(v4+12) << 32;
+	if (v5 == 13) { v7 = 771751936; v8 = 11776; v9 = 0x2e00000000000000ull; v10 = 0x2e0000000000ull; v11 = 771751936; v12 = 11776; v13 = 0x2e00000000000000ull; v14 = 0x2e0000000000ull; v15 = 771751936; v16 = 11776; v17 = 0x2e00000000000000ull; v18 = 0x2e0000000000ull; v19 = 771751936; v20 = 11776; v21 = 0x2e00000000000000ull; v22 = 0x2e0000000000ull; v23 = 771751936; v24 = 11776; v25 = 0x2e00000000000000ull; v26 = 0x2e0000000000ull; v27 = 771751936; v28 = 11776; v29 = 0x2e00000000000000ull; v30 = 0x2e0000000000ull; v31 = 771751936; v32 = 11776; v33 = 0x2e00000000000000ull; v34 = 0x2e0000000000ull; v35 = 771751936; v36 = 11776; v37 = 0x2e00000000000000ull; v38 = 0x2e0000000000ull; v39 = v98; v40 = v96; v41 = v94; v42 = v92; v43 = v90; v44 = v88; v45 = v87; v46 = v89; v47 = v91; v48 = v93; v49 = v95; v50 = v97; v51 = v99; v52 = 0x2e000000000000ull; v54 = 3014656; v55 = 0x2e00000000ull; v56 = 0x2e000000000000ull; v58 = 3014656; v59 = 0x2e00000000ull; v60 = 0x2e000000000000ull; v62 = 3014656; v63 = 0x2e00000000ull; v64 = 0x2e000000000000ull; v66 = 3014656; v67 = 0x2e00000000ull; v68 = 0x2e000000000000ull; v70 = 3014656; v71 = 0x2e00000000ull; v72 = 0x2e000000000000ull; v74 = 3014656; v75 = 0x2e00000000ull; v76 = 0x2e000000000000ull; v78 = 3014656; v79 = 0x2e00000000ull; v80 = 0x2e000000000000ull; v82 = 3014656; v83 = 0x2e00000000ull; v53 = v57 = v61 = v65 = v69 = v73 = v77 = v81 = 46; goto L0; }
+	u64 v100 = (u64)ld8(v4+13) << 40;
+	if (v5 <= 14) { v7 = 771751936; v8 = 11776; v9 = 0x2e00000000000000ull; v10 = 0x2e0000000000ull; v11 = 771751936; v12 = 11776; v13 = 0x2e00000000000000ull; v14 = 0x2e0000000000ull; v15 = 771751936; v16 = 11776; v17 = 0x2e00000000000000ull; v18 = 0x2e0000000000ull; v19 = 771751936; v20 = 11776; v21 = 0x2e00000000000000ull; v22 = 0x2e0000000000ull; v23 = 771751936; v24 = 11776; v25 = 0x2e00000000000000ull; v26 = 0x2e0000000000ull; v27 = 771751936; v28 = 11776; v29 = 0x2e00000000000000ull; v30 = 0x2e0000000000ull; v31 = 771751936; v32 = 11776; v33 = 0x2e00000000000000ull; v34 = 0x2e0000000000ull; v35 = 771751936; v36 = 11776; v37 = 0x2e00000000000000ull; v38 = v100; v39 = v98; v40 = v96; v41 = v94; v42 = v92; v43 = v90; v44 = v88; v45 = v87; v46 = v89; v47 = v91; v48 = v93; v49 = v95; v50 = v97; v51 = v99; v52 = 0x2e000000000000ull; v54 = 3014656; v55 = 0x2e00000000ull; v56 = 0x2e000000000000ull; v58 = 3014656; v59 = 0x2e00000000ull; v60 = 0x2e000000000000ull; v62 = 3014656; v63 = 0x2e00000000ull; v64 = 0x2e000000000000ull; v66 = 3014656; v67 = 0x2e00000000ull; v68 = 0x2e000000000000ull; v70 = 3014656; v71 = 0x2e00000000ull; v72 = 0x2e000000000000ull; v74 = 3014656; v75 = 0x2e00000000ull; v76 = 0x2e000000000000ull; v78 = 3014656; v79 = 0x2e00000000ull; v80 = 0x2e000000000000ull; v82 = 3014656; v83 = 0x2e00000000ull; v53 = v57 = v61 = v65 = v69 = v73 = v77 = v81 = 46; goto L0; }
+	u64 v101 = (u64)ld8(v4+14) << 48;
+	if (v5 == 15) { v7 = 771751936; v8 = 11776; v9 = 0x2e00000000000000ull; v10 = 0x2e0000000000ull; v11 = 771751936; v12 = 11776; v13 = 0x2e00000000000000ull; v14 = 0x2e0000000000ull; v15 = 771751936; v16 = 11776; v17 = 0x2e00000000000000ull; v18 = 0x2e0000000000ull; v19 = 771751936; v20 = 11776; v21 = 0x2e00000000000000ull; v22 = 0x2e0000000000ull; v23 = 771751936; v24 = 11776; v25 = 0x2e00000000000000ull; v26 = 0x2e0000000000ull; v27 = 771751936; v28 = 11776; v29 = 0x2e00000000000000ull; v30 = 0x2e0000000000ull; v31 = 771751936; v32 = 11776; v33 = 0x2e00000000000000ull; v34 = 0x2e0000000000ull; v35 = 771751936; v36 = 11776; v37 = 0x2e00000000000000ull; v38 = v100; v39 = v98; v40 = v96; v41 = v94; v42 = v92; v43 = v90; v44 = v88; v45 = v87; v46 = v89; v47 = v91; v48 = v93; v49 = v95; v50 = v97; v51 = v99; v52 = v101; v54 = 3014656; v55 = 0x2e00000000ull; v56 = 0x2e000000000000ull; v58 = 3014656; v59 = 0x2e00000000ull; v60 = 0x2e000000000000ull; v62 = 3014656; v63 = 0x2e00000000ull; v64 = 0x2e000000000000ull; v66 = 3014656; v67 = 0x2e00000000ull; v68 = 0x2e000000000000ull; v70 = 3014656; v71 = 0x2e00000000ull; v72 = 0x2e000000000000ull; v74 = 3014656; v75 = 0x2e00000000ull; v76 = 0x2e000000000000ull; v78 = 3014656; v79 = 0x2e00000000ull; v80 = 0x2e000000000000ull; v82 = 3014656; v83 = 0x2e00000000ull; v53 = v57 = v61 = v65 = v69 = v73 = v77 = v81 = 46; goto L0; }
+	u64 v102 = (u64)ld8(v4+15) << 56;
+	if (v5 <= 16) { v7 = 771751936; v8 = 11776; v9 = 0x2e00000000000000ull; v10 = 0x2e0000000000ull; v11 = 771751936; v12 = 11776; v13 = 0x2e00000000000000ull; v14 = 0x2e0000000000ull; v15 = 771751936; v16 = 11776; v17 = 0x2e00000000000000ull; v18 = 0x2e0000000000ull; v19 = 771751936; v20 = 11776; v21 = 0x2e00000000000000ull; v22 = 0x2e0000000000ull; v23 = 771751936; v24 = 11776; v25 = 0x2e00000000000000ull; v26 = 0x2e0000000000ull; v27 = 771751936; v28 = 11776; v29 = 0x2e00000000000000ull; v30 = 0x2e0000000000ull; v31 = 771751936; v32 = 11776; v33 = 0x2e00000000000000ull; v34 = 0x2e0000000000ull; v35 = 771751936; v36 = 11776; v37 = v102; v38 = v100; v39 = v98; v40 = v96; v41 = v94; v42 = v92; v43 = v90; v44 = v88; v45 = v87; v46 = v89; v47 = v91; v48 = v93; v49 = v95; v50 = v97; v51 = v99; v52 = v101; v54 = 3014656; v55 = 0x2e00000000ull; v56 = 0x2e000000000000ull; v58 = 3014656; v59 = 0x2e00000000ull; v60 = 0x2e000000000000ull; v62 = 3014656; v63 = 0x2e00000000ull; v64 = 0x2e000000000000ull; v66 = 3014656; v67 = 0x2e00000000ull; v68 = 0x2e000000000000ull; v70 = 3014656; v71 = 0x2e00000000ull; v72 = 0x2e000000000000ull; v74 = 3014656; v75 = 0x2e00000000ull; v76 = 0x2e000000000000ull; v78 = 3014656; v79 = 0x2e00000000ull; v80 = 0x2e000000000000ull; v82 = 3014656; v83 = 0x2e00000000ull; v53 = v57 = v61 = v65 = v69 = v73 = v77 = v81 = 46; goto L0; }
+	u8 v103 = ld8(v4+16);
+	if (v5 == 17) { v7 = 771751936; v8 = 11776; v9 = 0x2e00000000000000ull; v10 = 0x2e0000000000ull; v11 = 771751936; v12 = 11776; v13 = 0x2e00000000000000ull; v14 = 0x2e0000000000ull; v15 = 771751936; v16 = 11776; v17 = 0x2e00000000000000ull; v18 = 0x2e0000000000ull; v19 = 771751936; v20 = 11776; v21 = 0x2e00000000000000ull; v22 = 0x2e0000000000ull; v23 = 771751936; v24 = 11776; v25 = 0x2e00000000000000ull; v26 = 0x2e0000000000ull; v27 = 771751936; v28 = 11776; v29 = 0x2e00000000000000ull; v30 = 0x2e0000000000ull; v31 = 771751936; v32 = 11776; v33 = 0x2e00000000000000ull; v34 = 0x2e0000000000ull; v35 = 771751936; v36 = 11776; v37 = v102; v38 = v100; v39 = v98; v40 = v96; v41 = v94; v42 = v92; v43 = v90; v44 = v88; v45 = v87; v46 = v89; v47 = v91; v48 = v93; v49 = v95; v50 = v97; v51 = v99; v52 = v101; v53 = v103; v54 = 3014656; v55 = 0x2e00000000ull; v56 = 0x2e000000000000ull; v58 = 3014656; v59 = 0x2e00000000ull; v60 = 0x2e000000000000ull; v62 = 3014656; v63 = 0x2e00000000ull; v64 = 0x2e000000000000ull; v66 = 3014656; v67 = 0x2e00000000ull; v68 = 0x2e000000000000ull; v70 = 3014656; v71 = 0x2e00000000ull; v72 = 0x2e000000000000ull; v74 = 3014656; v75 = 0x2e00000000ull; v76 = 0x2e000000000000ull; v78 = 3014656; v79 = 0x2e00000000ull; v80 = 0x2e000000000000ull; v82 = 3014656; v83 = 0x2e00000000ull; v57 = v61 = v65 = v69 = v73 = v77 = v81 = 46; goto L0; }
+	u64 v104 = (u64)ld8(v4+17) << 8;
+	if (v5 <= 18) { v7 = 771751936; v8 = 11776; v9 = 0x2e00000000000000ull; v10 = 0x2e0000000000ull; v11 = 771751936; v12 = 11776; v13 = 0x2e00000000000000ull; v14 = 0x2e0000000000ull; v15 = 771751936; v16 = 11776; v17 = 0x2e00000000000000ull; v18 = 0x2e0000000000ull; v19 = 771751936; v20 = 11776; v21 = 0x2e00000000000000ull; v22 = 0x2e0000000000ull; v23 = 771751936; v24 = 11776; v25 = 0x2e00000000000000ull; v26 = 0x2e0000000000ull; v27 = 771751936; v28 = 11776; v29 = 0x2e00000000000000ull; v30 = 0x2e0000000000ull; v31 = 771751936; v32 = 11776; v33 = 0x2e00000000000000ull; v34 = 0x2e0000000000ull; v35 = 771751936; v36 = v104; v37 = v102; v38 = v100; v39 = v98; v40 = v96; v41 = v94; v42 = v92; v43 = v90; v44 = v88; v45 = v87; v46 = v89; v47 = v91; v48 = v93; v49 = v95; v50 = v97; v51 = v99; v52 = v101; v53 = v103; v54 = 3014656; v55 = 0x2e00000000ull; v56 = 0x2e000000000000ull; v58 = 3014656; v59 = 0x2e00000000ull; v60 = 0x2e000000000000ull; v62 = 3014656; v63 = 0x2e00000000ull; v64 = 0x2e000000000000ull; v66 = 3014656; v67 = 0x2e00000000ull; v68 = 0x2e000000000000ull; v70 = 3014656; v71 = 0x2e00000000ull; v72 = 0x2e000000000000ull; v74 = 3014656; v75 = 0x2e00000000ull; v76 = 0x2e000000000000ull; v78 = 3014656; v79 = 0x2e00000000ull; v80 = 0x2e000000000000ull; v82 = 3014656; v83 = 0x2e00000000ull; v57 = v61 = v65 = v69 = v73 = v77 = v81 = 46; goto L0; }
+	u64 v105 = (u64)ld8(v4+18) << 16;
+	if (v5 == 19) { v7 = 771751936; v8 = 11776; v9 = 0x2e00000000000000ull; v10 = 0x2e0000000000ull; v11 = 771751936; v12 = 11776; v13 = 0x2e00000000000000ull; v14 = 0x2e0000000000ull; v15 = 771751936; v16 = 11776; v17 = 0x2e00000000000000ull; v18 = 0x2e0000000000ull; v19 = 771751936; v20 = 11776; v21 = 0x2e00000000000000ull; v22 = 0x2e0000000000ull; v23 = 771751936; v24 = 11776; v25 = 0x2e00000000000000ull; v26 = 0x2e0000000000ull; v27 = 771751936; v28 = 11776; v29 = 0x2e00000000000000ull; v30 = 0x2e0000000000ull; v31 = 771751936; v32 = 11776; v33 = 0x2e00000000000000ull; v34 = 0x2e0000000000ull; v35 = 771751936; v36 = v104; v37 = v102; v38 = v100; v39 = v98; v40 = v96; v41 = v94; v42 = v92; v43 = v90; v44 = v88; v45 = v87; v46 = v89; v47 = v91; v48 = v93; v49 = v95; v50 = v97; v51 = v99; v52 = v101; v53 = v103; v54 = v105; v55 = 0x2e00000000ull; v56 = 0x2e000000000000ull; v58 = 3014656; v59 = 0x2e00000000ull; v60 = 0x2e000000000000ull; v62 = 3014656; v63 = 0x2e00000000ull; v64 = 0x2e000000000000ull; v66 = 3014656; v67 = 0x2e00000000ull; v68 = 0x2e000000000000ull; v70 = 3014656; v71 = 0x2e00000000ull; v72 = 0x2e000000000000ull; v74 = 3014656; v75 = 0x2e00000000ull; v76 = 0x2e000000000000ull; v78 = 3014656; v79 = 0x2e00000000ull; v80 = 0x2e000000000000ull; v82 = 3014656; v83 = 0x2e00000000ull; v57 = v61 = v65 = v69 = v73 = v77 = v81 = 46; goto L0; }
+	u64 v106 = (u64)ld8(v4+19) << 24;
+	if (v5 <= 20) { v7 = 771751936; v8 = 11776; v9 = 0x2e00000000000000ull; v10 = 0x2e0000000000ull; v11 = 771751936; v12 = 11776; v13 = 0x2e00000000000000ull; v14 = 0x2e0000000000ull; v15 = 771751936; v16 = 11776; v17 = 0x2e00000000000000ull; v18 = 0x2e0000000000ull; v19 = 771751936; v20 = 11776; v21 = 0x2e00000000000000ull; v22 = 0x2e0000000000ull; v23 = 771751936; v24 = 11776; v25 = 0x2e00000000000000ull; v26 = 0x2e0000000000ull; v27 = 771751936; v28 = 11776; v29 = 0x2e00000000000000ull; v30 = 0x2e0000000000ull; v31 = 771751936; v32 = 11776; v33 = 0x2e00000000000000ull; v34 = 0x2e0000000000ull; v35 = v106; v36 = v104; v37 = v102; v38 = v100; v39 = v98; v40 = v96; v41 = v94; v42 = v92; v43 = v90; v44 = v88; v45 = v87; v46 = v89; v47 = v91; v48 = v93; v49 = v95; v50 = v97; v51 = v99; v52 = v101; v53 = v103; v54 = v105; v55 = 0x2e00000000ull; v56 = 0x2e000000000000ull; v58 = 3014656; v59 = 0x2e00000000ull; v60 = 0x2e000000000000ull; v62 = 3014656; v63 = 0x2e00000000ull; v64 = 0x2e000000000000ull; v66 = 3014656; v67 = 0x2e00000000ull; v68 = 0x2e000000000000ull; v70 = 3014656; v71 = 0x2e00000000ull; v72 = 0x2e000000000000ull; v74 = 3014656; v75 = 0x2e00000000ull; v76 = 0x2e000000000000ull; v78 = 3014656; v79 = 0x2e00000000ull; v80 = 0x2e000000000000ull; v82 = 3014656; v83 = 0x2e00000000ull; v57 = v61 = v65 = v69 = v73 = v77 = v81 = 46; goto L0; }
+	u64 v107 = (u64)ld8(v4+20) << 32;
+	if (v5 == 21) { v7 = 771751936; v8 = 11776; v9 = 0x2e00000000000000ull; v10 = 0x2e0000000000ull; v11 = 771751936; v12 = 11776; v13 = 0x2e00000000000000ull; v14 = 0x2e0000000000ull; v15 = 771751936; v16 = 11776; v17 = 0x2e00000000000000ull; v18 = 0x2e0000000000ull; v19 = 771751936; v20 = 11776; v21 = 0x2e00000000000000ull; v22 = 0x2e0000000000ull; v23 = 771751936; v24 = 11776; v25 = 0x2e00000000000000ull; v26 = 0x2e0000000000ull; v27 = 771751936; v28 = 11776; v29 = 0x2e00000000000000ull; v30 = 0x2e0000000000ull; v31 = 771751936; v32 = 11776; v33 = 0x2e00000000000000ull; v34 = 0x2e0000000000ull; v35 = v106; v36 = v104; v37 = v102; v38 = v100; v39 = v98; v40 = v96; v41 = v94; v42 = v92; v43 = v90; v44 = v88; v45 = v87; v46 = v89; v47 = v91; v48 = v93; v49 = v95; v50 = v97; v51 = v99; v52 = v101; v53 = v103; v54 = v105; v55 = v107; v56 = 0x2e000000000000ull; v58 = 3014656; v59 = 0x2e00000000ull; v60 = 0x2e000000000000ull; v62 = 3014656; v63 = 0x2e00000000ull; v64 = 0x2e000000000000ull; v66 = 3014656; v67 = 0x2e00000000ull; v68 = 0x2e000000000000ull; v70 = 3014656; v71 = 0x2e00000000ull; v72 = 0x2e000000000000ull; v74 = 3014656; v75 = 0x2e00000000ull; v76 = 0x2e000000000000ull; v78 = 3014656; v79 = 0x2e00000000ull; v80 = 0x2e000000000000ull; v82 = 3014656; v83 = 0x2e00000000ull; v57 = v61 = v65 = v69 = v73 = v77 = v81 = 46; goto L0; }
+	u64 v108 = (u64)ld8(v4+21) << 40;
+	if (v5 <= 22) { v7 = 771751936; v8 = 11776; v9 = 0x2e00000000000000ull; v10 = 0x2e0000000000ull; v11 = 771751936; v12 = 11776; v13 = 0x2e00000000000000ull; v14 = 0x2e0000000000ull; v15 = 771751936; v16 = 11776; v17 = 0x2e00000000000000ull; v18 = 0x2e0000000000ull; v19 = 771751936; v20 = 11776; v21 = 0x2e00000000000000ull; v22 = 0x2e0000000000ull; v23 = 771751936; v24 = 11776; v25 = 0x2e00000000000000ull; v26 = 0x2e0000000000ull; v27 = 771751936; v28 = 11776; v29 = 0x2e00000000000000ull; v30 = 0x2e0000000000ull; v31 = 771751936; v32 = 11776; v33 = 0x2e00000000000000ull; v34 = v108; v35 = v106; v36 = v104; v37 = v102; v38 = v100; v39 = v98; v40 = v96; v41 = v94; v42 = v92; v43 = v90; v44 = v88; v45 = v87; v46 = v89; v47 = v91; v48 = v93; v49 = v95; v50 = v97; v51 = v99; v52 = v101; v53 = v103; v54 = v105; v55 = v107; v56 = 0x2e000000000000ull; v58 = 3014656; v59 = 0x2e00000000ull; v60 = 0x2e000000000000ull; v62 = 3014656; v63 = 0x2e00000000ull; v64 = 0x2e000000000000ull; v66 = 3014656; v67 = 0x2e00000000ull; v68 = 0x2e000000000000ull; v70 = 3014656; v71 = 0x2e00000000ull; v72 = 0x2e000000000000ull; v74 = 3014656; v75 = 0x2e00000000ull; v76 = 0x2e000000000000ull; v78 = 3014656; v79 = 0x2e00000000ull; v80 = 0x2e000000000000ull; v82 = 3014656; v83 = 0x2e00000000ull; v57 = v61 = v65 = v69 = v73 = v77 = v81 = 46; goto L0; }
+	u64 v109 = (u64)ld8(v4+22) << 48;
+	if (v5 == 23) { v7 = 771751936; v8 = 11776; v9 = 0x2e00000000000000ull; v10 = 0x2e0000000000ull; v11 = 771751936; v12 = 11776; v13 = 0x2e00000000000000ull; v14 = 0x2e0000000000ull; v15 = 771751936; v16 = 11776; v17 = 0x2e00000000000000ull; v18 = 0x2e0000000000ull; v19 = 771751936; v20 = 11776; v21 = 0x2e00000000000000ull; v22 = 0x2e0000000000ull; v23 = 771751936; v24 = 11776; v25 = 0x2e00000000000000ull; v26 = 0x2e0000000000ull; v27 = 771751936; v28 = 11776; v29 = 0x2e00000000000000ull; v30 = 0x2e0000000000ull; v31 = 771751936; v32 = 11776; v33 = 0x2e00000000000000ull; v34 = v108; v35 = v106; v36 = v104; v37 = v102; v38 = v100; v39 = v98; v40 = v96; v41 = v94; v42 = v92; v43 = v90; v44 = v88; v45 = v87; v46 = v89; v47 = v91; v48 = v93; v49 = v95; v50 = v97; v51 = v99; v52 = v101; v53 = v103; v54 = v105; v55 = v107; v56 = v109; v58 = 3014656; v59 = 0x2e00000000ull; v60 = 0x2e000000000000ull; v62 = 3014656; v63 = 0x2e00000000ull; v64 = 0x2e000000000000ull; v66 = 3014656; v67 = 0x2e00000000ull; v68 = 0x2e000000000000ull; v70 = 3014656; v71 = 0x2e00000000ull; v72 = 0x2e000000000000ull; v74 = 3014656; v75 = 0x2e00000000ull; v76 = 0x2e000000000000ull; v78 = 3014656; v79 = 0x2e00000000ull; v80 = 0x2e000000000000ull; v82 = 3014656; v83 = 0x2e00000000ull; v57 = v61 = v65 = v69 = v73 = v77 = v81 = 46; goto L0; }
+	u64 v110 = (u64)ld8(v4+23) << 56;
+	if (v5 <= 24) { v7 = 771751936; v8 = 11776; v9 = 0x2e00000000000000ull; v10 = 0x2e0000000000ull; v11 = 771751936; v12 = 11776; v13 = 0x2e00000000000000ull; v14 = 0x2e0000000000ull; v15 = 771751936; v16 = 11776; v17 = 0x2e00000000000000ull; v18 = 0x2e0000000000ull; v19 = 771751936; v20 = 11776; v21 = 0x2e00000000000000ull; v22 = 0x2e0000000000ull; v23 = 771751936; v24 = 11776; v25 = 0x2e00000000000000ull; v26 = 0x2e0000000000ull; v27 = 771751936; v28 = 11776; v29 = 0x2e00000000000000ull; v30 = 0x2e0000000000ull; v31 = 771751936; v32 = 11776; v33 = v110; v34 = v108; v35 = v106; v36 = v104; v37 = v102; v38 = v100; v39 = v98; v40 = v96; v41 = v94; v42 = v92; v43 = v90; v44 = v88; v45 = v87; v46 = v89; v47 = v91; v48 = v93; v49 = v95; v50 = v97; v51 = v99; v52 = v101; v53 = v103; v54 = v105; v55 = v107; v56 = v109; v58 = 3014656; v59 = 0x2e00000000ull; v60 = 0x2e000000000000ull; v62 = 3014656; v63 = 0x2e00000000ull; v64 = 0x2e000000000000ull; v66 = 3014656; v67 = 0x2e00000000ull; v68 = 0x2e000000000000ull; v70 = 3014656; v71 = 0x2e00000000ull; v72 = 0x2e000000000000ull; v74 = 3014656; v75 = 0x2e00000000ull; v76 = 0x2e000000000000ull; v78 = 3014656; v79 = 0x2e00000000ull; v80 = 0x2e000000000000ull; v82 = 3014656; v83 = 0x2e00000000ull; v57 = v61 = v65 = v69 = v73 = v77 = v81 = 46; goto L0; }
+	u8 v111 = ld8(v4+24);
+	if (v5 == 25) { v7 = 771751936; v8 = 11776; v9 = 0x2e00000000000000ull; v10 = 0x2e0000000000ull; v11 = 771751936; v12 = 11776; v13 = 0x2e00000000000000ull; v14 = 0x2e0000000000ull; v15 = 771751936; v16 = 11776; v17 = 0x2e00000000000000ull; v18 = 0x2e0000000000ull; v19 = 771751936; v20 = 11776; v21 = 0x2e00000000000000ull; v22 = 0x2e0000000000ull; v23 = 771751936; v24 = 11776; v25 = 0x2e00000000000000ull; v26 = 0x2e0000000000ull; v27 = 771751936; v28 = 11776; v29 = 0x2e00000000000000ull; v30 = 0x2e0000000000ull; v31 = 771751936; v32 = 11776; v33 = v110; v34 = v108; v35 = v106; v36 = v104; v37 = v102; v38 = v100; v39 = v98; v40 = v96; v41 = v94; v42 = v92; v43 = v90; v44 = v88; v45 = v87; v46 = v89; v47 = v91; v48 = v93; v49 = v95; v50 = v97; v51 = v99; v52 = v101; v53 = v103; v54 = v105; v55 = v107; v56 = v109; v57 = v111; v58 = 3014656; v59 = 0x2e00000000ull; v60 = 0x2e000000000000ull; v62 = 3014656; v63 = 0x2e00000000ull; v64 = 0x2e000000000000ull; v66 = 3014656; v67 = 0x2e00000000ull; v68 = 0x2e000000000000ull; v70 = 3014656; v71 = 0x2e00000000ull; v72 = 0x2e000000000000ull; v74 = 3014656; v75 = 0x2e00000000ull; v76 = 0x2e000000000000ull; v78 = 3014656; v79 = 0x2e00000000ull; v80 = 0x2e000000000000ull; v82 = 3014656; v83 = 0x2e00000000ull; v61 = v65 = v69 = v73 = v77 = v81 = 46; goto L0; }
+	u64 v112 = (u64)ld8(v4+25) << 8;
+	if (v5 <= 26) { v7 = 771751936; v8 = 11776; v9 = 0x2e00000000000000ull; v10 = 0x2e0000000000ull; v11 = 771751936; v12 = 11776; v13 = 0x2e00000000000000ull; v14 = 0x2e0000000000ull; v15 = 771751936; v16 = 11776; v17 = 0x2e00000000000000ull; v18 = 0x2e0000000000ull; v19 = 771751936; v20 = 11776; v21 = 0x2e00000000000000ull; v22 = 0x2e0000000000ull; v23 = 771751936; v24 = 11776; v25 = 0x2e00000000000000ull; v26 = 0x2e0000000000ull; v27 = 771751936; v28 = 11776; v29 = 0x2e00000000000000ull; v30 = 0x2e0000000000ull; v31 = 771751936; v32 = v112; v33 = v110; v34 = v108; v35 = v106; v36 = v104; v37 = v102; v38 = v100; v39 = v98; v40 = v96; v41 = v94; v42 = v92; v43 = v90; v44 = v88; v45 = v87; v46 = v89; v47 = v91; v48 = v93; v49 = v95; v50 = v97; v51 = v99; v52 = v101; v53 = v103; v54 = v105; v55 = v107; v56 = v109; v57 = v111; v58 = 3014656; v59 = 0x2e00000000ull; v60 = 0x2e000000000000ull; v62 = 3014656; v63 = 0x2e00000000ull; v64 = 0x2e000000000000ull; v66 = 3014656; v67 = 0x2e00000000ull; v68 = 0x2e000000000000ull; v70 = 3014656; v71 = 0x2e00000000ull; v72 = 0x2e000000000000ull; v74 = 3014656; v75 = 0x2e00000000ull; v76 = 0x2e000000000000ull; v78 = 3014656; v79 = 0x2e00000000ull; v80 = 0x2e000000000000ull; v82 = 3014656; v83 = 0x2e00000000ull; v61 = v65 = v69 = v73 = v77 = v81 = 46; goto L0; }
+	u64 v113 = (u64)ld8(v4+26) << 16;
+	if (v5 == 27) { v7 = 771751936; v8 = 11776; v9 = 0x2e00000000000000ull; v10 = 0x2e0000000000ull; v11 = 771751936; v12 = 11776; v13 = 0x2e00000000000000ull; v14 = 0x2e0000000000ull; v15 = 771751936; v16 = 11776; v17 = 0x2e00000000000000ull; v18 = 0x2e0000000000ull; v19 = 771751936; v20 = 11776; v21 = 0x2e00000000000000ull; v22 = 0x2e0000000000ull; v23 = 771751936; v24 = 11776; v25 = 0x2e00000000000000ull; v26 = 0x2e0000000000ull; v27 = 771751936; v28 = 11776; v29 = 0x2e00000000000000ull; v30 = 0x2e0000000000ull; v31 = 771751936; v32 = v112; v33 = v110; v34 = v108; v35 = v106; v36 = v104; v37 = v102; v38 = v100; v39 = v98; v40 = v96; v41 = v94; v42 = v92; v43 = v90; v44 = v88; v45 = v87; v46 = v89; v47 = v91; v48 = v93; v49 = v95; v50 = v97; v51 = v99; v52 = v101; v53 = v103; v54 = v105; v55 = v107; v56 = v109; v57 = v111; v58 = v113; v59 = 0x2e00000000ull; v60 = 0x2e000000000000ull; v62 = 3014656; v63 = 0x2e00000000ull; v64 = 0x2e000000000000ull; v66 = 3014656; v67 = 0x2e00000000ull; v68 = 0x2e000000000000ull; v70 = 3014656; v71 = 0x2e00000000ull; v72 = 0x2e000000000000ull; v74 = 3014656; v75 = 0x2e00000000ull; v76 = 0x2e000000000000ull; v78 = 3014656; v79 = 0x2e00000000ull; v80 = 0x2e000000000000ull; v82 = 3014656; v83 = 0x2e00000000ull; v61 = v65 = v69 = v73 = v77 = v81 = 46; goto L0; }
+	u64 v114 = (u64)ld8(v4+27) << 24;
+	if (v5 <= 28) { v7 = 771751936; v8 = 11776; v9 = 0x2e00000000000000ull; v10 = 0x2e0000000000ull; v11 = 771751936; v12 = 11776; v13 = 0x2e00000000000000ull; v14 = 0x2e0000000000ull; v15 = 771751936; v16 = 11776; v17 = 0x2e00000000000000ull; v18 = 0x2e0000000000ull; v19 = 771751936; v20 = 11776; v21 = 0x2e00000000000000ull; v22 = 0x2e0000000000ull; v23 = 771751936; v24 = 11776; v25 = 0x2e00000000000000ull; v26 = 0x2e0000000000ull; v27 = 771751936; v28 = 11776; v29 = 0x2e00000000000000ull; v30 = 0x2e0000000000ull; v31 = v114; v32 = v112; v33 = v110; v34 = v108; v35 = v106; v36 = v104; v37 = v102; v38 = v100; v39 = v98; v40 = v96; v41 = v94; v42 = v92; v43 = v90; v44 = v88; v45 = v87; v46 = v89; v47 = v91; v48 = v93; v49 = v95; v50 = v97; v51 = v99; v52 = v101; v53 = v103; v54 = v105; v55 = v107; v56 = v109; v57 = v111; v58 = v113; v59 = 0x2e00000000ull; v60 = 0x2e000000000000ull; v62 = 3014656; v63 = 0x2e00000000ull; v64 = 0x2e000000000000ull; v66 = 3014656; v67 = 0x2e00000000ull; v68 = 0x2e000000000000ull; v70 = 3014656; v71 = 0x2e00000000ull; v72 = 0x2e000000000000ull; v74 = 3014656; v75 = 0x2e00000000ull; v76 = 0x2e000000000000ull; v78 = 3014656; v79 = 0x2e00000000ull; v80 = 0x2e000000000000ull; v82 = 3014656; v83 = 0x2e00000000ull; v61 = v65 = v69 = v73 = v77 = v81 = 46; goto L0; }
+	u64 v115 = (u64)ld8(v4+28) << 32;
+	if (v5 == 29) { v7 = 771751936; v8 = 11776; v9 = 0x2e00000000000000ull; v10 = 0x2e0000000000ull; v11 = 771751936; v12 = 11776; v13 = 0x2e00000000000000ull; v14 = 0x2e0000000000ull; v15 = 771751936; v16 = 11776; v17 = 0x2e00000000000000ull; v18 = 0x2e0000000000ull; v19 = 771751936; v20 = 11776; v21 = 0x2e00000000000000ull; v22 = 0x2e0000000000ull; v23 = 771751936; v24 = 11776; v25 = 0x2e00000000000000ull; v26 = 0x2e0000000000ull; v27 = 771751936; v28 = 11776; v29 = 0x2e00000000000000ull; v30 = 0x2e0000000000ull; v31 = v114; v32 = v112; v33 = v110; v34 = v108; v35 = v106; v36 = v104; v37 = v102; v38 = v100; v39 = v98; v40 = v96; v41 = v94; v42 = v92; v43 = v90; v44 = v88; v45 = v87; v46 = v89; v47 = v91; v48 = v93; v49 = v95; v50 = v97; v51 = v99; v52 = v101; v53 = v103; v54 = v105; v55 = v107; v56 = v109; v57 = v111; v58 = v113; v59 = v115; v60 = 0x2e000000000000ull; v62 = 3014656; v63 = 0x2e00000000ull; v64 = 0x2e000000000000ull; v66 = 3014656; v67 = 0x2e00000000ull; v68 = 0x2e000000000000ull; v70 = 3014656; v71 = 0x2e00000000ull; v72 = 0x2e000000000000ull; v74 = 3014656; v75 = 0x2e00000000ull; v76 = 0x2e000000000000ull; v78 = 3014656; v79 = 0x2e00000000ull; v80 = 0x2e000000000000ull; v82 = 3014656; v83 = 0x2e00000000ull; v61 = v65 = v69 = v73 = v77 = v81 = 46; goto L0; }
+	u64 v116 = (u64)ld8(v4+29) << 40;
+	if (v5 <= 30) { v7 = 771751936; v8 = 11776; v9 = 0x2e00000000000000ull; v10 = 0x2e0000000000ull; v11 = 771751936; v12 = 11776; v13 = 0x2e00000000000000ull; v14 = 0x2e0000000000ull; v15 = 771751936; v16 = 11776; v17 = 0x2e00000000000000ull; v18 = 0x2e0000000000ull; v19 = 771751936; v20 = 11776; v21 = 0x2e00000000000000ull; v22 = 0x2e0000000000ull; v23 = 771751936; v24 = 11776; v25 = 0x2e00000000000000ull; v26 = 0x2e0000000000ull; v27 = 771751936; v28 = 11776; v29 = 0x2e00000000000000ull; v30 = v116; v31 = v114; v32 = v112; v33 = v110; v34 = v108; v35 = v106; v36 = v104; v37 = v102; v38 = v100; v39 = v98; v40 = v96; v41 = v94; v42 = v92; v43 = v90; v44 = v88; v45 = v87; v46 = v89; v47 = v91; v48 = v93; v49 = v95; v50 = v97; v51 = v99; v52 = v101; v53 = v103; v54 = v105; v55 = v107; v56 = v109; v57 = v111; v58 = v113; v59 = v115; v60 = 0x2e000000000000ull; v62 = 3014656; v63 = 0x2e00000000ull; v64 = 0x2e000000000000ull; v66 = 3014656; v67 = 0x2e00000000ull; v68 = 0x2e000000000000ull; v70 = 3014656; v71 = 0x2e00000000ull; v72 = 0x2e000000000000ull; v74 = 3014656; v75 = 0x2e00000000ull; v76 = 0x2e000000000000ull; v78 = 3014656; v79 = 0x2e00000000ull; v80 = 0x2e000000000000ull; v82 = 3014656; v83 = 0x2e00000000ull; v61 = v65 = v69 = v73 = v77 = v81 = 46; goto L0; }
+	u64 v117 = (u64)ld8(v4+30) << 48;
+	if (v5 == 31) { v7 = 771751936; v8 = 11776; v9 = 0x2e00000000000000ull; v10 = 0x2e0000000000ull; v11 = 771751936; v12 = 11776; v13 = 0x2e00000000000000ull; v14 = 0x2e0000000000ull; v15 = 771751936; v16 = 11776; v17 = 0x2e00000000000000ull; v18 = 0x2e0000000000ull; v19 = 771751936; v20 = 11776; v21 = 0x2e00000000000000ull; v22 = 0x2e0000000000ull; v23 = 771751936; v24 = 11776; v25 = 0x2e00000000000000ull; v26 = 0x2e0000000000ull; v27 = 771751936; v28 = 11776; v29 = 0x2e00000000000000ull; v30 = v116; v31 = v114; v32 = v112; v33 = v110; v34 = v108; v35 = v106; v36 = v104; v37 = v102; v38 = v100; v39 = v98; v40 = v96; v41 = v94; v42 = v92; v43 = v90; v44 = v88; v45 = v87; v46 = v89; v47 = v91; v48 = v93; v49 = v95; v50 = v97; v51 = v99; v52 = v101; v53 = v103; v54 = v105; v55 = v107; v56 = v109; v57 = v111; v58 = v113; v59 = v115; v60 = v117; v62 = 3014656; v63 = 0x2e00000000ull; v64 = 0x2e000000000000ull; v66 = 3014656; v67 = 0x2e00000000ull; v68 = 0x2e000000000000ull; v70 = 3014656; v71 = 0x2e00000000ull; v72 = 0x2e000000000000ull; v74 = 3014656; v75 = 0x2e00000000ull; v76 = 0x2e000000000000ull; v78 = 3014656; v79 = 0x2e00000000ull; v80 = 0x2e000000000000ull; v82 = 3014656; v83 = 0x2e00000000ull; v61 = v65 = v69 = v73 = v77 = v81 = 46; goto L0; }
+	u64 v118 = (u64)ld8(v4+31) << 56;
+	if (v5 <= 32) { v7 = 771751936; v8 = 11776; v9 = 0x2e00000000000000ull; v10 = 0x2e0000000000ull; v11 = 771751936; v12 = 11776; v13 = 0x2e00000000000000ull; v14 = 0x2e0000000000ull; v15 = 771751936; v16 = 11776; v17 = 0x2e00000000000000ull; v18 = 0x2e0000000000ull; v19 = 771751936; v20 = 11776; v21 = 0x2e00000000000000ull; v22 = 0x2e0000000000ull; v23 = 771751936; v24 = 11776; v25 = 0x2e00000000000000ull; v26 = 0x2e0000000000ull; v27 = 771751936; v28 = 11776; v29 = v118; v30 = v116; v31 = v114; v32 = v112; v33 = v110; v34 = v108; v35 = v106; v36 = v104; v37 = v102; v38 = v100; v39 = v98; v40 = v96; v41 = v94; v42 = v92; v43 = v90; v44 = v88; v45 = v87; v46 = v89; v47 = v91; v48 = v93; v49 = v95; v50 = v97; v51 = v99; v52 = v101; v53 = v103; v54 = v105; v55 = v107; v56 = v109; v57 = v111; v58 = v113; v59 = v115; v60 = v117; v62 = 3014656; v63 = 0x2e00000000ull; v64 = 0x2e000000000000ull; v66 = 3014656; v67 = 0x2e00000000ull; v68 = 0x2e000000000000ull; v70 = 3014656; v71 = 0x2e00000000ull; v72 = 0x2e000000000000ull; v74 = 3014656; v75 = 0x2e00000000ull; v76 = 0x2e000000000000ull; v78 = 3014656; v79 = 0x2e00000000ull; v80 = 0x2e000000000000ull; v82 = 3014656; v83 = 0x2e00000000ull; v61 = v65 = v69 = v73 = v77 = v81 = 46; goto L0; }
+	u8 v119 = ld8(v4+32);
+	if (v5 == 33) { v7 = 771751936; v8 = 11776; v9 = 0x2e00000000000000ull; v10 = 0x2e0000000000ull; v11 = 771751936; v12 = 11776; v13 = 0x2e00000000000000ull; v14 = 0x2e0000000000ull; v15 = 771751936; v16 = 11776; v17 = 0x2e00000000000000ull; v18 = 0x2e0000000000ull; v19 = 771751936; v20 = 11776; v21 = 0x2e00000000000000ull; v22 = 0x2e0000000000ull; v23 = 771751936; v24 = 11776; v25 = 0x2e00000000000000ull; v26 = 0x2e0000000000ull; v27 = 771751936; v28 = 11776; v29 = v118; v30 = v116; v31 = v114; v32 = v112; v33 = v110; v34 = v108; v35 = v106; v36 = v104; v37 = v102; v38 = v100; v39 = v98; v40 = v96; v41 = v94; v42 = v92; v43 = v90; v44 = v88; v45 = v87; v46 = v89; v47 = v91; v48 = v93; v49 = v95; v50 = v97; v51 = v99; v52 = v101; v53 = v103; v54 = v105; v55 = v107; v56 = v109; v57 = v111; v58 = v113; v59 = v115; v60 = v117; v61 = v119; v62 = 3014656; v63 = 0x2e00000000ull; v64 = 0x2e000000000000ull; v66 = 3014656; v67 = 0x2e00000000ull; v68 = 0x2e000000000000ull; v70 = 3014656; v71 = 0x2e00000000ull; v72 = 0x2e000000000000ull; v74 = 3014656; v75 = 0x2e00000000ull; v76 = 0x2e000000000000ull; v78 = 3014656; v79 = 0x2e00000000ull; v80 = 0x2e000000000000ull; v82 = 3014656; v83 = 0x2e00000000ull; v65 = v69 = v73 = v77 = v81 = 46; goto L0; }
+	u64 v120 = (u64)ld8(v4+33) << 8;
+	if (v5 <= 34) { v7 = 771751936; v8 = 11776; v9 = 0x2e00000000000000ull; v10 = 0x2e0000000000ull; v11 = 771751936; v12 = 11776; v13 = 0x2e00000000000000ull; v14 = 0x2e0000000000ull; v15 = 771751936; v16 = 11776; v17 = 0x2e00000000000000ull; v18 = 0x2e0000000000ull; v19 = 771751936; v20 = 11776; v21 = 0x2e00000000000000ull; v22 = 0x2e0000000000ull; v23 = 771751936; v24 = 11776; v25 = 0x2e00000000000000ull; v26 = 0x2e0000000000ull; v27 = 771751936; v28 = v120; v29 = v118; v30 = v116; v31 = v114; v32 = v112; v33 = v110; v34 = v108; v35 = v106; v36 = v104; v37 = v102; v38 = v100; v39 = v98; v40 = v96; v41 = v94; v42 = v92; v43 = v90; v44 = v88; v45 = v87; v46 = v89; v47 = v91; v48 = v93; v49 = v95; v50 = v97; v51 = v99; v52 = v101; v53 = v103; v54 = v105; v55 = v107; v56 = v109; v57 = v111; v58 = v113; v59 = v115; v60 = v117; v61 = v119; v62 = 3014656; v63 = 0x2e00000000ull; v64 = 0x2e000000000000ull; v66 = 3014656; v67 = 0x2e00000000ull; v68 = 0x2e000000000000ull; v70 = 3014656; v71 = 0x2e00000000ull; v72 = 0x2e000000000000ull; v74 = 3014656; v75 = 0x2e00000000ull; v76 = 0x2e000000000000ull; v78 = 3014656; v79 = 0x2e00000000ull; v80 = 0x2e000000000000ull; v82 = 3014656; v83 = 0x2e00000000ull; v65 = v69 = v73 = v77 = v81 = 46; goto L0; }
+	u64 v121 = (u64)ld8(v4+34) << 16;
+	if (v5 == 35) { v7 = 771751936; v8 = 11776; v9 = 0x2e00000000000000ull; v10 = 0x2e0000000000ull; v11 = 771751936; v12 = 11776; v13 = 0x2e00000000000000ull; v14 = 0x2e0000000000ull; v15 = 771751936; v16 = 11776; v17 = 0x2e00000000000000ull; v18 = 0x2e0000000000ull; v19 = 771751936; v20 = 11776; v21 = 0x2e00000000000000ull; v22 = 0x2e0000000000ull; v23 = 771751936; v24 = 11776; v25 = 0x2e00000000000000ull; v26 = 0x2e0000000000ull; v27 = 771751936; v28 = v120; v29 = v118; v30 = v116; v31 = v114; v32 = v112; v33 = v110; v34 = v108; v35 = v106; v36 = v104; v37 = v102; v38 = v100; v39 = v98; v40 = v96; v41 = v94; v42 = v92; v43 = v90; v44 = v88; v45 = v87; v46 = v89; v47 = v91; v48 = v93; v49 = v95; v50 = v97; v51 = v99; v52 = v101; v53 = v103; v54 = v105; v55 = v107; v56 = v109; v57 = v111; v58 = v113; v59 = v115; v60 = v117; v61 = v119; v62 = v121; v63 = 0x2e00000000ull; v64 = 0x2e000000000000ull; v66 = 3014656; v67 = 0x2e00000000ull; v68 = 0x2e000000000000ull; v70 = 3014656; v71 = 0x2e00000000ull; v72 = 0x2e000000000000ull; v74 = 3014656; v75 = 0x2e00000000ull; v76 = 0x2e000000000000ull; v78 = 3014656; v79 = 0x2e00000000ull; v80 = 0x2e000000000000ull; v82 = 3014656; v83 = 0x2e00000000ull; v65 = v69 = v73 = v77 = v81 = 46; goto L0; }
+	u64 v122 = (u64)ld8(v4+35) << 24;
+	if (v5 <= 36) { v7 = 771751936; v8 = 11776; v9 = 0x2e00000000000000ull; v10 = 0x2e0000000000ull; v11 = 771751936; v12 = 11776; v13 = 0x2e00000000000000ull; v14 = 0x2e0000000000ull; v15 = 771751936; v16 = 11776; v17 = 0x2e00000000000000ull; v18 = 0x2e0000000000ull; v19 = 771751936; v20 = 11776; v21 = 0x2e00000000000000ull; v22 = 0x2e0000000000ull; v23 = 771751936; v24 = 11776; v25 = 0x2e00000000000000ull; v26 = 0x2e0000000000ull; v27 = v122; v28 = v120; v29 = v118; v30 = v116; v31 = v114; v32 = v112; v33 = v110; v34 = v108; v35 = v106; v36 = v104; v37 = v102; v38 = v100; v39 = v98; v40 = v96; v41 = v94; v42 = v92; v43 = v90; v44 = v88; v45 = v87; v46 = v89; v47 = v91; v48 = v93; v49 = v95; v50 = v97; v51 = v99; v52 = v101; v53 = v103; v54 = v105; v55 = v107; v56 = v109; v57 = v111; v58 = v113; v59 = v115; v60 = v117; v61 = v119; v62 = v121; v63 = 0x2e00000000ull; v64 = 0x2e000000000000ull; v66 = 3014656; v67 = 0x2e00000000ull; v68 = 0x2e000000000000ull; v70 = 3014656; v71 = 0x2e00000000ull; v72 = 0x2e000000000000ull; v74 = 3014656; v75 = 0x2e00000000ull; v76 = 0x2e000000000000ull; v78 = 3014656; v79 = 0x2e00000000ull; v80 = 0x2e000000000000ull; v82 = 3014656; v83 = 0x2e00000000ull; v65 = v69 = v73 = v77 = v81 = 46; goto L0; }
+	u64 v123 = (u64)ld8(v4+36) << 32;
+	if (v5 == 37) { v7 = 771751936; v8 = 11776; v9 = 0x2e00000000000000ull; v10 = 0x2e0000000000ull; v11 = 771751936; v12 = 11776; v13 = 0x2e00000000000000ull; v14 = 0x2e0000000000ull; v15 = 771751936; v16 = 11776; v17 = 0x2e00000000000000ull; v18 = 0x2e0000000000ull; v19 = 771751936; v20 = 11776; v21 = 0x2e00000000000000ull; v22 = 0x2e0000000000ull; v23 = 771751936; v24 = 11776; v25 = 0x2e00000000000000ull; v26 = 0x2e0000000000ull; v27 = v122; v28 = v120; v29 = v118; v30 = v116; v31 = v114; v32 = v112; v33 = v110; v34 = v108; v35 = v106; v36 = v104; v37 = v102; v38 = v100; v39 = v98; v40 = v96; v41 = v94; v42 = v92; v43 = v90; v44 = v88; v45 = v87; v46 = v89; v47 = v91; v48 = v93; v49 = v95; v50 = v97; v51 = v99; v52 = v101; v53 = v103; v54 = v105; v55 = v107; v56 = v109; v57 = v111; v58 = v113; v59 = v115; v60 = v117; v61 = v119; v62 = v121; v63 = v123; v64 = 0x2e000000000000ull; v66 = 3014656; v67 = 0x2e00000000ull; v68 = 0x2e000000000000ull; v70 = 3014656; v71 = 0x2e00000000ull; v72 = 0x2e000000000000ull; v74 = 3014656; v75 = 0x2e00000000ull; v76 = 0x2e000000000000ull; v78 = 3014656; v79 = 0x2e00000000ull; v80 = 0x2e000000000000ull; v82 = 3014656; v83 = 0x2e00000000ull; v65 = v69 = v73 = v77 = v81 = 46; goto L0; }
+	u64 v124 = (u64)ld8(v4+37) << 40;
+	if (v5 <= 38) { v7 = 771751936; v8 = 11776; v9 = 0x2e00000000000000ull; v10 = 0x2e0000000000ull; v11 = 771751936; v12 = 11776; v13 = 0x2e00000000000000ull; v14 = 0x2e0000000000ull; v15 = 771751936; v16 = 11776; v17 = 0x2e00000000000000ull; v18 = 0x2e0000000000ull; v19 = 771751936; v20 = 11776; v21 = 0x2e00000000000000ull; v22 = 0x2e0000000000ull; v23 = 771751936; v24 = 11776; v25 = 0x2e00000000000000ull; v26 = v124; v27 = v122; v28 = v120; v29 = v118; v30 = v116; v31 = v114; v32 = v112; v33 = v110; v34 = v108; v35 = v106; v36 = v104; v37 = v102; v38 = v100; v39 = v98; v40 = v96; v41 = v94; v42 = v92; v43 = v90; v44 = v88; v45 = v87; v46 = v89; v47 = v91; v48 = v93; v49 = v95; v50 = v97; v51 = v99; v52 = v101; v53 = v103; v54 = v105; v55 = v107; v56 = v109; v57 = v111; v58 = v113; v59 = v115; v60 = v117; v61 = v119; v62 = v121; v63 = v123; v64 = 0x2e000000000000ull; v66 = 3014656; v67 = 0x2e00000000ull; v68 = 0x2e000000000000ull; v70 = 3014656; v71 = 0x2e00000000ull; v72 = 0x2e000000000000ull; v74 = 3014656; v75 = 0x2e00000000ull; v76 = 0x2e000000000000ull; v78 = 3014656; v79 = 0x2e00000000ull; v80 = 0x2e000000000000ull; v82 = 3014656; v83 = 0x2e00000000ull; v65 = v69 = v73 = v77 = v81 = 46; goto L0; }
+	u64 v125 = (u64)ld8(v4+38) << 48;
+	if (v5 == 39) { v7 = 771751936; v8 = 11776; v9 = 0x2e00000000000000ull; v10 = 0x2e0000000000ull; v11 = 771751936; v12 = 11776; v13 = 0x2e00000000000000ull; v14 = 0x2e0000000000ull; v15 = 771751936; v16 = 11776; v17 = 0x2e00000000000000ull; v18 = 0x2e0000000000ull; v19 = 771751936; v20 = 11776; v21 = 0x2e00000000000000ull; v22 = 0x2e0000000000ull; v23 = 771751936; v24 = 11776; v25 = 0x2e00000000000000ull; v26 = v124; v27 = v122; v28 = v120; v29 = v118; v30 = v116; v31 = v114; v32 = v112; v33 = v110; v34 = v108; v35 = v106; v36 = v104; v37 = v102; v38 = v100; v39 = v98; v40 = v96; v41 = v94; v42 = v92; v43 = v90; v44 = v88; v45 = v87; v46 = v89; v47 = v91; v48 = v93; v49 = v95; v50 = v97; v51 = v99; v52 = v101; v53 = v103; v54 = v105; v55 = v107; v56 = v109; v57 = v111; v58 = v113; v59 = v115; v60 = v117; v61 = v119; v62 = v121; v63 = v123; v64 = v125; v66 = 3014656; v67 = 0x2e00000000ull; v68 = 0x2e000000000000ull; v70 = 3014656; v71 = 0x2e00000000ull; v72 = 0x2e000000000000ull; v74 = 3014656; v75 = 0x2e00000000ull; v76 = 0x2e000000000000ull; v78 = 3014656; v79 = 0x2e00000000ull; v80 = 0x2e000000000000ull; v82 = 3014656; v83 = 0x2e00000000ull; v65 = v69 = v73 = v77 = v81 = 46; goto L0; }
+	u64 v126 = (u64)ld8(v4+39) << 56;
+	if (v5 <= 40) { v7 = 771751936; v8 = 11776; v9 = 0x2e00000000000000ull; v10 = 0x2e0000000000ull; v11 = 771751936; v12 = 11776; v13 = 0x2e00000000000000ull; v14 = 0x2e0000000000ull; v15 = 771751936; v16 = 11776; v17 = 0x2e00000000000000ull; v18 = 0x2e0000000000ull; v19 = 771751936; v20 = 11776; v21 = 0x2e00000000000000ull; v22 = 0x2e0000000000ull; v23 = 771751936; v24 = 11776; v25 = v126; v26 = v124; v27 = v122; v28 = v120; v29 = v118; v30 = v116; v31 = v114; v32 = v112; v33 = v110; v34 = v108; v35 = v106; v36 = v104; v37 = v102; v38 = v100; v39 = v98; v40 = v96; v41 = v94; v42 = v92; v43 = v90; v44 = v88; v45 = v87; v46 = v89; v47 = v91; v48 = v93; v49 = v95; v50 = v97; v51 = v99; v52 = v101; v53 = v103; v54 = v105; v55 = v107; v56 = v109; v57 = v111; v58 = v113; v59 = v115; v60 = v117; v61 = v119; v62 = v121; v63 = v123; v64 = v125; v66 = 3014656; v67 = 0x2e00000000ull; v68 = 0x2e000000000000ull; v70 = 3014656; v71 = 0x2e00000000ull; v72 = 0x2e000000000000ull; v74 = 3014656; v75 = 0x2e00000000ull; v76 = 0x2e000000000000ull; v78 = 3014656; v79 = 0x2e00000000ull; v80 = 0x2e000000000000ull; v82 = 3014656; v83 = 0x2e00000000ull; v65 = v69 = v73 = v77 = v81 = 46; goto L0; }
+	u8 v127 = ld8(v4+40);
+	if (v5 == 41) { v7 = 771751936; v8 = 11776; v9 = 0x2e00000000000000ull; v10 = 0x2e0000000000ull; v11 = 771751936; v12 = 11776; v13 = 0x2e00000000000000ull; v14 = 0x2e0000000000ull; v15 = 771751936; v16 = 11776; v17 = 0x2e00000000000000ull; v18 = 0x2e0000000000ull; v19 = 771751936; v20 = 11776; v21 = 0x2e00000000000000ull; v22 = 0x2e0000000000ull; v23 = 771751936; v24 = 11776; v25 = v126; v26 = v124; v27 = v122; v28 = v120; v29 = v118; v30 = v116; v31 = v114; v32 = v112; v33 = v110; v34 = v108; v35 = v106; v36 = v104; v37 = v102; v38 = v100; v39 = v98; v40 = v96; v41 = v94; v42 = v92; v43 = v90; v44 = v88; v45 = v87; v46 = v89; v47 = v91; v48 = v93; v49 = v95; v50 = v97; v51 = v99; v52 = v101; v53 = v103; v54 = v105; v55 = v107; v56 = v109; v57 = v111; v58 = v113; v59 = v115; v60 = v117; v61 = v119; v62 = v121; v63 = v123; v64 = v125; v65 = v127; v66 = 3014656; v67 = 0x2e00000000ull; v68 = 0x2e000000000000ull; v70 = 3014656; v71 = 0x2e00000000ull; v72 = 0x2e000000000000ull; v74 = 3014656; v75 = 0x2e00000000ull; v76 = 0x2e000000000000ull; v78 = 3014656; v79 = 0x2e00000000ull; v80 = 0x2e000000000000ull; v82 = 3014656; v83 = 0x2e00000000ull; v69 = v73 = v77 = v81 = 46; goto L0; }
+	u64 v128 = (u64)ld8(v4+41) << 8;
+	if (v5 <= 42) { v7 = 771751936; v8 = 11776; v9 = 0x2e00000000000000ull; v10 = 0x2e0000000000ull; v11 = 771751936; v12 = 11776; v13 = 0x2e00000000000000ull; v14 = 0x2e0000000000ull; v15 = 771751936; v16 = 11776; v17 = 0x2e00000000000000ull; v18 = 0x2e0000000000ull; v19 = 771751936; v20 = 11776; v21 = 0x2e00000000000000ull; v22 = 0x2e0000000000ull; v23 = 771751936; v24 = v128; v25 = v126; v26 = v124; v27 = v122; v28 = v120; v29 = v118; v30 = v116; v31 = v114; v32 = v112; v33 = v110; v34 = v108; v35 = v106; v36 = v104; v37 = v102; v38 = v100; v39 = v98; v40 = v96; v41 = v94; v42 = v92; v43 = v90; v44 = v88; v45 = v87; v46 = v89; v47 = v91; v48 = v93; v49 = v95; v50 = v97; v51 = v99; v52 = v101; v53 = v103; v54 = v105; v55 = v107; v56 = v109; v57 = v111; v58 = v113; v59 = v115; v60 = v117; v61 = v119; v62 = v121; v63 = v123; v64 = v125; v65 = v127; v66 = 3014656; v67 = 0x2e00000000ull; v68 = 0x2e000000000000ull; v70 = 3014656; v71 = 0x2e00000000ull; v72 = 0x2e000000000000ull; v74 = 3014656; v75 = 0x2e00000000ull; v76 = 0x2e000000000000ull; v78 = 3014656; v79 = 0x2e00000000ull; v80 = 0x2e000000000000ull; v82 = 3014656; v83 = 0x2e00000000ull; v69 = v73 = v77 = v81 = 46; goto L0; }
+	u64 v129 = (u64)ld8(v4+42) << 16;
+	if (v5 == 43) { v7 = 771751936; v8 = 11776; v9 = 0x2e00000000000000ull; v10 = 0x2e0000000000ull; v11 = 771751936; v12 = 11776; v13 = 0x2e00000000000000ull; v14 = 0x2e0000000000ull; v15 = 771751936; v16 = 11776; v17 = 0x2e00000000000000ull; v18 = 0x2e0000000000ull; v19 = 771751936; v20 = 11776; v21 = 0x2e00000000000000ull; v22 = 0x2e0000000000ull; v23 = 771751936; v24 = v128; v25 = v126; v26 = v124; v27 = v122; v28 = v120; v29 = v118; v30 = v116; v31 = v114; v32 = v112; v33 = v110; v34 = v108; v35 = v106; v36 = v104; v37 = v102; v38 = v100; v39 = v98; v40 = v96; v41 = v94; v42 = v92; v43 = v90; v44 = v88; v45 = v87; v46 = v89; v47 = v91; v48 = v93; v49 = v95; v50 = v97; v51 = v99; v52 = v101; v53 = v103; v54 = v105; v55 = v107; v56 = v109; v57 = v111; v58 = v113; v59 = v115; v60 = v117; v61 = v119; v62 = v121; v63 = v123; v64 = v125; v65 = v127; v66 = v129; v67 = 0x2e00000000ull; v68 = 0x2e000000000000ull; v70 = 3014656; v71 = 0x2e00000000ull; v72 = 0x2e000000000000ull; v74 = 3014656; v75 = 0x2e00000000ull; v76 = 0x2e000000000000ull; v78 = 3014656; v79 = 0x2e00000000ull; v80 = 0x2e000000000000ull; v82 = 3014656; v83 = 0x2e00000000ull; v69 = v73 = v77 = v81 = 46; goto L0; }
+	u64 v130 = (u64)ld8(v4+43) << 24;
+	if (v5 <= 44) { v7 = 771751936; v8 = 11776; v9 = 0x2e00000000000000ull; v10 = 0x2e0000000000ull; v11 = 771751936; v12 = 11776; v13 = 0x2e00000000000000ull; v14 = 0x2e0000000000ull; v15 = 771751936; v16 = 11776; v17 = 0x2e00000000000000ull; v18 = 0x2e0000000000ull; v19 = 771751936; v20 = 11776; v21 = 0x2e00000000000000ull; v22 = 0x2e0000000000ull; v23 = v130; v24 = v128; v25 = v126; v26 = v124; v27 = v122; v28 = v120; v29 = v118; v30 = v116; v31 = v114; v32 = v112; v33 = v110; v34 = v108; v35 = v106; v36 = v104; v37 = v102; v38 = v100; v39 = v98; v40 = v96; v41 = v94; v42 = v92; v43 = v90; v44 = v88; v45 = v87; v46 = v89; v47 = v91; v48 = v93; v49 = v95; v50 = v97; v51 = v99; v52 = v101; v53 = v103; v54 = v105; v55 = v107; v56 = v109; v57 = v111; v58 = v113; v59 = v115; v60 = v117; v61 = v119; v62 = v121; v63 = v123; v64 = v125; v65 = v127; v66 = v129; v67 = 0x2e00000000ull; v68 = 0x2e000000000000ull; v70 = 3014656; v71 = 0x2e00000000ull; v72 = 0x2e000000000000ull; v74 = 3014656; v75 = 0x2e00000000ull; v76 = 0x2e000000000000ull; v78 = 3014656; v79 = 0x2e00000000ull; v80 = 0x2e000000000000ull; v82 = 3014656; v83 = 0x2e00000000ull; v69 = v73 = v77 = v81 = 46; goto L0; }
+	u64 v131 = (u64)ld8(v4+44) << 32;
+	if (v5 == 45) { v7 = 771751936; v8 = 11776; v9 = 0x2e00000000000000ull; v10 = 0x2e0000000000ull; v11 = 771751936; v12 = 11776; v13 = 0x2e00000000000000ull; v14 = 0x2e0000000000ull; v15 = 771751936; v16 = 11776; v17 = 0x2e00000000000000ull; v18 = 0x2e0000000000ull; v19 = 771751936; v20 = 11776; v21 = 0x2e00000000000000ull; v22 = 0x2e0000000000ull; v23 = v130; v24 = v128; v25 = v126; v26 = v124; v27 = v122; v28 = v120; v29 = v118; v30 = v116; v31 = v114; v32 = v112; v33 = v110; v34 = v108; v35 = v106; v36 = v104; v37 = v102; v38 = v100; v39 = v98; v40 = v96; v41 = v94; v42 = v92; v43 = v90; v44 = v88; v45 = v87; v46 = v89; v47 = v91; v48 = v93; v49 = v95; v50 = v97; v51 = v99; v52 = v101; v53 = v103; v54 = v105; v55 = v107; v56 = v109; v57 = v111; v58 = v113; v59 = v115; v60 = v117; v61 = v119; v62 = v121; v63 = v123; v64 = v125; v65 = v127; v66 = v129; v67 = v131; v68 = 0x2e000000000000ull; v70 = 3014656; v71 = 0x2e00000000ull; v72 = 0x2e000000000000ull; v74 = 3014656; v75 = 0x2e00000000ull; v76 = 0x2e000000000000ull; v78 = 3014656; v79 = 0x2e00000000ull; v80 = 0x2e000000000000ull; v82 = 3014656; v83 = 0x2e00000000ull; v69 = v73 = v77 = v81 = 46; goto L0; }
+	u64 v132 = (u64)ld8(v4+45) << 40;
+	if (v5 <= 46) { v7 = 771751936; v8 = 11776; v9 = 0x2e00000000000000ull; v10 = 0x2e0000000000ull; v11 = 771751936; v12 = 11776; v13 = 0x2e00000000000000ull; v14 = 0x2e0000000000ull; v15 = 771751936; v16 = 11776; v17 = 0x2e00000000000000ull; v18 = 0x2e0000000000ull; v19 = 771751936; v20 = 11776; v21 = 0x2e00000000000000ull; v22 = v132; v23 = v130; v24 = v128; v25 = v126; v26 = v124; v27 = v122; v28 = v120; v29 = v118; v30 = v116; v31 = v114; v32 = v112; v33 = v110; v34 = v108; v35 = v106; v36 = v104; v37 = v102; v38 = v100; v39 = v98; v40 = v96; v41 = v94; v42 = v92; v43 = v90; v44 = v88; v45 = v87; v46 = v89; v47 = v91; v48 = v93; v49 = v95; v50 = v97; v51 = v99; v52 = v101; v53 = v103; v54 = v105; v55 = v107; v56 = v109; v57 = v111; v58 = v113; v59 = v115; v60 = v117; v61 = v119; v62 = v121; v63 = v123; v64 = v125; v65 = v127; v66 = v129; v67 = v131; v68 = 0x2e000000000000ull; v70 = 3014656; v71 = 0x2e00000000ull; v72 = 0x2e000000000000ull; v74 = 3014656; v75 = 0x2e00000000ull; v76 = 0x2e000000000000ull; v78 = 3014656; v79 = 0x2e00000000ull; v80 = 0x2e000000000000ull; v82 = 3014656; v83 = 0x2e00000000ull; v69 = v73 = v77 = v81 = 46; goto L0; }
+	u64 v133 = (u64)ld8(v4+46) << 48;
+	if (v5 == 47) { v7 = 771751936; v8 = 11776; v9 = 0x2e00000000000000ull; v10 = 0x2e0000000000ull; v11 = 771751936; v12 = 11776; v13 = 0x2e00000000000000ull; v14 = 0x2e0000000000ull; v15 = 771751936; v16 = 11776; v17 = 0x2e00000000000000ull; v18 = 0x2e0000000000ull; v19 = 771751936; v20 = 11776; v21 = 0x2e00000000000000ull; v22 = v132; v23 = v130; v24 = v128; v25 = v126; v26 = v124; v27 = v122; v28 = v120; v29 = v118; v30 = v116; v31 = v114; v32 = v112; v33 = v110; v34 = v108; v35 = v106; v36 = v104; v37 = v102; v38 = v100; v39 = v98; v40 = v96; v41 = v94; v42 = v92; v43 = v90; v44 = v88; v45 = v87; v46 = v89; v47 = v91; v48 = v93; v49 = v95; v50 = v97; v51 = v99; v52 = v101; v53 = v103; v54 = v105; v55 = v107; v56 = v109; v57 = v111; v58 = v113; v59 = v115; v60 = v117; v61 = v119; v62 = v121; v63 = v123; v64 = v125; v65 = v127; v66 = v129; v67 = v131; v68 = v133; v70 = 3014656; v71 = 0x2e00000000ull; v72 = 0x2e000000000000ull; v74 = 3014656; v75 = 0x2e00000000ull; v76 = 0x2e000000000000ull; v78 = 3014656; v79 = 0x2e00000000ull; v80 = 0x2e000000000000ull; v82 = 3014656; v83 = 0x2e00000000ull; v69 = v73 = v77 = v81 = 46; goto L0; }
+	u64 v134 = (u64)ld8(v4+47) << 56;
+	if (v5 <= 48) { v7 = 771751936; v8 = 11776; v9 = 0x2e00000000000000ull; v10 = 0x2e0000000000ull; v11 = 771751936; v12 = 11776; v13 = 0x2e00000000000000ull; v14 = 0x2e0000000000ull; v15 = 771751936; v16 = 11776; v17 = 0x2e00000000000000ull; v18 = 0x2e0000000000ull; v19 = 771751936; v20 = 11776; v21 = v134; v22 = v132; v23 = v130; v24 = v128; v25 = v126; v26 = v124; v27 = v122; v28 = v120; v29 = v118; v30 = v116; v31 = v114; v32 = v112; v33 = v110; v34 = v108; v35 = v106; v36 = v104; v37 = v102; v38 = v100; v39 = v98; v40 = v96; v41 = v94; v42 = v92; v43 = v90; v44 = v88; v45 = v87; v46 = v89; v47 = v91; v48 = v93; v49 = v95; v50 = v97; v51 = v99; v52 = v101; v53 = v103; v54 = v105; v55 = v107; v56 = v109; v57 = v111; v58 = v113; v59 = v115; v60 = v117; v61 = v119; v62 = v121; v63 = v123; v64 = v125; v65 = v127; v66 = v129; v67 = v131; v68 = v133; v70 = 3014656; v71 = 0x2e00000000ull; v72 = 0x2e000000000000ull; v74 = 3014656; v75 = 0x2e00000000ull; v76 = 0x2e000000000000ull; v78 = 3014656; v79 = 0x2e00000000ull; v80 = 0x2e000000000000ull; v82 = 3014656; v83 = 0x2e00000000ull; v69 = v73 = v77 = v81 = 46; goto L0; }
+	u8 v135 = ld8(v4+48);
+	if (v5 == 49) { v7 = 771751936; v8 = 11776; v9 = 0x2e00000000000000ull; v10 = 0x2e0000000000ull; v11 = 771751936; v12 = 11776; v13 = 0x2e00000000000000ull; v14 = 0x2e0000000000ull; v15 = 771751936; v16 = 11776; v17 = 0x2e00000000000000ull; v18 = 0x2e0000000000ull; v19 = 771751936; v20 = 11776; v21 = v134; v22 = v132; v23 = v130; v24 = v128; v25 = v126; v26 = v124; v27 = v122; v28 = v120; v29 = v118; v30 = v116; v31 = v114; v32 = v112; v33 = v110; v34 = v108; v35 = v106; v36 = v104; v37 = v102; v38 = v100; v39 = v98; v40 = v96; v41 = v94; v42 = v92; v43 = v90; v44 = v88; v45 = v87; v46 = v89; v47 = v91; v48 = v93; v49 = v95; v50 = v97; v51 = v99; v52 = v101; v53 = v103; v54 = v105; v55 = v107; v56 = v109; v57 = v111; v58 = v113; v59 = v115; v60 = v117; v61 = v119; v62 = v121; v63 = v123; v64 = v125; v65 = v127; v66 = v129; v67 = v131; v68 = v133; v69 = v135; v70 = 3014656; v71 = 0x2e00000000ull; v72 = 0x2e000000000000ull; v74 = 3014656; v75 = 0x2e00000000ull; v76 = 0x2e000000000000ull; v78 = 3014656; v79 = 0x2e00000000ull; v80 = 0x2e000000000000ull; v82 = 3014656; v83 = 0x2e00000000ull; v73 = v77 = v81 = 46; goto L0; }
+	u64 v136 = (u64)ld8(v4+49) << 8;
+	if (v5 <= 50) { v7 = 771751936; v8 = 11776; v9 = 0x2e00000000000000ull; v10 = 0x2e0000000000ull; v11 = 771751936; v12 = 11776; v13 = 0x2e00000000000000ull; v14 = 0x2e0000000000ull; v15 = 771751936; v16 = 11776; v17 = 0x2e00000000000000ull; v18 = 0x2e0000000000ull; v19 = 771751936; v20 = v136; v21 = v134; v22 = v132; v23 = v130; v24 = v128; v25 = v126; v26 = v124; v27 = v122; v28 = v120; v29 = v118; v30 = v116; v31 = v114; v32 = v112; v33 = v110; v34 = v108; v35 = v106; v36 = v104; v37 = v102; v38 = v100; v39 = v98; v40 = v96; v41 = v94; v42 = v92; v43 = v90; v44 = v88; v45 = v87; v46 = v89; v47 = v91; v48 = v93; v49 = v95; v50 = v97; v51 = v99; v52 = v101; v53 = v103; v54 = v105; v55 = v107; v56 = v109; v57 = v111; v58 = v113; v59 = v115; v60 = v117; v61 = v119; v62 = v121; v63 = v123; v64 = v125; v65 = v127; v66 = v129; v67 = v131; v68 = v133; v69 = v135; v70 = 3014656; v71 = 0x2e00000000ull; v72 = 0x2e000000000000ull; v74 = 3014656; v75 = 0x2e00000000ull; v76 = 0x2e000000000000ull; v78 = 3014656; v79 = 0x2e00000000ull; v80 = 0x2e000000000000ull; v82 = 3014656; v83 = 0x2e00000000ull; v73 = v77 = v81 = 46; goto L0; }
+	u64 v137 = (u64)ld8(v4+50) << 16;
+	if (v5 == 51) { v7 = 771751936; v8 = 11776; v9 = 0x2e00000000000000ull; v10 = 0x2e0000000000ull; v11 = 771751936; v12 = 11776; v13 = 0x2e00000000000000ull; v14 = 0x2e0000000000ull; v15 = 771751936; v16 = 11776; v17 = 0x2e00000000000000ull; v18 = 0x2e0000000000ull; v19 = 771751936; v20 = v136; v21 = v134; v22 = v132; v23 = v130; v24 = v128; v25 = v126; v26 = v124; v27 = v122; v28 = v120; v29 = v118; v30 = v116; v31 = v114; v32 = v112; v33 = v110; v34 = v108; v35 = v106; v36 = v104; v37 = v102; v38 = v100; v39 = v98; v40 = v96; v41 = v94; v42 = v92; v43 = v90; v44 = v88; v45 = v87; v46 = v89; v47 = v91; v48 = v93; v49 = v95; v50 = v97; v51 = v99; v52 = v101; v53 = v103; v54 = v105; v55 = v107; v56 = v109; v57 = v111; v58 = v113; v59 = v115; v60 = v117; v61 = v119; v62 = v121; v63 = v123; v64 = v125; v65 = v127; v66 = v129; v67 = v131; v68 = v133; v69 = v135; v70 = v137; v71 = 0x2e00000000ull; v72 = 0x2e000000000000ull; v74 = 3014656; v75 = 0x2e00000000ull; v76 = 0x2e000000000000ull; v78 = 3014656; v79 = 0x2e00000000ull; v80 = 0x2e000000000000ull; v82 = 3014656; v83 = 0x2e00000000ull; v73 = v77 = v81 = 46; goto L0; }
+	u64 v138 = (u64)ld8(v4+51) << 24;
+	if (v5 <= 52) { v7 = 771751936; v8 = 11776; v9 = 0x2e00000000000000ull; v10 = 0x2e0000000000ull; v11 = 771751936; v12 = 11776; v13 = 0x2e00000000000000ull; v14 = 0x2e0000000000ull; v15 = 771751936; v16 = 11776; v17 = 0x2e00000000000000ull; v18 = 0x2e0000000000ull; v19 = v138; v20 = v136; v21 = v134; v22 = v132; v23 = v130; v24 = v128; v25 = v126; v26 = v124; v27 = v122; v28 = v120; v29 = v118; v30 = v116; v31 = v114; v32 = v112; v33 = v110; v34 = v108; v35 = v106; v36 = v104; v37 = v102; v38 = v100; v39 = v98; v40 = v96; v41 = v94; v42 = v92; v43 = v90; v44 = v88; v45 = v87; v46 = v89; v47 = v91; v48 = v93; v49 = v95; v50 = v97; v51 = v99; v52 = v101; v53 = v103; v54 = v105; v55 = v107; v56 = v109; v57 = v111; v58 = v113; v59 = v115; v60 = v117; v61 = v119; v62 = v121; v63 = v123; v64 = v125; v65 = v127; v66 = v129; v67 = v131; v68 = v133; v69 = v135; v70 = v137; v71 = 0x2e00000000ull; v72 = 0x2e000000000000ull; v74 = 3014656; v75 = 0x2e00000000ull; v76 = 0x2e000000000000ull; v78 = 3014656; v79 = 0x2e00000000ull; v80 = 0x2e000000000000ull; v82 = 3014656; v83 = 0x2e00000000ull; v73 = v77 = v81 = 46; goto L0; }
+	u64 v139 = (u64)ld8(v4+52) << 32;
+	if (v5 == 53) { v7 = 771751936; v8 = 11776; v9 = 0x2e00000000000000ull; v10 = 0x2e0000000000ull; v11 = 771751936; v12 = 11776; v13 = 0x2e00000000000000ull; v14 = 0x2e0000000000ull; v15 = 771751936; v16 = 11776; v17 = 0x2e00000000000000ull; v18 = 0x2e0000000000ull; v19 = v138; v20 = v136; v21 = v134; v22 = v132; v23 = v130; v24 = v128; v25 = v126; v26 = v124; v27 = v122; v28 = v120; v29 = v118; v30 = v116; v31 = v114; v32 = v112; v33 = v110; v34 = v108; v35 = v106; v36 = v104; v37 = v102; v38 = v100; v39 = v98; v40 = v96; v41 = v94; v42 = v92; v43 = v90; v44 = v88; v45 = v87; v46 = v89; v47 = v91; v48 = v93; v49 = v95; v50 = v97; v51 = v99; v52 = v101; v53 = v103; v54 = v105; v55 = v107; v56 = v109; v57 = v111; v58 = v113; v59 = v115; v60 = v117; v61 = v119; v62 = v121; v63 = v123; v64 = v125; v65 = v127; v66 = v129; v67 = v131; v68 = v133; v69 = v135; v70 = v137; v71 = v139; v72 = 0x2e000000000000ull; v74 = 3014656; v75 = 0x2e00000000ull; v76 = 0x2e000000000000ull; v78 = 3014656; v79 = 0x2e00000000ull; v80 = 0x2e000000000000ull; v82 = 3014656; v83 = 0x2e00000000ull; v73 = v77 = v81 = 46; goto L0; }
+	u64 v140 = (u64)ld8(v4+53) << 40;
+	if (v5 <= 54) { v7 = 771751936; v8 = 11776; v9 = 0x2e00000000000000ull; v10 = 0x2e0000000000ull; v11 = 771751936; v12 = 11776; v13 = 0x2e00000000000000ull; v14 = 0x2e0000000000ull; v15 = 771751936; v16 = 11776; v17 = 0x2e00000000000000ull; v18 = v140; v19 = v138; v20 = v136; v21 = v134; v22 = v132; v23 = v130; v24 = v128; v25 = v126; v26 = v124; v27 = v122; v28 = v120; v29 = v118; v30 = v116; v31 = v114; v32 = v112; v33 = v110; v34 = v108; v35 = v106; v36 = v104; v37 = v102; v38 = v100; v39 = v98; v40 = v96; v41 = v94; v42 = v92; v43 = v90; v44 = v88; v45 = v87; v46 = v89; v47 = v91; v48 = v93; v49 = v95; v50 = v97; v51 = v99; v52 = v101; v53 = v103; v54 = v105; v55 = v107; v56 = v109; v57 = v111; v58 = v113; v59 = v115; v60 = v117; v61 = v119; v62 = v121; v63 = v123; v64 = v125; v65 = v127; v66 = v129; v67 = v131; v68 = v133; v69 = v135; v70 = v137; v71 = v139; v72 = 0x2e000000000000ull; v74 = 3014656; v75 = 0x2e00000000ull; v76 = 0x2e000000000000ull; v78 = 3014656; v79 = 0x2e00000000ull; v80 = 0x2e000000000000ull; v82 = 3014656; v83 = 0x2e00000000ull; v73 = v77 = v81 = 46; goto L0; }
+	u64 v141 = (u64)ld8(v4+54) << 48;
+	if (v5 == 55) { v7 = 771751936; v8 = 11776; v9 = 0x2e00000000000000ull; v10 = 0x2e0000000000ull; v11 = 771751936; v12 = 11776; v13 = 0x2e00000000000000ull; v14 = 0x2e0000000000ull; v15 = 771751936; v16 = 11776; v17 = 0x2e00000000000000ull; v18 = v140; v19 = v138; v20 = v136; v21 = v134; v22 = v132; v23 = v130; v24 = v128; v25 = v126; v26 = v124; v27 = v122; v28 = v120; v29 = v118; v30 = v116; v31 = v114; v32 = v112; v33 = v110; v34 = v108; v35 = v106; v36 = v104; v37 = v102; v38 = v100; v39 = v98; v40 = v96; v41 = v94; v42 = v92; v43 = v90; v44 = v88; v45 = v87; v46 = v89; v47 = v91; v48 = v93; v49 = v95; v50 = v97; v51 = v99; v52 = v101; v53 = v103; v54 = v105; v55 = v107; v56 = v109; v57 = v111; v58 = v113; v59 = v115; v60 = v117; v61 = v119; v62 = v121; v63 = v123; v64 = v125; v65 = v127; v66 = v129; v67 = v131; v68 = v133; v69 = v135; v70 = v137; v71 = v139; v72 = v141; v74 = 3014656; v75 = 0x2e00000000ull; v76 = 0x2e000000000000ull; v78 = 3014656; v79 = 0x2e00000000ull; v80 = 0x2e000000000000ull; v82 = 3014656; v83 = 0x2e00000000ull; v73 = v77 = v81 = 46; goto L0; }
+	u64 v142 = (u64)ld8(v4+55) << 56;
+	if (v5 <= 56) { v7 = 771751936; v8 = 11776; v9 = 0x2e00000000000000ull; v10 = 0x2e0000000000ull; v11 = 771751936; v12 = 11776; v13 = 0x2e00000000000000ull; v14 = 0x2e0000000000ull; v15 = 771751936; v16 = 11776; v17 = v142; v18 = v140; v19 = v138; v20 = v136; v21 = v134; v22 = v132; v23 = v130; v24 = v128; v25 = v126; v26 = v124; v27 = v122; v28 = v120; v29 = v118; v30 = v116; v31 = v114; v32 = v112; v33 = v110; v34 = v108; v35 = v106; v36 = v104; v37 = v102; v38 = v100; v39 = v98; v40 = v96; v41 = v94; v42 = v92; v43 = v90; v44 = v88; v45 = v87; v46 = v89; v47 = v91; v48 = v93; v49 = v95; v50 = v97; v51 = v99; v52 = v101; v53 = v103; v54 = v105; v55 = v107; v56 = v109; v57 = v111; v58 = v113; v59 = v115; v60 = v117; v61 = v119; v62 = v121; v63 = v123; v64 = v125; v65 = v127; v66 = v129; v67 = v131; v68 = v133; v69 = v135; v70 = v137; v71 = v139; v72 = v141; v74 = 3014656; v75 = 0x2e00000000ull; v76 = 0x2e000000000000ull; v78 = 3014656; v79 = 0x2e00000000ull; v80 = 0x2e000000000000ull; v82 = 3014656; v83 = 0x2e00000000ull; v73 = v77 = v81 = 46; goto L0; }
+	u8 v143 = ld8(v4+56);
+	if (v5 == 57) { v7 = 771751936; v8 = 11776; v9 = 0x2e00000000000000ull; v10 = 0x2e0000000000ull; v11 = 771751936; v12 = 11776; v13 = 0x2e00000000000000ull; v14 = 0x2e0000000000ull; v15 = 771751936; v16 = 11776; v17 = v142; v18 = v140; v19 = v138; v20 = v136; v21 = v134; v22 = v132; v23 = v130; v24 = v128; v25 = v126; v26 = v124; v27 = v122; v28 = v120; v29 = v118; v30 = v116; v31 = v114; v32 = v112; v33 = v110; v34 = v108; v35 = v106; v36 = v104; v37 = v102; v38 = v100; v39 = v98; v40 = v96; v41 = v94; v42 = v92; v43 = v90; v44 = v88; v45 = v87; v46 = v89; v47 = v91; v48 = v93; v49 = v95; v50 = v97; v51 = v99; v52 = v101; v53 = v103; v54 = v105; v55 = v107; v56 = v109; v57 = v111; v58 = v113; v59 = v115; v60 = v117; v61 = v119; v62 = v121; v63 = v123; v64 = v125; v65 = v127; v66 = v129; v67 = v131; v68 = v133; v69 = v135; v70 = v137; v71 = v139; v72 = v141; v73 = v143; v74 = 3014656; v75 = 0x2e00000000ull; v76 = 0x2e000000000000ull; v78 = 3014656; v79 = 0x2e00000000ull; v80 = 0x2e000000000000ull; v82 = 3014656; v83 = 0x2e00000000ull; v77 = v81 = 46; goto L0; }
+	u64 v144 = (u64)ld8(v4+57) << 8;
+	if (v5 <= 58) { v7 = 771751936; v8 = 11776; v9 = 0x2e00000000000000ull; v10 = 0x2e0000000000ull; v11 = 771751936; v12 = 11776; v13 = 0x2e00000000000000ull; v14 = 0x2e0000000000ull; v15 = 771751936; v16 = v144; v17 = v142; v18 = v140; v19 = v138; v20 = v136; v21 = v134; v22 = v132; v23 = v130; v24 = v128; v25 = v126; v26 = v124; v27 = v122; v28 = v120; v29 = v118; v30 = v116; v31 = v114; v32 = v112; v33 = v110; v34 = v108; v35 = v106; v36 = v104; v37 = v102; v38 = v100; v39 = v98; v40 = v96; v41 = v94; v42 = v92; v43 = v90; v44 = v88; v45 = v87; v46 = v89; v47 = v91; v48 = v93; v49 = v95; v50 = v97; v51 = v99; v52 = v101; v53 = v103; v54 = v105; v55 = v107; v56 = v109; v57 = v111; v58 = v113; v59 = v115; v60 = v117; v61 = v119; v62 = v121; v63 = v123; v64 = v125; v65 = v127; v66 = v129; v67 = v131; v68 = v133; v69 = v135; v70 = v137; v71 = v139; v72 = v141; v73 = v143; v74 = 3014656; v75 = 0x2e00000000ull; v76 = 0x2e000000000000ull; v78 = 3014656; v79 = 0x2e00000000ull; v80 = 0x2e000000000000ull; v82 = 3014656; v83 = 0x2e00000000ull; v77 = v81 = 46; goto L0; }
+	u64 v145 = (u64)ld8(v4+58) << 16;
+	if (v5 == 59) { v7 = 771751936; v8 = 11776; v9 = 0x2e00000000000000ull; v10 = 0x2e0000000000ull; v11 = 771751936; v12 = 11776; v13 = 0x2e00000000000000ull; v14 = 0x2e0000000000ull; v15 = 771751936; v16 = v144; v17 = v142; v18 = v140; v19 = v138; v20 = v136; v21 = v134; v22 = v132; v23 = v130; v24 = v128; v25 = v126; v26 = v124; v27 = v122; v28 = v120; v29 = v118; v30 = v116; v31 = v114; v32 = v112; v33 = v110; v34 = v108; v35 = v106; v36 = v104; v37 = v102; v38 = v100; v39 = v98; v40 = v96; v41 = v94; v42 = v92; v43 = v90; v44 = v88; v45 = v87; v46 = v89; v47 = v91; v48 = v93; v49 = v95; v50 = v97; v51 = v99; v52 = v101; v53 = v103; v54 = v105; v55 = v107; v56 = v109; v57 = v111; v58 = v113; v59 = v115; v60 = v117; v61 = v119; v62 = v121; v63 = v123; v64 = v125; v65 = v127; v66 = v129; v67 = v131; v68 = v133; v69 = v135; v70 = v137; v71 = v139; v72 = v141; v73 = v143; v74 = v145; v75 = 0x2e00000000ull; v76 = 0x2e000000000000ull; v78 = 3014656; v79 = 0x2e00000000ull; v80 = 0x2e000000000000ull; v82 = 3014656; v83 = 0x2e00000000ull; v77 = v81 = 46; goto L0; }
+	u64 v146 = (u64)ld8(v4+59) << 24;
+	if (v5 <= 60) { v7 = 771751936; v8 = 11776; v9 = 0x2e00000000000000ull; v10 = 0x2e0000000000ull; v11 = 771751936; v12 = 11776; v13 = 0x2e00000000000000ull; v14 = 0x2e0000000000ull; v15 = v146; v16 = v144; v17 = v142; v18 = v140; v19 = v138; v20 = v136; v21 = v134; v22 = v132; v23 = v130; v24 = v128; v25 = v126; v26 = v124; v27 = v122; v28 = v120; v29 = v118; v30 = v116; v31 = v114; v32 = v112; v33 = v110; v34 = v108; v35 = v106; v36 = v104; v37 = v102; v38 = v100; v39 = v98; v40 = v96; v41 = v94; v42 = v92; v43 = v90; v44 = v88; v45 = v87; v46 = v89; v47 = v91; v48 = v93; v49 = v95; v50 = v97; v51 = v99; v52 = v101; v53 = v103; v54 = v105; v55 = v107; v56 = v109; v57 = v111; v58 = v113; v59 = v115; v60 = v117; v61 = v119; v62 = v121; v63 = v123; v64 = v125; v65 = v127; v66 = v129; v67 = v131; v68 = v133; v69 = v135; v70 = v137; v71 = v139; v72 = v141; v73 = v143; v74 = v145; v75 = 0x2e00000000ull; v76 = 0x2e000000000000ull; v78 = 3014656; v79 = 0x2e00000000ull; v80 = 0x2e000000000000ull; v82 = 3014656; v83 = 0x2e00000000ull; v77 = v81 = 46; goto L0; }
+	u64 v147 = (u64)ld8(v4+60) << 32;
+	if (v5 == 61) { v7 = 771751936; v8 = 11776; v9 = 0x2e00000000000000ull; v10 = 0x2e0000000000ull; v11 = 771751936; v12 = 11776; v13 = 0x2e00000000000000ull; v14 = 0x2e0000000000ull; v15 = v146; v16 = v144; v17 = v142; v18 = v140; v19 = v138; v20 = v136; v21 = v134; v22 = v132; v23 = v130; v24 = v128; v25 = v126; v26 = v124; v27 = v122; v28 = v120; v29 = v118; v30 = v116; v31 = v114; v32 = v112; v33 = v110; v34 = v108; v35 = v106; v36 = v104; v37 = v102; v38 = v100; v39 = v98; v40 = v96; v41 = v94; v42 = v92; v43 = v90; v44 = v88; v45 = v87; v46 = v89; v47 = v91; v48 = v93; v49 = v95; v50 = v97; v51 = v99; v52 = v101; v53 = v103; v54 = v105; v55 = v107; v56 = v109; v57 = v111; v58 = v113; v59 = v115; v60 = v117; v61 = v119; v62 = v121; v63 = v123; v64 = v125; v65 = v127; v66 = v129; v67 = v131; v68 = v133; v69 = v135; v70 = v137; v71 = v139; v72 = v141; v73 = v143; v74 = v145; v75 = v147; v76 = 0x2e000000000000ull; v78 = 3014656; v79 = 0x2e00000000ull; v80 = 0x2e000000000000ull; v82 = 3014656; v83 = 0x2e00000000ull; v77 = v81 = 46; goto L0; }
+	u64 v148 = (u64)ld8(v4+61) << 40;
+	if (v5 <= 62) { v7 = 771751936; v8 = 11776; v9 = 0x2e00000000000000ull; v10 = 0x2e0000000000ull; v11 = 771751936; v12 = 11776; v13 = 0x2e00000000000000ull; v14 = v148; v15 = v146; v16 = v144; v17 = v142; v18 = v140; v19 = v138; v20 = v136; v21 = v134; v22 = v132; v23 = v130; v24 = v128; v25 = v126; v26 = v124; v27 = v122; v28 = v120; v29 = v118; v30 = v116; v31 = v114; v32 = v112; v33 = v110; v34 = v108; v35 = v106; v36 = v104; v37 = v102; v38 = v100; v39 = v98; v40 = v96; v41 = v94; v42 = v92; v43 = v90; v44 = v88; v45 = v87; v46 = v89; v47 = v91; v48 = v93; v49 = v95; v50 = v97; v51 = v99; v52 = v101; v53 = v103; v54 = v105; v55 = v107; v56 = v109; v57 = v111; v58 = v113; v59 = v115; v60 = v117; v61 = v119; v62 = v121; v63 = v123; v64 = v125; v65 = v127; v66 = v129; v67 = v131; v68 = v133; v69 = v135; v70 = v137; v71 = v139; v72 = v141; v73 = v143; v74 = v145; v75 = v147; v76 = 0x2e000000000000ull; v78 = 3014656; v79 = 0x2e00000000ull; v80 = 0x2e000000000000ull; v82 = 3014656; v83 = 0x2e00000000ull; v77 = v81 = 46; goto L0; }
+	u64 v149 = (u64)ld8(v4+62) << 48;
+	if (v5 == 63) { v7 = 771751936; v8 = 11776; v9 = 0x2e00000000000000ull; v10 = 0x2e0000000000ull; v11 = 771751936; v12 = 11776; v13 = 0x2e00000000000000ull; v14 = v148; v15 = v146; v16 = v144; v17 = v142; v18 = v140; v19 = v138; v20 = v136; v21 = v134; v22 = v132; v23 = v130; v24 = v128; v25 = v126; v26 = v124; v27 = v122; v28 = v120; v29 = v118; v30 = v116; v31 = v114; v32 = v112; v33 = v110; v34 = v108; v35 = v106; v36 = v104; v37 = v102; v38 = v100; v39 = v98; v40 = v96; v41 = v94; v42 = v92; v43 = v90; v44 = v88; v45 = v87; v46 = v89; v47 = v91; v48 = v93; v49 = v95; v50 = v97; v51 = v99; v52 = v101; v53 = v103; v54 = v105; v55 = v107; v56 = v109; v57 = v111; v58 = v113; v59 = v115; v60 = v117; v61 = v119; v62 = v121; v63 = v123; v64 = v125; v65 = v127; v66 = v129; v67 = v131; v68 = v133; v69 = v135; v70 = v137; v71 = v139; v72 = v141; v73 = v143; v74 = v145; v75 = v147; v76 = v149; v78 = 3014656; v79 = 0x2e00000000ull; v80 = 0x2e000000000000ull; v82 = 3014656; v83 = 0x2e00000000ull; v77 = v81 = 46; goto L0; }
+	u64 v150 = (u64)ld8(v4+63) << 56;
+	if (v5 <= 64) { v7 = 771751936; v8 = 11776; v9 = 0x2e00000000000000ull; v10 = 0x2e0000000000ull; v11 = 771751936; v12 = 11776; v13 = v150; v14 = v148; v15 = v146; v16 = v144; v17 = v142; v18 = v140; v19 = v138; v20 = v136; v21 = v134; v22 = v132; v23 = v130; v24 = v128; v25 = v126; v26 = v124; v27 = v122; v28 = v120; v29 = v118; v30 = v116; v31 = v114; v32 = v112; v33 = v110; v34 = v108; v35 = v106; v36 = v104; v37 = v102; v38 = v100; v39 = v98; v40 = v96; v41 = v94; v42 = v92; v43 = v90; v44 = v88; v45 = v87; v46 = v89; v47 = v91; v48 = v93; v49 = v95; v50 = v97; v51 = v99; v52 = v101; v53 = v103; v54 = v105; v55 = v107; v56 = v109; v57 = v111; v58 = v113; v59 = v115; v60 = v117; v61 = v119; v62 = v121; v63 = v123; v64 = v125; v65 = v127; v66 = v129; v67 = v131; v68 = v133; v69 = v135; v70 = v137; v71 = v139; v72 = v141; v73 = v143; v74 = v145; v75 = v147; v76 = v149; v78 = 3014656; v79 = 0x2e00000000ull; v80 = 0x2e000000000000ull; v82 = 3014656; v83 = 0x2e00000000ull; v77 = v81 = 46; goto L0; }
+	u8 v151 = ld8(v4+64);
+	if (v5 == 65) { v7 = 771751936; v8 = 11776; v9 = 0x2e00000000000000ull; v10 = 0x2e0000000000ull; v11 = 771751936; v12 = 11776; v13 = v150; v14 = v148; v15 = v146; v16 = v144; v17 = v142; v18 = v140; v19 = v138; v20 = v136; v21 = v134; v22 = v132; v23 = v130; v24 = v128; v25 = v126; v26 = v124; v27 = v122; v28 = v120; v29 = v118; v30 = v116; v31 = v114; v32 = v112; v33 = v110; v34 = v108; v35 = v106; v36 = v104; v37 = v102; v38 = v100; v39 = v98; v40 = v96; v41 = v94; v42 = v92; v43 = v90; v44 = v88; v45 = v87; v46 = v89; v47 = v91; v48 = v93; v49 = v95; v50 = v97; v51 = v99; v52 = v101; v53 = v103; v54 = v105; v55 = v107; v56 = v109; v57 = v111; v58 = v113; v59 = v115; v60 = v117; v61 = v119; v62 = v121; v63 = v123; v64 = v125; v65 = v127; v66 = v129; v67 = v131; v68 = v133; v69 = v135; v70 = v137; v71 = v139; v72 = v141; v73 = v143; v74 = v145; v75 = v147; v76 = v149; v77 = v151; v78 = 3014656; v79 = 0x2e00000000ull; v80 = 0x2e000000000000ull; v82 = 3014656; v83 = 0x2e00000000ull; v81 = 46; goto L0; }
+	u64 v152 = (u64)ld8(v4+65) << 8;
+	if (v5 <= 66) { v7 = 771751936; v8 = 11776; v9 = 0x2e00000000000000ull; v10 = 0x2e0000000000ull; v11 = 771751936; v12 = v152; v13 = v150; v14 = v148; v15 = v146; v16 = v144; v17 = v142; v18 = v140; v19 = v138; v20 = v136; v21 = v134; v22 = v132; v23 = v130; v24 = v128; v25 = v126; v26 = v124; v27 = v122; v28 = v120; v29 = v118; v30 = v116; v31 = v114; v32 = v112; v33 = v110; v34 = v108; v35 = v106; v36 = v104; v37 = v102; v38 = v100; v39 = v98; v40 = v96; v41 = v94; v42 = v92; v43 = v90; v44 = v88; v45 = v87; v46 = v89; v47 = v91; v48 = v93; v49 = v95; v50 = v97; v51 = v99; v52 = v101; v53 = v103; v54 = v105; v55 = v107; v56 = v109; v57 = v111; v58 = v113; v59 = v115; v60 = v117; v61 = v119; v62 = v121; v63 = v123; v64 = v125; v65 = v127; v66 = v129; v67 = v131; v68 = v133; v69 = v135; v70 = v137; v71 = v139; v72 = v141; v73 = v143; v74 = v145; v75 = v147; v76 = v149; v77 = v151; v78 = 3014656; v79 = 0x2e00000000ull; v80 = 0x2e000000000000ull; v82 = 3014656; v83 = 0x2e00000000ull; v81 = 46; goto L0; }
+	u64 v153 = (u64)ld8(v4+66) << 16;
+	if (v5 == 67) { v7 = 771751936; v8 = 11776; v9 = 0x2e00000000000000ull; v10 = 0x2e0000000000ull; v11 = 771751936; v12 = v152; v13 = v150; v14 = v148; v15 = v146; v16 = v144; v17 = v142; v18 = v140; v19 = v138; v20 = v136; v21 = v134; v22 = v132; v23 = v130; v24 = v128; v25 = v126; v26 = v124; v27 = v122; v28 = v120; v29 = v118; v30 = v116; v31 = v114; v32 = v112; v33 = v110; v34 = v108; v35 = v106; v36 = v104; v37 = v102; v38 = v100; v39 = v98; v40 = v96; v41 = v94; v42 = v92; v43 = v90; v44 = v88; v45 = v87; v46 = v89; v47 = v91; v48 = v93; v49 = v95; v50 = v97; v51 = v99; v52 = v101; v53 = v103; v54 = v105; v55 = v107; v56 = v109; v57 = v111; v58 = v113; v59 = v115; v60 = v117; v61 = v119; v62 = v121; v63 = v123; v64 = v125; v65 = v127; v66 = v129; v67 = v131; v68 = v133; v69 = v135; v70 = v137; v71 = v139; v72 = v141; v73 = v143; v74 = v145; v75 = v147; v76 = v149; v77 = v151; v78 = v153; v79 = 0x2e00000000ull; v80 = 0x2e000000000000ull; v82 = 3014656; v83 = 0x2e00000000ull; v81 = 46; goto L0; }
+	u64 v154 = (u64)ld8(v4+67) << 24;
+	if (v5 <= 68) { v7 = 771751936; v8 = 11776; v9 = 0x2e00000000000000ull; v10 = 0x2e0000000000ull; v11 = v154; v12 = v152; v13 = v150; v14 = v148; v15 = v146; v16 = v144; v17 = v142; v18 = v140; v19 = v138; v20 = v136; v21 = v134; v22 = v132; v23 = v130; v24 = v128; v25 = v126; v26 = v124; v27 = v122; v28 = v120; v29 = v118; v30 = v116; v31 = v114; v32 = v112; v33 = v110; v34 = v108; v35 = v106; v36 = v104; v37 = v102; v38 = v100; v39 = v98; v40 = v96; v41 = v94; v42 = v92; v43 = v90; v44 = v88; v45 = v87; v46 = v89; v47 = v91; v48 = v93; v49 = v95; v50 = v97; v51 = v99; v52 = v101; v53 = v103; v54 = v105; v55 = v107; v56 = v109; v57 = v111; v58 = v113; v59 = v115; v60 = v117; v61 = v119; v62 = v121; v63 = v123; v64 = v125; v65 = v127; v66 = v129; v67 = v131; v68 = v133; v69 = v135; v70 = v137; v71 = v139; v72 = v141; v73 = v143; v74 = v145; v75 = v147; v76 = v149; v77 = v151; v78 = v153; v79 = 0x2e00000000ull; v80 = 0x2e000000000000ull; v82 = 3014656; v83 = 0x2e00000000ull; v81 = 46; goto L0; }
+	u64 v155 = (u64)ld8(v4+68) << 32;
+	if (v5 == 69) { v7 = 771751936; v8 = 11776; v9 = 0x2e00000000000000ull; v10 = 0x2e0000000000ull; v11 = v154; v12 = v152; v13 = v150; v14 = v148; v15 = v146; v16 = v144; v17 = v142; v18 = v140; v19 = v138; v20 = v136; v21 = v134; v22 = v132; v23 = v130; v24 = v128; v25 = v126; v26 = v124; v27 = v122; v28 = v120; v29 = v118; v30 = v116; v31 = v114; v32 = v112; v33 = v110; v34 = v108; v35 = v106; v36 = v104; v37 = v102; v38 = v100; v39 = v98; v40 = v96; v41 = v94; v42 = v92; v43 = v90; v44 = v88; v45 = v87; v46 = v89; v47 = v91; v48 = v93; v49 = v95; v50 = v97; v51 = v99; v52 = v101; v53 = v103; v54 = v105; v55 = v107; v56 = v109; v57 = v111; v58 = v113; v59 = v115; v60 = v117; v61 = v119; v62 = v121; v63 = v123; v64 = v125; v65 = v127; v66 = v129; v67 = v131; v68 = v133; v69 = v135; v70 = v137; v71 = v139; v72 = v141; v73 = v143; v74 = v145; v75 = v147; v76 = v149; v77 = v151; v78 = v153; v79 = v155; v80 = 0x2e000000000000ull; v82 = 3014656; v83 = 0x2e00000000ull; v81 = 46; goto L0; }
+	u64 v156 = (u64)ld8(v4+69) << 40;
+	if (v5 <= 70) { v7 = 771751936; v8 = 11776; v9 = 0x2e00000000000000ull; v10 = v156; v11 = v154; v12 = v152; v13 = v150; v14 = v148; v15 = v146; v16 = v144; v17 = v142; v18 = v140; v19 = v138; v20 = v136; v21 = v134; v22 = v132; v23 = v130; v24 = v128; v25 = v126; v26 = v124; v27 = v122; v28 = v120; v29 = v118; v30 = v116; v31 = v114; v32 = v112; v33 = v110; v34 = v108; v35 = v106; v36 = v104; v37 = v102; v38 = v100; v39 = v98; v40 = v96; v41 = v94; v42 = v92; v43 = v90; v44 = v88; v45 = v87; v46 = v89; v47 = v91; v48 = v93; v49 = v95; v50 = v97; v51 = v99; v52 = v101; v53 = v103; v54 = v105; v55 = v107; v56 = v109; v57 = v111; v58 = v113; v59 = v115; v60 = v117; v61 = v119; v62 = v121; v63 = v123; v64 = v125; v65 = v127; v66 = v129; v67 = v131; v68 = v133; v69 = v135; v70 = v137; v71 = v139; v72 = v141; v73 = v143; v74 = v145; v75 = v147; v76 = v149; v77 = v151; v78 = v153; v79 = v155; v80 = 0x2e000000000000ull; v82 = 3014656; v83 = 0x2e00000000ull; v81 = 46; goto L0; }
+	u64 v157 = (u64)ld8(v4+70) << 48;
+	if (v5 == 71) { v7 = 771751936; v8 = 11776; v9 = 0x2e00000000000000ull; v10 = v156; v11 = v154; v12 = v152; v13 = v150; v14 = v148; v15 = v146; v16 = v144; v17 = v142; v18 = v140; v19 = v138; v20 = v136; v21 = v134; v22 = v132; v23 = v130; v24 = v128; v25 = v126; v26 = v124; v27 = v122; v28 = v120; v29 = v118; v30 = v116; v31 = v114; v32 = v112; v33 = v110; v34 = v108; v35 = v106; v36 = v104; v37 = v102; v38 = v100; v39 = v98; v40 = v96; v41 = v94; v42 = v92; v43 = v90; v44 = v88; v45 = v87; v46 = v89; v47 = v91; v48 = v93; v49 = v95; v50 = v97; v51 = v99; v52 = v101; v53 = v103; v54 = v105; v55 = v107; v56 = v109; v57 = v111; v58 = v113; v59 = v115; v60 = v117; v61 = v119; v62 = v121; v63 = v123; v64 = v125; v65 = v127; v66 = v129; v67 = v131; v68 = v133; v69 = v135; v70 = v137; v71 = v139; v72 = v141; v73 = v143; v74 = v145; v75 = v147; v76 = v149; v77 = v151; v78 = v153; v79 = v155; v80 = v157; v82 = 3014656; v83 = 0x2e00000000ull; v81 = 46; goto L0; }
+	u64 v158 = (u64)ld8(v4+71) << 56;
+	if (v5 <= 72) { v7 = 771751936; v8 = 11776; v9 = v158; v10 = v156; v11 = v154; v12 = v152; v13 = v150; v14 = v148; v15 = v146; v16 = v144; v17 = v142; v18 = v140; v19 = v138; v20 = v136; v21 = v134; v22 = v132; v23 = v130; v24 = v128; v25 = v126; v26 = v124; v27 = v122; v28 = v120; v29 = v118; v30 = v116; v31 = v114; v32 = v112; v33 = v110; v34 = v108; v35 = v106; v36 = v104; v37 = v102; v38 = v100; v39 = v98; v40 = v96; v41 = v94; v42 = v92; v43 = v90; v44 = v88; v45 = v87; v46 = v89; v47 = v91; v48 = v93; v49 = v95; v50 = v97; v51 = v99; v52 = v101; v53 = v103; v54 = v105; v55 = v107; v56 = v109; v57 = v111; v58 = v113; v59 = v115; v60 = v117; v61 = v119; v62 = v121; v63 = v123; v64 = v125; v65 = v127; v66 = v129; v67 = v131; v68 = v133; v69 = v135; v70 = v137; v71 = v139; v72 = v141; v73 = v143; v74 = v145; v75 = v147; v76 = v149; v77 = v151; v78 = v153; v79 = v155; v80 = v157; v82 = 3014656; v83 = 0x2e00000000ull; v81 = 46; goto L0; }
+	u8 v159 = ld8(v4+72);
+	if (v5 == 73) { v7 = 771751936; v8 = 11776; v9 = v158; v10 = v156; v11 = v154; v12 = v152; v13 = v150; v14 = v148; v15 = v146; v16 = v144; v17 = v142; v18 = v140; v19 = v138; v20 = v136; v21 = v134; v22 = v132; v23 = v130; v24 = v128; v25 = v126; v26 = v124; v27 = v122; v28 = v120; v29 = v118; v30 = v116; v31 = v114; v32 = v112; v33 = v110; v34 = v108; v35 = v106; v36 = v104; v37 = v102; v38 = v100; v39 = v98; v40 = v96; v41 = v94; v42 = v92; v43 = v90; v44 = v88; v45 = v87; v46 = v89; v47 = v91; v48 = v93; v49 = v95; v50 = v97; v51 = v99; v52 = v101; v53 = v103; v54 = v105; v55 = v107; v56 = v109; v57 = v111; v58 = v113; v59 = v115; v60 = v117; v61 = v119; v62 = v121; v63 = v123; v64 = v125; v65 = v127; v66 = v129; v67 = v131; v68 = v133; v69 = v135; v70 = v137; v71 = v139; v72 = v141; v73 = v143; v74 = v145; v75 = v147; v76 = v149; v77 = v151; v78 = v153; v79 = v155; v80 = v157; v81 = v159; v82 = 3014656; v83 = 0x2e00000000ull; goto L0; }
+	u64 v160 = (u64)ld8(v4+73) << 8;
+	if (v5 <= 74) { v7 = 771751936; v8 = v160; v9 = v158; v10 = v156; v11 = v154; v12 = v152; v13 = v150; v14 = v148; v15 = v146; v16 = v144; v17 = v142; v18 = v140; v19 = v138; v20 = v136; v21 = v134; v22 = v132; v23 = v130; v24 = v128; v25 = v126; v26 = v124; v27 = v122; v28 = v120; v29 = v118; v30 = v116; v31 = v114; v32 = v112; v33 = v110; v34 = v108; v35 = v106; v36 = v104; v37 = v102; v38 = v100; v39 = v98; v40 = v96; v41 = v94; v42 = v92; v43 = v90; v44 = v88; v45 = v87; v46 = v89; v47 = v91; v48 = v93; v49 = v95; v50 = v97; v51 = v99; v52 = v101; v53 = v103; v54 = v105; v55 = v107; v56 = v109; v57 = v111; v58 = v113; v59 = v115; v60 = v117; v61 = v119; v62 = v121; v63 = v123; v64 = v125; v65 = v127; v66 = v129; v67 = v131; v68 = v133; v69 = v135; v70 = v137; v71 = v139; v72 = v141; v73 = v143; v74 = v145; v75 = v147; v76 = v149; v77 = v151; v78 = v153; v79 = v155; v80 = v157; v81 = v159; v82 = 3014656; v83 = 0x2e00000000ull; goto L0; }
+	u64 v161 = (u64)ld8(v4+74) << 16;
+	if (v5 == 75) { v7 = 771751936; v8 = v160; v9 = v158; v10 = v156; v11 = v154; v12 = v152; v13 = v150; v14 = v148; v15 = v146; v16 = v144; v17 = v142; v18 = v140; v19 = v138; v20 = v136; v21 = v134; v22 = v132; v23 = v130; v24 = v128; v25 = v126; v26 = v124; v27 = v122; v28 = v120; v29 = v118; v30 = v116; v31 = v114; v32 = v112; v33 = v110; v34 = v108; v35 = v106; v36 = v104; v37 = v102; v38 = v100; v39 = v98; v40 = v96; v41 = v94; v42 = v92; v43 = v90; v44 = v88; v45 = v87; v46 = v89; v47 = v91; v48 = v93; v49 = v95; v50 = v97; v51 = v99; v52 = v101; v53 = v103; v54 = v105; v55 = v107; v56 = v109; v57 = v111; v58 = v113; v59 = v115; v60 = v117; v61 = v119; v62 = v121; v63 = v123; v64 = v125; v65 = v127; v66 = v129; v67 = v131; v68 = v133; v69 = v135; v70 = v137; v71 = v139; v72 = v141; v73 = v143; v74 = v145; v75 = v147; v76 = v149; v77 = v151; v78 = v153; v79 = v155; v80 = v157; v81 = v159; v82 = v161; v83 = 0x2e00000000ull; goto L0; }
+	u64 v162 = (u64)ld8(v4+75) << 24;
+	if (v5 <= 76) { v7 = v162; v8 = v160; v9 = v158; v10 = v156; v11 = v154; v12 = v152; v13 = v150; v14 = v148; v15 = v146; v16 = v144; v17 = v142; v18 = v140; v19 = v138; v20 = v136; v21 = v134; v22 = v132; v23 = v130; v24 = v128; v25 = v126; v26 = v124; v27 = v122; v28 = v120; v29 = v118; v30 = v116; v31 = v114; v32 = v112; v33 = v110; v34 = v108; v35 = v106; v36 = v104; v37 = v102; v38 = v100; v39 = v98; v40 = v96; v41 = v94; v42 = v92; v43 = v90; v44 = v88; v45 = v87; v46 = v89; v47 = v91; v48 = v93; v49 = v95; v50 = v97; v51 = v99; v52 = v101; v53 = v103; v54 = v105; v55 = v107; v56 = v109; v57 = v111; v58 = v113; v59 = v115; v60 = v117; v61 = v119; v62 = v121; v63 = v123; v64 = v125; v65 = v127; v66 = v129; v67 = v131; v68 = v133; v69 = v135; v70 = v137; v71 = v139; v72 = v141; v73 = v143; v74 = v145; v75 = v147; v76 = v149; v77 = v151; v78 = v153; v79 = v155; v80 = v157; v81 = v159; v82 = v161; v83 = 0x2e00000000ull; goto L0; }
+	v7 = v162; v8 = v160; v9 = v158; v10 = v156; v11 = v154; v12 = v152; v13 = v150; v14 = v148; v15 = v146; v16 = v144; v17 = v142; v18 = v140; v19 = v138; v20 = v136; v21 = v134; v22 = v132; v23 = v130; v24 = v128; v25 = v126; v26 = v124; v27 = v122; v28 = v120; v29 = v118; v30 = v116; v31 = v114; v32 = v112; v33 = v110; v34 = v108; v35 = v106; v36 = v104; v37 = v102; v38 = v100; v39 = v98; v40 = v96; v41 = v94; v42 = v92; v43 = v90; v44 = v88; v45 = v87; v46 = v89; v47 = v91; v48 = v93; v49 = v95; v50 = v97; v51 = v99; v52 = v101; v53 = v103; v54 = v105; v55 = v107; v56 = v109; v57 = v111; v58 = v113; v59 = v115; v60 = v117; v61 = v119; v62 = v121; v63 = v123; v64 = v125; v65 = v127; v66 = v129; v67 = v131; v68 = v133; v69 = v135; v70 = v137; v71 = v139; v72 = v141; v73 = v143; v74 = v145; v75 = v147; v76 = v149; v77 = v151; v78 = v153; v79 = v155; v80 = v157; v81 = v159; v82 = v161; v83 = (u64)ld8(v4+76) << 32;
+L0:
+	if (v5 <= 77) { v84 = 0x2e000000000000ull; v85 = 0x2e0000000000ull; v86 = 0x2e00000000000000ull; goto L1; }
+	u64 v163 = (u64)ld8(v4+77) << 40;
+	if (v5 == 78) { v84 = 0x2e000000000000ull; v85 = v163; v86 = 0x2e00000000000000ull; goto L1; }
+	u64 v164 = (u64)ld8(v4+78) << 48;
+	if (v5 <= 79) { v84 = v164; v85 = v163; v86 = 0x2e00000000000000ull; goto L1; }
+	v84 = v164; v85 = v163; v86 = (u64)ld8(v4+79) << 56;
+L1:
+	st8(v1, v2);
+	st8(v1+1, v3);
+	st8(v1+2, (u8)v6);
+	st8(v1+3, 0);
+	su32(v1+4, 0);
+	su64(v1+8, v44 | (u64)v45 | v46 | v43 | v47 | v42 | v48 | v41);
+	su64(v1+16, v40 | (u64)v49 | v50 | v39 | v51 | v38 | v52 | v37);
+	su64(v1+24, v36 | (u64)v53 | v54 | v35 | v55 | v34 | v56 | v33);
+	su64(v1+32, v32 | (u64)v57 | v58 | v31 | v59 | v30 | v60 | v29);
+	su64(v1+40, v28 | (u64)v61 | v62 | v27 | v63 | v26 | v64 | v25);
+	su64(v1+48, v24 | (u64)v65 | v66 | v23 | v67 | v22 | v68 | v21);
+	su64(v1+56, v20 | (u64)v69 | v70 | v19 | v71 | v18 | v72 | v17);
+	su64(v1+64, v16 | (u64)v73 | v74 | v15 | v75 | v14 | v76 | v13);
+	su64(v1+72, v12 | (u64)v77 | v78 | v11 | v79 | v10 | v80 | v9);
+	su64(v1+80, v8 | (u64)v81 | v82 | v7 | v83 | v85 | v84 | v86);
 	return;
 }
 static void capcopy_run_uninterrupted_UninterruptedRead_read_f128(ptr v1, ptr v2, u64 v3) {
@@ -993,8 +1759,8 @@ L5:
 	st8(v1+8, 2);
 	st_bytes(v1+9, 0, 3);
 	su32(v1+12, 0);
-	su32(v1+16, (u64)(ptr)static_10);
-	su32(v1+20, (u32)((u64)(ptr)static_10 >> 32));
+	su32(v1+16, (u64)(ptr)static_35);
+	su32(v1+20, (u32)((u64)(ptr)static_35 >> 32));
 	su32(v1+24, 29);
 	clear(v1+28, 76);
 	goto L8;
@@ -1018,188 +1784,6 @@ L7:
 L8:
 	return;
 }
-static void std_io_io_error_Error_from_bytes(ptr v1, u8 v2, u8 v3, ptr v4, u64 v5, u64 v6) {
-	u64 v7, v8, v9, v10, v11, v12, v13, v14, v15, v16, v17, v18, v19, v20, v21, v22, v23, v24, v25, v26, v27, v28, v29, v30, v31, v32, v33, v34, v35, v36, v37, v38, v39, v40, v41, v42, v43, v44, v46, v47, v48, v50, v51, v52, v54, v55, v56, v58, v59, v60, v62, v63, v64, v66, v67, v68, v70, v71, v72, v74, v75, v76, v78, v79, v80, v82, v83, v84, v85, v86;
-	u8 v45, v49, v53, v57, v61, v65, v69, v73, v77, v81;
-	if (!v5) { v7 = 771751936; v8 = 11776; v9 = 0x2e00000000000000ull; v10 = 0x2e0000000000ull; v11 = 771751936; v12 = 11776; v13 = 0x2e00000000000000ull; v14 = 0x2e0000000000ull; v15 = 771751936; v16 = 11776; v17 = 0x2e00000000000000ull; v18 = 0x2e0000000000ull; v19 = 771751936; v20 = 11776; v21 = 0x2e00000000000000ull; v22 = 0x2e0000000000ull; v23 = 771751936; v24 = 11776; v25 = 0x2e00000000000000ull; v26 = 0x2e0000000000ull; v27 = 771751936; v28 = 11776; v29 = 0x2e00000000000000ull; v30 = 0x2e0000000000ull; v31 = 771751936; v32 = 11776; v33 = 0x2e00000000000000ull; v34 = 0x2e0000000000ull; v35 = 771751936; v36 = 11776; v37 = 0x2e00000000000000ull; v38 = 0x2e0000000000ull; v39 = 771751936; v40 = 11776; v41 = 0x2e00000000000000ull; v42 = 0x2e0000000000ull; v43 = 771751936; v44 = 11776; v46 = 3014656; v47 = 0x2e00000000ull; v48 = 0x2e000000000000ull; v50 = 3014656; v51 = 0x2e00000000ull; v52 = 0x2e000000000000ull; v54 = 3014656; v55 = 0x2e00000000ull; v56 = 0x2e000000000000ull; v58 = 3014656; v59 = 0x2e00000000ull; v60 = 0x2e000000000000ull; v62 = 3014656; v63 = 0x2e00000000ull; v64 = 0x2e000000000000ull; v66 = 3014656; v67 = 0x2e00000000ull; v68 = 0x2e000000000000ull; v70 = 3014656; v71 = 0x2e00000000ull; v72 = 0x2e000000000000ull; v74 = 3014656; v75 = 0x2e00000000ull; v76 = 0x2e000000000000ull; v78 = 3014656; v79 = 0x2e00000000ull; v80 = 0x2e000000000000ull; v82 = 3014656; v83 = 0x2e00000000ull; v45 = v49 = v53 = v57 = v61 = v65 = v69 = v73 = v77 = v81 = 46; goto L0; }
-	u8 v87 = ld8(v4);
-	if (v5 == 1) { v7 = 771751936; v8 = 11776; v9 = 0x2e00000000000000ull; v10 = 0x2e0000000000ull; v11 = 771751936; v12 = 11776; v13 = 0x2e00000000000000ull; v14 = 0x2e0000000000ull; v15 = 771751936; v16 = 11776; v17 = 0x2e00000000000000ull; v18 = 0x2e0000000000ull; v19 = 771751936; v20 = 11776; v21 = 0x2e00000000000000ull; v22 = 0x2e0000000000ull; v23 = 771751936; v24 = 11776; v25 = 0x2e00000000000000ull; v26 = 0x2e0000000000ull; v27 = 771751936; v28 = 11776; v29 = 0x2e00000000000000ull; v30 = 0x2e0000000000ull; v31 = 771751936; v32 = 11776; v33 = 0x2e00000000000000ull; v34 = 0x2e0000000000ull; v35 = 771751936; v36 = 11776; v37 = 0x2e00000000000000ull; v38 = 0x2e0000000000ull; v39 = 771751936; v40 = 11776; v41 = 0x2e00000000000000ull; v42 = 0x2e0000000000ull; v43 = 771751936; v44 = 11776; v45 = v87; v46 = 3014656; v47 = 0x2e00000000ull; v48 = 0x2e000000000000ull; v50 = 3014656; v51 = 0x2e00000000ull; v52 = 0x2e000000000000ull; v54 = 3014656; v55 = 0x2e00000000ull; v56 = 0x2e000000000000ull; v58 = 3014656; v59 = 0x2e00000000ull; v60 = 0x2e000000000000ull; v62 = 3014656; v63 = 0x2e00000000ull; v64 = 0x2e000000000000ull; v66 = 3014656; v67 = 0x2e00000000ull; v68 = 0x2e000000000000ull; v70 = 3014656; v71 = 0x2e00000000ull; v72 = 0x2e000000000000ull; v74 = 3014656; v75 = 0x2e00000000ull; v76 = 0x2e000000000000ull; v78 = 3014656; v79 = 0x2e00000000ull; v80 = 0x2e000000000000ull; v82 = 3014656; v83 = 0x2e00000000ull; v49 = v53 = v57 = v61 = v65 = v69 = v73 = v77 = v81 = 46; goto L0; }
-	u64 v88 = (u64)ld8(v4+1) << 8;
-	if (v5 <= 2) { v7 = 771751936; v8 = 11776; v9 = 0x2e00000000000000ull; v10 = 0x2e0000000000ull; v11 = 771751936; v12 = 11776; v13 = 0x2e00000000000000ull; v14 = 0x2e0000000000ull; v15 = 771751936; v16 = 11776; v17 = 0x2e00000000000000ull; v18 = 0x2e0000000000ull; v19 = 771751936; v20 = 11776; v21 = 0x2e00000000000000ull; v22 = 0x2e0000000000ull; v23 = 771751936; v24 = 11776; v25 = 0x2e00000000000000ull; v26 = 0x2e0000000000ull; v27 = 771751936; v28 = 11776; v29 = 0x2e00000000000000ull; v30 = 0x2e0000000000ull; v31 = 771751936; v32 = 11776; v33 = 0x2e00000000000000ull; v34 = 0x2e0000000000ull; v35 = 771751936; v36 = 11776; v37 = 0x2e00000000000000ull; v38 = 0x2e0000000000ull; v39 = 771751936; v40 = 11776; v41 = 0x2e00000000000000ull; v42 = 0x2e0000000000ull; v43 = 771751936; v44 = v88; v45 = v87; v46 = 3014656; v47 = 0x2e00000000ull; v48 = 0x2e000000000000ull; v50 = 3014656; v51 = 0x2e00000000ull; v52 = 0x2e000000000000ull; v54 = 3014656; v55 = 0x2e00000000ull; v56 = 0x2e000000000000ull; v58 = 3014656; v59 = 0x2e00000000ull; v60 = 0x2e000000000000ull; v62 = 3014656; v63 = 0x2e00000000ull; v64 = 0x2e000000000000ull; v66 = 3014656; v67 = 0x2e00000000ull; v68 = 0x2e000000000000ull; v70 = 3014656; v71 = 0x2e00000000ull; v72 = 0x2e000000000000ull; v74 = 3014656; v75 = 0x2e00000000ull; v76 = 0x2e000000000000ull; v78 = 3014656; v79 = 0x2e00000000ull; v80 = 0x2e000000000000ull; v82 = 3014656; v83 = 0x2e00000000ull; v49 = v53 = v57 = v61 = v65 = v69 = v73 = v77 = v81 = 46; goto L0; }
-	u64 v89 = (u64)ld8(v4+2) << 16;
-	if (v5 == 3) { v7 = 771751936; v8 = 11776; v9 = 0x2e00000000000000ull; v10 = 0x2e0000000000ull; v11 = 771751936; v12 = 11776; v13 = 0x2e00000000000000ull; v14 = 0x2e0000000000ull; v15 = 771751936; v16 = 11776; v17 = 0x2e00000000000000ull; v18 = 0x2e0000000000ull; v19 = 771751936; v20 = 11776; v21 = 0x2e00000000000000ull; v22 = 0x2e0000000000ull; v23 = 771751936; v24 = 11776; v25 = 0x2e00000000000000ull; v26 = 0x2e0000000000ull; v27 = 771751936; v28 = 11776; v29 = 0x2e00000000000000ull; v30 = 0x2e0000000000ull; v31 = 771751936; v32 = 11776; v33 = 0x2e00000000000000ull; v34 = 0x2e0000000000ull; v35 = 771751936; v36 = 11776; v37 = 0x2e00000000000000ull; v38 = 0x2e0000000000ull; v39 = 771751936; v40 = 11776; v41 = 0x2e00000000000000ull; v42 = 0x2e0000000000ull; v43 = 771751936; v44 = v88; v45 = v87; v46 = v89; v47 = 0x2e00000000ull; v48 = 0x2e000000000000ull; v50 = 3014656; v51 = 0x2e00000000ull; v52 = 0x2e000000000000ull; v54 = 3014656; v55 = 0x2e00000000ull; v56 = 0x2e000000000000ull; v58 = 3014656; v59 = 0x2e00000000ull; v60 = 0x2e000000000000ull; v62 = 3014656; v63 = 0x2e00000000ull; v64 = 0x2e000000000000ull; v66 = 3014656; v67 = 0x2e00000000ull; v68 = 0x2e000000000000ull; v70 = 3014656; v71 = 0x2e00000000ull; v72 = 0x2e000000000000ull; v74 = 3014656; v75 = 0x2e00000000ull; v76 = 0x2e000000000000ull; v78 = 3014656; v79 = 0x2e00000000ull; v80 = 0x2e000000000000ull; v82 = 3014656; v83 = 0x2e00000000ull; v49 = v53 = v57 = v61 = v65 = v69 = v73 = v77 = v81 = 46; goto L0; }
-	u64 v90 = (u64)ld8(v4+3) << 24;
-	if (v5 <= 4) { v7 = 771751936; v8 = 11776; v9 = 0x2e00000000000000ull; v10 = 0x2e0000000000ull; v11 = 771751936; v12 = 11776; v13 = 0x2e00000000000000ull; v14 = 0x2e0000000000ull; v15 = 771751936; v16 = 11776; v17 = 0x2e00000000000000ull; v18 = 0x2e0000000000ull; v19 = 771751936; v20 = 11776; v21 = 0x2e00000000000000ull; v22 = 0x2e0000000000ull; v23 = 771751936; v24 = 11776; v25 = 0x2e00000000000000ull; v26 = 0x2e0000000000ull; v27 = 771751936; v28 = 11776; v29 = 0x2e00000000000000ull; v30 = 0x2e0000000000ull; v31 = 771751936; v32 = 11776; v33 = 0x2e00000000000000ull; v34 = 0x2e0000000000ull; v35 = 771751936; v36 = 11776; v37 = 0x2e00000000000000ull; v38 = 0x2e0000000000ull; v39 = 771751936; v40 = 11776; v41 = 0x2e00000000000000ull; v42 = 0x2e0000000000ull; v43 = v90; v44 = v88; v45 = v87; v46 = v89; v47 = 0x2e00000000ull; v48 = 0x2e000000000000ull; v50 = 3014656; v51 = 0x2e00000000ull; v52 = 0x2e000000000000ull; v54 = 3014656; v55 = 0x2e00000000ull; v56 = 0x2e000000000000ull; v58 = 3014656; v59 = 0x2e00000000ull; v60 = 0x2e000000000000ull; v62 = 3014656; v63 = 0x2e00000000ull; v64 = 0x2e000000000000ull; v66 = 3014656; v67 = 0x2e00000000ull; v68 = 0x2e000000000000ull; v70 = 3014656; v71 = 0x2e00000000ull; v72 = 0x2e000000000000ull; v74 = 3014656; v75 = 0x2e00000000ull; v76 = 0x2e000000000000ull; v78 = 3014656; v79 = 0x2e00000000ull; v80 = 0x2e000000000000ull; v82 = 3014656; v83 = 0x2e00000000ull; v49 = v53 = v57 = v61 = v65 = v69 = v73 = v77 = v81 = 46; goto L0; }
-	u64 v91 = (u64)ld8(v4+4) << 32;
-	if (v5 == 5) { v7 = 771751936; v8 = 11776; v9 = 0x2e00000000000000ull; v10 = 0x2e0000000000ull; v11 = 771751936; v12 = 11776; v13 = 0x2e00000000000000ull; v14 = 0x2e0000000000ull; v15 = 771751936; v16 = 11776; v17 = 0x2e00000000000000ull; v18 = 0x2e0000000000ull; v19 = 771751936; v20 = 11776; v21 = 0x2e00000000000000ull; v22 = 0x2e0000000000ull; v23 = 771751936; v24 = 11776; v25 = 0x2e00000000000000ull; v26 = 0x2e0000000000ull; v27 = 771751936; v28 = 11776; v29 = 0x2e00000000000000ull; v30 = 0x2e0000000000ull; v31 = 771751936; v32 = 11776; v33 = 0x2e00000000000000ull; v34 = 0x2e0000000000ull; v35 = 771751936; v36 = 11776; v37 = 0x2e00000000000000ull; v38 = 0x2e0000000000ull; v39 = 771751936; v40 = 11776; v41 = 0x2e00000000000000ull; v42 = 0x2e0000000000ull; v43 = v90; v44 = v88; v45 = v87; v46 = v89; v47 = v91; v48 = 0x2e000000000000ull; v50 = 3014656; v51 = 0x2e00000000ull; v52 = 0x2e000000000000ull; v54 = 3014656; v55 = 0x2e00000000ull; v56 = 0x2e000000000000ull; v58 = 3014656; v59 = 0x2e00000000ull; v60 = 0x2e000000000000ull; v62 = 3014656; v63 = 0x2e00000000ull; v64 = 0x2e000000000000ull; v66 = 3014656; v67 = 0x2e00000000ull; v68 = 0x2e000000000000ull; v70 = 3014656; v71 = 0x2e00000000ull; v72 = 0x2e000000000000ull; v74 = 3014656; v75 = 0x2e00000000ull; v76 = 0x2e000000000000ull; v78 = 3014656; v79 = 0x2e00000000ull; v80 = 0x2e000000000000ull; v82 = 3014656; v83 = 0x2e00000000ull; v49 = v53 = v57 = v61 = v65 = v69 = v73 = v77 = v81 = 46; goto L0; }
-	u64 v92 = (u64)ld8(v4+5) << 40;
-	if (v5 <= 6) { v7 = 771751936; v8 = 11776; v9 = 0x2e00000000000000ull; v10 = 0x2e0000000000ull; v11 = 771751936; v12 = 11776; v13 = 0x2e00000000000000ull; v14 = 0x2e0000000000ull; v15 = 771751936; v16 = 11776; v17 = 0x2e00000000000000ull; v18 = 0x2e0000000000ull; v19 = 771751936; v20 = 11776; v21 = 0x2e00000000000000ull; v22 = 0x2e0000000000ull; v23 = 771751936; v24 = 11776; v25 = 0x2e00000000000000ull; v26 = 0x2e0000000000ull; v27 = 771751936; v28 = 11776; v29 = 0x2e00000000000000ull; v30 = 0x2e0000000000ull; v31 = 771751936; v32 = 11776; v33 = 0x2e00000000000000ull; v34 = 0x2e0000000000ull; v35 = 771751936; v36 = 11776; v37 = 0x2e00000000000000ull; v38 = 0x2e0000000000ull; v39 = 771751936; v40 = 11776; v41 = 0x2e00000000000000ull; v42 = v92; v43 = v90; v44 = v88; v45 = v87; v46 = v89; v47 = v91; v48 = 0x2e000000000000ull; v50 = 3014656; v51 = 0x2e00000000ull; v52 = 0x2e000000000000ull; v54 = 3014656; v55 = 0x2e00000000ull; v56 = 0x2e000000000000ull; v58 = 3014656; v59 = 0x2e00000000ull; v60 = 0x2e000000000000ull; v62 = 3014656; v63 = 0x2e00000000ull; v64 = 0x2e000000000000ull; v66 = 3014656; v67 = 0x2e00000000ull; v68 = 0x2e000000000000ull; v70 = 3014656; v71 = 0x2e00000000ull; v72 = 0x2e000000000000ull; v74 = 3014656; v75 = 0x2e00000000ull; v76 = 0x2e000000000000ull; v78 = 3014656; v79 = 0x2e00000000ull; v80 = 0x2e000000000000ull; v82 = 3014656; v83 = 0x2e00000000ull; v49 = v53 = v57 = v61 = v65 = v69 = v73 = v77 = v81 = 46; goto L0; }
-	u64 v93 = (u64)ld8(v4+6) << 48;
-	if (v5 == 7) { v7 = 771751936; v8 = 11776; v9 = 0x2e00000000000000ull; v10 = 0x2e0000000000ull; v11 = 771751936; v12 = 11776; v13 = 0x2e00000000000000ull; v14 = 0x2e0000000000ull; v15 = 771751936; v16 = 11776; v17 = 0x2e00000000000000ull; v18 = 0x2e0000000000ull; v19 = 771751936; v20 = 11776; v21 = 0x2e00000000000000ull; v22 = 0x2e0000000000ull; v23 = 771751936; v24 = 11776; v25 = 0x2e00000000000000ull; v26 = 0x2e0000000000ull; v27 = 771751936; v28 = 11776; v29 = 0x2e00000000000000ull; v30 = 0x2e0000000000ull; v31 = 771751936; v32 = 11776; v33 = 0x2e00000000000000ull; v34 = 0x2e0000000000ull; v35 = 771751936; v36 = 11776; v37 = 0x2e00000000000000ull; v38 = 0x2e0000000000ull; v39 = 771751936; v40 = 11776; v41 = 0x2e00000000000000ull; v42 = v92; v43 = v90; v44 = v88; v45 = v87; v46 = v89; v47 = v91; v48 = v93; v50 = 3014656; v51 = 0x2e00000000ull; v52 = 0x2e000000000000ull; v54 = 3014656; v55 = 0x2e00000000ull; v56 = 0x2e000000000000ull; v58 = 3014656; v59 = 0x2e00000000ull; v60 = 0x2e000000000000ull; v62 = 3014656; v63 = 0x2e00000000ull; v64 = 0x2e000000000000ull; v66 = 3014656; v67 = 0x2e00000000ull; v68 = 0x2e000000000000ull; v70 = 3014656; v71 = 0x2e00000000ull; v72 = 0x2e000000000000ull; v74 = 3014656; v75 = 0x2e00000000ull; v76 = 0x2e000000000000ull; v78 = 3014656; v79 = 0x2e00000000ull; v80 = 0x2e000000000000ull; v82 = 3014656; v83 = 0x2e00000000ull; v49 = v53 = v57 = v61 = v65 = v69 = v73 = v77 = v81 = 46; goto L0; }
-	u64 v94 = (u64)ld8(v4+7) << 56;
-	if (v5 <= 8) { v7 = 771751936; v8 = 11776; v9 = 0x2e00000000000000ull; v10 = 0x2e0000000000ull; v11 = 771751936; v12 = 11776; v13 = 0x2e00000000000000ull; v14 = 0x2e0000000000ull; v15 = 771751936; v16 = 11776; v17 = 0x2e00000000000000ull; v18 = 0x2e0000000000ull; v19 = 771751936; v20 = 11776; v21 = 0x2e00000000000000ull; v22 = 0x2e0000000000ull; v23 = 771751936; v24 = 11776; v25 = 0x2e00000000000000ull; v26 = 0x2e0000000000ull; v27 = 771751936; v28 = 11776; v29 = 0x2e00000000000000ull; v30 = 0x2e0000000000ull; v31 = 771751936; v32 = 11776; v33 = 0x2e00000000000000ull; v34 = 0x2e0000000000ull; v35 = 771751936; v36 = 11776; v37 = 0x2e00000000000000ull; v38 = 0x2e0000000000ull; v39 = 771751936; v40 = 11776; v41 = v94; v42 = v92; v43 = v90; v44 = v88; v45 = v87; v46 = v89; v47 = v91; v48 = v93; v50 = 3014656; v51 = 0x2e00000000ull; v52 = 0x2e000000000000ull; v54 = 3014656; v55 = 0x2e00000000ull; v56 = 0x2e000000000000ull; v58 = 3014656; v59 = 0x2e00000000ull; v60 = 0x2e000000000000ull; v62 = 3014656; v63 = 0x2e00000000ull; v64 = 0x2e000000000000ull; v66 = 3014656; v67 = 0x2e00000000ull; v68 = 0x2e000000000000ull; v70 = 3014656; v71 = 0x2e00000000ull; v72 = 0x2e000000000000ull; v74 = 3014656; v75 = 0x2e00000000ull; v76 = 0x2e000000000000ull; v78 = 3014656; v79 = 0x2e00000000ull; v80 = 0x2e000000000000ull; v82 = 3014656; v83 = 0x2e00000000ull; v49 = v53 = v57 = v61 = v65 = v69 = v73 = v77 = v81 = 46; goto L0; }
-	u8 v95 = ld8(v4+8);
-	if (v5 == 9) { v7 = 771751936; v8 = 11776; v9 = 0x2e00000000000000ull; v10 = 0x2e0000000000ull; v11 = 771751936; v12 = 11776; v13 = 0x2e00000000000000ull; v14 = 0x2e0000000000ull; v15 = 771751936; v16 = 11776; v17 = 0x2e00000000000000ull; v18 = 0x2e0000000000ull; v19 = 771751936; v20 = 11776; v21 = 0x2e00000000000000ull; v22 = 0x2e0000000000ull; v23 = 771751936; v24 = 11776; v25 = 0x2e00000000000000ull; v26 = 0x2e0000000000ull; v27 = 771751936; v28 = 11776; v29 = 0x2e00000000000000ull; v30 = 0x2e0000000000ull; v31 = 771751936; v32 = 11776; v33 = 0x2e00000000000000ull; v34 = 0x2e0000000000ull; v35 = 771751936; v36 = 11776; v37 = 0x2e00000000000000ull; v38 = 0x2e0000000000ull; v39 = 771751936; v40 = 11776; v41 = v94; v42 = v92; v43 = v90; v44 = v88; v45 = v87; v46 = v89; v47 = v91; v48 = v93; v49 = v95; v50 = 3014656; v51 = 0x2e00000000ull; v52 = 0x2e000000000000ull; v54 = 3014656; v55 = 0x2e00000000ull; v56 = 0x2e000000000000ull; v58 = 3014656; v59 = 0x2e00000000ull; v60 = 0x2e000000000000ull; v62 = 3014656; v63 = 0x2e00000000ull; v64 = 0x2e000000000000ull; v66 = 3014656; v67 = 0x2e00000000ull; v68 = 0x2e000000000000ull; v70 = 3014656; v71 = 0x2e00000000ull; v72 = 0x2e000000000000ull; v74 = 3014656; v75 = 0x2e00000000ull; v76 = 0x2e000000000000ull; v78 = 3014656; v79 = 0x2e00000000ull; v80 = 0x2e000000000000ull; v82 = 3014656; v83 = 0x2e00000000ull; v53 = v57 = v61 = v65 = v69 = v73 = v77 = v81 = 46; goto L0; }
-	u64 v96 = (u64)ld8(v4+9) << 8;
-	if (v5 <= 10) { v7 = 771751936; v8 = 11776; v9 = 0x2e00000000000000ull; v10 = 0x2e0000000000ull; v11 = 771751936; v12 = 11776; v13 = 0x2e00000000000000ull; v14 = 0x2e0000000000ull; v15 = 771751936; v16 = 11776; v17 = 0x2e00000000000000ull; v18 = 0x2e0000000000ull; v19 = 771751936; v20 = 11776; v21 = 0x2e00000000000000ull; v22 = 0x2e0000000000ull; v23 = 771751936; v24 = 11776; v25 = 0x2e00000000000000ull; v26 = 0x2e0000000000ull; v27 = 771751936; v28 = 11776; v29 = 0x2e00000000000000ull; v30 = 0x2e0000000000ull; v31 = 771751936; v32 = 11776; v33 = 0x2e00000000000000ull; v34 = 0x2e0000000000ull; v35 = 771751936; v36 = 11776; v37 = 0x2e00000000000000ull; v38 = 0x2e0000000000ull; v39 = 771751936; v40 = v96; v41 = v94; v42 = v92; v43 = v90; v44 = v88; v45 = v87; v46 = v89; v47 = v91; v48 = v93; v49 = v95; v50 = 3014656; v51 = 0x2e00000000ull; v52 = 0x2e000000000000ull; v54 = 3014656; v55 = 0x2e00000000ull; v56 = 0x2e000000000000ull; v58 = 3014656; v59 = 0x2e00000000ull; v60 = 0x2e000000000000ull; v62 = 3014656; v63 = 0x2e00000000ull; v64 = 0x2e000000000000ull; v66 = 3014656; v67 = 0x2e00000000ull; v68 = 0x2e000000000000ull; v70 = 3014656; v71 = 0x2e00000000ull; v72 = 0x2e000000000000ull; v74 = 3014656; v75 = 0x2e00000000ull; v76 = 0x2e000000000000ull; v78 = 3014656; v79 = 0x2e00000000ull; v80 = 0x2e000000000000ull; v82 = 3014656; v83 = 0x2e00000000ull; v53 = v57 = v61 = v65 = v69 = v73 = v77 = v81 = 46; goto L0; }
-	u64 v97 = (u64)ld8(v4+10) << 16;
-	if (v5 == 11) { v7 = 771751936; v8 = 11776; v9 = 0x2e00000000000000ull; v10 = 0x2e0000000000ull; v11 = 771751936; v12 = 11776; v13 = 0x2e00000000000000ull; v14 = 0x2e0000000000ull; v15 = 771751936; v16 = 11776; v17 = 0x2e00000000000000ull; v18 = 0x2e0000000000ull; v19 = 771751936; v20 = 11776; v21 = 0x2e00000000000000ull; v22 = 0x2e0000000000ull; v23 = 771751936; v24 = 11776; v25 = 0x2e00000000000000ull; v26 = 0x2e0000000000ull; v27 = 771751936; v28 = 11776; v29 = 0x2e00000000000000ull; v30 = 0x2e0000000000ull; v31 = 771751936; v32 = 11776; v33 = 0x2e00000000000000ull; v34 = 0x2e0000000000ull; v35 = 771751936; v36 = 11776; v37 = 0x2e00000000000000ull; v38 = 0x2e0000000000ull; v39 = 771751936; v40 = v96; v41 = v94; v42 = v92; v43 = v90; v44 = v88; v45 = v87; v46 = v89; v47 = v91; v48 = v93; v49 = v95; v50 = v97; v51 = 0x2e00000000ull; v52 = 0x2e000000000000ull; v54 = 3014656; v55 = 0x2e00000000ull; v56 = 0x2e000000000000ull; v58 = 3014656; v59 = 0x2e00000000ull; v60 = 0x2e000000000000ull; v62 = 3014656; v63 = 0x2e00000000ull; v64 = 0x2e000000000000ull; v66 = 3014656; v67 = 0x2e00000000ull; v68 = 0x2e000000000000ull; v70 = 3014656; v71 = 0x2e00000000ull; v72 = 0x2e000000000000ull; v74 = 3014656; v75 = 0x2e00000000ull; v76 = 0x2e000000000000ull; v78 = 3014656; v79 = 0x2e00000000ull; v80 = 0x2e000000000000ull; v82 = 3014656; v83 = 0x2e00000000ull; v53 = v57 = v61 = v65 = v69 = v73 = v77 = v81 = 46; goto L0; }
-	u64 v98 = (u64)ld8(v4+11) << 24;
-	if (v5 <= 12) { v7 = 771751936; v8 = 11776; v9 = 0x2e00000000000000ull; v10 = 0x2e0000000000ull; v11 = 771751936; v12 = 11776; v13 = 0x2e00000000000000ull; v14 = 0x2e0000000000ull; v15 = 771751936; v16 = 11776; v17 = 0x2e00000000000000ull; v18 = 0x2e0000000000ull; v19 = 771751936; v20 = 11776; v21 = 0x2e00000000000000ull; v22 = 0x2e0000000000ull; v23 = 771751936; v24 = 11776; v25 = 0x2e00000000000000ull; v26 = 0x2e0000000000ull; v27 = 771751936; v28 = 11776; v29 = 0x2e00000000000000ull; v30 = 0x2e0000000000ull; v31 = 771751936; v32 = 11776; v33 = 0x2e00000000000000ull; v34 = 0x2e0000000000ull; v35 = 771751936; v36 = 11776; v37 = 0x2e00000000000000ull; v38 = 0x2e0000000000ull; v39 = v98; v40 = v96; v41 = v94; v42 = v92; v43 = v90; v44 = v88; v45 = v87; v46 = v89; v47 = v91; v48 = v93; v49 = v95; v50 = v97; v51 = 0x2e00000000ull; v52 = 0x2e000000000000ull; v54 = 3014656; v55 = 0x2e00000000ull; v56 = 0x2e000000000000ull; v58 = 3014656; v59 = 0x2e00000000ull; v60 = 0x2e000000000000ull; v62 = 3014656; v63 = 0x2e00000000ull; v64 = 0x2e000000000000ull; v66 = 3014656; v67 = 0x2e00000000ull; v68 = 0x2e000000000000ull; v70 = 3014656; v71 = 0x2e00000000ull; v72 = 0x2e000000000000ull; v74 = 3014656; v75 = 0x2e00000000ull; v76 = 0x2e000000000000ull; v78 = 3014656; v79 = 0x2e00000000ull; v80 = 0x2e000000000000ull; v82 = 3014656; v83 = 0x2e00000000ull; v53 = v57 = v61 = v65 = v69 = v73 = v77 = v81 = 46; goto L0; }
-	u64 v99 = (u64)ld8(v4+12) << 32;
-	if (v5 == 13) { v7 = 771751936; v8 = 11776; v9 = 0x2e00000000000000ull; v10 = 0x2e0000000000ull; v11 = 771751936; v12 = 11776; v13 = 0x2e00000000000000ull; v14 = 0x2e0000000000ull; v15 = 771751936; v16 = 11776; v17 = 0x2e00000000000000ull; v18 = 0x2e0000000000ull; v19 = 771751936; v20 = 11776; v21 = 0x2e00000000000000ull; v22 = 0x2e0000000000ull; v23 = 771751936; v24 = 11776; v25 = 0x2e00000000000000ull; v26 = 0x2e0000000000ull; v27 = 771751936; v28 = 11776; v29 = 0x2e00000000000000ull; v30 = 0x2e0000000000ull; v31 = 771751936; v32 = 11776; v33 = 0x2e00000000000000ull; v34 = 0x2e0000000000ull; v35 = 771751936; v36 = 11776; v37 = 0x2e00000000000000ull; v38 = 0x2e0000000000ull; v39 = v98; v40 = v96; v41 = v94; v42 = v92; v43 = v90; v44 = v88; v45 = v87; v46 = v89; v47 = v91; v48 = v93; v49 = v95; v50 = v97; v51 = v99; v52 = 0x2e000000000000ull; v54 = 3014656; v55 = 0x2e00000000ull; v56 = 0x2e000000000000ull; v58 = 3014656; v59 = 0x2e00000000ull; v60 = 0x2e000000000000ull; v62 = 3014656; v63 = 0x2e00000000ull; v64 = 0x2e000000000000ull; v66 = 3014656; v67 = 0x2e00000000ull; v68 = 0x2e000000000000ull; v70 = 3014656; v71 = 0x2e00000000ull; v72 = 0x2e000000000000ull; v74 = 3014656; v75 = 0x2e00000000ull; v76 = 0x2e000000000000ull; v78 = 3014656; v79 = 0x2e00000000ull; v80 = 0x2e000000000000ull; v82 = 3014656; v83 = 0x2e00000000ull; v53 = v57 = v61 = v65 = v69 = v73 = v77 = v81 = 46; goto L0; }
-	u64 v100 = (u64)ld8(v4+13) << 40;
-	if (v5 <= 14) { v7 = 771751936; v8 = 11776; v9 = 0x2e00000000000000ull; v10 = 0x2e0000000000ull; v11 = 771751936; v12 = 11776; v13 = 0x2e00000000000000ull; v14 = 0x2e0000000000ull; v15 = 771751936; v16 = 11776; v17 = 0x2e00000000000000ull; v18 = 0x2e0000000000ull; v19 = 771751936; v20 = 11776; v21 = 0x2e00000000000000ull; v22 = 0x2e0000000000ull; v23 = 771751936; v24 = 11776; v25 = 0x2e00000000000000ull; v26 = 0x2e0000000000ull; v27 = 771751936; v28 = 11776; v29 = 0x2e00000000000000ull; v30 = 0x2e0000000000ull; v31 = 771751936; v32 = 11776; v33 = 0x2e00000000000000ull; v34 = 0x2e0000000000ull; v35 = 771751936; v36 = 11776; v37 = 0x2e00000000000000ull; v38 = v100; v39 = v98; v40 = v96; v41 = v94; v42 = v92; v43 = v90; v44 = v88; v45 = v87; v46 = v89; v47 = v91; v48 = v93; v49 = v95; v50 = v97; v51 = v99; v52 = 0x2e000000000000ull; v54 = 3014656; v55 = 0x2e00000000ull; v56 = 0x2e000000000000ull; v58 = 3014656; v59 = 0x2e00000000ull; v60 = 0x2e000000000000ull; v62 = 3014656; v63 = 0x2e00000000ull; v64 = 0x2e000000000000ull; v66 = 3014656; v67 = 0x2e00000000ull; v68 = 0x2e000000000000ull; v70 = 3014656; v71 = 0x2e00000000ull; v72 = 0x2e000000000000ull; v74 = 3014656; v75 = 0x2e00000000ull; v76 = 0x2e000000000000ull; v78 = 3014656; v79 = 0x2e00000000ull; v80 = 0x2e000000000000ull; v82 = 3014656; v83 = 0x2e00000000ull; v53 = v57 = v61 = v65 = v69 = v73 = v77 = v81 = 46; goto L0; }
-	u64 v101 = (u64)ld8(v4+14) << 48;
-	if (v5 == 15) { v7 = 771751936; v8 = 11776; v9 = 0x2e00000000000000ull; v10 = 0x2e0000000000ull; v11 = 771751936; v12 = 11776; v13 = 0x2e00000000000000ull; v14 = 0x2e0000000000ull; v15 = 771751936; v16 = 11776; v17 = 0x2e00000000000000ull; v18 = 0x2e0000000000ull; v19 = 771751936; v20 = 11776; v21 = 0x2e00000000000000ull; v22 = 0x2e0000000000ull; v23 = 771751936; v24 = 11776; v25 = 0x2e00000000000000ull; v26 = 0x2e0000000000ull; v27 = 771751936; v28 = 11776; v29 = 0x2e00000000000000ull; v30 = 0x2e0000000000ull; v31 = 771751936; v32 = 11776; v33 = 0x2e00000000000000ull; v34 = 0x2e0000000000ull; v35 = 771751936; v36 = 11776; v37 = 0x2e00000000000000ull; v38 = v100; v39 = v98; v40 = v96; v41 = v94; v42 = v92; v43 = v90; v44 = v88; v45 = v87; v46 = v89; v47 = v91; v48 = v93; v49 = v95; v50 = v97; v51 = v99; v52 = v101; v54 = 3014656; v55 = 0x2e00000000ull; v56 = 0x2e000000000000ull; v58 = 3014656; v59 = 0x2e00000000ull; v60 = 0x2e000000000000ull; v62 = 3014656; v63 = 0x2e00000000ull; v64 = 0x2e000000000000ull; v66 = 3014656; v67 = 0x2e00000000ull; v68 = 0x2e000000000000ull; v70 = 3014656; v71 = 0x2e00000000ull; v72 = 0x2e000000000000ull; v74 = 3014656; v75 = 0x2e00000000ull; v76 = 0x2e000000000000ull; v78 = 3014656; v79 = 0x2e00000000ull; v80 = 0x2e000000000000ull; v82 = 3014656; v83 = 0x2e00000000ull; v53 = v57 = v61 = v65 = v69 = v73 = v77 = v81 = 46; goto L0; }
-	u64 v102 = (u64)ld8(v4+15) << 56;
-	if (v5 <= 16) { v7 = 771751936; v8 = 11776; v9 = 0x2e00000000000000ull; v10 = 0x2e0000000000ull; v11 = 771751936; v12 = 11776; v13 = 0x2e00000000000000ull; v14 = 0x2e0000000000ull; v15 = 771751936; v16 = 11776; v17 = 0x2e00000000000000ull; v18 = 0x2e0000000000ull; v19 = 771751936; v20 = 11776; v21 = 0x2e00000000000000ull; v22 = 0x2e0000000000ull; v23 = 771751936; v24 = 11776; v25 = 0x2e00000000000000ull; v26 = 0x2e0000000000ull; v27 = 771751936; v28 = 11776; v29 = 0x2e00000000000000ull; v30 = 0x2e0000000000ull; v31 = 771751936; v32 = 11776; v33 = 0x2e00000000000000ull; v34 = 0x2e0000000000ull; v35 = 771751936; v36 = 11776; v37 = v102; v38 = v100; v39 = v98; v40 = v96; v41 = v94; v42 = v92; v43 = v90; v44 = v88; v45 = v87; v46 = v89; v47 = v91; v48 = v93; v49 = v95; v50 = v97; v51 = v99; v52 = v101; v54 = 3014656; v55 = 0x2e00000000ull; v56 = 0x2e000000000000ull; v58 = 3014656; v59 = 0x2e00000000ull; v60 = 0x2e000000000000ull; v62 = 3014656; v63 = 0x2e00000000ull; v64 = 0x2e000000000000ull; v66 = 3014656; v67 = 0x2e00000000ull; v68 = 0x2e000000000000ull; v70 = 3014656; v71 = 0x2e00000000ull; v72 = 0x2e000000000000ull; v74 = 3014656; v75 = 0x2e00000000ull; v76 = 0x2e000000000000ull; v78 = 3014656; v79 = 0x2e00000000ull; v80 = 0x2e000000000000ull; v82 = 3014656; v83 = 0x2e00000000ull; v53 = v57 = v61 = v65 = v69 = v73 = v77 = v81 = 46; goto L0; }
-	u8 v103 = ld8(v4+16);
-	if (v5 == 17) { v7 = 771751936; v8 = 11776; v9 = 0x2e00000000000000ull; v10 = 0x2e0000000000ull; v11 = 771751936; v12 = 11776; v13 = 0x2e00000000000000ull; v14 = 0x2e0000000000ull; v15 = 771751936; v16 = 11776; v17 = 0x2e00000000000000ull; v18 = 0x2e0000000000ull; v19 = 771751936; v20 = 11776; v21 = 0x2e00000000000000ull; v22 = 0x2e0000000000ull; v23 = 771751936; v24 = 11776; v25 = 0x2e00000000000000ull; v26 = 0x2e0000000000ull; v27 = 771751936; v28 = 11776; v29 = 0x2e00000000000000ull; v30 = 0x2e0000000000ull; v31 = 771751936; v32 = 11776; v33 = 0x2e00000000000000ull; v34 = 0x2e0000000000ull; v35 = 771751936; v36 = 11776; v37 = v102; v38 = v100; v39 = v98; v40 = v96; v41 = v94; v42 = v92; v43 = v90; v44 = v88; v45 = v87; v46 = v89; v47 = v91; v48 = v93; v49 = v95; v50 = v97; v51 = v99; v52 = v101; v53 = v103; v54 = 3014656; v55 = 0x2e00000000ull; v56 = 0x2e000000000000ull; v58 = 3014656; v59 = 0x2e00000000ull; v60 = 0x2e000000000000ull; v62 = 3014656; v63 = 0x2e00000000ull; v64 = 0x2e000000000000ull; v66 = 3014656; v67 = 0x2e00000000ull; v68 = 0x2e000000000000ull; v70 = 3014656; v71 = 0x2e00000000ull; v72 = 0x2e000000000000ull; v74 = 3014656; v75 = 0x2e00000000ull; v76 = 0x2e000000000000ull; v78 = 3014656; v79 = 0x2e00000000ull; v80 = 0x2e000000000000ull; v82 = 3014656; v83 = 0x2e00000000ull; v57 = v61 = v65 = v69 = v73 = v77 = v81 = 46; goto L0; }
-	u64 v104 = (u64)ld8(v4+17) << 8;
-	if (v5 <= 18) { v7 = 771751936; v8 = 11776; v9 = 0x2e00000000000000ull; v10 = 0x2e0000000000ull; v11 = 771751936; v12 = 11776; v13 = 0x2e00000000000000ull; v14 = 0x2e0000000000ull; v15 = 771751936; v16 = 11776; v17 = 0x2e00000000000000ull; v18 = 0x2e0000000000ull; v19 = 771751936; v20 = 11776; v21 = 0x2e00000000000000ull; v22 = 0x2e0000000000ull; v23 = 771751936; v24 = 11776; v25 = 0x2e00000000000000ull; v26 = 0x2e0000000000ull; v27 = 771751936; v28 = 11776; v29 = 0x2e00000000000000ull; v30 = 0x2e0000000000ull; v31 = 771751936; v32 = 11776; v33 = 0x2e00000000000000ull; v34 = 0x2e0000000000ull; v35 = 771751936; v36 = v104; v37 = v102; v38 = v100; v39 = v98; v40 = v96; v41 = v94; v42 = v92; v43 = v90; v44 = v88; v45 = v87; v46 = v89; v47 = v91; v48 = v93; v49 = v95; v50 = v97; v51 = v99; v52 = v101; v53 = v103; v54 = 3014656; v55 = 0x2e00000000ull; v56 = 0x2e000000000000ull; v58 = 3014656; v59 = 0x2e00000000ull; v60 = 0x2e000000000000ull; v62 = 3014656; v63 = 0x2e00000000ull; v64 = 0x2e000000000000ull; v66 = 3014656; v67 = 0x2e00000000ull; v68 = 0x2e000000000000ull; v70 = 3014656; v71 = 0x2e00000000ull; v72 = 0x2e000000000000ull; v74 = 3014656; v75 = 0x2e00000000ull; v76 = 0x2e000000000000ull; v78 = 3014656; v79 = 0x2e00000000ull; v80 = 0x2e000000000000ull; v82 = 3014656; v83 = 0x2e00000000ull; v57 = v61 = v65 = v69 = v73 = v77 = v81 = 46; goto L0; }
-	u64 v105 = (u64)ld8(v4+18) << 16;
-	if (v5 == 19) { v7 = 771751936; v8 = 11776; v9 = 0x2e00000000000000ull; v10 = 0x2e0000000000ull; v11 = 771751936; v12 = 11776; v13 = 0x2e00000000000000ull; v14 = 0x2e0000000000ull; v15 = 771751936; v16 = 11776; v17 = 0x2e00000000000000ull; v18 = 0x2e0000000000ull; v19 = 771751936; v20 = 11776; v21 = 0x2e00000000000000ull; v22 = 0x2e0000000000ull; v23 = 771751936; v24 = 11776; v25 = 0x2e00000000000000ull; v26 = 0x2e0000000000ull; v27 = 771751936; v28 = 11776; v29 = 0x2e00000000000000ull; v30 = 0x2e0000000000ull; v31 = 771751936; v32 = 11776; v33 = 0x2e00000000000000ull; v34 = 0x2e0000000000ull; v35 = 771751936; v36 = v104; v37 = v102; v38 = v100; v39 = v98; v40 = v96; v41 = v94; v42 = v92; v43 = v90; v44 = v88; v45 = v87; v46 = v89; v47 = v91; v48 = v93; v49 = v95; v50 = v97; v51 = v99; v52 = v101; v53 = v103; v54 = v105; v55 = 0x2e00000000ull; v56 = 0x2e000000000000ull; v58 = 3014656; v59 = 0x2e00000000ull; v60 = 0x2e000000000000ull; v62 = 3014656; v63 = 0x2e00000000ull; v64 = 0x2e000000000000ull; v66 = 3014656; v67 = 0x2e00000000ull; v68 = 0x2e000000000000ull; v70 = 3014656; v71 = 0x2e00000000ull; v72 = 0x2e000000000000ull; v74 = 3014656; v75 = 0x2e00000000ull; v76 = 0x2e000000000000ull; v78 = 3014656; v79 = 0x2e00000000ull; v80 = 0x2e000000000000ull; v82 = 3014656; v83 = 0x2e00000000ull; v57 = v61 = v65 = v69 = v73 = v77 = v81 = 46; goto L0; }
-	u64 v106 = (u64)ld8(v4+19) << 24;
-	if (v5 <= 20) { v7 = 771751936; v8 = 11776; v9 = 0x2e00000000000000ull; v10 = 0x2e0000000000ull; v11 = 771751936; v12 = 11776; v13 = 0x2e00000000000000ull; v14 = 0x2e0000000000ull; v15 = 771751936; v16 = 11776; v17 = 0x2e00000000000000ull; v18 = 0x2e0000000000ull; v19 = 771751936; v20 = 11776; v21 = 0x2e00000000000000ull; v22 = 0x2e0000000000ull; v23 = 771751936; v24 = 11776; v25 = 0x2e00000000000000ull; v26 = 0x2e0000000000ull; v27 = 771751936; v28 = 11776; v29 = 0x2e00000000000000ull; v30 = 0x2e0000000000ull; v31 = 771751936; v32 = 11776; v33 = 0x2e00000000000000ull; v34 = 0x2e0000000000ull; v35 = v106; v36 = v104; v37 = v102; v38 = v100; v39 = v98; v40 = v96; v41 = v94; v42 = v92; v43 = v90; v44 = v88; v45 = v87; v46 = v89; v47 = v91; v48 = v93; v49 = v95; v50 = v97; v51 = v99; v52 = v101; v53 = v103; v54 = v105; v55 = 0x2e00000000ull; v56 = 0x2e000000000000ull; v58 = 3014656; v59 = 0x2e00000000ull; v60 = 0x2e000000000000ull; v62 = 3014656; v63 = 0x2e00000000ull; v64 = 0x2e000000000000ull; v66 = 3014656; v67 = 0x2e00000000ull; v68 = 0x2e000000000000ull; v70 = 3014656; v71 = 0x2e00000000ull; v72 = 0x2e000000000000ull; v74 = 3014656; v75 = 0x2e00000000ull; v76 = 0x2e000000000000ull; v78 = 3014656; v79 = 0x2e00000000ull; v80 = 0x2e000000000000ull; v82 = 3014656; v83 = 0x2e00000000ull; v57 = v61 = v65 = v69 = v73 = v77 = v81 = 46; goto L0; }
-	u64 v107 = (u64)ld8(v4+20) << 32;
-	if (v5 == 21) { v7 = 771751936; v8 = 11776; v9 = 0x2e00000000000000ull; v10 = 0x2e0000000000ull; v11 = 771751936; v12 = 11776; v13 = 0x2e00000000000000ull; v14 = 0x2e0000000000ull; v15 = 771751936; v16 = 11776; v17 = 0x2e00000000000000ull; v18 = 0x2e0000000000ull; v19 = 771751936; v20 = 11776; v21 = 0x2e00000000000000ull; v22 = 0x2e0000000000ull; v23 = 771751936; v24 = 11776; v25 = 0x2e00000000000000ull; v26 = 0x2e0000000000ull; v27 = 771751936; v28 = 11776; v29 = 0x2e00000000000000ull; v30 = 0x2e0000000000ull; v31 = 771751936; v32 = 11776; v33 = 0x2e00000000000000ull; v34 = 0x2e0000000000ull; v35 = v106; v36 = v104; v37 = v102; v38 = v100; v39 = v98; v40 = v96; v41 = v94; v42 = v92; v43 = v90; v44 = v88; v45 = v87; v46 = v89; v47 = v91; v48 = v93; v49 = v95; v50 = v97; v51 = v99; v52 = v101; v53 = v103; v54 = v105; v55 = v107; v56 = 0x2e000000000000ull; v58 = 3014656; v59 = 0x2e00000000ull; v60 = 0x2e000000000000ull; v62 = 3014656; v63 = 0x2e00000000ull; v64 = 0x2e000000000000ull; v66 = 3014656; v67 = 0x2e00000000ull; v68 = 0x2e000000000000ull; v70 = 3014656; v71 = 0x2e00000000ull; v72 = 0x2e000000000000ull; v74 = 3014656; v75 = 0x2e00000000ull; v76 = 0x2e000000000000ull; v78 = 3014656; v79 = 0x2e00000000ull; v80 = 0x2e000000000000ull; v82 = 3014656; v83 = 0x2e00000000ull; v57 = v61 = v65 = v69 = v73 = v77 = v81 = 46; goto L0; }
-	u64 v108 = (u64)ld8(v4+21) << 40;
-	if (v5 <= 22) { v7 = 771751936; v8 = 11776; v9 = 0x2e00000000000000ull; v10 = 0x2e0000000000ull; v11 = 771751936; v12 = 11776; v13 = 0x2e00000000000000ull; v14 = 0x2e0000000000ull; v15 = 771751936; v16 = 11776; v17 = 0x2e00000000000000ull; v18 = 0x2e0000000000ull; v19 = 771751936; v20 = 11776; v21 = 0x2e00000000000000ull; v22 = 0x2e0000000000ull; v23 = 771751936; v24 = 11776; v25 = 0x2e00000000000000ull; v26 = 0x2e0000000000ull; v27 = 771751936; v28 = 11776; v29 = 0x2e00000000000000ull; v30 = 0x2e0000000000ull; v31 = 771751936; v32 = 11776; v33 = 0x2e00000000000000ull; v34 = v108; v35 = v106; v36 = v104; v37 = v102; v38 = v100; v39 = v98; v40 = v96; v41 = v94; v42 = v92; v43 = v90; v44 = v88; v45 = v87; v46 = v89; v47 = v91; v48 = v93; v49 = v95; v50 = v97; v51 = v99; v52 = v101; v53 = v103; v54 = v105; v55 = v107; v56 = 0x2e000000000000ull; v58 = 3014656; v59 = 0x2e00000000ull; v60 = 0x2e000000000000ull; v62 = 3014656; v63 = 0x2e00000000ull; v64 = 0x2e000000000000ull; v66 = 3014656; v67 = 0x2e00000000ull; v68 = 0x2e000000000000ull; v70 = 3014656; v71 = 0x2e00000000ull; v72 = 0x2e000000000000ull; v74 = 3014656; v75 = 0x2e00000000ull; v76 = 0x2e000000000000ull; v78 = 3014656; v79 = 0x2e00000000ull; v80 = 0x2e000000000000ull; v82 = 3014656; v83 = 0x2e00000000ull; v57 = v61 = v65 = v69 = v73 = v77 = v81 = 46; goto L0; }
-	u64 v109 = (u64)ld8(v4+22) << 48;
-	if (v5 == 23) { v7 = 771751936; v8 = 11776; v9 = 0x2e00000000000000ull; v10 = 0x2e0000000000ull; v11 = 771751936; v12 = 11776; v13 = 0x2e00000000000000ull; v14 = 0x2e0000000000ull; v15 = 771751936; v16 = 11776; v17 = 0x2e00000000000000ull; v18 = 0x2e0000000000ull; v19 = 771751936; v20 = 11776; v21 = 0x2e00000000000000ull; v22 = 0x2e0000000000ull; v23 = 771751936; v24 = 11776; v25 = 0x2e00000000000000ull; v26 = 0x2e0000000000ull; v27 = 771751936; v28 = 11776; v29 = 0x2e00000000000000ull; v30 = 0x2e0000000000ull; v31 = 771751936; v32 = 11776; v33 = 0x2e00000000000000ull; v34 = v108; v35 = v106; v36 = v104; v37 = v102; v38 = v100; v39 = v98; v40 = v96; v41 = v94; v42 = v92; v43 = v90; v44 = v88; v45 = v87; v46 = v89; v47 = v91; v48 = v93; v49 = v95; v50 = v97; v51 = v99; v52 = v101; v53 = v103; v54 = v105; v55 = v107; v56 = v109; v58 = 3014656; v59 = 0x2e00000000ull; v60 = 0x2e000000000000ull; v62 = 3014656; v63 = 0x2e00000000ull; v64 = 0x2e000000000000ull; v66 = 3014656; v67 = 0x2e00000000ull; v68 = 0x2e000000000000ull; v70 = 3014656; v71 = 0x2e00000000ull; v72 = 0x2e000000000000ull; v74 = 3014656; v75 = 0x2e00000000ull; v76 = 0x2e000000000000ull; v78 = 3014656; v79 = 0x2e00000000ull; v80 = 0x2e000000000000ull; v82 = 3014656; v83 = 0x2e00000000ull; v57 = v61 = v65 = v69 = v73 = v77 = v81 = 46; goto L0; }
-	u64 v110 = (u64)ld8(v4+23) << 56;
-	if (v5 <= 24) { v7 = 771751936; v8 = 11776; v9 = 0x2e00000000000000ull; v10 = 0x2e0000000000ull; v11 = 771751936; v12 = 11776; v13 = 0x2e00000000000000ull; v14 = 0x2e0000000000ull; v15 = 771751936; v16 = 11776; v17 = 0x2e00000000000000ull; v18 = 0x2e0000000000ull; v19 = 771751936; v20 = 11776; v21 = 0x2e00000000000000ull; v22 = 0x2e0000000000ull; v23 = 771751936; v24 = 11776; v25 = 0x2e00000000000000ull; v26 = 0x2e0000000000ull; v27 = 771751936; v28 = 11776; v29 = 0x2e00000000000000ull; v30 = 0x2e0000000000ull; v31 = 771751936; v32 = 11776; v33 = v110; v34 = v108; v35 = v106; v36 = v104; v37 = v102; v38 = v100; v39 = v98; v40 = v96; v41 = v94; v42 = v92; v43 = v90; v44 = v88; v45 = v87; v46 = v89; v47 = v91; v48 = v93; v49 = v95; v50 = v97; v51 = v99; v52 = v101; v53 = v103; v54 = v105; v55 = v107; v56 = v109; v58 = 3014656; v59 = 0x2e00000000ull; v60 = 0x2e000000000000ull; v62 = 3014656; v63 = 0x2e00000000ull; v64 = 0x2e000000000000ull; v66 = 3014656; v67 = 0x2e00000000ull; v68 = 0x2e000000000000ull; v70 = 3014656; v71 = 0x2e00000000ull; v72 = 0x2e000000000000ull; v74 = 3014656; v75 = 0x2e00000000ull; v76 = 0x2e000000000000ull; v78 = 3014656; v79 = 0x2e00000000ull; v80 = 0x2e000000000000ull; v82 = 3014656; v83 = 0x2e00000000ull; v57 = v61 = v65 = v69 = v73 = v77 = v81 = 46; goto L0; }
-	u8 v111 = ld8(v4+24);
-	if (v5 == 25) { v7 = 771751936; v8 = 11776; v9 = 0x2e00000000000000ull; v10 = 0x2e0000000000ull; v11 = 771751936; v12 = 11776; v13 = 0x2e00000000000000ull; v14 = 0x2e0000000000ull; v15 = 771751936; v16 = 11776; v17 = 0x2e00000000000000ull; v18 = 0x2e0000000000ull; v19 = 771751936; v20 = 11776; v21 = 0x2e00000000000000ull; v22 = 0x2e0000000000ull; v23 = 771751936; v24 = 11776; v25 = 0x2e00000000000000ull; v26 = 0x2e0000000000ull; v27 = 771751936; v28 = 11776; v29 = 0x2e00000000000000ull; v30 = 0x2e0000000000ull; v31 = 771751936; v32 = 11776; v33 = v110; v34 = v108; v35 = v106; v36 = v104; v37 = v102; v38 = v100; v39 = v98; v40 = v96; v41 = v94; v42 = v92; v43 = v90; v44 = v88; v45 = v87; v46 = v89; v47 = v91; v48 = v93; v49 = v95; v50 = v97; v51 = v99; v52 = v101; v53 = v103; v54 = v105; v55 = v107; v56 = v109; v57 = v111; v58 = 3014656; v59 = 0x2e00000000ull; v60 = 0x2e000000000000ull; v62 = 3014656; v63 = 0x2e00000000ull; v64 = 0x2e000000000000ull; v66 = 3014656; v67 = 0x2e00000000ull; v68 = 0x2e000000000000ull; v70 = 3014656; v71 = 0x2e00000000ull; v72 = 0x2e000000000000ull; v74 = 3014656; v75 = 0x2e00000000ull; v76 = 0x2e000000000000ull; v78 = 3014656; v79 = 0x2e00000000ull; v80 = 0x2e000000000000ull; v82 = 3014656; v83 = 0x2e00000000ull; v61 = v65 = v69 = v73 = v77 = v81 = 46; goto L0; }
-	u64 v112 = (u64)ld8(v4+25) << 8;
-	if (v5 <= 26) { v7 = 771751936; v8 = 11776; v9 = 0x2e00000000000000ull; v10 = 0x2e0000000000ull; v11 = 771751936; v12 = 11776; v13 = 0x2e00000000000000ull; v14 = 0x2e0000000000ull; v15 = 771751936; v16 = 11776; v17 = 0x2e00000000000000ull; v18 = 0x2e0000000000ull; v19 = 771751936; v20 = 11776; v21 = 0x2e00000000000000ull; v22 = 0x2e0000000000ull; v23 = 771751936; v24 = 11776; v25 = 0x2e00000000000000ull; v26 = 0x2e0000000000ull; v27 = 771751936; v28 = 11776; v29 = 0x2e00000000000000ull; v30 = 0x2e0000000000ull; v31 = 771751936; v32 = v112; v33 = v110; v34 = v108; v35 = v106; v36 = v104; v37 = v102; v38 = v100; v39 = v98; v40 = v96; v41 = v94; v42 = v92; v43 = v90; v44 = v88; v45 = v87; v46 = v89; v47 = v91; v48 = v93; v49 = v95; v50 = v97; v51 = v99; v52 = v101; v53 = v103; v54 = v105; v55 = v107; v56 = v109; v57 = v111; v58 = 3014656; v59 = 0x2e00000000ull; v60 = 0x2e000000000000ull; v62 = 3014656; v63 = 0x2e00000000ull; v64 = 0x2e000000000000ull; v66 = 3014656; v67 = 0x2e00000000ull; v68 = 0x2e000000000000ull; v70 = 3014656; v71 = 0x2e00000000ull; v72 = 0x2e000000000000ull; v74 = 3014656; v75 = 0x2e00000000ull; v76 = 0x2e000000000000ull; v78 = 3014656; v79 = 0x2e00000000ull; v80 = 0x2e000000000000ull; v82 = 3014656; v83 = 0x2e00000000ull; v61 = v65 = v69 = v73 = v77 = v81 = 46; goto L0; }
-	u64 v113 = (u64)ld8(v4+26) << 16;
-	if (v5 == 27) { v7 = 771751936; v8 = 11776; v9 = 0x2e00000000000000ull; v10 = 0x2e0000000000ull; v11 = 771751936; v12 = 11776; v13 = 0x2e00000000000000ull; v14 = 0x2e0000000000ull; v15 = 771751936; v16 = 11776; v17 = 0x2e00000000000000ull; v18 = 0x2e0000000000ull; v19 = 771751936; v20 = 11776; v21 = 0x2e00000000000000ull; v22 = 0x2e0000000000ull; v23 = 771751936; v24 = 11776; v25 = 0x2e00000000000000ull; v26 = 0x2e0000000000ull; v27 = 771751936; v28 = 11776; v29 = 0x2e00000000000000ull; v30 = 0x2e0000000000ull; v31 = 771751936; v32 = v112; v33 = v110; v34 = v108; v35 = v106; v36 = v104; v37 = v102; v38 = v100; v39 = v98; v40 = v96; v41 = v94; v42 = v92; v43 = v90; v44 = v88; v45 = v87; v46 = v89; v47 = v91; v48 = v93; v49 = v95; v50 = v97; v51 = v99; v52 = v101; v53 = v103; v54 = v105; v55 = v107; v56 = v109; v57 = v111; v58 = v113; v59 = 0x2e00000000ull; v60 = 0x2e000000000000ull; v62 = 3014656; v63 = 0x2e00000000ull; v64 = 0x2e000000000000ull; v66 = 3014656; v67 = 0x2e00000000ull; v68 = 0x2e000000000000ull; v70 = 3014656; v71 = 0x2e00000000ull; v72 = 0x2e000000000000ull; v74 = 3014656; v75 = 0x2e00000000ull; v76 = 0x2e000000000000ull; v78 = 3014656; v79 = 0x2e00000000ull; v80 = 0x2e000000000000ull; v82 = 3014656; v83 = 0x2e00000000ull; v61 = v65 = v69 = v73 = v77 = v81 = 46; goto L0; }
-	u64 v114 = (u64)ld8(v4+27) << 24;
-	if (v5 <= 28) { v7 = 771751936; v8 = 11776; v9 = 0x2e00000000000000ull; v10 = 0x2e0000000000ull; v11 = 771751936; v12 = 11776; v13 = 0x2e00000000000000ull; v14 = 0x2e0000000000ull; v15 = 771751936; v16 = 11776; v17 = 0x2e00000000000000ull; v18 = 0x2e0000000000ull; v19 = 771751936; v20 = 11776; v21 = 0x2e00000000000000ull; v22 = 0x2e0000000000ull; v23 = 771751936; v24 = 11776; v25 = 0x2e00000000000000ull; v26 = 0x2e0000000000ull; v27 = 771751936; v28 = 11776; v29 = 0x2e00000000000000ull; v30 = 0x2e0000000000ull; v31 = v114; v32 = v112; v33 = v110; v34 = v108; v35 = v106; v36 = v104; v37 = v102; v38 = v100; v39 = v98; v40 = v96; v41 = v94; v42 = v92; v43 = v90; v44 = v88; v45 = v87; v46 = v89; v47 = v91; v48 = v93; v49 = v95; v50 = v97; v51 = v99; v52 = v101; v53 = v103; v54 = v105; v55 = v107; v56 = v109; v57 = v111; v58 = v113; v59 = 0x2e00000000ull; v60 = 0x2e000000000000ull; v62 = 3014656; v63 = 0x2e00000000ull; v64 = 0x2e000000000000ull; v66 = 3014656; v67 = 0x2e00000000ull; v68 = 0x2e000000000000ull; v70 = 3014656; v71 = 0x2e00000000ull; v72 = 0x2e000000000000ull; v74 = 3014656; v75 = 0x2e00000000ull; v76 = 0x2e000000000000ull; v78 = 3014656; v79 = 0x2e00000000ull; v80 = 0x2e000000000000ull; v82 = 3014656; v83 = 0x2e00000000ull; v61 = v65 = v69 = v73 = v77 = v81 = 46; goto L0; }
-	u64 v115 = (u64)ld8(v4+28) << 32;
-	if (v5 == 29) { v7 = 771751936; v8 = 11776; v9 = 0x2e00000000000000ull; v10 = 0x2e0000000000ull; v11 = 771751936; v12 = 11776; v13 = 0x2e00000000000000ull; v14 = 0x2e0000000000ull; v15 = 771751936; v16 = 11776; v17 = 0x2e00000000000000ull; v18 = 0x2e0000000000ull; v19 = 771751936; v20 = 11776; v21 = 0x2e00000000000000ull; v22 = 0x2e0000000000ull; v23 = 771751936; v24 = 11776; v25 = 0x2e00000000000000ull; v26 = 0x2e0000000000ull; v27 = 771751936; v28 = 11776; v29 = 0x2e00000000000000ull; v30 = 0x2e0000000000ull; v31 = v114; v32 = v112; v33 = v110; v34 = v108; v35 = v106; v36 = v104; v37 = v102; v38 = v100; v39 = v98; v40 = v96; v41 = v94; v42 = v92; v43 = v90; v44 = v88; v45 = v87; v46 = v89; v47 = v91; v48 = v93; v49 = v95; v50 = v97; v51 = v99; v52 = v101; v53 = v103; v54 = v105; v55 = v107; v56 = v109; v57 = v111; v58 = v113; v59 = v115; v60 = 0x2e000000000000ull; v62 = 3014656; v63 = 0x2e00000000ull; v64 = 0x2e000000000000ull; v66 = 3014656; v67 = 0x2e00000000ull; v68 = 0x2e000000000000ull; v70 = 3014656; v71 = 0x2e00000000ull; v72 = 0x2e000000000000ull; v74 = 3014656; v75 = 0x2e00000000ull; v76 = 0x2e000000000000ull; v78 = 3014656; v79 = 0x2e00000000ull; v80 = 0x2e000000000000ull; v82 = 3014656; v83 = 0x2e00000000ull; v61 = v65 = v69 = v73 = v77 = v81 = 46; goto L0; }
-	u64 v116 = (u64)ld8(v4+29) << 40;
-	if (v5 <= 30) { v7 = 771751936; v8 = 11776; v9 = 0x2e00000000000000ull; v10 = 0x2e0000000000ull; v11 = 771751936; v12 = 11776; v13 = 0x2e00000000000000ull; v14 = 0x2e0000000000ull; v15 = 771751936; v16 = 11776; v17 = 0x2e00000000000000ull; v18 = 0x2e0000000000ull; v19 = 771751936; v20 = 11776; v21 = 0x2e00000000000000ull; v22 = 0x2e0000000000ull; v23 = 771751936; v24 = 11776; v25 = 0x2e00000000000000ull; v26 = 0x2e0000000000ull; v27 = 771751936; v28 = 11776; v29 = 0x2e00000000000000ull; v30 = v116; v31 = v114; v32 = v112; v33 = v110; v34 = v108; v35 = v106; v36 = v104; v37 = v102; v38 = v100; v39 = v98; v40 = v96; v41 = v94; v42 = v92; v43 = v90; v44 = v88; v45 = v87; v46 = v89; v47 = v91; v48 = v93; v49 = v95; v50 = v97; v51 = v99; v52 = v101; v53 = v103; v54 = v105; v55 = v107; v56 = v109; v57 = v111; v58 = v113; v59 = v115; v60 = 0x2e000000000000ull; v62 = 3014656; v63 = 0x2e00000000ull; v64 = 0x2e000000000000ull; v66 = 3014656; v67 = 0x2e00000000ull; v68 = 0x2e000000000000ull; v70 = 3014656; v71 = 0x2e00000000ull; v72 = 0x2e000000000000ull; v74 = 3014656; v75 = 0x2e00000000ull; v76 = 0x2e000000000000ull; v78 = 3014656; v79 = 0x2e00000000ull; v80 = 0x2e000000000000ull; v82 = 3014656; v83 = 0x2e00000000ull; v61 = v65 = v69 = v73 = v77 = v81 = 46; goto L0; }
-	u64 v117 = (u64)ld8(v4+30) << 48;
-	if (v5 == 31) { v7 = 771751936; v8 = 11776; v9 = 0x2e00000000000000ull; v10 = 0x2e0000000000ull; v11 = 771751936; v12 = 11776; v13 = 0x2e00000000000000ull; v14 = 0x2e0000000000ull; v15 = 771751936; v16 = 11776; v17 = 0x2e00000000000000ull; v18 = 0x2e0000000000ull; v19 = 771751936; v20 = 11776; v21 = 0x2e00000000000000ull; v22 = 0x2e0000000000ull; v23 = 771751936; v24 = 11776; v25 = 0x2e00000000000000ull; v26 = 0x2e0000000000ull; v27 = 771751936; v28 = 11776; v29 = 0x2e00000000000000ull; v30 = v116; v31 = v114; v32 = v112; v33 = v110; v34 = v108; v35 = v106; v36 = v104; v37 = v102; v38 = v100; v39 = v98; v40 = v96; v41 = v94; v42 = v92; v43 = v90; v44 = v88; v45 = v87; v46 = v89; v47 = v91; v48 = v93; v49 = v95; v50 = v97; v51 = v99; v52 = v101; v53 = v103; v54 = v105; v55 = v107; v56 = v109; v57 = v111; v58 = v113; v59 = v115; v60 = v117; v62 = 3014656; v63 = 0x2e00000000ull; v64 = 0x2e000000000000ull; v66 = 3014656; v67 = 0x2e00000000ull; v68 = 0x2e000000000000ull; v70 = 3014656; v71 = 0x2e00000000ull; v72 = 0x2e000000000000ull; v74 = 3014656; v75 = 0x2e00000000ull; v76 = 0x2e000000000000ull; v78 = 3014656; v79 = 0x2e00000000ull; v80 = 0x2e000000000000ull; v82 = 3014656; v83 = 0x2e00000000ull; v61 = v65 = v69 = v73 = v77 = v81 = 46; goto L0; }
-	u64 v118 = (u64)ld8(v4+31) << 56;
-	if (v5 <= 32) { v7 = 771751936; v8 = 11776; v9 = 0x2e00000000000000ull; v10 = 0x2e0000000000ull; v11 = 771751936; v12 = 11776; v13 = 0x2e00000000000000ull; v14 = 0x2e0000000000ull; v15 = 771751936; v16 = 11776; v17 = 0x2e00000000000000ull; v18 = 0x2e0000000000ull; v19 = 771751936; v20 = 11776; v21 = 0x2e00000000000000ull; v22 = 0x2e0000000000ull; v23 = 771751936; v24 = 11776; v25 = 0x2e00000000000000ull; v26 = 0x2e0000000000ull; v27 = 771751936; v28 = 11776; v29 = v118; v30 = v116; v31 = v114; v32 = v112; v33 = v110; v34 = v108; v35 = v106; v36 = v104; v37 = v102; v38 = v100; v39 = v98; v40 = v96; v41 = v94; v42 = v92; v43 = v90; v44 = v88; v45 = v87; v46 = v89; v47 = v91; v48 = v93; v49 = v95; v50 = v97; v51 = v99; v52 = v101; v53 = v103; v54 = v105; v55 = v107; v56 = v109; v57 = v111; v58 = v113; v59 = v115; v60 = v117; v62 = 3014656; v63 = 0x2e00000000ull; v64 = 0x2e000000000000ull; v66 = 3014656; v67 = 0x2e00000000ull; v68 = 0x2e000000000000ull; v70 = 3014656; v71 = 0x2e00000000ull; v72 = 0x2e000000000000ull; v74 = 3014656; v75 = 0x2e00000000ull; v76 = 0x2e000000000000ull; v78 = 3014656; v79 = 0x2e00000000ull; v80 = 0x2e000000000000ull; v82 = 3014656; v83 = 0x2e00000000ull; v61 = v65 = v69 = v73 = v77 = v81 = 46; goto L0; }
-	u8 v119 = ld8(v4+32);
-	if (v5 == 33) { v7 = 771751936; v8 = 11776; v9 = 0x2e00000000000000ull; v10 = 0x2e0000000000ull; v11 = 771751936; v12 = 11776; v13 = 0x2e00000000000000ull; v14 = 0x2e0000000000ull; v15 = 771751936; v16 = 11776; v17 = 0x2e00000000000000ull; v18 = 0x2e0000000000ull; v19 = 771751936; v20 = 11776; v21 = 0x2e00000000000000ull; v22 = 0x2e0000000000ull; v23 = 771751936; v24 = 11776; v25 = 0x2e00000000000000ull; v26 = 0x2e0000000000ull; v27 = 771751936; v28 = 11776; v29 = v118; v30 = v116; v31 = v114; v32 = v112; v33 = v110; v34 = v108; v35 = v106; v36 = v104; v37 = v102; v38 = v100; v39 = v98; v40 = v96; v41 = v94; v42 = v92; v43 = v90; v44 = v88; v45 = v87; v46 = v89; v47 = v91; v48 = v93; v49 = v95; v50 = v97; v51 = v99; v52 = v101; v53 = v103; v54 = v105; v55 = v107; v56 = v109; v57 = v111; v58 = v113; v59 = v115; v60 = v117; v61 = v119; v62 = 3014656; v63 = 0x2e00000000ull; v64 = 0x2e000000000000ull; v66 = 3014656; v67 = 0x2e00000000ull; v68 = 0x2e000000000000ull; v70 = 3014656; v71 = 0x2e00000000ull; v72 = 0x2e000000000000ull; v74 = 3014656; v75 = 0x2e00000000ull; v76 = 0x2e000000000000ull; v78 = 3014656; v79 = 0x2e00000000ull; v80 = 0x2e000000000000ull; v82 = 3014656; v83 = 0x2e00000000ull; v65 = v69 = v73 = v77 = v81 = 46; goto L0; }
-	u64 v120 = (u64)ld8(v4+33) << 8;
-	if (v5 <= 34) { v7 = 771751936; v8 = 11776; v9 = 0x2e00000000000000ull; v10 = 0x2e0000000000ull; v11 = 771751936; v12 = 11776; v13 = 0x2e00000000000000ull; v14 = 0x2e0000000000ull; v15 = 771751936; v16 = 11776; v17 = 0x2e00000000000000ull; v18 = 0x2e0000000000ull; v19 = 771751936; v20 = 11776; v21 = 0x2e00000000000000ull; v22 = 0x2e0000000000ull; v23 = 771751936; v24 = 11776; v25 = 0x2e00000000000000ull; v26 = 0x2e0000000000ull; v27 = 771751936; v28 = v120; v29 = v118; v30 = v116; v31 = v114; v32 = v112; v33 = v110; v34 = v108; v35 = v106; v36 = v104; v37 = v102; v38 = v100; v39 = v98; v40 = v96; v41 = v94; v42 = v92; v43 = v90; v44 = v88; v45 = v87; v46 = v89; v47 = v91; v48 = v93; v49 = v95; v50 = v97; v51 = v99; v52 = v101; v53 = v103; v54 = v105; v55 = v107; v56 = v109; v57 = v111; v58 = v113; v59 = v115; v60 = v117; v61 = v119; v62 = 3014656; v63 = 0x2e00000000ull; v64 = 0x2e000000000000ull; v66 = 3014656; v67 = 0x2e00000000ull; v68 = 0x2e000000000000ull; v70 = 3014656; v71 = 0x2e00000000ull; v72 = 0x2e000000000000ull; v74 = 3014656; v75 = 0x2e00000000ull; v76 = 0x2e000000000000ull; v78 = 3014656; v79 = 0x2e00000000ull; v80 = 0x2e000000000000ull; v82 = 3014656; v83 = 0x2e00000000ull; v65 = v69 = v73 = v77 = v81 = 46; goto L0; }
-	u64 v121 = (u64)ld8(v4+34) << 16;
-	if (v5 == 35) { v7 = 771751936; v8 = 11776; v9 = 0x2e00000000000000ull; v10 = 0x2e0000000000ull; v11 = 771751936; v12 = 11776; v13 = 0x2e00000000000000ull; v14 = 0x2e0000000000ull; v15 = 771751936; v16 = 11776; v17 = 0x2e00000000000000ull; v18 = 0x2e0000000000ull; v19 = 771751936; v20 = 11776; v21 = 0x2e00000000000000ull; v22 = 0x2e0000000000ull; v23 = 771751936; v24 = 11776; v25 = 0x2e00000000000000ull; v26 = 0x2e0000000000ull; v27 = 771751936; v28 = v120; v29 = v118; v30 = v116; v31 = v114; v32 = v112; v33 = v110; v34 = v108; v35 = v106; v36 = v104; v37 = v102; v38 = v100; v39 = v98; v40 = v96; v41 = v94; v42 = v92; v43 = v90; v44 = v88; v45 = v87; v46 = v89; v47 = v91; v48 = v93; v49 = v95; v50 = v97; v51 = v99; v52 = v101; v53 = v103; v54 = v105; v55 = v107; v56 = v109; v57 = v111; v58 = v113; v59 = v115; v60 = v117; v61 = v119; v62 = v121; v63 = 0x2e00000000ull; v64 = 0x2e000000000000ull; v66 = 3014656; v67 = 0x2e00000000ull; v68 = 0x2e000000000000ull; v70 = 3014656; v71 = 0x2e00000000ull; v72 = 0x2e000000000000ull; v74 = 3014656; v75 = 0x2e00000000ull; v76 = 0x2e000000000000ull; v78 = 3014656; v79 = 0x2e00000000ull; v80 = 0x2e000000000000ull; v82 = 3014656; v83 = 0x2e00000000ull; v65 = v69 = v73 = v77 = v81 = 46; goto L0; }
-	u64 v122 = (u64)ld8(v4+35) << 24;
-	if (v5 <= 36) { v7 = 771751936; v8 = 11776; v9 = 0x2e00000000000000ull; v10 = 0x2e0000000000ull; v11 = 771751936; v12 = 11776; v13 = 0x2e00000000000000ull; v14 = 0x2e0000000000ull; v15 = 771751936; v16 = 11776; v17 = 0x2e00000000000000ull; v18 = 0x2e0000000000ull; v19 = 771751936; v20 = 11776; v21 = 0x2e00000000000000ull; v22 = 0x2e0000000000ull; v23 = 771751936; v24 = 11776; v25 = 0x2e00000000000000ull; v26 = 0x2e0000000000ull; v27 = v122; v28 = v120; v29 = v118; v30 = v116; v31 = v114; v32 = v112; v33 = v110; v34 = v108; v35 = v106; v36 = v104; v37 = v102; v38 = v100; v39 = v98; v40 = v96; v41 = v94; v42 = v92; v43 = v90; v44 = v88; v45 = v87; v46 = v89; v47 = v91; v48 = v93; v49 = v95; v50 = v97; v51 = v99; v52 = v101; v53 = v103; v54 = v105; v55 = v107; v56 = v109; v57 = v111; v58 = v113; v59 = v115; v60 = v117; v61 = v119; v62 = v121; v63 = 0x2e00000000ull; v64 = 0x2e000000000000ull; v66 = 3014656; v67 = 0x2e00000000ull; v68 = 0x2e000000000000ull; v70 = 3014656; v71 = 0x2e00000000ull; v72 = 0x2e000000000000ull; v74 = 3014656; v75 = 0x2e00000000ull; v76 = 0x2e000000000000ull; v78 = 3014656; v79 = 0x2e00000000ull; v80 = 0x2e000000000000ull; v82 = 3014656; v83 = 0x2e00000000ull; v65 = v69 = v73 = v77 = v81 = 46; goto L0; }
-	u64 v123 = (u64)ld8(v4+36) << 32;
-	if (v5 == 37) { v7 = 771751936; v8 = 11776; v9 = 0x2e00000000000000ull; v10 = 0x2e0000000000ull; v11 = 771751936; v12 = 11776; v13 = 0x2e00000000000000ull; v14 = 0x2e0000000000ull; v15 = 771751936; v16 = 11776; v17 = 0x2e00000000000000ull; v18 = 0x2e0000000000ull; v19 = 771751936; v20 = 11776; v21 = 0x2e00000000000000ull; v22 = 0x2e0000000000ull; v23 = 771751936; v24 = 11776; v25 = 0x2e00000000000000ull; v26 = 0x2e0000000000ull; v27 = v122; v28 = v120; v29 = v118; v30 = v116; v31 = v114; v32 = v112; v33 = v110; v34 = v108; v35 = v106; v36 = v104; v37 = v102; v38 = v100; v39 = v98; v40 = v96; v41 = v94; v42 = v92; v43 = v90; v44 = v88; v45 = v87; v46 = v89; v47 = v91; v48 = v93; v49 = v95; v50 = v97; v51 = v99; v52 = v101; v53 = v103; v54 = v105; v55 = v107; v56 = v109; v57 = v111; v58 = v113; v59 = v115; v60 = v117; v61 = v119; v62 = v121; v63 = v123; v64 = 0x2e000000000000ull; v66 = 3014656; v67 = 0x2e00000000ull; v68 = 0x2e000000000000ull; v70 = 3014656; v71 = 0x2e00000000ull; v72 = 0x2e000000000000ull; v74 = 3014656; v75 = 0x2e00000000ull; v76 = 0x2e000000000000ull; v78 = 3014656; v79 = 0x2e00000000ull; v80 = 0x2e000000000000ull; v82 = 3014656; v83 = 0x2e00000000ull; v65 = v69 = v73 = v77 = v81 = 46; goto L0; }
-	u64 v124 = (u64)ld8(v4+37) << 40;
-	if (v5 <= 38) { v7 = 771751936; v8 = 11776; v9 = 0x2e00000000000000ull; v10 = 0x2e0000000000ull; v11 = 771751936; v12 = 11776; v13 = 0x2e00000000000000ull; v14 = 0x2e0000000000ull; v15 = 771751936; v16 = 11776; v17 = 0x2e00000000000000ull; v18 = 0x2e0000000000ull; v19 = 771751936; v20 = 11776; v21 = 0x2e00000000000000ull; v22 = 0x2e0000000000ull; v23 = 771751936; v24 = 11776; v25 = 0x2e00000000000000ull; v26 = v124; v27 = v122; v28 = v120; v29 = v118; v30 = v116; v31 = v114; v32 = v112; v33 = v110; v34 = v108; v35 = v106; v36 = v104; v37 = v102; v38 = v100; v39 = v98; v40 = v96; v41 = v94; v42 = v92; v43 = v90; v44 = v88; v45 = v87; v46 = v89; v47 = v91; v48 = v93; v49 = v95; v50 = v97; v51 = v99; v52 = v101; v53 = v103; v54 = v105; v55 = v107; v56 = v109; v57 = v111; v58 = v113; v59 = v115; v60 = v117; v61 = v119; v62 = v121; v63 = v123; v64 = 0x2e000000000000ull; v66 = 3014656; v67 = 0x2e00000000ull; v68 = 0x2e000000000000ull; v70 = 3014656; v71 = 0x2e00000000ull; v72 = 0x2e000000000000ull; v74 = 3014656; v75 = 0x2e00000000ull; v76 = 0x2e000000000000ull; v78 = 3014656; v79 = 0x2e00000000ull; v80 = 0x2e000000000000ull; v82 = 3014656; v83 = 0x2e00000000ull; v65 = v69 = v73 = v77 = v81 = 46; goto L0; }
-	u64 v125 = (u64)ld8(v4+38) << 48;
-	if (v5 == 39) { v7 = 771751936; v8 = 11776; v9 = 0x2e00000000000000ull; v10 = 0x2e0000000000ull; v11 = 771751936; v12 = 11776; v13 = 0x2e00000000000000ull; v14 = 0x2e0000000000ull; v15 = 771751936; v16 = 11776; v17 = 0x2e00000000000000ull; v18 = 0x2e0000000000ull; v19 = 771751936; v20 = 11776; v21 = 0x2e00000000000000ull; v22 = 0x2e0000000000ull; v23 = 771751936; v24 = 11776; v25 = 0x2e00000000000000ull; v26 = v124; v27 = v122; v28 = v120; v29 = v118; v30 = v116; v31 = v114; v32 = v112; v33 = v110; v34 = v108; v35 = v106; v36 = v104; v37 = v102; v38 = v100; v39 = v98; v40 = v96; v41 = v94; v42 = v92; v43 = v90; v44 = v88; v45 = v87; v46 = v89; v47 = v91; v48 = v93; v49 = v95; v50 = v97; v51 = v99; v52 = v101; v53 = v103; v54 = v105; v55 = v107; v56 = v109; v57 = v111; v58 = v113; v59 = v115; v60 = v117; v61 = v119; v62 = v121; v63 = v123; v64 = v125; v66 = 3014656; v67 = 0x2e00000000ull; v68 = 0x2e000000000000ull; v70 = 3014656; v71 = 0x2e00000000ull; v72 = 0x2e000000000000ull; v74 = 3014656; v75 = 0x2e00000000ull; v76 = 0x2e000000000000ull; v78 = 3014656; v79 = 0x2e00000000ull; v80 = 0x2e000000000000ull; v82 = 3014656; v83 = 0x2e00000000ull; v65 = v69 = v73 = v77 = v81 = 46; goto L0; }
-	u64 v126 = (u64)ld8(v4+39) << 56;
-	if (v5 <= 40) { v7 = 771751936; v8 = 11776; v9 = 0x2e00000000000000ull; v10 = 0x2e0000000000ull; v11 = 771751936; v12 = 11776; v13 = 0x2e00000000000000ull; v14 = 0x2e0000000000ull; v15 = 771751936; v16 = 11776; v17 = 0x2e00000000000000ull; v18 = 0x2e0000000000ull; v19 = 771751936; v20 = 11776; v21 = 0x2e00000000000000ull; v22 = 0x2e0000000000ull; v23 = 771751936; v24 = 11776; v25 = v126; v26 = v124; v27 = v122; v28 = v120; v29 = v118; v30 = v116; v31 = v114; v32 = v112; v33 = v110; v34 = v108; v35 = v106; v36 = v104; v37 = v102; v38 = v100; v39 = v98; v40 = v96; v41 = v94; v42 = v92; v43 = v90; v44 = v88; v45 = v87; v46 = v89; v47 = v91; v48 = v93; v49 = v95; v50 = v97; v51 = v99; v52 = v101; v53 = v103; v54 = v105; v55 = v107; v56 = v109; v57 = v111; v58 = v113; v59 = v115; v60 = v117; v61 = v119; v62 = v121; v63 = v123; v64 = v125; v66 = 3014656; v67 = 0x2e00000000ull; v68 = 0x2e000000000000ull; v70 = 3014656; v71 = 0x2e00000000ull; v72 = 0x2e000000000000ull; v74 = 3014656; v75 = 0x2e00000000ull; v76 = 0x2e000000000000ull; v78 = 3014656; v79 = 0x2e00000000ull; v80 = 0x2e000000000000ull; v82 = 3014656; v83 = 0x2e00000000ull; v65 = v69 = v73 = v77 = v81 = 46; goto L0; }
-	u8 v127 = ld8(v4+40);
-	if (v5 == 41) { v7 = 771751936; v8 = 11776; v9 = 0x2e00000000000000ull; v10 = 0x2e0000000000ull; v11 = 771751936; v12 = 11776; v13 = 0x2e00000000000000ull; v14 = 0x2e0000000000ull; v15 = 771751936; v16 = 11776; v17 = 0x2e00000000000000ull; v18 = 0x2e0000000000ull; v19 = 771751936; v20 = 11776; v21 = 0x2e00000000000000ull; v22 = 0x2e0000000000ull; v23 = 771751936; v24 = 11776; v25 = v126; v26 = v124; v27 = v122; v28 = v120; v29 = v118; v30 = v116; v31 = v114; v32 = v112; v33 = v110; v34 = v108; v35 = v106; v36 = v104; v37 = v102; v38 = v100; v39 = v98; v40 = v96; v41 = v94; v42 = v92; v43 = v90; v44 = v88; v45 = v87; v46 = v89; v47 = v91; v48 = v93; v49 = v95; v50 = v97; v51 = v99; v52 = v101; v53 = v103; v54 = v105; v55 = v107; v56 = v109; v57 = v111; v58 = v113; v59 = v115; v60 = v117; v61 = v119; v62 = v121; v63 = v123; v64 = v125; v65 = v127; v66 = 3014656; v67 = 0x2e00000000ull; v68 = 0x2e000000000000ull; v70 = 3014656; v71 = 0x2e00000000ull; v72 = 0x2e000000000000ull; v74 = 3014656; v75 = 0x2e00000000ull; v76 = 0x2e000000000000ull; v78 = 3014656; v79 = 0x2e00000000ull; v80 = 0x2e000000000000ull; v82 = 3014656; v83 = 0x2e00000000ull; v69 = v73 = v77 = v81 = 46; goto L0; }
-	u64 v128 = (u64)ld8(v4+41) << 8;
-	if (v5 <= 42) { v7 = 771751936; v8 = 11776; v9 = 0x2e00000000000000ull; v10 = 0x2e0000000000ull; v11 = 771751936; v12 = 11776; v13 = 0x2e00000000000000ull; v14 = 0x2e0000000000ull; v15 = 771751936; v16 = 11776; v17 = 0x2e00000000000000ull; v18 = 0x2e0000000000ull; v19 = 771751936; v20 = 11776; v21 = 0x2e00000000000000ull; v22 = 0x2e0000000000ull; v23 = 771751936; v24 = v128; v25 = v126; v26 = v124; v27 = v122; v28 = v120; v29 = v118; v30 = v116; v31 = v114; v32 = v112; v33 = v110; v34 = v108; v35 = v106; v36 = v104; v37 = v102; v38 = v100; v39 = v98; v40 = v96; v41 = v94; v42 = v92; v43 = v90; v44 = v88; v45 = v87; v46 = v89; v47 = v91; v48 = v93; v49 = v95; v50 = v97; v51 = v99; v52 = v101; v53 = v103; v54 = v105; v55 = v107; v56 = v109; v57 = v111; v58 = v113; v59 = v115; v60 = v117; v61 = v119; v62 = v121; v63 = v123; v64 = v125; v65 = v127; v66 = 3014656; v67 = 0x2e00000000ull; v68 = 0x2e000000000000ull; v70 = 3014656; v71 = 0x2e00000000ull; v72 = 0x2e000000000000ull; v74 = 3014656; v75 = 0x2e00000000ull; v76 = 0x2e000000000000ull; v78 = 3014656; v79 = 0x2e00000000ull; v80 = 0x2e000000000000ull; v82 = 3014656; v83 = 0x2e00000000ull; v69 = v73 = v77 = v81 = 46; goto L0; }
-	u64 v129 = (u64)ld8(v4+42) << 16;
-	if (v5 == 43) { v7 = 771751936; v8 = 11776; v9 = 0x2e00000000000000ull; v10 = 0x2e0000000000ull; v11 = 771751936; v12 = 11776; v13 = 0x2e00000000000000ull; v14 = 0x2e0000000000ull; v15 = 771751936; v16 = 11776; v17 = 0x2e00000000000000ull; v18 = 0x2e0000000000ull; v19 = 771751936; v20 = 11776; v21 = 0x2e00000000000000ull; v22 = 0x2e0000000000ull; v23 = 771751936; v24 = v128; v25 = v126; v26 = v124; v27 = v122; v28 = v120; v29 = v118; v30 = v116; v31 = v114; v32 = v112; v33 = v110; v34 = v108; v35 = v106; v36 = v104; v37 = v102; v38 = v100; v39 = v98; v40 = v96; v41 = v94; v42 = v92; v43 = v90; v44 = v88; v45 = v87; v46 = v89; v47 = v91; v48 = v93; v49 = v95; v50 = v97; v51 = v99; v52 = v101; v53 = v103; v54 = v105; v55 = v107; v56 = v109; v57 = v111; v58 = v113; v59 = v115; v60 = v117; v61 = v119; v62 = v121; v63 = v123; v64 = v125; v65 = v127; v66 = v129; v67 = 0x2e00000000ull; v68 = 0x2e000000000000ull; v70 = 3014656; v71 = 0x2e00000000ull; v72 = 0x2e000000000000ull; v74 = 3014656; v75 = 0x2e00000000ull; v76 = 0x2e000000000000ull; v78 = 3014656; v79 = 0x2e00000000ull; v80 = 0x2e000000000000ull; v82 = 3014656; v83 = 0x2e00000000ull; v69 = v73 = v77 = v81 = 46; goto L0; }
-	u64 v130 = (u64)ld8(v4+43) << 24;
-	if (v5 <= 44) { v7 = 771751936; v8 = 11776; v9 = 0x2e00000000000000ull; v10 = 0x2e0000000000ull; v11 = 771751936; v12 = 11776; v13 = 0x2e00000000000000ull; v14 = 0x2e0000000000ull; v15 = 771751936; v16 = 11776; v17 = 0x2e00000000000000ull; v18 = 0x2e0000000000ull; v19 = 771751936; v20 = 11776; v21 = 0x2e00000000000000ull; v22 = 0x2e0000000000ull; v23 = v130; v24 = v128; v25 = v126; v26 = v124; v27 = v122; v28 = v120; v29 = v118; v30 = v116; v31 = v114; v32 = v112; v33 = v110; v34 = v108; v35 = v106; v36 = v104; v37 = v102; v38 = v100; v39 = v98; v40 = v96; v41 = v94; v42 = v92; v43 = v90; v44 = v88; v45 = v87; v46 = v89; v47 = v91; v48 = v93; v49 = v95; v50 = v97; v51 = v99; v52 = v101; v53 = v103; v54 = v105; v55 = v107; v56 = v109; v57 = v111; v58 = v113; v59 = v115; v60 = v117; v61 = v119; v62 = v121; v63 = v123; v64 = v125; v65 = v127; v66 = v129; v67 = 0x2e00000000ull; v68 = 0x2e000000000000ull; v70 = 3014656; v71 = 0x2e00000000ull; v72 = 0x2e000000000000ull; v74 = 3014656; v75 = 0x2e00000000ull; v76 = 0x2e000000000000ull; v78 = 3014656; v79 = 0x2e00000000ull; v80 = 0x2e000000000000ull; v82 = 3014656; v83 = 0x2e00000000ull; v69 = v73 = v77 = v81 = 46; goto L0; }
-	u64 v131 = (u64)ld8(v4+44) << 32;
-	if (v5 == 45) { v7 = 771751936; v8 = 11776; v9 = 0x2e00000000000000ull; v10 = 0x2e0000000000ull; v11 = 771751936; v12 = 11776; v13 = 0x2e00000000000000ull; v14 = 0x2e0000000000ull; v15 = 771751936; v16 = 11776; v17 = 0x2e00000000000000ull; v18 = 0x2e0000000000ull; v19 = 771751936; v20 = 11776; v21 = 0x2e00000000000000ull; v22 = 0x2e0000000000ull; v23 = v130; v24 = v128; v25 = v126; v26 = v124; v27 = v122; v28 = v120; v29 = v118; v30 = v116; v31 = v114; v32 = v112; v33 = v110; v34 = v108; v35 = v106; v36 = v104; v37 = v102; v38 = v100; v39 = v98; v40 = v96; v41 = v94; v42 = v92; v43 = v90; v44 = v88; v45 = v87; v46 = v89; v47 = v91; v48 = v93; v49 = v95; v50 = v97; v51 = v99; v52 = v101; v53 = v103; v54 = v105; v55 = v107; v56 = v109; v57 = v111; v58 = v113; v59 = v115; v60 = v117; v61 = v119; v62 = v121; v63 = v123; v64 = v125; v65 = v127; v66 = v129; v67 = v131; v68 = 0x2e000000000000ull; v70 = 3014656; v71 = 0x2e00000000ull; v72 = 0x2e000000000000ull; v74 = 3014656; v75 = 0x2e00000000ull; v76 = 0x2e000000000000ull; v78 = 3014656; v79 = 0x2e00000000ull; v80 = 0x2e000000000000ull; v82 = 3014656; v83 = 0x2e00000000ull; v69 = v73 = v77 = v81 = 46; goto L0; }
-	u64 v132 = (u64)ld8(v4+45) << 40;
-	if (v5 <= 46) { v7 = 771751936; v8 = 11776; v9 = 0x2e00000000000000ull; v10 = 0x2e0000000000ull; v11 = 771751936; v12 = 11776; v13 = 0x2e00000000000000ull; v14 = 0x2e0000000000ull; v15 = 771751936; v16 = 11776; v17 = 0x2e00000000000000ull; v18 = 0x2e0000000000ull; v19 = 771751936; v20 = 11776; v21 = 0x2e00000000000000ull; v22 = v132; v23 = v130; v24 = v128; v25 = v126; v26 = v124; v27 = v122; v28 = v120; v29 = v118; v30 = v116; v31 = v114; v32 = v112; v33 = v110; v34 = v108; v35 = v106; v36 = v104; v37 = v102; v38 = v100; v39 = v98; v40 = v96; v41 = v94; v42 = v92; v43 = v90; v44 = v88; v45 = v87; v46 = v89; v47 = v91; v48 = v93; v49 = v95; v50 = v97; v51 = v99; v52 = v101; v53 = v103; v54 = v105; v55 = v107; v56 = v109; v57 = v111; v58 = v113; v59 = v115; v60 = v117; v61 = v119; v62 = v121; v63 = v123; v64 = v125; v65 = v127; v66 = v129; v67 = v131; v68 = 0x2e000000000000ull; v70 = 3014656; v71 = 0x2e00000000ull; v72 = 0x2e000000000000ull; v74 = 3014656; v75 = 0x2e00000000ull; v76 = 0x2e000000000000ull; v78 = 3014656; v79 = 0x2e00000000ull; v80 = 0x2e000000000000ull; v82 = 3014656; v83 = 0x2e00000000ull; v69 = v73 = v77 = v81 = 46; goto L0; }
-	u64 v133 = (u64)ld8(v4+46) << 48;
-	if (v5 == 47) { v7 = 771751936; v8 = 11776; v9 = 0x2e00000000000000ull; v10 = 0x2e0000000000ull; v11 = 771751936; v12 = 11776; v13 = 0x2e00000000000000ull; v14 = 0x2e0000000000ull; v15 = 771751936; v16 = 11776; v17 = 0x2e00000000000000ull; v18 = 0x2e0000000000ull; v19 = 771751936; v20 = 11776; v21 = 0x2e00000000000000ull; v22 = v132; v23 = v130; v24 = v128; v25 = v126; v26 = v124; v27 = v122; v28 = v120; v29 = v118; v30 = v116; v31 = v114; v32 = v112; v33 = v110; v34 = v108; v35 = v106; v36 = v104; v37 = v102; v38 = v100; v39 = v98; v40 = v96; v41 = v94; v42 = v92; v43 = v90; v44 = v88; v45 = v87; v46 = v89; v47 = v91; v48 = v93; v49 = v95; v50 = v97; v51 = v99; v52 = v101; v53 = v103; v54 = v105; v55 = v107; v56 = v109; v57 = v111; v58 = v113; v59 = v115; v60 = v117; v61 = v119; v62 = v121; v63 = v123; v64 = v125; v65 = v127; v66 = v129; v67 = v131; v68 = v133; v70 = 3014656; v71 = 0x2e00000000ull; v72 = 0x2e000000000000ull; v74 = 3014656; v75 = 0x2e00000000ull; v76 = 0x2e000000000000ull; v78 = 3014656; v79 = 0x2e00000000ull; v80 = 0x2e000000000000ull; v82 = 3014656; v83 = 0x2e00000000ull; v69 = v73 = v77 = v81 = 46; goto L0; }
-	u64 v134 = (u64)ld8(v4+47) << 56;
-	if (v5 <= 48) { v7 = 771751936; v8 = 11776; v9 = 0x2e00000000000000ull; v10 = 0x2e0000000000ull; v11 = 771751936; v12 = 11776; v13 = 0x2e00000000000000ull; v14 = 0x2e0000000000ull; v15 = 771751936; v16 = 11776; v17 = 0x2e00000000000000ull; v18 = 0x2e0000000000ull; v19 = 771751936; v20 = 11776; v21 = v134; v22 = v132; v23 = v130; v24 = v128; v25 = v126; v26 = v124; v27 = v122; v28 = v120; v29 = v118; v30 = v116; v31 = v114; v32 = v112; v33 = v110; v34 = v108; v35 = v106; v36 = v104; v37 = v102; v38 = v100; v39 = v98; v40 = v96; v41 = v94; v42 = v92; v43 = v90; v44 = v88; v45 = v87; v46 = v89; v47 = v91; v48 = v93; v49 = v95; v50 = v97; v51 = v99; v52 = v101; v53 = v103; v54 = v105; v55 = v107; v56 = v109; v57 = v111; v58 = v113; v59 = v115; v60 = v117; v61 = v119; v62 = v121; v63 = v123; v64 = v125; v65 = v127; v66 = v129; v67 = v131; v68 = v133; v70 = 3014656; v71 = 0x2e00000000ull; v72 = 0x2e000000000000ull; v74 = 3014656; v75 = 0x2e00000000ull; v76 = 0x2e000000000000ull; v78 = 3014656; v79 = 0x2e00000000ull; v80 = 0x2e000000000000ull; v82 = 3014656; v83 = 0x2e00000000ull; v69 = v73 = v77 = v81 = 46; goto L0; }
-	u8 v135 = ld8(v4+48);
-	if (v5 == 49) { v7 = 771751936; v8 = 11776; v9 = 0x2e00000000000000ull; v10 = 0x2e0000000000ull; v11 = 771751936; v12 = 11776; v13 = 0x2e00000000000000ull; v14 = 0x2e0000000000ull; v15 = 771751936; v16 = 11776; v17 = 0x2e00000000000000ull; v18 = 0x2e0000000000ull; v19 = 771751936; v20 = 11776; v21 = v134; v22 = v132; v23 = v130; v24 = v128; v25 = v126; v26 = v124; v27 = v122; v28 = v120; v29 = v118; v30 = v116; v31 = v114; v32 = v112; v33 = v110; v34 = v108; v35 = v106; v36 = v104; v37 = v102; v38 = v100; v39 = v98; v40 = v96; v41 = v94; v42 = v92; v43 = v90; v44 = v88; v45 = v87; v46 = v89; v47 = v91; v48 = v93; v49 = v95; v50 = v97; v51 = v99; v52 = v101; v53 = v103; v54 = v105; v55 = v107; v56 = v109; v57 = v111; v58 = v113; v59 = v115; v60 = v117; v61 = v119; v62 = v121; v63 = v123; v64 = v125; v65 = v127; v66 = v129; v67 = v131; v68 = v133; v69 = v135; v70 = 3014656; v71 = 0x2e00000000ull; v72 = 0x2e000000000000ull; v74 = 3014656; v75 = 0x2e00000000ull; v76 = 0x2e000000000000ull; v78 = 3014656; v79 = 0x2e00000000ull; v80 = 0x2e000000000000ull; v82 = 3014656; v83 = 0x2e00000000ull; v73 = v77 = v81 = 46; goto L0; }
-	u64 v136 = (u64)ld8(v4+49) << 8;
-	if (v5 <= 50) { v7 = 771751936; v8 = 11776; v9 = 0x2e00000000000000ull; v10 = 0x2e0000000000ull; v11 = 771751936; v12 = 11776; v13 = 0x2e00000000000000ull; v14 = 0x2e0000000000ull; v15 = 771751936; v16 = 11776; v17 = 0x2e00000000000000ull; v18 = 0x2e0000000000ull; v19 = 771751936; v20 = v136; v21 = v134; v22 = v132; v23 = v130; v24 = v128; v25 = v126; v26 = v124; v27 = v122; v28 = v120; v29 = v118; v30 = v116; v31 = v114; v32 = v112; v33 = v110; v34 = v108; v35 = v106; v36 = v104; v37 = v102; v38 = v100; v39 = v98; v40 = v96; v41 = v94; v42 = v92; v43 = v90; v44 = v88; v45 = v87; v46 = v89; v47 = v91; v48 = v93; v49 = v95; v50 = v97; v51 = v99; v52 = v101; v53 = v103; v54 = v105; v55 = v107; v56 = v109; v57 = v111; v58 = v113; v59 = v115; v60 = v117; v61 = v119; v62 = v121; v63 = v123; v64 = v125; v65 = v127; v66 = v129; v67 = v131; v68 = v133; v69 = v135; v70 = 3014656; v71 = 0x2e00000000ull; v72 = 0x2e000000000000ull; v74 = 3014656; v75 = 0x2e00000000ull; v76 = 0x2e000000000000ull; v78 = 3014656; v79 = 0x2e00000000ull; v80 = 0x2e000000000000ull; v82 = 3014656; v83 = 0x2e00000000ull; v73 = v77 = v81 = 46; goto L0; }
-	u64 v137 = (u64)ld8(v4+50) << 16;
-	if (v5 == 51) { v7 = 771751936; v8 = 11776; v9 = 0x2e00000000000000ull; v10 = 0x2e0000000000ull; v11 = 771751936; v12 = 11776; v13 = 0x2e00000000000000ull; v14 = 0x2e0000000000ull; v15 = 771751936; v16 = 11776; v17 = 0x2e00000000000000ull; v18 = 0x2e0000000000ull; v19 = 771751936; v20 = v136; v21 = v134; v22 = v132; v23 = v130; v24 = v128; v25 = v126; v26 = v124; v27 = v122; v28 = v120; v29 = v118; v30 = v116; v31 = v114; v32 = v112; v33 = v110; v34 = v108; v35 = v106; v36 = v104; v37 = v102; v38 = v100; v39 = v98; v40 = v96; v41 = v94; v42 = v92; v43 = v90; v44 = v88; v45 = v87; v46 = v89; v47 = v91; v48 = v93; v49 = v95; v50 = v97; v51 = v99; v52 = v101; v53 = v103; v54 = v105; v55 = v107; v56 = v109; v57 = v111; v58 = v113; v59 = v115; v60 = v117; v61 = v119; v62 = v121; v63 = v123; v64 = v125; v65 = v127; v66 = v129; v67 = v131; v68 = v133; v69 = v135; v70 = v137; v71 = 0x2e00000000ull; v72 = 0x2e000000000000ull; v74 = 3014656; v75 = 0x2e00000000ull; v76 = 0x2e000000000000ull; v78 = 3014656; v79 = 0x2e00000000ull; v80 = 0x2e000000000000ull; v82 = 3014656; v83 = 0x2e00000000ull; v73 = v77 = v81 = 46; goto L0; }
-	u64 v138 = (u64)ld8(v4+51) << 24;
-	if (v5 <= 52) { v7 = 771751936; v8 = 11776; v9 = 0x2e00000000000000ull; v10 = 0x2e0000000000ull; v11 = 771751936; v12 = 11776; v13 = 0x2e00000000000000ull; v14 = 0x2e0000000000ull; v15 = 771751936; v16 = 11776; v17 = 0x2e00000000000000ull; v18 = 0x2e0000000000ull; v19 = v138; v20 = v136; v21 = v134; v22 = v132; v23 = v130; v24 = v128; v25 = v126; v26 = v124; v27 = v122; v28 = v120; v29 = v118; v30 = v116; v31 = v114; v32 = v112; v33 = v110; v34 = v108; v35 = v106; v36 = v104; v37 = v102; v38 = v100; v39 = v98; v40 = v96; v41 = v94; v42 = v92; v43 = v90; v44 = v88; v45 = v87; v46 = v89; v47 = v91; v48 = v93; v49 = v95; v50 = v97; v51 = v99; v52 = v101; v53 = v103; v54 = v105; v55 = v107; v56 = v109; v57 = v111; v58 = v113; v59 = v115; v60 = v117; v61 = v119; v62 = v121; v63 = v123; v64 = v125; v65 = v127; v66 = v129; v67 = v131; v68 = v133; v69 = v135; v70 = v137; v71 = 0x2e00000000ull; v72 = 0x2e000000000000ull; v74 = 3014656; v75 = 0x2e00000000ull; v76 = 0x2e000000000000ull; v78 = 3014656; v79 = 0x2e00000000ull; v80 = 0x2e000000000000ull; v82 = 3014656; v83 = 0x2e00000000ull; v73 = v77 = v81 = 46; goto L0; }
-	u64 v139 = (u64)ld8(v4+52) << 32;
-	if (v5 == 53) { v7 = 771751936; v8 = 11776; v9 = 0x2e00000000000000ull; v10 = 0x2e0000000000ull; v11 = 771751936; v12 = 11776; v13 = 0x2e00000000000000ull; v14 = 0x2e0000000000ull; v15 = 771751936; v16 = 11776; v17 = 0x2e00000000000000ull; v18 = 0x2e0000000000ull; v19 = v138; v20 = v136; v21 = v134; v22 = v132; v23 = v130; v24 = v128; v25 = v126; v26 = v124; v27 = v122; v28 = v120; v29 = v118; v30 = v116; v31 = v114; v32 = v112; v33 = v110; v34 = v108; v35 = v106; v36 = v104; v37 = v102; v38 = v100; v39 = v98; v40 = v96; v41 = v94; v42 = v92; v43 = v90; v44 = v88; v45 = v87; v46 = v89; v47 = v91; v48 = v93; v49 = v95; v50 = v97; v51 = v99; v52 = v101; v53 = v103; v54 = v105; v55 = v107; v56 = v109; v57 = v111; v58 = v113; v59 = v115; v60 = v117; v61 = v119; v62 = v121; v63 = v123; v64 = v125; v65 = v127; v66 = v129; v67 = v131; v68 = v133; v69 = v135; v70 = v137; v71 = v139; v72 = 0x2e000000000000ull; v74 = 3014656; v75 = 0x2e00000000ull; v76 = 0x2e000000000000ull; v78 = 3014656; v79 = 0x2e00000000ull; v80 = 0x2e000000000000ull; v82 = 3014656; v83 = 0x2e00000000ull; v73 = v77 = v81 = 46; goto L0; }
-	u64 v140 = (u64)ld8(v4+53) << 40;
-	if (v5 <= 54) { v7 = 771751936; v8 = 11776; v9 = 0x2e00000000000000ull; v10 = 0x2e0000000000ull; v11 = 771751936; v12 = 11776; v13 = 0x2e00000000000000ull; v14 = 0x2e0000000000ull; v15 = 771751936; v16 = 11776; v17 = 0x2e00000000000000ull; v18 = v140; v19 = v138; v20 = v136; v21 = v134; v22 = v132; v23 = v130; v24 = v128; v25 = v126; v26 = v124; v27 = v122; v28 = v120; v29 = v118; v30 = v116; v31 = v114; v32 = v112; v33 = v110; v34 = v108; v35 = v106; v36 = v104; v37 = v102; v38 = v100; v39 = v98; v40 = v96; v41 = v94; v42 = v92; v43 = v90; v44 = v88; v45 = v87; v46 = v89; v47 = v91; v48 = v93; v49 = v95; v50 = v97; v51 = v99; v52 = v101; v53 = v103; v54 = v105; v55 = v107; v56 = v109; v57 = v111; v58 = v113; v59 = v115; v60 = v117; v61 = v119; v62 = v121; v63 = v123; v64 = v125; v65 = v127; v66 = v129; v67 = v131; v68 = v133; v69 = v135; v70 = v137; v71 = v139; v72 = 0x2e000000000000ull; v74 = 3014656; v75 = 0x2e00000000ull; v76 = 0x2e000000000000ull; v78 = 3014656; v79 = 0x2e00000000ull; v80 = 0x2e000000000000ull; v82 = 3014656; v83 = 0x2e00000000ull; v73 = v77 = v81 = 46; goto L0; }
-	u64 v141 = (u64)ld8(v4+54) << 48;
-	if (v5 == 55) { v7 = 771751936; v8 = 11776; v9 = 0x2e00000000000000ull; v10 = 0x2e0000000000ull; v11 = 771751936; v12 = 11776; v13 = 0x2e00000000000000ull; v14 = 0x2e0000000000ull; v15 = 771751936; v16 = 11776; v17 = 0x2e00000000000000ull; v18 = v140; v19 = v138; v20 = v136; v21 = v134; v22 = v132; v23 = v130; v24 = v128; v25 = v126; v26 = v124; v27 = v122; v28 = v120; v29 = v118; v30 = v116; v31 = v114; v32 = v112; v33 = v110; v34 = v108; v35 = v106; v36 = v104; v37 = v102; v38 = v100; v39 = v98; v40 = v96; v41 = v94; v42 = v92; v43 = v90; v44 = v88; v45 = v87; v46 = v89; v47 = v91; v48 = v93; v49 = v95; v50 = v97; v51 = v99; v52 = v101; v53 = v103; v54 = v105; v55 = v107; v56 = v109; v57 = v111; v58 = v113; v59 = v115; v60 = v117; v61 = v119; v62 = v121; v63 = v123; v64 = v125; v65 = v127; v66 = v129; v67 = v131; v68 = v133; v69 = v135; v70 = v137; v71 = v139; v72 = v141; v74 = 3014656; v75 = 0x2e00000000ull; v76 = 0x2e000000000000ull; v78 = 3014656; v79 = 0x2e00000000ull; v80 = 0x2e000000000000ull; v82 = 3014656; v83 = 0x2e00000000ull; v73 = v77 = v81 = 46; goto L0; }
-	u64 v142 = (u64)ld8(v4+55) << 56;
-	if (v5 <= 56) { v7 = 771751936; v8 = 11776; v9 = 0x2e00000000000000ull; v10 = 0x2e0000000000ull; v11 = 771751936; v12 = 11776; v13 = 0x2e00000000000000ull; v14 = 0x2e0000000000ull; v15 = 771751936; v16 = 11776; v17 = v142; v18 = v140; v19 = v138; v20 = v136; v21 = v134; v22 = v132; v23 = v130; v24 = v128; v25 = v126; v26 = v124; v27 = v122; v28 = v120; v29 = v118; v30 = v116; v31 = v114; v32 = v112; v33 = v110; v34 = v108; v35 = v106; v36 = v104; v37 = v102; v38 = v100; v39 = v98; v40 = v96; v41 = v94; v42 = v92; v43 = v90; v44 = v88; v45 = v87; v46 = v89; v47 = v91; v48 = v93; v49 = v95; v50 = v97; v51 = v99; v52 = v101; v53 = v103; v54 = v105; v55 = v107; v56 = v109; v57 = v111; v58 = v113; v59 = v115; v60 = v117; v61 = v119; v62 = v121; v63 = v123; v64 = v125; v65 = v127; v66 = v129; v67 = v131; v68 = v133; v69 = v135; v70 = v137; v71 = v139; v72 = v141; v74 = 3014656; v75 = 0x2e00000000ull; v76 = 0x2e000000000000ull; v78 = 3014656; v79 = 0x2e00000000ull; v80 = 0x2e000000000000ull; v82 = 3014656; v83 = 0x2e00000000ull; v73 = v77 = v81 = 46; goto L0; }
-	u8 v143 = ld8(v4+56);
-	if (v5 == 57) { v7 = 771751936; v8 = 11776; v9 = 0x2e00000000000000ull; v10 = 0x2e0000000000ull; v11 = 771751936; v12 = 11776; v13 = 0x2e00000000000000ull; v14 = 0x2e0000000000ull; v15 = 771751936; v16 = 11776; v17 = v142; v18 = v140; v19 = v138; v20 = v136; v21 = v134; v22 = v132; v23 = v130; v24 = v128; v25 = v126; v26 = v124; v27 = v122; v28 = v120; v29 = v118; v30 = v116; v31 = v114; v32 = v112; v33 = v110; v34 = v108; v35 = v106; v36 = v104; v37 = v102; v38 = v100; v39 = v98; v40 = v96; v41 = v94; v42 = v92; v43 = v90; v44 = v88; v45 = v87; v46 = v89; v47 = v91; v48 = v93; v49 = v95; v50 = v97; v51 = v99; v52 = v101; v53 = v103; v54 = v105; v55 = v107; v56 = v109; v57 = v111; v58 = v113; v59 = v115; v60 = v117; v61 = v119; v62 = v121; v63 = v123; v64 = v125; v65 = v127; v66 = v129; v67 = v131; v68 = v133; v69 = v135; v70 = v137; v71 = v139; v72 = v141; v73 = v143; v74 = 3014656; v75 = 0x2e00000000ull; v76 = 0x2e000000000000ull; v78 = 3014656; v79 = 0x2e00000000ull; v80 = 0x2e000000000000ull; v82 = 3014656; v83 = 0x2e00000000ull; v77 = v81 = 46; goto L0; }
-	u64 v144 = (u64)ld8(v4+57) << 8;
-	if (v5 <= 58) { v7 = 771751936; v8 = 11776; v9 = 0x2e00000000000000ull; v10 = 0x2e0000000000ull; v11 = 771751936; v12 = 11776; v13 = 0x2e00000000000000ull; v14 = 0x2e0000000000ull; v15 = 771751936; v16 = v144; v17 = v142; v18 = v140; v19 = v138; v20 = v136; v21 = v134; v22 = v132; v23 = v130; v24 = v128; v25 = v126; v26 = v124; v27 = v122; v28 = v120; v29 = v118; v30 = v116; v31 = v114; v32 = v112; v33 = v110; v34 = v108; v35 = v106; v36 = v104; v37 = v102; v38 = v100; v39 = v98; v40 = v96; v41 = v94; v42 = v92; v43 = v90; v44 = v88; v45 = v87; v46 = v89; v47 = v91; v48 = v93; v49 = v95; v50 = v97; v51 = v99; v52 = v101; v53 = v103; v54 = v105; v55 = v107; v56 = v109; v57 = v111; v58 = v113; v59 = v115; v60 = v117; v61 = v119; v62 = v121; v63 = v123; v64 = v125; v65 = v127; v66 = v129; v67 = v131; v68 = v133; v69 = v135; v70 = v137; v71 = v139; v72 = v141; v73 = v143; v74 = 3014656; v75 = 0x2e00000000ull; v76 = 0x2e000000000000ull; v78 = 3014656; v79 = 0x2e00000000ull; v80 = 0x2e000000000000ull; v82 = 3014656; v83 = 0x2e00000000ull; v77 = v81 = 46; goto L0; }
-	u64 v145 = (u64)ld8(v4+58) << 16;
-	if (v5 == 59) { v7 = 771751936; v8 = 11776; v9 = 0x2e00000000000000ull; v10 = 0x2e0000000000ull; v11 = 771751936; v12 = 11776; v13 = 0x2e00000000000000ull; v14 = 0x2e0000000000ull; v15 = 771751936; v16 = v144; v17 = v142; v18 = v140; v19 = v138; v20 = v136; v21 = v134; v22 = v132; v23 = v130; v24 = v128; v25 = v126; v26 = v124; v27 = v122; v28 = v120; v29 = v118; v30 = v116; v31 = v114; v32 = v112; v33 = v110; v34 = v108; v35 = v106; v36 = v104; v37 = v102; v38 = v100; v39 = v98; v40 = v96; v41 = v94; v42 = v92; v43 = v90; v44 = v88; v45 = v87; v46 = v89; v47 = v91; v48 = v93; v49 = v95; v50 = v97; v51 = v99; v52 = v101; v53 = v103; v54 = v105; v55 = v107; v56 = v109; v57 = v111; v58 = v113; v59 = v115; v60 = v117; v61 = v119; v62 = v121; v63 = v123; v64 = v125; v65 = v127; v66 = v129; v67 = v131; v68 = v133; v69 = v135; v70 = v137; v71 = v139; v72 = v141; v73 = v143; v74 = v145; v75 = 0x2e00000000ull; v76 = 0x2e000000000000ull; v78 = 3014656; v79 = 0x2e00000000ull; v80 = 0x2e000000000000ull; v82 = 3014656; v83 = 0x2e00000000ull; v77 = v81 = 46; goto L0; }
-	u64 v146 = (u64)ld8(v4+59) << 24;
-	if (v5 <= 60) { v7 = 771751936; v8 = 11776; v9 = 0x2e00000000000000ull; v10 = 0x2e0000000000ull; v11 = 771751936; v12 = 11776; v13 = 0x2e00000000000000ull; v14 = 0x2e0000000000ull; v15 = v146; v16 = v144; v17 = v142; v18 = v140; v19 = v138; v20 = v136; v21 = v134; v22 = v132; v23 = v130; v24 = v128; v25 = v126; v26 = v124; v27 = v122; v28 = v120; v29 = v118; v30 = v116; v31 = v114; v32 = v112; v33 = v110; v34 = v108; v35 = v106; v36 = v104; v37 = v102; v38 = v100; v39 = v98; v40 = v96; v41 = v94; v42 = v92; v43 = v90; v44 = v88; v45 = v87; v46 = v89; v47 = v91; v48 = v93; v49 = v95; v50 = v97; v51 = v99; v52 = v101; v53 = v103; v54 = v105; v55 = v107; v56 = v109; v57 = v111; v58 = v113; v59 = v115; v60 = v117; v61 = v119; v62 = v121; v63 = v123; v64 = v125; v65 = v127; v66 = v129; v67 = v131; v68 = v133; v69 = v135; v70 = v137; v71 = v139; v72 = v141; v73 = v143; v74 = v145; v75 = 0x2e00000000ull; v76 = 0x2e000000000000ull; v78 = 3014656; v79 = 0x2e00000000ull; v80 = 0x2e000000000000ull; v82 = 3014656; v83 = 0x2e00000000ull; v77 = v81 = 46; goto L0; }
-	u64 v147 = (u64)ld8(v4+60) << 32;
-	if (v5 == 61) { v7 = 771751936; v8 = 11776; v9 = 0x2e00000000000000ull; v10 = 0x2e0000000000ull; v11 = 771751936; v12 = 11776; v13 = 0x2e00000000000000ull; v14 = 0x2e0000000000ull; v15 = v146; v16 = v144; v17 = v142; v18 = v140; v19 = v138; v20 = v136; v21 = v134; v22 = v132; v23 = v130; v24 = v128; v25 = v126; v26 = v124; v27 = v122; v28 = v120; v29 = v118; v30 = v116; v31 = v114; v32 = v112; v33 = v110; v34 = v108; v35 = v106; v36 = v104; v37 = v102; v38 = v100; v39 = v98; v40 = v96; v41 = v94; v42 = v92; v43 = v90; v44 = v88; v45 = v87; v46 = v89; v47 = v91; v48 = v93; v49 = v95; v50 = v97; v51 = v99; v52 = v101; v53 = v103; v54 = v105; v55 = v107; v56 = v109; v57 = v111; v58 = v113; v59 = v115; v60 = v117; v61 = v119; v62 = v121; v63 = v123; v64 = v125; v65 = v127; v66 = v129; v67 = v131; v68 = v133; v69 = v135; v70 = v137; v71 = v139; v72 = v141; v73 = v143; v74 = v145; v75 = v147; v76 = 0x2e000000000000ull; v78 = 3014656; v79 = 0x2e00000000ull; v80 = 0x2e000000000000ull; v82 = 3014656; v83 = 0x2e00000000ull; v77 = v81 = 46; goto L0; }
-	u64 v148 = (u64)ld8(v4+61) << 40;
-	if (v5 <= 62) { v7 = 771751936; v8 = 11776; v9 = 0x2e00000000000000ull; v10 = 0x2e0000000000ull; v11 = 771751936; v12 = 11776; v13 = 0x2e00000000000000ull; v14 = v148; v15 = v146; v16 = v144; v17 = v142; v18 = v140; v19 = v138; v20 = v136; v21 = v134; v22 = v132; v23 = v130; v24 = v128; v25 = v126; v26 = v124; v27 = v122; v28 = v120; v29 = v118; v30 = v116; v31 = v114; v32 = v112; v33 = v110; v34 = v108; v35 = v106; v36 = v104; v37 = v102; v38 = v100; v39 = v98; v40 = v96; v41 = v94; v42 = v92; v43 = v90; v44 = v88; v45 = v87; v46 = v89; v47 = v91; v48 = v93; v49 = v95; v50 = v97; v51 = v99; v52 = v101; v53 = v103; v54 = v105; v55 = v107; v56 = v109; v57 = v111; v58 = v113; v59 = v115; v60 = v117; v61 = v119; v62 = v121; v63 = v123; v64 = v125; v65 = v127; v66 = v129; v67 = v131; v68 = v133; v69 = v135; v70 = v137; v71 = v139; v72 = v141; v73 = v143; v74 = v145; v75 = v147; v76 = 0x2e000000000000ull; v78 = 3014656; v79 = 0x2e00000000ull; v80 = 0x2e000000000000ull; v82 = 3014656; v83 = 0x2e00000000ull; v77 = v81 = 46; goto L0; }
-	u64 v149 = (u64)ld8(v4+62) << 48;
-	if (v5 == 63) { v7 = 771751936; v8 = 11776; v9 = 0x2e00000000000000ull; v10 = 0x2e0000000000ull; v11 = 771751936; v12 = 11776; v13 = 0x2e00000000000000ull; v14 = v148; v15 = v146; v16 = v144; v17 = v142; v18 = v140; v19 = v138; v20 = v136; v21 = v134; v22 = v132; v23 = v130; v24 = v128; v25 = v126; v26 = v124; v27 = v122; v28 = v120; v29 = v118; v30 = v116; v31 = v114; v32 = v112; v33 = v110; v34 = v108; v35 = v106; v36 = v104; v37 = v102; v38 = v100; v39 = v98; v40 = v96; v41 = v94; v42 = v92; v43 = v90; v44 = v88; v45 = v87; v46 = v89; v47 = v91; v48 = v93; v49 = v95; v50 = v97; v51 = v99; v52 = v101; v53 = v103; v54 = v105; v55 = v107; v56 = v109; v57 = v111; v58 = v113; v59 = v115; v60 = v117; v61 = v119; v62 = v121; v63 = v123; v64 = v125; v65 = v127; v66 = v129; v67 = v131; v68 = v133; v69 = v135; v70 = v137; v71 = v139; v72 = v141; v73 = v143; v74 = v145; v75 = v147; v76 = v149; v78 = 3014656; v79 = 0x2e00000000ull; v80 = 0x2e000000000000ull; v82 = 3014656; v83 = 0x2e00000000ull; v77 = v81 = 46; goto L0; }
-	u64 v150 = (u64)ld8(v4+63) << 56;
-	if (v5 <= 64) { v7 = 771751936; v8 = 11776; v9 = 0x2e00000000000000ull; v10 = 0x2e0000000000ull; v11 = 771751936; v12 = 11776; v13 = v150; v14 = v148; v15 = v146; v16 = v144; v17 = v142; v18 = v140; v19 = v138; v20 = v136; v21 = v134; v22 = v132; v23 = v130; v24 = v128; v25 = v126; v26 = v124; v27 = v122; v28 = v120; v29 = v118; v30 = v116; v31 = v114; v32 = v112; v33 = v110; v34 = v108; v35 = v106; v36 = v104; v37 = v102; v38 = v100; v39 = v98; v40 = v96; v41 = v94; v42 = v92; v43 = v90; v44 = v88; v45 = v87; v46 = v89; v47 = v91; v48 = v93; v49 = v95; v50 = v97; v51 = v99; v52 = v101; v53 = v103; v54 = v105; v55 = v107; v56 = v109; v57 = v111; v58 = v113; v59 = v115; v60 = v117; v61 = v119; v62 = v121; v63 = v123; v64 = v125; v65 = v127; v66 = v129; v67 = v131; v68 = v133; v69 = v135; v70 = v137; v71 = v139; v72 = v141; v73 = v143; v74 = v145; v75 = v147; v76 = v149; v78 = 3014656; v79 = 0x2e00000000ull; v80 = 0x2e000000000000ull; v82 = 3014656; v83 = 0x2e00000000ull; v77 = v81 = 46; goto L0; }
-	u8 v151 = ld8(v4+64);
-	if (v5 == 65) { v7 = 771751936; v8 = 11776; v9 = 0x2e00000000000000ull; v10 = 0x2e0000000000ull; v11 = 771751936; v12 = 11776; v13 = v150; v14 = v148; v15 = v146; v16 = v144; v17 = v142; v18 = v140; v19 = v138; v20 = v136; v21 = v134; v22 = v132; v23 = v130; v24 = v128; v25 = v126; v26 = v124; v27 = v122; v28 = v120; v29 = v118; v30 = v116; v31 = v114; v32 = v112; v33 = v110; v34 = v108; v35 = v106; v36 = v104; v37 = v102; v38 = v100; v39 = v98; v40 = v96; v41 = v94; v42 = v92; v43 = v90; v44 = v88; v45 = v87; v46 = v89; v47 = v91; v48 = v93; v49 = v95; v50 = v97; v51 = v99; v52 = v101; v53 = v103; v54 = v105; v55 = v107; v56 = v109; v57 = v111; v58 = v113; v59 = v115; v60 = v117; v61 = v119; v62 = v121; v63 = v123; v64 = v125; v65 = v127; v66 = v129; v67 = v131; v68 = v133; v69 = v135; v70 = v137; v71 = v139; v72 = v141; v73 = v143; v74 = v145; v75 = v147; v76 = v149; v77 = v151; v78 = 3014656; v79 = 0x2e00000000ull; v80 = 0x2e000000000000ull; v82 = 3014656; v83 = 0x2e00000000ull; v81 = 46; goto L0; }
-	u64 v152 = (u64)ld8(v4+65) << 8;
-	if (v5 <= 66) { v7 = 771751936; v8 = 11776; v9 = 0x2e00000000000000ull; v10 = 0x2e0000000000ull; v11 = 771751936; v12 = v152; v13 = v150; v14 = v148; v15 = v146; v16 = v144; v17 = v142; v18 = v140; v19 = v138; v20 = v136; v21 = v134; v22 = v132; v23 = v130; v24 = v128; v25 = v126; v26 = v124; v27 = v122; v28 = v120; v29 = v118; v30 = v116; v31 = v114; v32 = v112; v33 = v110; v34 = v108; v35 = v106; v36 = v104; v37 = v102; v38 = v100; v39 = v98; v40 = v96; v41 = v94; v42 = v92; v43 = v90; v44 = v88; v45 = v87; v46 = v89; v47 = v91; v48 = v93; v49 = v95; v50 = v97; v51 = v99; v52 = v101; v53 = v103; v54 = v105; v55 = v107; v56 = v109; v57 = v111; v58 = v113; v59 = v115; v60 = v117; v61 = v119; v62 = v121; v63 = v123; v64 = v125; v65 = v127; v66 = v129; v67 = v131; v68 = v133; v69 = v135; v70 = v137; v71 = v139; v72 = v141; v73 = v143; v74 = v145; v75 = v147; v76 = v149; v77 = v151; v78 = 3014656; v79 = 0x2e00000000ull; v80 = 0x2e000000000000ull; v82 = 3014656; v83 = 0x2e00000000ull; v81 = 46; goto L0; }
-	u64 v153 = (u64)ld8(v4+66) << 16;
-	if (v5 == 67) { v7 = 771751936; v8 = 11776; v9 = 0x2e00000000000000ull; v10 = 0x2e0000000000ull; v11 = 771751936; v12 = v152; v13 = v150; v14 = v148; v15 = v146; v16 = v144; v17 = v142; v18 = v140; v19 = v138; v20 = v136; v21 = v134; v22 = v132; v23 = v130; v24 = v128; v25 = v126; v26 = v124; v27 = v122; v28 = v120; v29 = v118; v30 = v116; v31 = v114; v32 = v112; v33 = v110; v34 = v108; v35 = v106; v36 = v104; v37 = v102; v38 = v100; v39 = v98; v40 = v96; v41 = v94; v42 = v92; v43 = v90; v44 = v88; v45 = v87; v46 = v89; v47 = v91; v48 = v93; v49 = v95; v50 = v97; v51 = v99; v52 = v101; v53 = v103; v54 = v105; v55 = v107; v56 = v109; v57 = v111; v58 = v113; v59 = v115; v60 = v117; v61 = v119; v62 = v121; v63 = v123; v64 = v125; v65 = v127; v66 = v129; v67 = v131; v68 = v133; v69 = v135; v70 = v137; v71 = v139; v72 = v141; v73 = v143; v74 = v145; v75 = v147; v76 = v149; v77 = v151; v78 = v153; v79 = 0x2e00000000ull; v80 = 0x2e000000000000ull; v82 = 3014656; v83 = 0x2e00000000ull; v81 = 46; goto L0; }
-	u64 v154 = (u64)ld8(v4+67) << 24;
-	if (v5 <= 68) { v7 = 771751936; v8 = 11776; v9 = 0x2e00000000000000ull; v10 = 0x2e0000000000ull; v11 = v154; v12 = v152; v13 = v150; v14 = v148; v15 = v146; v16 = v144; v17 = v142; v18 = v140; v19 = v138; v20 = v136; v21 = v134; v22 = v132; v23 = v130; v24 = v128; v25 = v126; v26 = v124; v27 = v122; v28 = v120; v29 = v118; v30 = v116; v31 = v114; v32 = v112; v33 = v110; v34 = v108; v35 = v106; v36 = v104; v37 = v102; v38 = v100; v39 = v98; v40 = v96; v41 = v94; v42 = v92; v43 = v90; v44 = v88; v45 = v87; v46 = v89; v47 = v91; v48 = v93; v49 = v95; v50 = v97; v51 = v99; v52 = v101; v53 = v103; v54 = v105; v55 = v107; v56 = v109; v57 = v111; v58 = v113; v59 = v115; v60 = v117; v61 = v119; v62 = v121; v63 = v123; v64 = v125; v65 = v127; v66 = v129; v67 = v131; v68 = v133; v69 = v135; v70 = v137; v71 = v139; v72 = v141; v73 = v143; v74 = v145; v75 = v147; v76 = v149; v77 = v151; v78 = v153; v79 = 0x2e00000000ull; v80 = 0x2e000000000000ull; v82 = 3014656; v83 = 0x2e00000000ull; v81 = 46; goto L0; }
-	u64 v155 = (u64)ld8(v4+68) << 32;
-	if (v5 == 69) { v7 = 771751936; v8 = 11776; v9 = 0x2e00000000000000ull; v10 = 0x2e0000000000ull; v11 = v154; v12 = v152; v13 = v150; v14 = v148; v15 = v146; v16 = v144; v17 = v142; v18 = v140; v19 = v138; v20 = v136; v21 = v134; v22 = v132; v23 = v130; v24 = v128; v25 = v126; v26 = v124; v27 = v122; v28 = v120; v29 = v118; v30 = v116; v31 = v114; v32 = v112; v33 = v110; v34 = v108; v35 = v106; v36 = v104; v37 = v102; v38 = v100; v39 = v98; v40 = v96; v41 = v94; v42 = v92; v43 = v90; v44 = v88; v45 = v87; v46 = v89; v47 = v91; v48 = v93; v49 = v95; v50 = v97; v51 = v99; v52 = v101; v53 = v103; v54 = v105; v55 = v107; v56 = v109; v57 = v111; v58 = v113; v59 = v115; v60 = v117; v61 = v119; v62 = v121; v63 = v123; v64 = v125; v65 = v127; v66 = v129; v67 = v131; v68 = v133; v69 = v135; v70 = v137; v71 = v139; v72 = v141; v73 = v143; v74 = v145; v75 = v147; v76 = v149; v77 = v151; v78 = v153; v79 = v155; v80 = 0x2e000000000000ull; v82 = 3014656; v83 = 0x2e00000000ull; v81 = 46; goto L0; }
-	u64 v156 = (u64)ld8(v4+69) << 40;
-	if (v5 <= 70) { v7 = 771751936; v8 = 11776; v9 = 0x2e00000000000000ull; v10 = v156; v11 = v154; v12 = v152; v13 = v150; v14 = v148; v15 = v146; v16 = v144; v17 = v142; v18 = v140; v19 = v138; v20 = v136; v21 = v134; v22 = v132; v23 = v130; v24 = v128; v25 = v126; v26 = v124; v27 = v122; v28 = v120; v29 = v118; v30 = v116; v31 = v114; v32 = v112; v33 = v110; v34 = v108; v35 = v106; v36 = v104; v37 = v102; v38 = v100; v39 = v98; v40 = v96; v41 = v94; v42 = v92; v43 = v90; v44 = v88; v45 = v87; v46 = v89; v47 = v91; v48 = v93; v49 = v95; v50 = v97; v51 = v99; v52 = v101; v53 = v103; v54 = v105; v55 = v107; v56 = v109; v57 = v111; v58 = v113; v59 = v115; v60 = v117; v61 = v119; v62 = v121; v63 = v123; v64 = v125; v65 = v127; v66 = v129; v67 = v131; v68 = v133; v69 = v135; v70 = v137; v71 = v139; v72 = v141; v73 = v143; v74 = v145; v75 = v147; v76 = v149; v77 = v151; v78 = v153; v79 = v155; v80 = 0x2e000000000000ull; v82 = 3014656; v83 = 0x2e00000000ull; v81 = 46; goto L0; }
-	u64 v157 = (u64)ld8(v4+70) << 48;
-	if (v5 == 71) { v7 = 771751936; v8 = 11776; v9 = 0x2e00000000000000ull; v10 = v156; v11 = v154; v12 = v152; v13 = v150; v14 = v148; v15 = v146; v16 = v144; v17 = v142; v18 = v140; v19 = v138; v20 = v136; v21 = v134; v22 = v132; v23 = v130; v24 = v128; v25 = v126; v26 = v124; v27 = v122; v28 = v120; v29 = v118; v30 = v116; v31 = v114; v32 = v112; v33 = v110; v34 = v108; v35 = v106; v36 = v104; v37 = v102; v38 = v100; v39 = v98; v40 = v96; v41 = v94; v42 = v92; v43 = v90; v44 = v88; v45 = v87; v46 = v89; v47 = v91; v48 = v93; v49 = v95; v50 = v97; v51 = v99; v52 = v101; v53 = v103; v54 = v105; v55 = v107; v56 = v109; v57 = v111; v58 = v113; v59 = v115; v60 = v117; v61 = v119; v62 = v121; v63 = v123; v64 = v125; v65 = v127; v66 = v129; v67 = v131; v68 = v133; v69 = v135; v70 = v137; v71 = v139; v72 = v141; v73 = v143; v74 = v145; v75 = v147; v76 = v149; v77 = v151; v78 = v153; v79 = v155; v80 = v157; v82 = 3014656; v83 = 0x2e00000000ull; v81 = 46; goto L0; }
-	u64 v158 = (u64)ld8(v4+71) << 56;
-	if (v5 <= 72) { v7 = 771751936; v8 = 11776; v9 = v158; v10 = v156; v11 = v154; v12 = v152; v13 = v150; v14 = v148; v15 = v146; v16 = v144; v17 = v142; v18 = v140; v19 = v138; v20 = v136; v21 = v134; v22 = v132; v23 = v130; v24 = v128; v25 = v126; v26 = v124; v27 = v122; v28 = v120; v29 = v118; v30 = v116; v31 = v114; v32 = v112; v33 = v110; v34 = v108; v35 = v106; v36 = v104; v37 = v102; v38 = v100; v39 = v98; v40 = v96; v41 = v94; v42 = v92; v43 = v90; v44 = v88; v45 = v87; v46 = v89; v47 = v91; v48 = v93; v49 = v95; v50 = v97; v51 = v99; v52 = v101; v53 = v103; v54 = v105; v55 = v107; v56 = v109; v57 = v111; v58 = v113; v59 = v115; v60 = v117; v61 = v119; v62 = v121; v63 = v123; v64 = v125; v65 = v127; v66 = v129; v67 = v131; v68 = v133; v69 = v135; v70 = v137; v71 = v139; v72 = v141; v73 = v143; v74 = v145; v75 = v147; v76 = v149; v77 = v151; v78 = v153; v79 = v155; v80 = v157; v82 = 3014656; v83 = 0x2e00000000ull; v81 = 46; goto L0; }
-	u8 v159 = ld8(v4+72);
-	if (v5 == 73) { v7 = 771751936; v8 = 11776; v9 = v158; v10 = v156; v11 = v154; v12 = v152; v13 = v150; v14 = v148; v15 = v146; v16 = v144; v17 = v142; v18 = v140; v19 = v138; v20 = v136; v21 = v134; v22 = v132; v23 = v130; v24 = v128; v25 = v126; v26 = v124; v27 = v122; v28 = v120; v29 = v118; v30 = v116; v31 = v114; v32 = v112; v33 = v110; v34 = v108; v35 = v106; v36 = v104; v37 = v102; v38 = v100; v39 = v98; v40 = v96; v41 = v94; v42 = v92; v43 = v90; v44 = v88; v45 = v87; v46 = v89; v47 = v91; v48 = v93; v49 = v95; v50 = v97; v51 = v99; v52 = v101; v53 = v103; v54 = v105; v55 = v107; v56 = v109; v57 = v111; v58 = v113; v59 = v115; v60 = v117; v61 = v119; v62 = v121; v63 = v123; v64 = v125; v65 = v127; v66 = v129; v67 = v131; v68 = v133; v69 = v135; v70 = v137; v71 = v139; v72 = v141; v73 = v143; v74 = v145; v75 = v147; v76 = v149; v77 = v151; v78 = v153; v79 = v155; v80 = v157; v81 = v159; v82 = 3014656; v83 = 0x2e00000000ull; goto L0; }
-	u64 v160 = (u64)ld8(v4+73) << 8;
-	if (v5 <= 74) { v7 = 771751936; v8 = v160; v9 = v158; v10 = v156; v11 = v154; v12 = v152; v13 = v150; v14 = v148; v15 = v146; v16 = v144; v17 = v142; v18 = v140; v19 = v138; v20 = v136; v21 = v134; v22 = v132; v23 = v130; v24 = v128; v25 = v126; v26 = v124; v27 = v122; v28 = v120; v29 = v118; v30 = v116; v31 = v114; v32 = v112; v33 = v110; v34 = v108; v35 = v106; v36 = v104; v37 = v102; v38 = v100; v39 = v98; v40 = v96; v41 = v94; v42 = v92; v43 = v90; v44 = v88; v45 = v87; v46 = v89; v47 = v91; v48 = v93; v49 = v95; v50 = v97; v51 = v99; v52 = v101; v53 = v103; v54 = v105; v55 = v107; v56 = v109; v57 = v111; v58 = v113; v59 = v115; v60 = v117; v61 = v119; v62 = v121; v63 = v123; v64 = v125; v65 = v127; v66 = v129; v67 = v131; v68 = v133; v69 = v135; v70 = v137; v71 = v139; v72 = v141; v73 = v143; v74 = v145; v75 = v147; v76 = v149; v77 = v151; v78 = v153; v79 = v155; v80 = v157; v81 = v159; v82 = 3014656; v83 = 0x2e00000000ull; goto L0; }
-	u64 v161 = (u64)ld8(v4+74) << 16;
-	if (v5 == 75) { v7 = 771751936; v8 = v160; v9 = v158; v10 = v156; v11 = v154; v12 = v152; v13 = v150; v14 = v148; v15 = v146; v16 = v144; v17 = v142; v18 = v140; v19 = v138; v20 = v136; v21 = v134; v22 = v132; v23 = v130; v24 = v128; v25 = v126; v26 = v124; v27 = v122; v28 = v120; v29 = v118; v30 = v116; v31 = v114; v32 = v112; v33 = v110; v34 = v108; v35 = v106; v36 = v104; v37 = v102; v38 = v100; v39 = v98; v40 = v96; v41 = v94; v42 = v92; v43 = v90; v44 = v88; v45 = v87; v46 = v89; v47 = v91; v48 = v93; v49 = v95; v50 = v97; v51 = v99; v52 = v101; v53 = v103; v54 = v105; v55 = v107; v56 = v109; v57 = v111; v58 = v113; v59 = v115; v60 = v117; v61 = v119; v62 = v121; v63 = v123; v64 = v125; v65 = v127; v66 = v129; v67 = v131; v68 = v133; v69 = v135; v70 = v137; v71 = v139; v72 = v141; v73 = v143; v74 = v145; v75 = v147; v76 = v149; v77 = v151; v78 = v153; v79 = v155; v80 = v157; v81 = v159; v82 = v161; v83 = 0x2e00000000ull; goto L0; }
-	u64 v162 = (u64)ld8(v4+75) << 24;
-	if (v5 <= 76) { v7 = v162; v8 = v160; v9 = v158; v10 = v156; v11 = v154; v12 = v152; v13 = v150; v14 = v148; v15 = v146; v16 = v144; v17 = v142; v18 = v140; v19 = v138; v20 = v136; v21 = v134; v22 = v132; v23 = v130; v24 = v128; v25 = v126; v26 = v124; v27 = v122; v28 = v120; v29 = v118; v30 = v116; v31 = v114; v32 = v112; v33 = v110; v34 = v108; v35 = v106; v36 = v104; v37 = v102; v38 = v100; v39 = v98; v40 = v96; v41 = v94; v42 = v92; v43 = v90; v44 = v88; v45 = v87; v46 = v89; v47 = v91; v48 = v93; v49 = v95; v50 = v97; v51 = v99; v52 = v101; v53 = v103; v54 = v105; v55 = v107; v56 = v109; v57 = v111; v58 = v113; v59 = v115; v60 = v117; v61 = v119; v62 = v121; v63 = v123; v64 = v125; v65 = v127; v66 = v129; v67 = v131; v68 = v133; v69 = v135; v70 = v137; v71 = v139; v72 = v141; v73 = v143; v74 = v145; v75 = v147; v76 = v149; v77 = v151; v78 = v153; v79 = v155; v80 = v157; v81 = v159; v82 = v161; v83 = 0x2e00000000ull; goto L0; }
-	v7 = v162; v8 = v160; v9 = v158; v10 = v156; v11 = v154; v12 = v152; v13 = v150; v14 = v148; v15 = v146; v16 = v144; v17 = v142; v18 = v140; v19 = v138; v20 = v136; v21 = v134; v22 = v132; v23 = v130; v24 = v128; v25 = v126; v26 = v124; v27 = v122; v28 = v120; v29 = v118; v30 = v116; v31 = v114; v32 = v112; v33 = v110; v34 = v108; v35 = v106; v36 = v104; v37 = v102; v38 = v100; v39 = v98; v40 = v96; v41 = v94; v42 = v92; v43 = v90; v44 = v88; v45 = v87; v46 = v89; v47 = v91; v48 = v93; v49 = v95; v50 = v97; v51 = v99; v52 = v101; v53 = v103; v54 = v105; v55 = v107; v56 = v109; v57 = v111; v58 = v113; v59 = v115; v60 = v117; v61 = v119; v62 = v121; v63 = v123; v64 = v125; v65 = v127; v66 = v129; v67 = v131; v68 = v133; v69 = v135; v70 = v137; v71 = v139; v72 = v141; v73 = v143; v74 = v145; v75 = v147; v76 = v149; v77 = v151; v78 = v153; v79 = v155; v80 = v157; v81 = v159; v82 = v161; v83 = (u64)ld8(v4+76) << 32;
-L0:
-	if (v5 <= 77) { v84 = 0x2e000000000000ull; v85 = 0x2e0000000000ull; v86 = 0x2e00000000000000ull; goto L1; }
-	u64 v163 = (u64)ld8(v4+77) << 40;
-	if (v5 == 78) { v84 = 0x2e000000000000ull; v85 = v163; v86 = 0x2e00000000000000ull; goto L1; }
-	u64 v164 = (u64)ld8(v4+78) << 48;
-	if (v5 <= 79) { v84 = v164; v85 = v163; v86 = 0x2e00000000000000ull; goto L1; }
-	v84 = v164; v85 = v163; v86 = (u64)ld8(v4+79) << 56;
-L1:
-	st8(v1, v2);
-	st8(v1+1, v3);
-	st8(v1+2, (u8)v6);
-	st8(v1+3, 0);
-	su32(v1+4, 0);
-	su64(v1+8, v44 | (u64)v45 | v46 | v43 | v47 | v42 | v48 | v41);
-	su64(v1+16, v40 | (u64)v49 | v50 | v39 | v51 | v38 | v52 | v37);
-	su64(v1+24, v36 | (u64)v53 | v54 | v35 | v55 | v34 | v56 | v33);
-	su64(v1+32, v32 | (u64)v57 | v58 | v31 | v59 | v30 | v60 | v29);
-	su64(v1+40, v28 | (u64)v61 | v62 | v27 | v63 | v26 | v64 | v25);
-	su64(v1+48, v24 | (u64)v65 | v66 | v23 | v67 | v22 | v68 | v21);
-	su64(v1+56, v20 | (u64)v69 | v70 | v19 | v71 | v18 | v72 | v17);
-	su64(v1+64, v16 | (u64)v73 | v74 | v15 | v75 | v14 | v76 | v13);
-	su64(v1+72, v12 | (u64)v77 | v78 | v11 | v79 | v10 | v80 | v9);
-	su64(v1+80, v8 | (u64)v81 | v82 | v7 | v83 | v85 | v84 | v86);
-	return;
-}
 static void std_io_buffered_BufWriter_flush_buf_9d90(ptr v1, ptr v2) {
 	u64 v3, v4, v5, v6, v7, v8, v9, v10, v11, v12, v13, v14, v15, v16, v18, v19, v20, v21, v22, v23, v24, v25, v26, v27, v28, v29, v30, v32, v33, v34, v35, v36, v37, v38, v39, v40, v41, v42, v43, v44;
 	u8 v17, v31;
@@ -1215,7 +1799,7 @@ L0:;
 	v4 = ~0ull;
 L1:
 	if (v4) goto L2;
-	std_io_io_error_Error_from_bytes(v48, 2, 22, (ptr)static_54, 43, 43);
+	std_io_io_error_Error_from_bytes(v48, 2, 22, (ptr)static_79, 43, 43);
 	v30 = v3; v32 = ld64(v48); v33 = ld64(v48+8); v34 = ld64(v48+16); v35 = ld64(v48+24); v36 = ld64(v48+32); v37 = ld64(v48+40); v38 = ld64(v48+48); v39 = ld64(v48+56); v40 = ld64(v48+64); v41 = ld64(v48+72); v42 = ld64(v48+80); v31 = 1; goto L10;
 L2:;
 	u64 v54 = v4 - 1;
@@ -1329,7 +1913,7 @@ L7:
 L8:;
 	u64 v71 = v55 < v53 ? v55 : v53;
 	if (v71) goto L9;
-	std_io_io_error_Error_from_bytes(v47, 2, 23, (ptr)static_53, 33, 33);
+	std_io_io_error_Error_from_bytes(v47, 2, 23, (ptr)static_78, 33, 33);
 	v30 = v3; v32 = ld64(v47); v33 = ld64(v47+8); v34 = ld64(v47+16); v35 = ld64(v47+24); v36 = ld64(v47+32); v37 = ld64(v47+40); v38 = ld64(v47+48); v39 = ld64(v47+56); v40 = ld64(v47+64); v41 = ld64(v47+72); v42 = ld64(v47+80); v31 = 1; goto L10;
 L9:;
 	u64 v72 = v71 + v3;
@@ -3044,7 +3628,7 @@ L0:
 L1:
 	v4 = v11; v5 = v11; v6 = v11 & 0xffffffffffff0000ull; v7 = v12; v8 = (u64)v13 << 8; v3 = 3; goto L3;
 L2:;
-	ptr v15 = ldp(at((ptr)&switch_table_pcap_options_refusal_PcapErrorFromRefusal_from_252, (u64)v10 * 8));
+	ptr v15 = ldp(at((ptr)&switch_table_pcap_options_refusal_PcapErrorFromRefusal_from_260, (u64)v10 * 8));
 	u64 v16 = (u64)v15;
 	v4 = v16; v5 = v16; v6 = v16 & 0xffffffffffff0000ull; v7 = ld8(at((ptr)switch_table_pcap_options_refusal_PcapErrorFromRefusal_from, (u64)v10)); v3 = 2; v8 = 0;
 L3:
@@ -5558,7 +6142,7 @@ L0:;
 	if (!v13) goto L2;
 	v6 = 0;
 L1:;
-	u8 v14 = core_fmt_formatter_Formatter_write_raw_1a69(v1, (ptr)static_62, 4);
+	u8 v14 = core_fmt_formatter_Formatter_write_raw_1a69(v1, (ptr)static_23, 4);
 	if (v14 & 1) { v9 = 1; goto L6; }
 	u64 v15 = v6 + 1;
 	if (v15 != v13) { v6 = v15; goto L1; }
@@ -5577,7 +6161,7 @@ L3:
 	if (!v19) goto L5;
 	v8 = 0;
 L4:;
-	u8 v20 = core_fmt_formatter_Formatter_write_raw_1a69(v1, (ptr)static_62, 4);
+	u8 v20 = core_fmt_formatter_Formatter_write_raw_1a69(v1, (ptr)static_23, 4);
 	if (v20 & 1) { v9 = 1; goto L6; }
 	u64 v21 = v8 + 1;
 	if (v21 != v19) { v8 = v21; goto L4; }
@@ -5650,7 +6234,7 @@ static RARE void capcopy_run_blocks_write_section_ce79(ptr v1, ptr v2, ptr v3) {
 	_Alignas(2) u8 v40[2], v41[2];
 	u8 v42 = ld32(v3) == 439041101;
 	u64 v43 = v42 ? 3ull : 6ull;
-	ptr v44 = v42 ? (ptr)static_3 : (ptr)static_6;
+	ptr v44 = v42 ? (ptr)static_28 : (ptr)static_31;
 	st16(v40, ld16(v3+4));
 	st16(v41, ld16(v3+6));
 	stp(v39, v37);
@@ -5663,10 +6247,10 @@ static RARE void capcopy_run_blocks_write_section_ce79(ptr v1, ptr v2, ptr v3) {
 	if (!v45) goto L26;
 	u64 v46 = ld64(v39+8), v47 = ld64(v39+16), v48 = v46 + 8;
 	ptr v49 = ldp(v39), v50 = at(v49, v46);
-	if ((u64)v50 - (u64)(ptr)static_58 >= 8) goto L1;
+	if ((u64)v50 - (u64)(ptr)static_83 >= 8) goto L1;
 	v4 = 0;
 L0:
-	st8(at(v50, v4), ld8(at((ptr)static_58, v4)));
+	st8(at(v50, v4), ld8(at((ptr)static_83, v4)));
 	u64 v51 = v4 + 1;
 	if (v51 == 8) goto L2;
 	v4 = v51; goto L0;
@@ -5718,7 +6302,7 @@ L9:
 	st64(v39+16, v9);
 	goto L11;
 L10:;
-	u8 v60 = core_fmt_formatter_Formatter_write_indented_1a69(v39, (ptr)static_59, 1);
+	u8 v60 = core_fmt_formatter_Formatter_write_indented_1a69(v39, (ptr)static_84, 1);
 	if (v60) goto L26;
 L11:;
 	u8 v61 = core_fmt_formatter_Formatter_write_piece_7520(v39, v40);
@@ -5738,7 +6322,7 @@ L12:
 	st64(v39+16, v11);
 	goto L14;
 L13:;
-	u8 v65 = core_fmt_formatter_Formatter_write_indented_1a69(v39, (ptr)static_60, 1);
+	u8 v65 = core_fmt_formatter_Formatter_write_indented_1a69(v39, (ptr)static_85, 1);
 	if (v65) goto L26;
 L14:;
 	u8 v66 = core_fmt_formatter_Formatter_write_piece_7520(v39, v41);
@@ -5757,7 +6341,7 @@ L15:;
 	st8(at(v70, v14), 10);
 	v15 = v70; v16 = v14 + 1; v17 = v13; goto L17;
 L16:;
-	u8 v71 = core_fmt_formatter_Formatter_write_indented_1a69(v39, (ptr)static_61, 1);
+	u8 v71 = core_fmt_formatter_Formatter_write_indented_1a69(v39, (ptr)static_6, 1);
 	ptr v72 = ldp(v39);
 	u64 v73 = ld64(v39+16);
 	if (v71) { v35 = v72; v36 = v73; goto L27; }
@@ -6646,7 +7230,7 @@ L0:
 	st64(v65+8, v72);
 	st64(v65+16, v74);
 	std_alloc_vec_Vec_drop_0f0e(v65);
-	M0: v18 = (u64)(ptr)static_66; v19 = 2; goto L72;
+	M0: v18 = (u64)(ptr)static_86; v19 = 2; goto L72;
 L1:
 	st64(v66, v71);
 	st64(v66+8, v72);
@@ -6917,10 +7501,10 @@ L70:
 	clear(v1+24, 88);
 	goto L129;
 L71:
-	if (v67 != 1) { M1: v18 = (u64)(ptr)static_67; v19 = 7; goto L72; }
+	if (v67 != 1) { M1: v18 = (u64)(ptr)static_87; v19 = 7; goto L72; }
 	if (v68 != 4 || !ld64(v64+32)) goto M1;
 	deallocate(ldp(v64+16));
-	v18 = (u64)(ptr)static_67; v19 = 7;
+	v18 = (u64)(ptr)static_87; v19 = 7;
 L72:
 	st8(v2+125, 10);
 	ptr v127 = at(v2, 125ull - v19);
@@ -6943,12 +7527,12 @@ L75:;
 L76:;
 	u64 v132 = v21 / 10000;
 	u16 v133 = (u16)(v21 % 10000);
-	ptr v134 = at((ptr)static_51, (u64)(u16)((u32)(v133 % 100) << 1)), v135 = at(v2, v22);
+	ptr v134 = at((ptr)static_76, (u64)(u16)((u32)(v133 % 100) << 1)), v135 = at(v2, v22);
 	u8 v136 = ld8(v134+1);
 	st8(v135-2, ld8(v134));
 	st8(v135-1, v136);
 	u64 v137 = v22 - 4;
-	ptr v138 = at((ptr)static_51, (u64)(u16)((u32)(v133 / 100) << 1)), v139 = at(v2, v137);
+	ptr v138 = at((ptr)static_76, (u64)(u16)((u32)(v133 / 100) << 1)), v139 = at(v2, v137);
 	u8 v140 = ld8(v138+1);
 	st8(v139, ld8(v138));
 	st8(v139+1, v140);
@@ -6962,14 +7546,14 @@ L77:
 	v25 = v141; goto L81;
 L78:;
 	u64 v142 = v23 - 2;
-	ptr v143 = at((ptr)static_51, v24 << 1), v144 = at(v2, v142);
+	ptr v143 = at((ptr)static_76, v24 << 1), v144 = at(v2, v142);
 	u8 v145 = ld8(v143+1);
 	st8(v144, ld8(v143));
 	st8(v144+1, v145);
 	v25 = v142; goto L81;
 L79:;
 	u16 v146 = (u16)v24;
-	ptr v147 = at((ptr)static_51, (u64)(u16)((u32)(v146 % 100) << 1)), v148 = at(v2, v23);
+	ptr v147 = at((ptr)static_76, (u64)(u16)((u32)(v146 % 100) << 1)), v148 = at(v2, v23);
 	u8 v149 = ld8(v147+1);
 	st8(v148-2, ld8(v147));
 	st8(v148-1, v149);
@@ -6980,7 +7564,7 @@ L79:;
 	v25 = v151; goto L81;
 L80:;
 	u64 v152 = v23 - 4;
-	ptr v153 = at((ptr)static_51, (u64)(u16)((u32)v150 << 1)), v154 = at(v2, v152);
+	ptr v153 = at((ptr)static_76, (u64)(u16)((u32)v150 << 1)), v154 = at(v2, v152);
 	u8 v155 = ld8(v153+1);
 	st8(v154, ld8(v153));
 	st8(v154+1, v155);
@@ -7003,88 +7587,88 @@ L81:;
 L82:;
 	u64 v157 = v25 - 8;
 	ptr v158 = at(v2, v157);
-	if ((u64)v158 - (u64)(ptr)static_68 >= 7) goto L84;
+	if ((u64)v158 - (u64)(ptr)static_88 >= 7) goto L84;
 	v26 = 0;
 L83:
-	st8(at(v158, v26), ld8(at((ptr)static_68, v26)));
+	st8(at(v158, v26), ld8(at((ptr)static_88, v26)));
 	u64 v159 = v26 + 1;
 	if (v159 == 7) { v40 = v157; goto L115; }
 	v26 = v159; goto L83;
 L84:
-	copy(v158, (ptr)static_68, 7);
+	copy(v158, (ptr)static_88, 7);
 	v40 = v157; goto L115;
 L85:;
 	u64 v160 = v25 - 10;
 	ptr v161 = at(v2, v160);
-	if ((u64)v161 - (u64)(ptr)static_69 >= 9) goto L87;
+	if ((u64)v161 - (u64)(ptr)static_89 >= 9) goto L87;
 	v27 = 0;
 L86:
-	st8(at(v161, v27), ld8(at((ptr)static_69, v27)));
+	st8(at(v161, v27), ld8(at((ptr)static_89, v27)));
 	u64 v162 = v27 + 1;
 	if (v162 == 9) { v40 = v160; goto L115; }
 	v27 = v162; goto L86;
 L87:
-	copy(v161, (ptr)static_69, 9);
+	copy(v161, (ptr)static_89, 9);
 	v40 = v160; goto L115;
 L88:;
 	u64 v163 = v25 - 7;
 	ptr v164 = at(v2, v163);
-	if ((u64)v164 - (u64)(ptr)static_70 >= 6) goto L90;
+	if ((u64)v164 - (u64)(ptr)static_90 >= 6) goto L90;
 	v28 = 0;
 L89:
-	st8(at(v164, v28), ld8(at((ptr)static_70, v28)));
+	st8(at(v164, v28), ld8(at((ptr)static_90, v28)));
 	u64 v165 = v28 + 1;
 	if (v165 == 6) { v40 = v163; goto L115; }
 	v28 = v165; goto L89;
 L90:
-	copy(v164, (ptr)static_70, 6);
+	copy(v164, (ptr)static_90, 6);
 	v40 = v163; goto L115;
 L91:;
 	u64 v166 = v25 - 7;
 	ptr v167 = at(v2, v166);
-	if ((u64)v167 - (u64)(ptr)static_71 >= 6) goto L93;
+	if ((u64)v167 - (u64)(ptr)static_91 >= 6) goto L93;
 	v29 = 0;
 L92:
-	st8(at(v167, v29), ld8(at((ptr)static_71, v29)));
+	st8(at(v167, v29), ld8(at((ptr)static_91, v29)));
 	u64 v168 = v29 + 1;
 	if (v168 == 6) { v40 = v166; goto L115; }
 	v29 = v168; goto L92;
 L93:
-	copy(v167, (ptr)static_71, 6);
+	copy(v167, (ptr)static_91, 6);
 	v40 = v166; goto L115;
 L94:;
 	u64 v169 = v25 - 6;
 	ptr v170 = at(v2, v169);
-	if ((u64)v170 - (u64)(ptr)static_72 >= 5) goto L96;
+	if ((u64)v170 - (u64)(ptr)static_92 >= 5) goto L96;
 	v30 = 0;
 L95:
-	st8(at(v170, v30), ld8(at((ptr)static_72, v30)));
+	st8(at(v170, v30), ld8(at((ptr)static_92, v30)));
 	u64 v171 = v30 + 1;
 	if (v171 == 5) { v40 = v169; goto L115; }
 	v30 = v171; goto L95;
 L96:
-	copy(v170, (ptr)static_72, 5);
+	copy(v170, (ptr)static_92, 5);
 	v40 = v169; goto L115;
 L97:;
 	u64 v172 = v25 - 11;
 	ptr v173 = at(v2, v172);
-	if ((u64)v173 - (u64)(ptr)static_73 >= 10) goto L99;
+	if ((u64)v173 - (u64)(ptr)static_93 >= 10) goto L99;
 	v31 = 0;
 L98:
-	st8(at(v173, v31), ld8(at((ptr)static_73, v31)));
+	st8(at(v173, v31), ld8(at((ptr)static_93, v31)));
 	u64 v174 = v31 + 1;
 	if (v174 == 10) { v40 = v172; goto L115; }
 	v31 = v174; goto L98;
 L99:
-	copy(v173, (ptr)static_73, 10);
+	copy(v173, (ptr)static_93, 10);
 	v40 = v172; goto L115;
 L100:;
 	u64 v175 = v25 - 9;
 	ptr v176 = at(v2, v175);
-	if ((u64)v176 - (u64)(ptr)static_74 >= 8) goto L102;
+	if ((u64)v176 - (u64)(ptr)static_94 >= 8) goto L102;
 	v32 = 0;
 L101:
-	st8(at(v176, v32), ld8(at((ptr)static_74, v32)));
+	st8(at(v176, v32), ld8(at((ptr)static_94, v32)));
 	u64 v177 = v32 + 1;
 	if (v177 == 8) { v40 = v175; goto L115; }
 	v32 = v177; goto L101;
@@ -7094,15 +7678,15 @@ L102:
 L103:;
 	u64 v178 = v25 - 8;
 	ptr v179 = at(v2, v178);
-	if ((u64)v179 - (u64)(ptr)static_75 >= 7) goto L105;
+	if ((u64)v179 - (u64)(ptr)static_95 >= 7) goto L105;
 	v33 = 0;
 L104:
-	st8(at(v179, v33), ld8(at((ptr)static_75, v33)));
+	st8(at(v179, v33), ld8(at((ptr)static_95, v33)));
 	u64 v180 = v33 + 1;
 	if (v180 == 7) { v40 = v178; goto L115; }
 	v33 = v180; goto L104;
 L105:
-	copy(v179, (ptr)static_75, 7);
+	copy(v179, (ptr)static_95, 7);
 	v40 = v178; goto L115;
 L106:;
 	u32 v181 = lu32(v5+4);
@@ -7112,12 +7696,12 @@ L106:;
 L107:;
 	u64 v183 = v34 / 10000;
 	u16 v184 = (u16)(v34 % 10000);
-	ptr v185 = at((ptr)static_51, (u64)(u16)((u32)(v184 % 100) << 1)), v186 = at(v2, v35);
+	ptr v185 = at((ptr)static_76, (u64)(u16)((u32)(v184 % 100) << 1)), v186 = at(v2, v35);
 	u8 v187 = ld8(v185+1);
 	st8(v186-2, ld8(v185));
 	st8(v186-1, v187);
 	u64 v188 = v35 - 4;
-	ptr v189 = at((ptr)static_51, (u64)(u16)((u32)(v184 / 100) << 1)), v190 = at(v2, v188);
+	ptr v189 = at((ptr)static_76, (u64)(u16)((u32)(v184 / 100) << 1)), v190 = at(v2, v188);
 	u8 v191 = ld8(v189+1);
 	st8(v190, ld8(v189));
 	st8(v190+1, v191);
@@ -7131,14 +7715,14 @@ L108:
 	v38 = v192; goto L112;
 L109:;
 	u64 v193 = v36 - 2;
-	ptr v194 = at((ptr)static_51, v37 << 1), v195 = at(v2, v193);
+	ptr v194 = at((ptr)static_76, v37 << 1), v195 = at(v2, v193);
 	u8 v196 = ld8(v194+1);
 	st8(v195, ld8(v194));
 	st8(v195+1, v196);
 	v38 = v193; goto L112;
 L110:;
 	u16 v197 = (u16)v37;
-	ptr v198 = at((ptr)static_51, (u64)(u16)((u32)(v197 % 100) << 1)), v199 = at(v2, v36);
+	ptr v198 = at((ptr)static_76, (u64)(u16)((u32)(v197 % 100) << 1)), v199 = at(v2, v36);
 	u8 v200 = ld8(v198+1);
 	st8(v199-2, ld8(v198));
 	st8(v199-1, v200);
@@ -7149,7 +7733,7 @@ L110:;
 	v38 = v202; goto L112;
 L111:;
 	u64 v203 = v36 - 4;
-	ptr v204 = at((ptr)static_51, (u64)(u16)((u32)v201 << 1)), v205 = at(v2, v203);
+	ptr v204 = at((ptr)static_76, (u64)(u16)((u32)v201 << 1)), v205 = at(v2, v203);
 	u8 v206 = ld8(v204+1);
 	st8(v205, ld8(v204));
 	st8(v205+1, v206);
@@ -7157,10 +7741,10 @@ L111:;
 L112:;
 	u64 v207 = v38 - 8;
 	ptr v208 = at(v2, v207);
-	if ((u64)v208 - (u64)(ptr)static_76 >= 8) goto L114;
+	if ((u64)v208 - (u64)(ptr)static_96 >= 8) goto L114;
 	v39 = 0;
 L113:
-	st8(at(v208, v39), ld8(at((ptr)static_76, v39)));
+	st8(at(v208, v39), ld8(at((ptr)static_96, v39)));
 	u64 v209 = v39 + 1;
 	if (v209 == 8) { v40 = v207; goto L115; }
 	v39 = v209; goto L113;
@@ -7175,12 +7759,12 @@ L115:;
 L116:;
 	u64 v211 = v41 / 10000;
 	u16 v212 = (u16)(v41 % 10000);
-	ptr v213 = at((ptr)static_51, (u64)(u16)((u32)(v212 % 100) << 1)), v214 = at(v2, v42);
+	ptr v213 = at((ptr)static_76, (u64)(u16)((u32)(v212 % 100) << 1)), v214 = at(v2, v42);
 	u8 v215 = ld8(v213+1);
 	st8(v214-2, ld8(v213));
 	st8(v214-1, v215);
 	u64 v216 = v42 - 4;
-	ptr v217 = at((ptr)static_51, (u64)(u16)((u32)(v212 / 100) << 1)), v218 = at(v2, v216);
+	ptr v217 = at((ptr)static_76, (u64)(u16)((u32)(v212 / 100) << 1)), v218 = at(v2, v216);
 	u8 v219 = ld8(v217+1);
 	st8(v218, ld8(v217));
 	st8(v218+1, v219);
@@ -7194,14 +7778,14 @@ L117:
 	v45 = v220; goto L121;
 L118:;
 	u64 v221 = v43 - 2;
-	ptr v222 = at((ptr)static_51, v44 << 1), v223 = at(v2, v221);
+	ptr v222 = at((ptr)static_76, v44 << 1), v223 = at(v2, v221);
 	u8 v224 = ld8(v222+1);
 	st8(v223, ld8(v222));
 	st8(v223+1, v224);
 	v45 = v221; goto L121;
 L119:;
 	u16 v225 = (u16)v44;
-	ptr v226 = at((ptr)static_51, (u64)(u16)((u32)(v225 % 100) << 1)), v227 = at(v2, v43);
+	ptr v226 = at((ptr)static_76, (u64)(u16)((u32)(v225 % 100) << 1)), v227 = at(v2, v43);
 	u8 v228 = ld8(v226+1);
 	st8(v227-2, ld8(v226));
 	st8(v227-1, v228);
@@ -7212,7 +7796,7 @@ L119:;
 	v45 = v230; goto L121;
 L120:;
 	u64 v231 = v43 - 4;
-	ptr v232 = at((ptr)static_51, (u64)(u16)((u32)v229 << 1)), v233 = at(v2, v231);
+	ptr v232 = at((ptr)static_76, (u64)(u16)((u32)v229 << 1)), v233 = at(v2, v231);
 	u8 v234 = ld8(v232+1);
 	st8(v233, ld8(v232));
 	st8(v233+1, v234);
@@ -7271,20 +7855,6 @@ L129:
 	return;
 L130:
 	__builtin_trap();
-}
-static u8 core_lang_str_eq(ptr v1, u64 v2, ptr v3, u64 v4) {
-	u64 v5, v6;
-	u8 v7;
-	if (v2 != v4) { v7 = 0; goto L2; }
-	if (v2 <= 3) goto L0;
-	u64 v8 = v2 - 4;
-	v5 = (u64)__builtin_bswap64(((u64)lu32(at(v3, v8)) << 32) | (u64)lu32(v3)); v6 = (u64)__builtin_bswap64(((u64)lu32(at(v1, v8)) << 32) | (u64)lu32(v1)); goto L1;
-L0:
-	v5 = ((u64)ld8(v3+1) << 8) | ((u64)ld8(v3) << 16) | (u64)ld8(v3+2); v6 = ((u64)ld8(v1+1) << 8) | ((u64)ld8(v1) << 16) | (u64)ld8(v1+2);
-L1:
-	v7 = v6 == v5;
-L2:
-	return v7;
 }
 static u32 core_convert_AnyInto_into_d3a8(u8 v1, u32 v2) {
 	u32 v3;
@@ -7900,12 +8470,12 @@ L6:
 L7:;
 	u64 v1108 = v13 / 10000;
 	u16 v1109 = (u16)(v13 % 10000);
-	ptr v1110 = at((ptr)static_51, (u64)(u16)((u32)(v1109 % 100) << 1)), v1111 = at(v1063, v14);
+	ptr v1110 = at((ptr)static_76, (u64)(u16)((u32)(v1109 % 100) << 1)), v1111 = at(v1063, v14);
 	u8 v1112 = ld8(v1110+1);
 	st8(v1111-2, ld8(v1110));
 	st8(v1111-1, v1112);
 	u64 v1113 = v14 - 4;
-	ptr v1114 = at((ptr)static_51, (u64)(u16)((u32)(v1109 / 100) << 1)), v1115 = at(v1063, v1113);
+	ptr v1114 = at((ptr)static_76, (u64)(u16)((u32)(v1109 / 100) << 1)), v1115 = at(v1063, v1113);
 	u8 v1116 = ld8(v1114+1);
 	st8(v1115, ld8(v1114));
 	st8(v1115+1, v1116);
@@ -7919,14 +8489,14 @@ L8:
 	v17 = v1117; goto L12;
 L9:;
 	u64 v1118 = v15 - 2;
-	ptr v1119 = at((ptr)static_51, v16 << 1), v1120 = at(v1063, v1118);
+	ptr v1119 = at((ptr)static_76, v16 << 1), v1120 = at(v1063, v1118);
 	u8 v1121 = ld8(v1119+1);
 	st8(v1120, ld8(v1119));
 	st8(v1120+1, v1121);
 	v17 = v1118; goto L12;
 L10:;
 	u16 v1122 = (u16)v16;
-	ptr v1123 = at((ptr)static_51, (u64)(u16)((u32)(v1122 % 100) << 1)), v1124 = at(v1063, v15);
+	ptr v1123 = at((ptr)static_76, (u64)(u16)((u32)(v1122 % 100) << 1)), v1124 = at(v1063, v15);
 	u8 v1125 = ld8(v1123+1);
 	st8(v1124-2, ld8(v1123));
 	st8(v1124-1, v1125);
@@ -7937,7 +8507,7 @@ L10:;
 	v17 = v1127; goto L12;
 L11:;
 	u64 v1128 = v15 - 4;
-	ptr v1129 = at((ptr)static_51, (u64)(u16)((u32)v1126 << 1)), v1130 = at(v1063, v1128);
+	ptr v1129 = at((ptr)static_76, (u64)(u16)((u32)v1126 << 1)), v1130 = at(v1063, v1128);
 	u8 v1131 = ld8(v1129+1);
 	st8(v1130, ld8(v1129));
 	st8(v1130+1, v1131);
@@ -7950,12 +8520,12 @@ L12:;
 L13:;
 	u64 v1133 = v18 / 10000;
 	u16 v1134 = (u16)(v18 % 10000);
-	ptr v1135 = at((ptr)static_51, (u64)(u16)((u32)(v1134 % 100) << 1)), v1136 = at(v1063, v19);
+	ptr v1135 = at((ptr)static_76, (u64)(u16)((u32)(v1134 % 100) << 1)), v1136 = at(v1063, v19);
 	u8 v1137 = ld8(v1135+1);
 	st8(v1136-2, ld8(v1135));
 	st8(v1136-1, v1137);
 	u64 v1138 = v19 - 4;
-	ptr v1139 = at((ptr)static_51, (u64)(u16)((u32)(v1134 / 100) << 1)), v1140 = at(v1063, v1138);
+	ptr v1139 = at((ptr)static_76, (u64)(u16)((u32)(v1134 / 100) << 1)), v1140 = at(v1063, v1138);
 	u8 v1141 = ld8(v1139+1);
 	st8(v1140, ld8(v1139));
 	st8(v1140+1, v1141);
@@ -7969,14 +8539,14 @@ L14:
 	v22 = v1142; goto L18;
 L15:;
 	u64 v1143 = v20 - 2;
-	ptr v1144 = at((ptr)static_51, v21 << 1), v1145 = at(v1063, v1143);
+	ptr v1144 = at((ptr)static_76, v21 << 1), v1145 = at(v1063, v1143);
 	u8 v1146 = ld8(v1144+1);
 	st8(v1145, ld8(v1144));
 	st8(v1145+1, v1146);
 	v22 = v1143; goto L18;
 L16:;
 	u16 v1147 = (u16)v21;
-	ptr v1148 = at((ptr)static_51, (u64)(u16)((u32)(v1147 % 100) << 1)), v1149 = at(v1063, v20);
+	ptr v1148 = at((ptr)static_76, (u64)(u16)((u32)(v1147 % 100) << 1)), v1149 = at(v1063, v20);
 	u8 v1150 = ld8(v1148+1);
 	st8(v1149-2, ld8(v1148));
 	st8(v1149-1, v1150);
@@ -7987,7 +8557,7 @@ L16:;
 	v22 = v1152; goto L18;
 L17:;
 	u64 v1153 = v20 - 4;
-	ptr v1154 = at((ptr)static_51, (u64)(u16)((u32)v1151 << 1)), v1155 = at(v1063, v1153);
+	ptr v1154 = at((ptr)static_76, (u64)(u16)((u32)v1151 << 1)), v1155 = at(v1063, v1153);
 	u8 v1156 = ld8(v1154+1);
 	st8(v1155, ld8(v1154));
 	st8(v1155+1, v1156);
@@ -7997,16 +8567,16 @@ L18:;
 	st8(v1157-1, 32);
 	u64 v1158 = (u64)v12 * 1441151881, v1159 = (v1158 & 0x1ffffffffffffffull) * 100;
 	u64 v1160 = (v1159 & 0x1fffffffffffffcull) * 100, v1161 = (v1160 & 0x1fffffffffffff0ull) * 100;
-	ptr v1162 = at((ptr)static_51, (((v1161 & 0x1ffffffffffffc0ull) * 100) >> 56) & 254);
+	ptr v1162 = at((ptr)static_76, (((v1161 & 0x1ffffffffffffc0ull) * 100) >> 56) & 254);
 	st8(v1157-3, ld8(v1162));
 	st8(v1157-2, ld8(v1162+1));
-	ptr v1163 = at((ptr)static_51, (v1161 >> 56) & 254);
+	ptr v1163 = at((ptr)static_76, (v1161 >> 56) & 254);
 	st8(v1157-5, ld8(v1163));
 	st8(v1157-4, ld8(v1163+1));
-	ptr v1164 = at((ptr)static_51, (v1160 >> 56) & 254);
+	ptr v1164 = at((ptr)static_76, (v1160 >> 56) & 254);
 	st8(v1157-7, ld8(v1164));
 	st8(v1157-6, ld8(v1164+1));
-	ptr v1165 = at((ptr)static_51, (v1159 >> 56) & 254);
+	ptr v1165 = at((ptr)static_76, (v1159 >> 56) & 254);
 	st8(v1157-9, ld8(v1165));
 	st8(v1157-8, ld8(v1165+1));
 	u64 v1166 = v1158 >> 57;
@@ -8016,7 +8586,7 @@ L18:;
 	v23 = v1167; goto L20;
 L19:;
 	u64 v1168 = v22 - 11;
-	ptr v1169 = at((ptr)static_51, v1166 << 1), v1170 = at(v1063, v1168);
+	ptr v1169 = at((ptr)static_76, v1166 << 1), v1170 = at(v1063, v1168);
 	u8 v1171 = ld8(v1169+1);
 	st8(v1170, ld8(v1169));
 	st8(v1170+1, v1171);
@@ -8029,12 +8599,12 @@ L20:;
 	if (v1095 >= 100000000) goto L25;
 	if (v1095 <= 9999) { v24 = v1172; v25 = v1174; goto L21; }
 	u16 v1175 = (u16)(v1095 % 10000);
-	ptr v1176 = at((ptr)static_51, (u64)(u16)((u32)(v1175 % 100) << 1));
+	ptr v1176 = at((ptr)static_76, (u64)(u16)((u32)(v1175 % 100) << 1));
 	u8 v1177 = ld8(v1176+1);
 	st8(v1173-2, ld8(v1176));
 	st8(v1173-1, v1177);
 	u64 v1178 = v23 - 5;
-	ptr v1179 = at((ptr)static_51, (u64)(u16)((u32)(v1175 / 100) << 1)), v1180 = at(v1063, v1178);
+	ptr v1179 = at((ptr)static_76, (u64)(u16)((u32)(v1175 / 100) << 1)), v1180 = at(v1063, v1178);
 	u8 v1181 = ld8(v1179+1);
 	st8(v1180, ld8(v1179));
 	st8(v1180+1, v1181);
@@ -8047,14 +8617,14 @@ L21:
 	v26 = v1182; goto L27;
 L22:;
 	u64 v1183 = v24 - 2;
-	ptr v1184 = at((ptr)static_51, v25 << 1), v1185 = at(v1063, v1183);
+	ptr v1184 = at((ptr)static_76, v25 << 1), v1185 = at(v1063, v1183);
 	u8 v1186 = ld8(v1184+1);
 	st8(v1185, ld8(v1184));
 	st8(v1185+1, v1186);
 	v26 = v1183; goto L27;
 L23:;
 	u16 v1187 = (u16)v25;
-	ptr v1188 = at((ptr)static_51, (u64)(u16)((u32)(v1187 % 100) << 1)), v1189 = at(v1063, v24);
+	ptr v1188 = at((ptr)static_76, (u64)(u16)((u32)(v1187 % 100) << 1)), v1189 = at(v1063, v24);
 	u8 v1190 = ld8(v1188+1);
 	st8(v1189-2, ld8(v1188));
 	st8(v1189-1, v1190);
@@ -8065,7 +8635,7 @@ L23:;
 	v26 = v1192; goto L27;
 L24:;
 	u64 v1193 = v24 - 4;
-	ptr v1194 = at((ptr)static_51, (u64)(u16)((u32)v1191 << 1)), v1195 = at(v1063, v1193);
+	ptr v1194 = at((ptr)static_76, (u64)(u16)((u32)v1191 << 1)), v1195 = at(v1063, v1193);
 	u8 v1196 = ld8(v1194+1);
 	st8(v1195, ld8(v1194));
 	st8(v1195+1, v1196);
@@ -8073,16 +8643,16 @@ L24:;
 L25:;
 	u64 v1197 = v1174 * 1441151881, v1198 = (v1197 & 0x1ffffffffffffffull) * 100;
 	u64 v1199 = (v1198 & 0x1fffffffffffffcull) * 100, v1200 = (v1199 & 0x1fffffffffffff0ull) * 100;
-	ptr v1201 = at((ptr)static_51, (((v1200 & 0x1ffffffffffffc0ull) * 100) >> 56) & 254);
+	ptr v1201 = at((ptr)static_76, (((v1200 & 0x1ffffffffffffc0ull) * 100) >> 56) & 254);
 	st8(v1173-2, ld8(v1201));
 	st8(v1173-1, ld8(v1201+1));
-	ptr v1202 = at((ptr)static_51, (v1200 >> 56) & 254);
+	ptr v1202 = at((ptr)static_76, (v1200 >> 56) & 254);
 	st8(v1173-4, ld8(v1202));
 	st8(v1173-3, ld8(v1202+1));
-	ptr v1203 = at((ptr)static_51, (v1199 >> 56) & 254);
+	ptr v1203 = at((ptr)static_76, (v1199 >> 56) & 254);
 	st8(v1173-6, ld8(v1203));
 	st8(v1173-5, ld8(v1203+1));
-	ptr v1204 = at((ptr)static_51, (v1198 >> 56) & 254);
+	ptr v1204 = at((ptr)static_76, (v1198 >> 56) & 254);
 	st8(v1173-8, ld8(v1204));
 	st8(v1173-7, ld8(v1204+1));
 	u64 v1205 = v1197 >> 57;
@@ -8092,7 +8662,7 @@ L25:;
 	v26 = v1206; goto L27;
 L26:;
 	u64 v1207 = v23 - 11;
-	ptr v1208 = at((ptr)static_51, v1205 << 1), v1209 = at(v1063, v1207);
+	ptr v1208 = at((ptr)static_76, v1205 << 1), v1209 = at(v1063, v1207);
 	u8 v1210 = ld8(v1208+1);
 	st8(v1209, ld8(v1208));
 	st8(v1209+1, v1210);
@@ -8105,12 +8675,12 @@ L27:;
 L28:;
 	u64 v1212 = v27 / 10000;
 	u16 v1213 = (u16)(v27 % 10000);
-	ptr v1214 = at((ptr)static_51, (u64)(u16)((u32)(v1213 % 100) << 1)), v1215 = at(v1063, v28);
+	ptr v1214 = at((ptr)static_76, (u64)(u16)((u32)(v1213 % 100) << 1)), v1215 = at(v1063, v28);
 	u8 v1216 = ld8(v1214+1);
 	st8(v1215-2, ld8(v1214));
 	st8(v1215-1, v1216);
 	u64 v1217 = v28 - 4;
-	ptr v1218 = at((ptr)static_51, (u64)(u16)((u32)(v1213 / 100) << 1)), v1219 = at(v1063, v1217);
+	ptr v1218 = at((ptr)static_76, (u64)(u16)((u32)(v1213 / 100) << 1)), v1219 = at(v1063, v1217);
 	u8 v1220 = ld8(v1218+1);
 	st8(v1219, ld8(v1218));
 	st8(v1219+1, v1220);
@@ -8124,14 +8694,14 @@ L29:
 	v31 = v1221; goto L33;
 L30:;
 	u64 v1222 = v29 - 2;
-	ptr v1223 = at((ptr)static_51, v30 << 1), v1224 = at(v1063, v1222);
+	ptr v1223 = at((ptr)static_76, v30 << 1), v1224 = at(v1063, v1222);
 	u8 v1225 = ld8(v1223+1);
 	st8(v1224, ld8(v1223));
 	st8(v1224+1, v1225);
 	v31 = v1222; goto L33;
 L31:;
 	u16 v1226 = (u16)v30;
-	ptr v1227 = at((ptr)static_51, (u64)(u16)((u32)(v1226 % 100) << 1)), v1228 = at(v1063, v29);
+	ptr v1227 = at((ptr)static_76, (u64)(u16)((u32)(v1226 % 100) << 1)), v1228 = at(v1063, v29);
 	u8 v1229 = ld8(v1227+1);
 	st8(v1228-2, ld8(v1227));
 	st8(v1228-1, v1229);
@@ -8142,7 +8712,7 @@ L31:;
 	v31 = v1231; goto L33;
 L32:;
 	u64 v1232 = v29 - 4;
-	ptr v1233 = at((ptr)static_51, (u64)(u16)((u32)v1230 << 1)), v1234 = at(v1063, v1232);
+	ptr v1233 = at((ptr)static_76, (u64)(u16)((u32)v1230 << 1)), v1234 = at(v1063, v1232);
 	u8 v1235 = ld8(v1233+1);
 	st8(v1234, ld8(v1233));
 	st8(v1234+1, v1235);
@@ -8207,12 +8777,12 @@ L43:
 L44:;
 	u64 v1256 = v40 / 10000;
 	u16 v1257 = (u16)(v40 % 10000);
-	ptr v1258 = at((ptr)static_51, (u64)(u16)((u32)(v1257 % 100) << 1)), v1259 = at(v1063, v41);
+	ptr v1258 = at((ptr)static_76, (u64)(u16)((u32)(v1257 % 100) << 1)), v1259 = at(v1063, v41);
 	u8 v1260 = ld8(v1258+1);
 	st8(v1259-2, ld8(v1258));
 	st8(v1259-1, v1260);
 	u64 v1261 = v41 - 4;
-	ptr v1262 = at((ptr)static_51, (u64)(u16)((u32)(v1257 / 100) << 1)), v1263 = at(v1063, v1261);
+	ptr v1262 = at((ptr)static_76, (u64)(u16)((u32)(v1257 / 100) << 1)), v1263 = at(v1063, v1261);
 	u8 v1264 = ld8(v1262+1);
 	st8(v1263, ld8(v1262));
 	st8(v1263+1, v1264);
@@ -8226,14 +8796,14 @@ L45:
 	v44 = v1265; goto L49;
 L46:;
 	u64 v1266 = v42 - 2;
-	ptr v1267 = at((ptr)static_51, v43 << 1), v1268 = at(v1063, v1266);
+	ptr v1267 = at((ptr)static_76, v43 << 1), v1268 = at(v1063, v1266);
 	u8 v1269 = ld8(v1267+1);
 	st8(v1268, ld8(v1267));
 	st8(v1268+1, v1269);
 	v44 = v1266; goto L49;
 L47:;
 	u16 v1270 = (u16)v43;
-	ptr v1271 = at((ptr)static_51, (u64)(u16)((u32)(v1270 % 100) << 1)), v1272 = at(v1063, v42);
+	ptr v1271 = at((ptr)static_76, (u64)(u16)((u32)(v1270 % 100) << 1)), v1272 = at(v1063, v42);
 	u8 v1273 = ld8(v1271+1);
 	st8(v1272-2, ld8(v1271));
 	st8(v1272-1, v1273);
@@ -8244,7 +8814,7 @@ L47:;
 	v44 = v1275; goto L49;
 L48:;
 	u64 v1276 = v42 - 4;
-	ptr v1277 = at((ptr)static_51, (u64)(u16)((u32)v1274 << 1)), v1278 = at(v1063, v1276);
+	ptr v1277 = at((ptr)static_76, (u64)(u16)((u32)v1274 << 1)), v1278 = at(v1063, v1276);
 	u8 v1279 = ld8(v1277+1);
 	st8(v1278, ld8(v1277));
 	st8(v1278+1, v1279);
@@ -8255,12 +8825,12 @@ L49:;
 	st8(v1281, 47);
 	if (v1252 <= 9999) goto L50;
 	u16 v1282 = (u16)(v1248 % 10000);
-	ptr v1283 = at((ptr)static_51, (u64)(u16)((u32)(v1282 % 100) << 1));
+	ptr v1283 = at((ptr)static_76, (u64)(u16)((u32)(v1282 % 100) << 1));
 	u8 v1284 = ld8(v1283+1);
 	st8(v1281-2, ld8(v1283));
 	st8(v1281-1, v1284);
 	u64 v1285 = v44 - 5;
-	ptr v1286 = at((ptr)static_51, (u64)(u16)((u32)(v1282 / 100) << 1)), v1287 = at(v1063, v1285);
+	ptr v1286 = at((ptr)static_76, (u64)(u16)((u32)(v1282 / 100) << 1)), v1287 = at(v1063, v1285);
 	u8 v1288 = ld8(v1286+1);
 	st8(v1287, ld8(v1286));
 	st8(v1287+1, v1288);
@@ -8275,14 +8845,14 @@ L51:
 	v47 = v1289; goto L55;
 L52:;
 	u64 v1290 = v46 - 2;
-	ptr v1291 = at((ptr)static_51, v45 << 1), v1292 = at(v1063, v1290);
+	ptr v1291 = at((ptr)static_76, v45 << 1), v1292 = at(v1063, v1290);
 	u8 v1293 = ld8(v1291+1);
 	st8(v1292, ld8(v1291));
 	st8(v1292+1, v1293);
 	v47 = v1290; goto L55;
 L53:;
 	u16 v1294 = (u16)v1247;
-	ptr v1295 = at((ptr)static_51, (u64)(u16)((u32)(v1294 % 100) << 1));
+	ptr v1295 = at((ptr)static_76, (u64)(u16)((u32)(v1294 % 100) << 1));
 	u8 v1296 = ld8(v1295+1);
 	st8(v1281-2, ld8(v1295));
 	st8(v1281-1, v1296);
@@ -8293,7 +8863,7 @@ L53:;
 	v47 = v1298; goto L55;
 L54:;
 	u64 v1299 = v44 - 5;
-	ptr v1300 = at((ptr)static_51, (u64)(u16)((u32)v1297 << 1)), v1301 = at(v1063, v1299);
+	ptr v1300 = at((ptr)static_76, (u64)(u16)((u32)v1297 << 1)), v1301 = at(v1063, v1299);
 	u8 v1302 = ld8(v1300+1);
 	st8(v1301, ld8(v1300));
 	st8(v1301+1, v1302);
@@ -8303,16 +8873,16 @@ L55:;
 	st8(v1303-1, 32);
 	u64 v1304 = (u64)v39 * 1441151881, v1305 = (v1304 & 0x1ffffffffffffffull) * 100;
 	u64 v1306 = (v1305 & 0x1fffffffffffffcull) * 100, v1307 = (v1306 & 0x1fffffffffffff0ull) * 100;
-	ptr v1308 = at((ptr)static_51, (((v1307 & 0x1ffffffffffffc0ull) * 100) >> 56) & 254);
+	ptr v1308 = at((ptr)static_76, (((v1307 & 0x1ffffffffffffc0ull) * 100) >> 56) & 254);
 	st8(v1303-3, ld8(v1308));
 	st8(v1303-2, ld8(v1308+1));
-	ptr v1309 = at((ptr)static_51, (v1307 >> 56) & 254);
+	ptr v1309 = at((ptr)static_76, (v1307 >> 56) & 254);
 	st8(v1303-5, ld8(v1309));
 	st8(v1303-4, ld8(v1309+1));
-	ptr v1310 = at((ptr)static_51, (v1306 >> 56) & 254);
+	ptr v1310 = at((ptr)static_76, (v1306 >> 56) & 254);
 	st8(v1303-7, ld8(v1310));
 	st8(v1303-6, ld8(v1310+1));
-	ptr v1311 = at((ptr)static_51, (v1305 >> 56) & 254);
+	ptr v1311 = at((ptr)static_76, (v1305 >> 56) & 254);
 	st8(v1303-9, ld8(v1311));
 	st8(v1303-8, ld8(v1311+1));
 	u64 v1312 = v1304 >> 57;
@@ -8322,7 +8892,7 @@ L55:;
 	v48 = v1313; goto L57;
 L56:;
 	u64 v1314 = v47 - 11;
-	ptr v1315 = at((ptr)static_51, v1312 << 1), v1316 = at(v1063, v1314);
+	ptr v1315 = at((ptr)static_76, v1312 << 1), v1316 = at(v1063, v1314);
 	u8 v1317 = ld8(v1315+1);
 	st8(v1316, ld8(v1315));
 	st8(v1316+1, v1317);
@@ -8335,12 +8905,12 @@ L57:;
 	if (v1245 >= 100000000) goto L62;
 	if (v1245 <= 9999) { v49 = v1318; v50 = v1320; goto L58; }
 	u16 v1321 = (u16)(v1245 % 10000);
-	ptr v1322 = at((ptr)static_51, (u64)(u16)((u32)(v1321 % 100) << 1));
+	ptr v1322 = at((ptr)static_76, (u64)(u16)((u32)(v1321 % 100) << 1));
 	u8 v1323 = ld8(v1322+1);
 	st8(v1319-2, ld8(v1322));
 	st8(v1319-1, v1323);
 	u64 v1324 = v48 - 5;
-	ptr v1325 = at((ptr)static_51, (u64)(u16)((u32)(v1321 / 100) << 1)), v1326 = at(v1063, v1324);
+	ptr v1325 = at((ptr)static_76, (u64)(u16)((u32)(v1321 / 100) << 1)), v1326 = at(v1063, v1324);
 	u8 v1327 = ld8(v1325+1);
 	st8(v1326, ld8(v1325));
 	st8(v1326+1, v1327);
@@ -8353,14 +8923,14 @@ L58:
 	v51 = v1328; goto L64;
 L59:;
 	u64 v1329 = v49 - 2;
-	ptr v1330 = at((ptr)static_51, v50 << 1), v1331 = at(v1063, v1329);
+	ptr v1330 = at((ptr)static_76, v50 << 1), v1331 = at(v1063, v1329);
 	u8 v1332 = ld8(v1330+1);
 	st8(v1331, ld8(v1330));
 	st8(v1331+1, v1332);
 	v51 = v1329; goto L64;
 L60:;
 	u16 v1333 = (u16)v50;
-	ptr v1334 = at((ptr)static_51, (u64)(u16)((u32)(v1333 % 100) << 1)), v1335 = at(v1063, v49);
+	ptr v1334 = at((ptr)static_76, (u64)(u16)((u32)(v1333 % 100) << 1)), v1335 = at(v1063, v49);
 	u8 v1336 = ld8(v1334+1);
 	st8(v1335-2, ld8(v1334));
 	st8(v1335-1, v1336);
@@ -8371,7 +8941,7 @@ L60:;
 	v51 = v1338; goto L64;
 L61:;
 	u64 v1339 = v49 - 4;
-	ptr v1340 = at((ptr)static_51, (u64)(u16)((u32)v1337 << 1)), v1341 = at(v1063, v1339);
+	ptr v1340 = at((ptr)static_76, (u64)(u16)((u32)v1337 << 1)), v1341 = at(v1063, v1339);
 	u8 v1342 = ld8(v1340+1);
 	st8(v1341, ld8(v1340));
 	st8(v1341+1, v1342);
@@ -8379,16 +8949,16 @@ L61:;
 L62:;
 	u64 v1343 = v1320 * 1441151881, v1344 = (v1343 & 0x1ffffffffffffffull) * 100;
 	u64 v1345 = (v1344 & 0x1fffffffffffffcull) * 100, v1346 = (v1345 & 0x1fffffffffffff0ull) * 100;
-	ptr v1347 = at((ptr)static_51, (((v1346 & 0x1ffffffffffffc0ull) * 100) >> 56) & 254);
+	ptr v1347 = at((ptr)static_76, (((v1346 & 0x1ffffffffffffc0ull) * 100) >> 56) & 254);
 	st8(v1319-2, ld8(v1347));
 	st8(v1319-1, ld8(v1347+1));
-	ptr v1348 = at((ptr)static_51, (v1346 >> 56) & 254);
+	ptr v1348 = at((ptr)static_76, (v1346 >> 56) & 254);
 	st8(v1319-4, ld8(v1348));
 	st8(v1319-3, ld8(v1348+1));
-	ptr v1349 = at((ptr)static_51, (v1345 >> 56) & 254);
+	ptr v1349 = at((ptr)static_76, (v1345 >> 56) & 254);
 	st8(v1319-6, ld8(v1349));
 	st8(v1319-5, ld8(v1349+1));
-	ptr v1350 = at((ptr)static_51, (v1344 >> 56) & 254);
+	ptr v1350 = at((ptr)static_76, (v1344 >> 56) & 254);
 	st8(v1319-8, ld8(v1350));
 	st8(v1319-7, ld8(v1350+1));
 	u64 v1351 = v1343 >> 57;
@@ -8398,7 +8968,7 @@ L62:;
 	v51 = v1352; goto L64;
 L63:;
 	u64 v1353 = v48 - 11;
-	ptr v1354 = at((ptr)static_51, v1351 << 1), v1355 = at(v1063, v1353);
+	ptr v1354 = at((ptr)static_76, v1351 << 1), v1355 = at(v1063, v1353);
 	u8 v1356 = ld8(v1354+1);
 	st8(v1355, ld8(v1354));
 	st8(v1355+1, v1356);
@@ -8411,12 +8981,12 @@ L64:;
 L65:;
 	u64 v1358 = v52 / 10000;
 	u16 v1359 = (u16)(v52 % 10000);
-	ptr v1360 = at((ptr)static_51, (u64)(u16)((u32)(v1359 % 100) << 1)), v1361 = at(v1063, v53);
+	ptr v1360 = at((ptr)static_76, (u64)(u16)((u32)(v1359 % 100) << 1)), v1361 = at(v1063, v53);
 	u8 v1362 = ld8(v1360+1);
 	st8(v1361-2, ld8(v1360));
 	st8(v1361-1, v1362);
 	u64 v1363 = v53 - 4;
-	ptr v1364 = at((ptr)static_51, (u64)(u16)((u32)(v1359 / 100) << 1)), v1365 = at(v1063, v1363);
+	ptr v1364 = at((ptr)static_76, (u64)(u16)((u32)(v1359 / 100) << 1)), v1365 = at(v1063, v1363);
 	u8 v1366 = ld8(v1364+1);
 	st8(v1365, ld8(v1364));
 	st8(v1365+1, v1366);
@@ -8430,14 +9000,14 @@ L66:
 	v56 = v1367; goto L70;
 L67:;
 	u64 v1368 = v54 - 2;
-	ptr v1369 = at((ptr)static_51, v55 << 1), v1370 = at(v1063, v1368);
+	ptr v1369 = at((ptr)static_76, v55 << 1), v1370 = at(v1063, v1368);
 	u8 v1371 = ld8(v1369+1);
 	st8(v1370, ld8(v1369));
 	st8(v1370+1, v1371);
 	v56 = v1368; goto L70;
 L68:;
 	u16 v1372 = (u16)v55;
-	ptr v1373 = at((ptr)static_51, (u64)(u16)((u32)(v1372 % 100) << 1)), v1374 = at(v1063, v54);
+	ptr v1373 = at((ptr)static_76, (u64)(u16)((u32)(v1372 % 100) << 1)), v1374 = at(v1063, v54);
 	u8 v1375 = ld8(v1373+1);
 	st8(v1374-2, ld8(v1373));
 	st8(v1374-1, v1375);
@@ -8448,7 +9018,7 @@ L68:;
 	v56 = v1377; goto L70;
 L69:;
 	u64 v1378 = v54 - 4;
-	ptr v1379 = at((ptr)static_51, (u64)(u16)((u32)v1376 << 1)), v1380 = at(v1063, v1378);
+	ptr v1379 = at((ptr)static_76, (u64)(u16)((u32)v1376 << 1)), v1380 = at(v1063, v1378);
 	u8 v1381 = ld8(v1379+1);
 	st8(v1380, ld8(v1379));
 	st8(v1380+1, v1381);
@@ -8508,13 +9078,13 @@ L79:
 	u32 v1398 = ld32(v1056+8), v1399 = (u32)__builtin_bswap32(v1398), v1400 = ld32(v1056+12);
 	u32 v1401 = (u32)__builtin_bswap32(v1400);
 	if (v1393 == 1) { v64 = v1397; goto L80; }
-	if (v1397 > 4294967) { v66 = (ptr)static_11; v65 = 40; goto L81; }
+	if (v1397 > 4294967) { v66 = (ptr)static_36; v65 = 40; goto L81; }
 	v64 = v1397 * 1000;
 L80:
-	if (v1399 > 262144) { v66 = (ptr)static_12; v65 = 31; goto L81; }
-	if (v1401 > 262144) { v66 = (ptr)static_13; v65 = 31; goto L81; }
+	if (v1399 > 262144) { v66 = (ptr)static_37; v65 = 31; goto L81; }
+	if (v1401 > 262144) { v66 = (ptr)static_38; v65 = 31; goto L81; }
 	if (v1401 >= v1399) goto L82;
-	v66 = (ptr)static_14; v65 = 32;
+	v66 = (ptr)static_39; v65 = 32;
 L81:;
 	u64 v1402 = (u64)v66;
 	st32(v1053, 0);
@@ -8550,12 +9120,12 @@ L85:;
 L86:;
 	u64 v1414 = v72 / 10000;
 	u16 v1415 = (u16)(v72 % 10000);
-	ptr v1416 = at((ptr)static_51, (u64)(u16)((u32)(v1415 % 100) << 1)), v1417 = at(v1063, v73);
+	ptr v1416 = at((ptr)static_76, (u64)(u16)((u32)(v1415 % 100) << 1)), v1417 = at(v1063, v73);
 	u8 v1418 = ld8(v1416+1);
 	st8(v1417-2, ld8(v1416));
 	st8(v1417-1, v1418);
 	u64 v1419 = v73 - 4;
-	ptr v1420 = at((ptr)static_51, (u64)(u16)((u32)(v1415 / 100) << 1)), v1421 = at(v1063, v1419);
+	ptr v1420 = at((ptr)static_76, (u64)(u16)((u32)(v1415 / 100) << 1)), v1421 = at(v1063, v1419);
 	u8 v1422 = ld8(v1420+1);
 	st8(v1421, ld8(v1420));
 	st8(v1421+1, v1422);
@@ -8569,14 +9139,14 @@ L87:
 	v76 = v1423; goto L91;
 L88:;
 	u64 v1424 = v74 - 2;
-	ptr v1425 = at((ptr)static_51, v75 << 1), v1426 = at(v1063, v1424);
+	ptr v1425 = at((ptr)static_76, v75 << 1), v1426 = at(v1063, v1424);
 	u8 v1427 = ld8(v1425+1);
 	st8(v1426, ld8(v1425));
 	st8(v1426+1, v1427);
 	v76 = v1424; goto L91;
 L89:;
 	u16 v1428 = (u16)v75;
-	ptr v1429 = at((ptr)static_51, (u64)(u16)((u32)(v1428 % 100) << 1)), v1430 = at(v1063, v74);
+	ptr v1429 = at((ptr)static_76, (u64)(u16)((u32)(v1428 % 100) << 1)), v1430 = at(v1063, v74);
 	u8 v1431 = ld8(v1429+1);
 	st8(v1430-2, ld8(v1429));
 	st8(v1430-1, v1431);
@@ -8587,7 +9157,7 @@ L89:;
 	v76 = v1433; goto L91;
 L90:;
 	u64 v1434 = v74 - 4;
-	ptr v1435 = at((ptr)static_51, (u64)(u16)((u32)v1432 << 1)), v1436 = at(v1063, v1434);
+	ptr v1435 = at((ptr)static_76, (u64)(u16)((u32)v1432 << 1)), v1436 = at(v1063, v1434);
 	u8 v1437 = ld8(v1435+1);
 	st8(v1436, ld8(v1435));
 	st8(v1436+1, v1437);
@@ -8600,12 +9170,12 @@ L91:;
 L92:;
 	u64 v1439 = v77 / 10000;
 	u16 v1440 = (u16)(v77 % 10000);
-	ptr v1441 = at((ptr)static_51, (u64)(u16)((u32)(v1440 % 100) << 1)), v1442 = at(v1063, v78);
+	ptr v1441 = at((ptr)static_76, (u64)(u16)((u32)(v1440 % 100) << 1)), v1442 = at(v1063, v78);
 	u8 v1443 = ld8(v1441+1);
 	st8(v1442-2, ld8(v1441));
 	st8(v1442-1, v1443);
 	u64 v1444 = v78 - 4;
-	ptr v1445 = at((ptr)static_51, (u64)(u16)((u32)(v1440 / 100) << 1)), v1446 = at(v1063, v1444);
+	ptr v1445 = at((ptr)static_76, (u64)(u16)((u32)(v1440 / 100) << 1)), v1446 = at(v1063, v1444);
 	u8 v1447 = ld8(v1445+1);
 	st8(v1446, ld8(v1445));
 	st8(v1446+1, v1447);
@@ -8619,14 +9189,14 @@ L93:
 	v81 = v1448; goto L97;
 L94:;
 	u64 v1449 = v79 - 2;
-	ptr v1450 = at((ptr)static_51, v80 << 1), v1451 = at(v1063, v1449);
+	ptr v1450 = at((ptr)static_76, v80 << 1), v1451 = at(v1063, v1449);
 	u8 v1452 = ld8(v1450+1);
 	st8(v1451, ld8(v1450));
 	st8(v1451+1, v1452);
 	v81 = v1449; goto L97;
 L95:;
 	u16 v1453 = (u16)v80;
-	ptr v1454 = at((ptr)static_51, (u64)(u16)((u32)(v1453 % 100) << 1)), v1455 = at(v1063, v79);
+	ptr v1454 = at((ptr)static_76, (u64)(u16)((u32)(v1453 % 100) << 1)), v1455 = at(v1063, v79);
 	u8 v1456 = ld8(v1454+1);
 	st8(v1455-2, ld8(v1454));
 	st8(v1455-1, v1456);
@@ -8637,7 +9207,7 @@ L95:;
 	v81 = v1458; goto L97;
 L96:;
 	u64 v1459 = v79 - 4;
-	ptr v1460 = at((ptr)static_51, (u64)(u16)((u32)v1457 << 1)), v1461 = at(v1063, v1459);
+	ptr v1460 = at((ptr)static_76, (u64)(u16)((u32)v1457 << 1)), v1461 = at(v1063, v1459);
 	u8 v1462 = ld8(v1460+1);
 	st8(v1461, ld8(v1460));
 	st8(v1461+1, v1462);
@@ -8647,16 +9217,16 @@ L97:;
 	st8(v1463-1, 32);
 	u64 v1464 = (u64)v64 * 1441151881, v1465 = (v1464 & 0x1ffffffffffffffull) * 100;
 	u64 v1466 = (v1465 & 0x1fffffffffffffcull) * 100, v1467 = (v1466 & 0x1fffffffffffff0ull) * 100;
-	ptr v1468 = at((ptr)static_51, (((v1467 & 0x1ffffffffffffc0ull) * 100) >> 56) & 254);
+	ptr v1468 = at((ptr)static_76, (((v1467 & 0x1ffffffffffffc0ull) * 100) >> 56) & 254);
 	st8(v1463-3, ld8(v1468));
 	st8(v1463-2, ld8(v1468+1));
-	ptr v1469 = at((ptr)static_51, (v1467 >> 56) & 254);
+	ptr v1469 = at((ptr)static_76, (v1467 >> 56) & 254);
 	st8(v1463-5, ld8(v1469));
 	st8(v1463-4, ld8(v1469+1));
-	ptr v1470 = at((ptr)static_51, (v1466 >> 56) & 254);
+	ptr v1470 = at((ptr)static_76, (v1466 >> 56) & 254);
 	st8(v1463-7, ld8(v1470));
 	st8(v1463-6, ld8(v1470+1));
-	ptr v1471 = at((ptr)static_51, (v1465 >> 56) & 254);
+	ptr v1471 = at((ptr)static_76, (v1465 >> 56) & 254);
 	st8(v1463-9, ld8(v1471));
 	st8(v1463-8, ld8(v1471+1));
 	u64 v1472 = v1464 >> 57;
@@ -8666,7 +9236,7 @@ L97:;
 	v82 = v1473; goto L99;
 L98:;
 	u64 v1474 = v81 - 11;
-	ptr v1475 = at((ptr)static_51, v1472 << 1), v1476 = at(v1063, v1474);
+	ptr v1475 = at((ptr)static_76, v1472 << 1), v1476 = at(v1063, v1474);
 	u8 v1477 = ld8(v1475+1);
 	st8(v1476, ld8(v1475));
 	st8(v1476+1, v1477);
@@ -8679,12 +9249,12 @@ L99:;
 	if (v1396 >= 100000000) goto L104;
 	if (v1396 <= 9999) { v83 = v1478; v84 = v1480; goto L100; }
 	u16 v1481 = (u16)(v1396 % 10000);
-	ptr v1482 = at((ptr)static_51, (u64)(u16)((u32)(v1481 % 100) << 1));
+	ptr v1482 = at((ptr)static_76, (u64)(u16)((u32)(v1481 % 100) << 1));
 	u8 v1483 = ld8(v1482+1);
 	st8(v1479-2, ld8(v1482));
 	st8(v1479-1, v1483);
 	u64 v1484 = v82 - 5;
-	ptr v1485 = at((ptr)static_51, (u64)(u16)((u32)(v1481 / 100) << 1)), v1486 = at(v1063, v1484);
+	ptr v1485 = at((ptr)static_76, (u64)(u16)((u32)(v1481 / 100) << 1)), v1486 = at(v1063, v1484);
 	u8 v1487 = ld8(v1485+1);
 	st8(v1486, ld8(v1485));
 	st8(v1486+1, v1487);
@@ -8697,14 +9267,14 @@ L100:
 	v85 = v1488; goto L106;
 L101:;
 	u64 v1489 = v83 - 2;
-	ptr v1490 = at((ptr)static_51, v84 << 1), v1491 = at(v1063, v1489);
+	ptr v1490 = at((ptr)static_76, v84 << 1), v1491 = at(v1063, v1489);
 	u8 v1492 = ld8(v1490+1);
 	st8(v1491, ld8(v1490));
 	st8(v1491+1, v1492);
 	v85 = v1489; goto L106;
 L102:;
 	u16 v1493 = (u16)v84;
-	ptr v1494 = at((ptr)static_51, (u64)(u16)((u32)(v1493 % 100) << 1)), v1495 = at(v1063, v83);
+	ptr v1494 = at((ptr)static_76, (u64)(u16)((u32)(v1493 % 100) << 1)), v1495 = at(v1063, v83);
 	u8 v1496 = ld8(v1494+1);
 	st8(v1495-2, ld8(v1494));
 	st8(v1495-1, v1496);
@@ -8715,7 +9285,7 @@ L102:;
 	v85 = v1498; goto L106;
 L103:;
 	u64 v1499 = v83 - 4;
-	ptr v1500 = at((ptr)static_51, (u64)(u16)((u32)v1497 << 1)), v1501 = at(v1063, v1499);
+	ptr v1500 = at((ptr)static_76, (u64)(u16)((u32)v1497 << 1)), v1501 = at(v1063, v1499);
 	u8 v1502 = ld8(v1500+1);
 	st8(v1501, ld8(v1500));
 	st8(v1501+1, v1502);
@@ -8723,16 +9293,16 @@ L103:;
 L104:;
 	u64 v1503 = v1480 * 1441151881, v1504 = (v1503 & 0x1ffffffffffffffull) * 100;
 	u64 v1505 = (v1504 & 0x1fffffffffffffcull) * 100, v1506 = (v1505 & 0x1fffffffffffff0ull) * 100;
-	ptr v1507 = at((ptr)static_51, (((v1506 & 0x1ffffffffffffc0ull) * 100) >> 56) & 254);
+	ptr v1507 = at((ptr)static_76, (((v1506 & 0x1ffffffffffffc0ull) * 100) >> 56) & 254);
 	st8(v1479-2, ld8(v1507));
 	st8(v1479-1, ld8(v1507+1));
-	ptr v1508 = at((ptr)static_51, (v1506 >> 56) & 254);
+	ptr v1508 = at((ptr)static_76, (v1506 >> 56) & 254);
 	st8(v1479-4, ld8(v1508));
 	st8(v1479-3, ld8(v1508+1));
-	ptr v1509 = at((ptr)static_51, (v1505 >> 56) & 254);
+	ptr v1509 = at((ptr)static_76, (v1505 >> 56) & 254);
 	st8(v1479-6, ld8(v1509));
 	st8(v1479-5, ld8(v1509+1));
-	ptr v1510 = at((ptr)static_51, (v1504 >> 56) & 254);
+	ptr v1510 = at((ptr)static_76, (v1504 >> 56) & 254);
 	st8(v1479-8, ld8(v1510));
 	st8(v1479-7, ld8(v1510+1));
 	u64 v1511 = v1503 >> 57;
@@ -8742,7 +9312,7 @@ L104:;
 	v85 = v1512; goto L106;
 L105:;
 	u64 v1513 = v82 - 11;
-	ptr v1514 = at((ptr)static_51, v1511 << 1), v1515 = at(v1063, v1513);
+	ptr v1514 = at((ptr)static_76, v1511 << 1), v1515 = at(v1063, v1513);
 	u8 v1516 = ld8(v1514+1);
 	st8(v1515, ld8(v1514));
 	st8(v1515+1, v1516);
@@ -8755,12 +9325,12 @@ L106:;
 L107:;
 	u64 v1518 = v86 / 10000;
 	u16 v1519 = (u16)(v86 % 10000);
-	ptr v1520 = at((ptr)static_51, (u64)(u16)((u32)(v1519 % 100) << 1)), v1521 = at(v1063, v87);
+	ptr v1520 = at((ptr)static_76, (u64)(u16)((u32)(v1519 % 100) << 1)), v1521 = at(v1063, v87);
 	u8 v1522 = ld8(v1520+1);
 	st8(v1521-2, ld8(v1520));
 	st8(v1521-1, v1522);
 	u64 v1523 = v87 - 4;
-	ptr v1524 = at((ptr)static_51, (u64)(u16)((u32)(v1519 / 100) << 1)), v1525 = at(v1063, v1523);
+	ptr v1524 = at((ptr)static_76, (u64)(u16)((u32)(v1519 / 100) << 1)), v1525 = at(v1063, v1523);
 	u8 v1526 = ld8(v1524+1);
 	st8(v1525, ld8(v1524));
 	st8(v1525+1, v1526);
@@ -8774,14 +9344,14 @@ L108:
 	v90 = v1527; goto L112;
 L109:;
 	u64 v1528 = v88 - 2;
-	ptr v1529 = at((ptr)static_51, v89 << 1), v1530 = at(v1063, v1528);
+	ptr v1529 = at((ptr)static_76, v89 << 1), v1530 = at(v1063, v1528);
 	u8 v1531 = ld8(v1529+1);
 	st8(v1530, ld8(v1529));
 	st8(v1530+1, v1531);
 	v90 = v1528; goto L112;
 L110:;
 	u16 v1532 = (u16)v89;
-	ptr v1533 = at((ptr)static_51, (u64)(u16)((u32)(v1532 % 100) << 1)), v1534 = at(v1063, v88);
+	ptr v1533 = at((ptr)static_76, (u64)(u16)((u32)(v1532 % 100) << 1)), v1534 = at(v1063, v88);
 	u8 v1535 = ld8(v1533+1);
 	st8(v1534-2, ld8(v1533));
 	st8(v1534-1, v1535);
@@ -8792,7 +9362,7 @@ L110:;
 	v90 = v1537; goto L112;
 L111:;
 	u64 v1538 = v88 - 4;
-	ptr v1539 = at((ptr)static_51, (u64)(u16)((u32)v1536 << 1)), v1540 = at(v1063, v1538);
+	ptr v1539 = at((ptr)static_76, (u64)(u16)((u32)v1536 << 1)), v1540 = at(v1063, v1538);
 	u8 v1541 = ld8(v1539+1);
 	st8(v1540, ld8(v1539));
 	st8(v1540+1, v1541);
@@ -8853,13 +9423,13 @@ L122:
 	u64 v1556 = v1554 >> 32;
 	u32 v1557 = (u32)v1556;
 	if (v1393 == 1) { v121 = v1553; goto L123; }
-	if (v1553 > 4294967) { v123 = (ptr)static_11; v122 = 40; goto L124; }
+	if (v1553 > 4294967) { v123 = (ptr)static_36; v122 = 40; goto L124; }
 	v121 = v1553 * 1000;
 L123:
-	if (v1555 > 262144) { v123 = (ptr)static_12; v122 = 31; goto L124; }
-	if (v1554 > 0x40000ffffffffull) { v123 = (ptr)static_13; v122 = 31; goto L124; }
+	if (v1555 > 262144) { v123 = (ptr)static_37; v122 = 31; goto L124; }
+	if (v1554 > 0x40000ffffffffull) { v123 = (ptr)static_38; v122 = 31; goto L124; }
 	if (v1557 >= v1555) goto L125;
-	v123 = (ptr)static_14; v122 = 32;
+	v123 = (ptr)static_39; v122 = 32;
 L124:;
 	u64 v1558 = (u64)v123;
 	st32(v1047, 0);
@@ -8891,11 +9461,11 @@ L128:;
 	st8(v1063+125, 10);
 	if (v1554 <= 0x270fffffffffull) { v129 = v1063+125; v130 = 125; v131 = v1556; goto L129; }
 	u16 v1568 = (u16)(v1556 % 10000);
-	ptr v1569 = at((ptr)static_51, (u64)(u16)((u32)(v1568 % 100) << 1));
+	ptr v1569 = at((ptr)static_76, (u64)(u16)((u32)(v1568 % 100) << 1));
 	u8 v1570 = ld8(v1569+1);
 	st8(v1063+123, ld8(v1569));
 	st8(v1063+124, v1570);
-	ptr v1571 = at((ptr)static_51, (u64)(u16)((u32)(v1568 / 100) << 1));
+	ptr v1571 = at((ptr)static_76, (u64)(u16)((u32)(v1568 / 100) << 1));
 	u8 v1572 = ld8(v1571+1);
 	st8(v1063+121, ld8(v1571));
 	st8(v1063+122, v1572);
@@ -8908,14 +9478,14 @@ L129:
 	v132 = v1573; goto L133;
 L130:;
 	u64 v1574 = v130 - 2;
-	ptr v1575 = at((ptr)static_51, v131 << 1), v1576 = at(v1063, v1574);
+	ptr v1575 = at((ptr)static_76, v131 << 1), v1576 = at(v1063, v1574);
 	u8 v1577 = ld8(v1575+1);
 	st8(v1576, ld8(v1575));
 	st8(v1576+1, v1577);
 	v132 = v1574; goto L133;
 L131:;
 	u16 v1578 = (u16)v131;
-	ptr v1579 = at((ptr)static_51, (u64)(u16)((u32)(v1578 % 100) << 1));
+	ptr v1579 = at((ptr)static_76, (u64)(u16)((u32)(v1578 % 100) << 1));
 	u8 v1580 = ld8(v1579+1);
 	st8(v129-2, ld8(v1579));
 	st8(v129-1, v1580);
@@ -8926,7 +9496,7 @@ L131:;
 	v132 = v1582; goto L133;
 L132:;
 	u64 v1583 = v130 - 4;
-	ptr v1584 = at((ptr)static_51, (u64)(u16)((u32)v1581 << 1)), v1585 = at(v1063, v1583);
+	ptr v1584 = at((ptr)static_76, (u64)(u16)((u32)v1581 << 1)), v1585 = at(v1063, v1583);
 	u8 v1586 = ld8(v1584+1);
 	st8(v1585, ld8(v1584));
 	st8(v1585+1, v1586);
@@ -8937,12 +9507,12 @@ L133:;
 	st8(v1588, 47);
 	if (v1559 <= 9999) { v133 = v1587; v134 = v1559; goto L134; }
 	u16 v1589 = (u16)(v1559 % 10000);
-	ptr v1590 = at((ptr)static_51, (u64)(u16)((u32)(v1589 % 100) << 1));
+	ptr v1590 = at((ptr)static_76, (u64)(u16)((u32)(v1589 % 100) << 1));
 	u8 v1591 = ld8(v1590+1);
 	st8(v1588-2, ld8(v1590));
 	st8(v1588-1, v1591);
 	u64 v1592 = v132 - 5;
-	ptr v1593 = at((ptr)static_51, (u64)(u16)((u32)(v1589 / 100) << 1)), v1594 = at(v1063, v1592);
+	ptr v1593 = at((ptr)static_76, (u64)(u16)((u32)(v1589 / 100) << 1)), v1594 = at(v1063, v1592);
 	u8 v1595 = ld8(v1593+1);
 	st8(v1594, ld8(v1593));
 	st8(v1594+1, v1595);
@@ -8955,14 +9525,14 @@ L134:
 	v135 = v1596; goto L138;
 L135:;
 	u64 v1597 = v133 - 2;
-	ptr v1598 = at((ptr)static_51, v134 << 1), v1599 = at(v1063, v1597);
+	ptr v1598 = at((ptr)static_76, v134 << 1), v1599 = at(v1063, v1597);
 	u8 v1600 = ld8(v1598+1);
 	st8(v1599, ld8(v1598));
 	st8(v1599+1, v1600);
 	v135 = v1597; goto L138;
 L136:;
 	u16 v1601 = (u16)v134;
-	ptr v1602 = at((ptr)static_51, (u64)(u16)((u32)(v1601 % 100) << 1)), v1603 = at(v1063, v133);
+	ptr v1602 = at((ptr)static_76, (u64)(u16)((u32)(v1601 % 100) << 1)), v1603 = at(v1063, v133);
 	u8 v1604 = ld8(v1602+1);
 	st8(v1603-2, ld8(v1602));
 	st8(v1603-1, v1604);
@@ -8973,7 +9543,7 @@ L136:;
 	v135 = v1606; goto L138;
 L137:;
 	u64 v1607 = v133 - 4;
-	ptr v1608 = at((ptr)static_51, (u64)(u16)((u32)v1605 << 1)), v1609 = at(v1063, v1607);
+	ptr v1608 = at((ptr)static_76, (u64)(u16)((u32)v1605 << 1)), v1609 = at(v1063, v1607);
 	u8 v1610 = ld8(v1608+1);
 	st8(v1609, ld8(v1608));
 	st8(v1609+1, v1610);
@@ -8983,16 +9553,16 @@ L138:;
 	st8(v1611-1, 32);
 	u64 v1612 = (u64)v121 * 1441151881, v1613 = (v1612 & 0x1ffffffffffffffull) * 100;
 	u64 v1614 = (v1613 & 0x1fffffffffffffcull) * 100, v1615 = (v1614 & 0x1fffffffffffff0ull) * 100;
-	ptr v1616 = at((ptr)static_51, (((v1615 & 0x1ffffffffffffc0ull) * 100) >> 56) & 254);
+	ptr v1616 = at((ptr)static_76, (((v1615 & 0x1ffffffffffffc0ull) * 100) >> 56) & 254);
 	st8(v1611-3, ld8(v1616));
 	st8(v1611-2, ld8(v1616+1));
-	ptr v1617 = at((ptr)static_51, (v1615 >> 56) & 254);
+	ptr v1617 = at((ptr)static_76, (v1615 >> 56) & 254);
 	st8(v1611-5, ld8(v1617));
 	st8(v1611-4, ld8(v1617+1));
-	ptr v1618 = at((ptr)static_51, (v1614 >> 56) & 254);
+	ptr v1618 = at((ptr)static_76, (v1614 >> 56) & 254);
 	st8(v1611-7, ld8(v1618));
 	st8(v1611-6, ld8(v1618+1));
-	ptr v1619 = at((ptr)static_51, (v1613 >> 56) & 254);
+	ptr v1619 = at((ptr)static_76, (v1613 >> 56) & 254);
 	st8(v1611-9, ld8(v1619));
 	st8(v1611-8, ld8(v1619+1));
 	u64 v1620 = v1612 >> 57;
@@ -9002,7 +9572,7 @@ L138:;
 	v136 = v1621; goto L140;
 L139:;
 	u64 v1622 = v135 - 11;
-	ptr v1623 = at((ptr)static_51, v1620 << 1), v1624 = at(v1063, v1622);
+	ptr v1623 = at((ptr)static_76, v1620 << 1), v1624 = at(v1063, v1622);
 	u8 v1625 = ld8(v1623+1);
 	st8(v1624, ld8(v1623));
 	st8(v1624+1, v1625);
@@ -9015,12 +9585,12 @@ L140:;
 	if (v1552 >= 100000000) goto L145;
 	if (v1552 <= 9999) { v137 = v1626; v138 = v1628; goto L141; }
 	u16 v1629 = (u16)(v1552 % 10000);
-	ptr v1630 = at((ptr)static_51, (u64)(u16)((u32)(v1629 % 100) << 1));
+	ptr v1630 = at((ptr)static_76, (u64)(u16)((u32)(v1629 % 100) << 1));
 	u8 v1631 = ld8(v1630+1);
 	st8(v1627-2, ld8(v1630));
 	st8(v1627-1, v1631);
 	u64 v1632 = v136 - 5;
-	ptr v1633 = at((ptr)static_51, (u64)(u16)((u32)(v1629 / 100) << 1)), v1634 = at(v1063, v1632);
+	ptr v1633 = at((ptr)static_76, (u64)(u16)((u32)(v1629 / 100) << 1)), v1634 = at(v1063, v1632);
 	u8 v1635 = ld8(v1633+1);
 	st8(v1634, ld8(v1633));
 	st8(v1634+1, v1635);
@@ -9033,14 +9603,14 @@ L141:
 	v139 = v1636; goto L147;
 L142:;
 	u64 v1637 = v137 - 2;
-	ptr v1638 = at((ptr)static_51, v138 << 1), v1639 = at(v1063, v1637);
+	ptr v1638 = at((ptr)static_76, v138 << 1), v1639 = at(v1063, v1637);
 	u8 v1640 = ld8(v1638+1);
 	st8(v1639, ld8(v1638));
 	st8(v1639+1, v1640);
 	v139 = v1637; goto L147;
 L143:;
 	u16 v1641 = (u16)v138;
-	ptr v1642 = at((ptr)static_51, (u64)(u16)((u32)(v1641 % 100) << 1)), v1643 = at(v1063, v137);
+	ptr v1642 = at((ptr)static_76, (u64)(u16)((u32)(v1641 % 100) << 1)), v1643 = at(v1063, v137);
 	u8 v1644 = ld8(v1642+1);
 	st8(v1643-2, ld8(v1642));
 	st8(v1643-1, v1644);
@@ -9051,7 +9621,7 @@ L143:;
 	v139 = v1646; goto L147;
 L144:;
 	u64 v1647 = v137 - 4;
-	ptr v1648 = at((ptr)static_51, (u64)(u16)((u32)v1645 << 1)), v1649 = at(v1063, v1647);
+	ptr v1648 = at((ptr)static_76, (u64)(u16)((u32)v1645 << 1)), v1649 = at(v1063, v1647);
 	u8 v1650 = ld8(v1648+1);
 	st8(v1649, ld8(v1648));
 	st8(v1649+1, v1650);
@@ -9059,16 +9629,16 @@ L144:;
 L145:;
 	u64 v1651 = v1628 * 1441151881, v1652 = (v1651 & 0x1ffffffffffffffull) * 100;
 	u64 v1653 = (v1652 & 0x1fffffffffffffcull) * 100, v1654 = (v1653 & 0x1fffffffffffff0ull) * 100;
-	ptr v1655 = at((ptr)static_51, (((v1654 & 0x1ffffffffffffc0ull) * 100) >> 56) & 254);
+	ptr v1655 = at((ptr)static_76, (((v1654 & 0x1ffffffffffffc0ull) * 100) >> 56) & 254);
 	st8(v1627-2, ld8(v1655));
 	st8(v1627-1, ld8(v1655+1));
-	ptr v1656 = at((ptr)static_51, (v1654 >> 56) & 254);
+	ptr v1656 = at((ptr)static_76, (v1654 >> 56) & 254);
 	st8(v1627-4, ld8(v1656));
 	st8(v1627-3, ld8(v1656+1));
-	ptr v1657 = at((ptr)static_51, (v1653 >> 56) & 254);
+	ptr v1657 = at((ptr)static_76, (v1653 >> 56) & 254);
 	st8(v1627-6, ld8(v1657));
 	st8(v1627-5, ld8(v1657+1));
-	ptr v1658 = at((ptr)static_51, (v1652 >> 56) & 254);
+	ptr v1658 = at((ptr)static_76, (v1652 >> 56) & 254);
 	st8(v1627-8, ld8(v1658));
 	st8(v1627-7, ld8(v1658+1));
 	u64 v1659 = v1651 >> 57;
@@ -9078,7 +9648,7 @@ L145:;
 	v139 = v1660; goto L147;
 L146:;
 	u64 v1661 = v136 - 11;
-	ptr v1662 = at((ptr)static_51, v1659 << 1), v1663 = at(v1063, v1661);
+	ptr v1662 = at((ptr)static_76, v1659 << 1), v1663 = at(v1063, v1661);
 	u8 v1664 = ld8(v1662+1);
 	st8(v1663, ld8(v1662));
 	st8(v1663+1, v1664);
@@ -9091,12 +9661,12 @@ L147:;
 L148:;
 	u64 v1666 = v140 / 10000;
 	u16 v1667 = (u16)(v140 % 10000);
-	ptr v1668 = at((ptr)static_51, (u64)(u16)((u32)(v1667 % 100) << 1)), v1669 = at(v1063, v141);
+	ptr v1668 = at((ptr)static_76, (u64)(u16)((u32)(v1667 % 100) << 1)), v1669 = at(v1063, v141);
 	u8 v1670 = ld8(v1668+1);
 	st8(v1669-2, ld8(v1668));
 	st8(v1669-1, v1670);
 	u64 v1671 = v141 - 4;
-	ptr v1672 = at((ptr)static_51, (u64)(u16)((u32)(v1667 / 100) << 1)), v1673 = at(v1063, v1671);
+	ptr v1672 = at((ptr)static_76, (u64)(u16)((u32)(v1667 / 100) << 1)), v1673 = at(v1063, v1671);
 	u8 v1674 = ld8(v1672+1);
 	st8(v1673, ld8(v1672));
 	st8(v1673+1, v1674);
@@ -9110,14 +9680,14 @@ L149:
 	v144 = v1675; goto L153;
 L150:;
 	u64 v1676 = v142 - 2;
-	ptr v1677 = at((ptr)static_51, v143 << 1), v1678 = at(v1063, v1676);
+	ptr v1677 = at((ptr)static_76, v143 << 1), v1678 = at(v1063, v1676);
 	u8 v1679 = ld8(v1677+1);
 	st8(v1678, ld8(v1677));
 	st8(v1678+1, v1679);
 	v144 = v1676; goto L153;
 L151:;
 	u16 v1680 = (u16)v143;
-	ptr v1681 = at((ptr)static_51, (u64)(u16)((u32)(v1680 % 100) << 1)), v1682 = at(v1063, v142);
+	ptr v1681 = at((ptr)static_76, (u64)(u16)((u32)(v1680 % 100) << 1)), v1682 = at(v1063, v142);
 	u8 v1683 = ld8(v1681+1);
 	st8(v1682-2, ld8(v1681));
 	st8(v1682-1, v1683);
@@ -9128,7 +9698,7 @@ L151:;
 	v144 = v1685; goto L153;
 L152:;
 	u64 v1686 = v142 - 4;
-	ptr v1687 = at((ptr)static_51, (u64)(u16)((u32)v1684 << 1)), v1688 = at(v1063, v1686);
+	ptr v1687 = at((ptr)static_76, (u64)(u16)((u32)v1684 << 1)), v1688 = at(v1063, v1686);
 	u8 v1689 = ld8(v1687+1);
 	st8(v1688, ld8(v1687));
 	st8(v1688+1, v1689);
@@ -9251,7 +9821,7 @@ L178:;
 	switch ((u32)__builtin_bswap32(lu32(v1707+8))) {
 	case 439041101: goto L179;
 	case 1295788826: goto L180;
-	default: v546 = (ptr)static_15; v547 = 40; goto L388;
+	default: v546 = (ptr)static_40; v547 = 40; goto L388;
 	}
 L179:
 	v231 = (u32)__builtin_bswap32(lu32(v1707+4)); v229 = 1; v230 = 0; goto L182;
@@ -9260,8 +9830,8 @@ L180:
 L181:
 	v231 = (u32)__builtin_bswap32(lu32(v1707+4)); v229 = 1; v230 = 0;
 L182:
-	if (v231 & 3) { v546 = (ptr)static_16; v547 = 29; goto L388; }
-	if (v231 < 12) { v546 = (ptr)static_17; v547 = 23; goto L388; }
+	if (v231 & 3) { v546 = (ptr)static_41; v547 = 29; goto L388; }
+	if (v231 < 12) { v546 = (ptr)static_42; v547 = 23; goto L388; }
 	u64 v1710 = (u64)v231, v1711 = v1710 - 12;
 	if (!v1711) { v242 = v225; goto L189; }
 	v232 = v225; v233 = v226; v234 = v1705; v235 = v1711;
@@ -9374,7 +9944,7 @@ L199:;
 	u64 v1743 = (u64)ld_bytes(v976+17, 7) & 0xffffffffffffffull;
 	v275 = v1735; v276 = ld8(v976+16); v277 = (u8)v1743; v278 = (u8)(v1743 >> 8); v279 = (u8)(v1743 >> 16); v280 = (u32)(v1743 >> 24); v281 = ld8(v976+24); v282 = (u64)ld_bytes(v976+25, 7) & 0xffffffffffffffull; v283 = ld8(v976+32); v284 = (u64)ld_bytes(v976+33, 7) & 0xffffffffffffffull; v285 = ld64(v976+40); v286 = ldp(v976+48); v287 = ld64(v976+56); v288 = ld64(v976+64); v289 = ldp(v976+72); v290 = ld64(v976+80); v291 = ld64(v976+88); v292 = ld64(v976+96); goto L272;
 L200:;
-	u64 v1744 = (u64)(ptr)static_19 >> 8;
+	u64 v1744 = (u64)(ptr)static_44 >> 8;
 	switch (v1723) {
 	case 1: goto L201;
 	case 2: goto L202;
@@ -9391,7 +9961,7 @@ L201:
 	st64(v975+8, v1733);
 	st64(v975+16, v1724);
 	std_alloc_vec_Vec_drop_37c7(v975);
-	v258 = (u64)(ptr)static_19; v259 = (u8)v1744; v260 = (u8)((u64)(ptr)static_19 >> 16); v261 = (u8)((u64)(ptr)static_19 >> 24); v262 = (u32)((u64)(ptr)static_19 >> 32); v268 = (ptr)0; v271 = (ptr)0; v257 = 2; v263 = 21; v264 = v265 = v266 = v267 = v269 = v270 = v272 = v273 = v274 = 0; goto L271;
+	v258 = (u64)(ptr)static_44; v259 = (u8)v1744; v260 = (u8)((u64)(ptr)static_44 >> 16); v261 = (u8)((u64)(ptr)static_44 >> 24); v262 = (u32)((u64)(ptr)static_44 >> 32); v268 = (ptr)0; v271 = (ptr)0; v257 = 2; v263 = 21; v264 = v265 = v266 = v267 = v269 = v270 = v272 = v273 = v274 = 0; goto L271;
 L202:
 	if (v1734 != 1 || !v1726) goto L203;
 	deallocate((ptr)v1724);
@@ -9432,19 +10002,19 @@ L211:;
 	u64 v1752 = v245 + 1;
 	if (v1752 != v1728) { v245 = v1752; goto L204; }
 L212:;
-	u8 v1753 = (u8)v1744, v1754 = (u8)((u64)(ptr)static_19 >> 16);
-	u8 v1755 = (u8)((u64)(ptr)static_19 >> 24);
-	u32 v1756 = (u32)((u64)(ptr)static_19 >> 32);
-	if (!v1729) { M99: v258 = (u64)(ptr)static_19; v259 = v1753; v260 = v1754; v261 = v1755; v262 = v1756; v268 = (ptr)0; v271 = (ptr)0; v257 = 2; v263 = 21; v264 = v265 = v266 = v267 = v269 = v270 = v272 = v273 = v274 = 0; goto L271; }
+	u8 v1753 = (u8)v1744, v1754 = (u8)((u64)(ptr)static_44 >> 16);
+	u8 v1755 = (u8)((u64)(ptr)static_44 >> 24);
+	u32 v1756 = (u32)((u64)(ptr)static_44 >> 32);
+	if (!v1729) { M99: v258 = (u64)(ptr)static_44; v259 = v1753; v260 = v1754; v261 = v1755; v262 = v1756; v268 = (ptr)0; v271 = (ptr)0; v257 = 2; v263 = 21; v264 = v265 = v266 = v267 = v269 = v270 = v272 = v273 = v274 = 0; goto L271; }
 	deallocate(v1727);
 	goto M99;
 L213:
 	__builtin_trap();
 L214:;
-	u8 v1757 = (u8)v1744, v1758 = (u8)((u64)(ptr)static_19 >> 16);
-	u8 v1759 = (u8)((u64)(ptr)static_19 >> 24);
-	u32 v1760 = (u32)((u64)(ptr)static_19 >> 32);
-	if ((v1731 & 255) != 1 || !v1724) { M100: v258 = (u64)(ptr)static_19; v259 = v1757; v260 = v1758; v261 = v1759; v262 = v1760; v268 = (ptr)0; v271 = (ptr)0; v257 = 2; v263 = 21; v264 = v265 = v266 = v267 = v269 = v270 = v272 = v273 = v274 = 0; goto L271; }
+	u8 v1757 = (u8)v1744, v1758 = (u8)((u64)(ptr)static_44 >> 16);
+	u8 v1759 = (u8)((u64)(ptr)static_44 >> 24);
+	u32 v1760 = (u32)((u64)(ptr)static_44 >> 32);
+	if ((v1731 & 255) != 1 || !v1724) { M100: v258 = (u64)(ptr)static_44; v259 = v1757; v260 = v1758; v261 = v1759; v262 = v1760; v268 = (ptr)0; v271 = (ptr)0; v257 = 2; v263 = 21; v264 = v265 = v266 = v267 = v269 = v270 = v272 = v273 = v274 = 0; goto L271; }
 	deallocate((ptr)v1732);
 	goto M100;
 L215:
@@ -9549,10 +10119,10 @@ L241:;
 	u64 v1781 = v251 + 1;
 	if (v1781 != v1724) { v251 = v1781; goto L232; }
 L242:;
-	u8 v1782 = (u8)v1744, v1783 = (u8)((u64)(ptr)static_19 >> 16);
-	u8 v1784 = (u8)((u64)(ptr)static_19 >> 24);
-	u32 v1785 = (u32)((u64)(ptr)static_19 >> 32);
-	if (!v1725) { M101: v258 = (u64)(ptr)static_19; v259 = v1782; v260 = v1783; v261 = v1784; v262 = v1785; v268 = (ptr)0; v271 = (ptr)0; v257 = 2; v263 = 21; v264 = v265 = v266 = v267 = v269 = v270 = v272 = v273 = v274 = 0; goto L271; }
+	u8 v1782 = (u8)v1744, v1783 = (u8)((u64)(ptr)static_44 >> 16);
+	u8 v1784 = (u8)((u64)(ptr)static_44 >> 24);
+	u32 v1785 = (u32)((u64)(ptr)static_44 >> 32);
+	if (!v1725) { M101: v258 = (u64)(ptr)static_44; v259 = v1782; v260 = v1783; v261 = v1784; v262 = v1785; v268 = (ptr)0; v271 = (ptr)0; v257 = 2; v263 = 21; v264 = v265 = v266 = v267 = v269 = v270 = v272 = v273 = v274 = 0; goto L271; }
 	deallocate((ptr)v1733);
 	goto M101;
 L243:
@@ -9592,10 +10162,10 @@ L252:;
 	u64 v1791 = v253 + 1;
 	if (v1791 != v1733) { v253 = v1791; goto L246; }
 L253:;
-	u8 v1792 = (u8)v1744, v1793 = (u8)((u64)(ptr)static_19 >> 16);
-	u8 v1794 = (u8)((u64)(ptr)static_19 >> 24);
-	u32 v1795 = (u32)((u64)(ptr)static_19 >> 32);
-	if (!v1724) { M102: v258 = (u64)(ptr)static_19; v259 = v1792; v260 = v1793; v261 = v1794; v262 = v1795; v268 = (ptr)0; v271 = (ptr)0; v257 = 2; v263 = 21; v264 = v265 = v266 = v267 = v269 = v270 = v272 = v273 = v274 = 0; goto L271; }
+	u8 v1792 = (u8)v1744, v1793 = (u8)((u64)(ptr)static_44 >> 16);
+	u8 v1794 = (u8)((u64)(ptr)static_44 >> 24);
+	u32 v1795 = (u32)((u64)(ptr)static_44 >> 32);
+	if (!v1724) { M102: v258 = (u64)(ptr)static_44; v259 = v1792; v260 = v1793; v261 = v1794; v262 = v1795; v268 = (ptr)0; v271 = (ptr)0; v257 = 2; v263 = 21; v264 = v265 = v266 = v267 = v269 = v270 = v272 = v273 = v274 = 0; goto L271; }
 	deallocate((ptr)v1732);
 	goto M102;
 L254:
@@ -9640,26 +10210,26 @@ L264:;
 	u64 v1803 = v255 + 1;
 	if (v1803 != v1728) { v255 = v1803; goto L257; }
 L265:;
-	u8 v1804 = (u8)v1744, v1805 = (u8)((u64)(ptr)static_19 >> 16);
-	u8 v1806 = (u8)((u64)(ptr)static_19 >> 24);
-	u32 v1807 = (u32)((u64)(ptr)static_19 >> 32);
-	if (!v1729) { M103: v258 = (u64)(ptr)static_19; v259 = v1804; v260 = v1805; v261 = v1806; v262 = v1807; v268 = (ptr)0; v271 = (ptr)0; v257 = 2; v263 = 21; v264 = v265 = v266 = v267 = v269 = v270 = v272 = v273 = v274 = 0; goto L271; }
+	u8 v1804 = (u8)v1744, v1805 = (u8)((u64)(ptr)static_44 >> 16);
+	u8 v1806 = (u8)((u64)(ptr)static_44 >> 24);
+	u32 v1807 = (u32)((u64)(ptr)static_44 >> 32);
+	if (!v1729) { M103: v258 = (u64)(ptr)static_44; v259 = v1804; v260 = v1805; v261 = v1806; v262 = v1807; v268 = (ptr)0; v271 = (ptr)0; v257 = 2; v263 = 21; v264 = v265 = v266 = v267 = v269 = v270 = v272 = v273 = v274 = 0; goto L271; }
 	deallocate(v1727);
 	goto M103;
 L266:
 	__builtin_trap();
 L267:;
-	u8 v1808 = (u8)v1744, v1809 = (u8)((u64)(ptr)static_19 >> 16);
-	u8 v1810 = (u8)((u64)(ptr)static_19 >> 24);
-	u32 v1811 = (u32)((u64)(ptr)static_19 >> 32);
-	if ((v1730 & 255) != 1 || !v1733) { M104: v258 = (u64)(ptr)static_19; v259 = v1808; v260 = v1809; v261 = v1810; v262 = v1811; v268 = (ptr)0; v271 = (ptr)0; v257 = 2; v263 = 21; v264 = v265 = v266 = v267 = v269 = v270 = v272 = v273 = v274 = 0; goto L271; }
+	u8 v1808 = (u8)v1744, v1809 = (u8)((u64)(ptr)static_44 >> 16);
+	u8 v1810 = (u8)((u64)(ptr)static_44 >> 24);
+	u32 v1811 = (u32)((u64)(ptr)static_44 >> 32);
+	if ((v1730 & 255) != 1 || !v1733) { M104: v258 = (u64)(ptr)static_44; v259 = v1808; v260 = v1809; v261 = v1810; v262 = v1811; v268 = (ptr)0; v271 = (ptr)0; v257 = 2; v263 = 21; v264 = v265 = v266 = v267 = v269 = v270 = v272 = v273 = v274 = 0; goto L271; }
 	deallocate((ptr)v1731);
 	goto M104;
 L268:;
-	u8 v1812 = (u8)v1744, v1813 = (u8)((u64)(ptr)static_19 >> 16);
-	u8 v1814 = (u8)((u64)(ptr)static_19 >> 24);
-	u32 v1815 = (u32)((u64)(ptr)static_19 >> 32);
-	if ((v1732 & 255) != 1 || !v1725) { M105: v258 = (u64)(ptr)static_19; v259 = v1812; v260 = v1813; v261 = v1814; v262 = v1815; v268 = (ptr)0; v271 = (ptr)0; v257 = 2; v263 = 21; v264 = v265 = v266 = v267 = v269 = v270 = v272 = v273 = v274 = 0; goto L271; }
+	u8 v1812 = (u8)v1744, v1813 = (u8)((u64)(ptr)static_44 >> 16);
+	u8 v1814 = (u8)((u64)(ptr)static_44 >> 24);
+	u32 v1815 = (u32)((u64)(ptr)static_44 >> 32);
+	if ((v1732 & 255) != 1 || !v1725) { M105: v258 = (u64)(ptr)static_44; v259 = v1812; v260 = v1813; v261 = v1814; v262 = v1815; v268 = (ptr)0; v271 = (ptr)0; v257 = 2; v263 = 21; v264 = v265 = v266 = v267 = v269 = v270 = v272 = v273 = v274 = 0; goto L271; }
 	deallocate((ptr)v1733);
 	goto M105;
 L269:
@@ -9675,7 +10245,7 @@ L272:
 	v294 = v288; v295 = v287; v296 = v286; v297 = v285; v298 = v284; v299 = v283; v300 = v282; v301 = v281; v302 = v277; v303 = v278; v304 = v279; v305 = v280; v306 = v276; v307 = v275; v308 = v289; v309 = v290; v310 = v291; v311 = v292; v293 = 0; goto L274;
 L273:
 	clear(v973, 7);
-	v296 = (ptr)0; v302 = (u8)((u64)(ptr)static_18 >> 8); v303 = (u8)((u64)(ptr)static_18 >> 16); v304 = (u8)((u64)(ptr)static_18 >> 24); v305 = (u32)((u64)(ptr)static_18 >> 32); v306 = (u64)(ptr)static_18; v308 = (ptr)0; v293 = v294 = v295 = v297 = v298 = v299 = v300 = v309 = v310 = v311 = 0; v301 = 38; v307 = 2;
+	v296 = (ptr)0; v302 = (u8)((u64)(ptr)static_43 >> 8); v303 = (u8)((u64)(ptr)static_43 >> 16); v304 = (u8)((u64)(ptr)static_43 >> 24); v305 = (u32)((u64)(ptr)static_43 >> 32); v306 = (u64)(ptr)static_43; v308 = (ptr)0; v293 = v294 = v295 = v297 = v298 = v299 = v300 = v309 = v310 = v311 = 0; v301 = 38; v307 = 2;
 L274:
 	copy(v982, v973, 7);
 	u64 v1818 = (v300 << 8) | (u64)v301, v1819 = (v298 << 8) | (u64)v299;
@@ -9704,7 +10274,7 @@ L275:
 	clear(v989, 126);
 	copy(v989+128, v986, 64);
 	copy(v990, v989, 192);
-	u32 v1821 = (u32)((u64)(ptr)static_18 >> 32);
+	u32 v1821 = (u32)((u64)(ptr)static_43 >> 32);
 	v312 = 0;
 L276:
 	clear(v972, 96);
@@ -9942,7 +10512,7 @@ L315:;
 	switch ((u32)__builtin_bswap32(lu32(v347+8))) {
 	case 439041101: goto L316;
 	case 1295788826: goto L317;
-	default: v406 = (ptr)static_15; v407 = 40; goto L359;
+	default: v406 = (ptr)static_40; v407 = 40; goto L359;
 	}
 L316:
 	v350 = (u32)__builtin_bswap32(lu32(v347+4)); v349 = 0; goto L319;
@@ -9952,8 +10522,8 @@ L318:;
 	u32 v1885 = lu32(v347+4);
 	v349 = v1860; v350 = v1860 ? v1885 : (u32)__builtin_bswap32(v1885);
 L319:
-	if (v350 & 3) { v406 = (ptr)static_16; v407 = 29; goto L359; }
-	if (v350 < 12) { v406 = (ptr)static_17; v407 = 23; goto L359; }
+	if (v350 & 3) { v406 = (ptr)static_41; v407 = 29; goto L359; }
+	if (v350 < 12) { v406 = (ptr)static_42; v407 = 23; goto L359; }
 	u64 v1886 = (u64)v350 - 12;
 	copy(v958, v953, 3);
 	u8 v1887 = v1886 == 0;
@@ -10132,7 +10702,7 @@ L354:
 L355:
 	st8(v944, 38);
 	st_bytes(v944+1, 0, 7);
-	v477 = (u64)(ptr)static_18; v478 = v1821; v479 = ld32(v944); v470 = v471 = v472 = v473 = v474 = v475 = v480 = v481 = v482 = v483 = v484 = v485 = v486 = 0; v476 = 2; goto L365;
+	v477 = (u64)(ptr)static_43; v478 = v1821; v479 = ld32(v944); v470 = v471 = v472 = v473 = v474 = v475 = v480 = v481 = v482 = v483 = v484 = v485 = v486 = 0; v476 = 2; goto L365;
 L356:
 	copy(v957, v956, 3);
 	v379 = v1904; v380 = v1905; v381 = v1906; v382 = v1907; v384 = v1895; v385 = v1898; v386 = v1897; v387 = v1896; v388 = v1903; v389 = v1901; v390 = v1900; v391 = v1899; v383 = 1;
@@ -10328,7 +10898,7 @@ L405:
 	if (v1980 != 5) goto L406;
 	if ((((u64)lu32(v1979+1) << 32) | (u64)lu32(v1979)) == 0x6f7263697263696dull) { v649 = 0; v650 = 1; goto L407; }
 L406:;
-	u8 v1981 = core_lang_str_eq(v1979, v1980, (ptr)static_5, 4);
+	u8 v1981 = core_lang_str_eq(v1979, v1980, (ptr)static_30, 4);
 	if (!v1981) goto M0;
 	v649 = v650 = 0;
 L407:
@@ -10687,7 +11257,7 @@ L458:;
 	case 2712812621u: goto L459;
 	case 3569595041u: goto L465;
 	case 1295823521: goto L466;
-	default: v777 = (u64)(ptr)static_10; v778 = 29; v779 = 2; goto L496;
+	default: v777 = (u64)(ptr)static_35; v778 = 29; v779 = 2; goto L496;
 	}
 L459:
 	v721 = 1;
@@ -10699,13 +11269,13 @@ L461:;
 	u32 v2091 = lu32(v2087+8), v2092 = (u32)__builtin_bswap32(v2091), v2093 = lu32(v2087+12);
 	u32 v2094 = (u32)__builtin_bswap32(v2093);
 	if (v721) { v722 = v2090; goto L462; }
-	if (v2090 > 4294967) { v724 = (ptr)static_11; v723 = 40; goto L463; }
+	if (v2090 > 4294967) { v724 = (ptr)static_36; v723 = 40; goto L463; }
 	v722 = v2090 * 1000;
 L462:
-	if (v2092 > 262144) { v724 = (ptr)static_12; v723 = 31; goto L463; }
-	if (v2094 > 262144) { v724 = (ptr)static_13; v723 = 31; goto L463; }
+	if (v2092 > 262144) { v724 = (ptr)static_37; v723 = 31; goto L463; }
+	if (v2094 > 262144) { v724 = (ptr)static_38; v723 = 31; goto L463; }
 	if (v2094 >= v2092) goto L464;
-	v724 = (ptr)static_14; v723 = 32;
+	v724 = (ptr)static_39; v723 = 32;
 L463:
 	v777 = (u64)v724; v778 = v723; v779 = 2; goto L496;
 L464:
@@ -10713,7 +11283,7 @@ L464:
 L465:
 	if (v2085 < 16) goto L467;
 	u32 v2095 = lu32(v2087+4);
-	if (v2095 > 4294967) { v727 = (ptr)static_11; v726 = 40; goto L470; }
+	if (v2095 > 4294967) { v727 = (ptr)static_36; v726 = 40; goto L470; }
 	v725 = v2095 * 1000; goto L469;
 L466:
 	if (v2085 >= 16) goto L468;
@@ -10725,10 +11295,10 @@ L469:;
 	u32 v2096 = lu32(v2087);
 	u64 v2097 = lu64(v2087+8);
 	u32 v2098 = (u32)v2097, v2099 = (u32)(v2097 >> 32);
-	if (v2098 > 262144) { v727 = (ptr)static_12; v726 = 31; goto L470; }
-	if (v2097 > 0x40000ffffffffull) { v727 = (ptr)static_13; v726 = 31; goto L470; }
+	if (v2098 > 262144) { v727 = (ptr)static_37; v726 = 31; goto L470; }
+	if (v2097 > 0x40000ffffffffull) { v727 = (ptr)static_38; v726 = 31; goto L470; }
 	if (v2099 >= v2098) { v728 = v725; v729 = v2096; v730 = v2097; goto L471; }
-	v727 = (ptr)static_14; v726 = 32;
+	v727 = (ptr)static_39; v726 = 32;
 L470:
 	v777 = (u64)v727; v778 = v726; v779 = 2; goto L496;
 L471:;
@@ -10946,773 +11516,474 @@ L518:
 	su64(v1+96, v938);
 	return;
 }
-static u8 std_io_io_buffer_Buffer_flush(ptr v1) {
-	u64 v2, v3, v9, v10, v11, v12, v13, v14, v15, v16, v17, v18, v19, v20, v21, v22, v23, v24, v25, v26, v27, v28, v29;
-	u8 v4, v5, v6, v7, v31, v32, v33, v34, v35;
-	u32 v8, v30;
-	_Alignas(8) u8 v36[88];
-	u64 v37 = ld64(v1+1032);
-	st64(v1+1032, 0);
-	if (v37 > 1024) { v35 = 0; goto L7; }
-	u32 v38 = ld32(v1);
-	u64 v39 = v37 + 63;
-	v2 = v3 = 0;
-L0:;
-	u64 v40 = v3 + 1;
-	if (v37 <= v2) goto L6;
-	u64 v41 = v37 - v2, v42 = os_write(v38, at(v1+4, v2), v41);
-	if ((s64)v42 >= 0) goto L1;
-	u32 v43 = os_errno();
-	if (v43 == 4) { v19 = v2; goto L4; }
-	std_io_io_error_Error_from_raw_os_error(v36, v43);
-	v4 = ld8(v36); v5 = ld8(v36+1); v6 = ld8(v36+2); v7 = ld8(v36+3); v8 = ld32(v36+4); v9 = ld64(v36+8); v10 = ld64(v36+16); v11 = ld64(v36+24); v12 = ld64(v36+32); v13 = ld64(v36+40); v14 = ld64(v36+48); v15 = ld64(v36+56); v16 = ld64(v36+64); v17 = ld64(v36+72); v18 = ld64(v36+80); goto L2;
-L1:
-	if (v42) goto L3;
-	v9 = 0x742064656c696166ull; v10 = 0x206574697277206full; v11 = 0x756220656c6f6877ull; v12 = 0x2e2e2e2e72656666ull; v13 = 0x2e2e2e2e2e2e2e2eull; v14 = 0x2e2e2e2e2e2e2e2eull; v15 = 0x2e2e2e2e2e2e2e2eull; v16 = 0x2e2e2e2e2e2e2e2eull; v17 = 0x2e2e2e2e2e2e2e2eull; v18 = 0x2e2e2e2e2e2e2e2eull; v4 = 2; v5 = 23; v6 = 28; v7 = v8 = 0;
-L2:
-	v20 = v18; v21 = v17; v22 = v16; v23 = v15; v24 = v14; v25 = v13; v26 = v12; v27 = v11; v28 = v10; v29 = v9; v30 = v8; v31 = v7; v32 = v6; v33 = v5; v34 = v4; goto L5;
-L3:
-	v19 = (v42 < v41 ? v42 : v41) + v2;
-L4:
-	if (v3 != v39) { v2 = v19; v3 = v40; goto L0; }
-	if (v37 <= v19) { v35 = 1; goto L7; }
-	v20 = v21 = v22 = v23 = v24 = v25 = v26 = v27 = v28 = v29 = v31 = v32 = v34 = 0; v30 = 4; v33 = 35;
-L5:
-	su64(v1+1040, 1);
-	st8(v1+1048, v34);
-	st8(v1+1049, v33);
-	st8(v1+1050, v32);
-	st8(v1+1051, v31);
-	su32(v1+1052, v30);
-	su64(v1+1056, v29);
-	su64(v1+1064, v28);
-	su64(v1+1072, v27);
-	su64(v1+1080, v26);
-	su64(v1+1088, v25);
-	su64(v1+1096, v24);
-	su64(v1+1104, v23);
-	su64(v1+1112, v22);
-	su64(v1+1120, v21);
-	su64(v1+1128, v20);
-	v35 = 0; goto L7;
-L6:
-	v35 = 1;
-L7:
-	return v35;
-}
-static u8 core_fmt_formatter_Formatter_write_raw_bf26(ptr v1, ptr v2, u64 v3) {
-	u64 v4, v5, v6, v7, v9;
-	ptr v8;
-	u8 v10;
-	if (!v3) { v10 = 0; goto L5; }
-	v4 = 0;
-L0:;
-	u8 v11 = ld8(at(v2, v4));
-	u32 v12 = (u32)v11;
-	if ((s8)v11 > -1) { v5 = 1; goto L2; }
-	u64 v13 = v4 + 1;
-	if (v3 <= v13) { v10 = 1; goto L5; }
-	u8 v14 = ld8(at(v2, v13));
-	if ((s8)v14 > -1) { v10 = 1; goto L5; }
-	u8 v15 = (v14 < 192 ? v14 : 192) & 127;
-	u32 v16 = (u32)v15;
-	if (v11 < 194 || v15 > 63) { v10 = 1; goto L5; }
-	if (v11 < 224) { v5 = 2; goto L2; }
-	u64 v17 = v4 + 2;
-	if (v3 <= v17) { v10 = 1; goto L5; }
-	if ((s8)ld8(at(v2, v17)) >= -64) { v10 = 1; goto L5; }
-	if (v11 >= 240) goto L1;
-	u32 v18 = (v16 << 6) | ((v12 << 12) - 917504);
-	if (v18 < 2048) { v10 = 1; goto L5; }
-	if (v18 > 55295 && v11 < 238) { v10 = 1; goto L5; }
-	v5 = 3; goto L2;
-L1:;
-	u64 v19 = v4 + 3;
-	if (v3 <= v19) { v10 = 1; goto L5; }
-	if ((s8)ld8(at(v2, v19)) >= -64) { v10 = 1; goto L5; }
-	if ((v12 << 18) - 62980096 + (v16 << 12) >= 1048576) { v10 = 1; goto L5; }
-	v5 = 4;
-L2:;
-	u64 v20 = v5 + v4;
-	if (v20 < v3) { v4 = v20; goto L0; }
-	v6 = ld64(v1+1032); v7 = v3; v8 = v2;
-L3:;
-	u64 v21 = v7 - 1;
-	u8 v22 = ld8(v8);
-	if (v6 <= 1023) { v9 = v6; goto L4; }
-	u8 v23 = std_io_io_buffer_Buffer_flush(v1);
-	if (!v23) { v10 = 1; goto L5; }
-	u64 v24 = ld64(v1+1032);
-	if (v24 > 1023) { v10 = 1; goto L5; }
-	v9 = v24;
-L4:
-	st8(at(v1+4, v9), v22);
-	u64 v25 = v9 + 1;
-	st64(v1+1032, v25);
-	if (v21) { v6 = v25; v7 = v21; v8 = v8+1; goto L3; }
-	v10 = 0;
-L5:
-	return v10;
-}
-static APART RARE u8 core_fmt_formatter_Formatter_write_indented_bf26(ptr v1, ptr v2, u64 v3) {
-	u64 v4, v5, v6, v7, v8;
-	u8 v9;
-	if (!v3) { v9 = 0; goto L6; }
-	v4 = v5 = 0;
-L0:;
-	u64 v10 = v5 + 1;
-	if (ld8(at(v2, v5)) != 10) { v7 = v4; goto L3; }
-	u64 v11 = v10 - v4;
-	ptr v12 = at(v2, v4 > v10 ? 0 : v4);
-	if (v4 > v5) { v7 = v10; goto L3; }
-	if (!(ld8(v1+1168) & 1)) goto L2;
-	u64 v13 = ld64(v1+1160);
-	if (!v13) goto L2;
-	v6 = 0;
-L1:;
-	u8 v14 = core_fmt_formatter_Formatter_write_raw_bf26(v1, (ptr)static_62, 4);
-	if (v14 & 1) { v9 = 1; goto L6; }
-	u64 v15 = v6 + 1;
-	if (v15 != v13) { v6 = v15; goto L1; }
-L2:
-	st8(v1+1168, 1);
-	u8 v16 = core_fmt_formatter_Formatter_write_raw_bf26(v1, v12, v11);
-	if (v16 & 1) { v9 = 1; goto L6; }
-	v7 = v10;
-L3:
-	if (v10 != v3) { v4 = v7; v5 = v10; goto L0; }
-	u64 v17 = v3 > v7 ? v3 - v7 : 0;
-	ptr v18 = at(v2, v7 > v3 ? 0 : v7);
-	if (v3 <= v7) { v9 = 0; goto L6; }
-	if (!(ld8(v1+1168) & 1)) goto L5;
-	u64 v19 = ld64(v1+1160);
-	if (!v19) goto L5;
-	v8 = 0;
-L4:;
-	u8 v20 = core_fmt_formatter_Formatter_write_raw_bf26(v1, (ptr)static_62, 4);
-	if (v20 & 1) { v9 = 1; goto L6; }
-	u64 v21 = v8 + 1;
-	if (v21 != v19) { v8 = v21; goto L4; }
-L5:
-	st8(v1+1168, 0);
-	u8 v22 = core_fmt_formatter_Formatter_write_raw_bf26(v1, v18, v17);
-	v9 = v22;
-L6:
-	return v9;
-}
 int32_t program_main(void) {
-	ptr v1, v6, v11, v16, v21, v28, v33, v37, v41, v50, v54, v58, v62, v66, v70, v74, v78, v83, v87, v91;
-	u64 v2, v3, v7, v8, v12, v13, v17, v18, v22, v23, v24, v25, v26, v27, v31, v32, v34, v35, v36, v38, v39, v40, v42, v43, v44, v45, v46, v47, v48, v49, v51, v52, v53, v55, v56, v57, v59, v60, v61, v63, v64, v65, v67, v68, v69, v71, v72, v73, v75, v76, v77, v79, v81, v82, v84, v85, v86, v88, v89, v90, v92, v93;
-	u8 v4, v5, v9, v10, v14, v15, v19, v20, v29, v30, v80;
-	u32 v94;
-	_Alignas(1) u8 v95[1], v97[24], v101[41], v121[64], v122[64], v123[64];
-	_Alignas(8) u8 v96[1136], v98[24], v99[24], v100[1176], v102[24], v103[96], v104[24], v105[96], v106[96], v107[104], v108[40], v109[104], v110[40], v111[104], v112[40], v113[32], v114[48], v115[24], v116[24], v117[24], v118[16], v119[16], v120[16], v124[16], v125[32], v126[24];
-	t_64_64 v127 = allocate(65536, 1);
-	if (!(v127.f0 & 1)) goto L30;
-	st64(v126, v127.f1);
-	st64(v126+8, 0);
-	st64(v126+16, 65536);
-	clear(v124, 16);
-	clear(v125, 32);
-	clear(v121, 64);
-	clear(v122, 64);
-	clear(v123, 64);
-	clear(v117, 24);
-	u64 v128 = os_arg(1, v121, 64);
-	os_set_errno((s64)v128 > -1 ? 0 : (v128 == ~0ull ? 22u : 36u));
-	u32 v129 = os_errno();
-	switch (v129) {
-	case 0: goto L0;
-	case 36: goto L15;
-	default: goto L16;
+	u64 v1, v2, v4, v5, v6, v8, v9, v12, v20, v21, v22, v31, v32, v35, v42, v43, v44, v45, v47, v54, v55, v56, v62, v63, v64, v70, v71, v72, v78, v79, v80, v88, v89, v90, v96, v97, v98;
+	ptr v3, v7, v46, v53, v61, v69, v77, v87, v95;
+	u8 v10, v11, v13, v14, v15, v16, v17, v18, v23, v24, v25, v26, v27, v28, v29, v33, v34, v36, v37, v38, v39, v40, v48, v49, v50, v51, v52, v57, v58, v59, v60, v65, v66, v67, v68, v73, v74, v75, v76, v81, v82, v83, v84, v85, v86, v91, v92, v93, v94, v99, v100;
+	u32 v19, v30, v41, v101;
+	_Alignas(1) u8 v102[1], v104[41], v116[54], v128[54], v129[64], v130[64], v131[64], v134[54], v137[54], v138[54], v140[54], v149[9] = {0};
+	_Alignas(8) u8 v103[96], v105[24], v106[96], v107[24], v108[96], v109[96], v110[104], v111[40], v112[104], v113[40], v114[104], v115[40], v117[32], v118[48], v119[24], v120[24], v121[24], v122[16], v123[16], v124[16], v125[16], v126[16], v127[16], v132[16], v133[32], v135[24], v139[1136], v141[24], v142[24], v144[1176], v147[96], v148[104], v150[24] = {0}, v151[104] = {0};
+	_Alignas(2) u8 v136[54], v143[54], v145[54], v146[54], v152[54] = {0};
+	u64 v153 = os_arg(1, v149, 9);
+	os_set_errno((s64)v153 > -1 ? 0 : (v153 == ~0ull ? 22u : 36u));
+	u64 v154 = (s64)v153 > 0 ? v153 : 0, v155 = v154 < 9 ? v154 : 9;
+	u32 v156 = os_errno();
+	if (v156) goto L23;
+	u64 v157 = os_arg(2, v102, 0);
+	os_set_errno((s64)v157 > -1 ? 0 : (v157 == ~0ull ? 22u : 36u));
+	u32 v158 = os_errno();
+	switch (v158) {
+	case 0: case 36: goto L23;
+	default: goto L0;
 	}
-L0:;
-	u64 v130 = (s64)v128 > 0 ? v128 : 0;
-	core_str_utf8_from_utf8(v117, v121, v130 < 64 ? v130 : 64);
-	if (ld8(v117)) goto L15;
-	copy(v118, v117+8, 16);
-	clear(v116, 24);
-	u64 v131 = os_arg(2, v122, 64);
-	os_set_errno((s64)v131 > -1 ? 0 : (v131 == ~0ull ? 22u : 36u));
-	u32 v132 = os_errno();
-	switch (v132) {
-	case 0: goto L1;
-	case 36: goto L11;
-	default: goto L12;
+L0:
+	core_str_utf8_from_utf8(v150, v149, v155);
+	if (ld8(v150)) goto L23;
+	ptr v159 = (ptr)ld64(v150+8);
+	switch (ld64(v150+16)) {
+	case 6: goto L1;
+	case 2: goto L2;
+	case 9: goto L4;
+	default: goto L23;
 	}
-L1:;
-	u64 v133 = (s64)v131 > 0 ? v131 : 0;
-	core_str_utf8_from_utf8(v116, v122, v133 < 64 ? v133 : 64);
-	if (ld8(v116)) goto L11;
-	copy(v119, v116+8, 16);
-	clear(v115, 24);
-	u64 v134 = os_arg(3, v123, 64);
-	os_set_errno((s64)v134 > -1 ? 0 : (v134 == ~0ull ? 22u : 36u));
-	u32 v135 = os_errno();
-	switch (v135) {
-	case 0: goto L2;
-	case 36: goto L7;
-	default: goto L8;
-	}
+L1:
+	if ((((u64)lu32(v159+2) << 32) | (u64)lu32(v159)) == 0x706c656865682d2dull) goto L3;
+	goto L23;
 L2:;
-	u64 v136 = (s64)v134 > 0 ? v134 : 0;
-	core_str_utf8_from_utf8(v115, v123, v136 < 64 ? v136 : 64);
-	if (ld8(v115)) goto L7;
-	copy(v120, v115+8, 16);
-	u64 v137 = os_arg(4, v95, 0);
-	os_set_errno((s64)v137 > -1 ? 0 : (v137 == ~0ull ? 22u : 36u));
-	u32 v138 = os_errno();
-	switch (v138) {
-	case 0: case 36: goto L3;
-	default: goto L4;
+	u64 v160 = (u64)ld8(v159+1);
+	switch (((u64)ld8(v159) << 16) | (v160 << 8) | v160) {
+	case 2975848: goto L3;
+	case 2971222: goto L5;
+	default: goto L23;
 	}
 L3:
-	clear(v124, 16);
-	clear(v125, 32);
-	v16 = (ptr)0; v17 = v18 = v20 = 0; v19 = 3; goto L18;
+	clear(v148+8, 96);
+	st64(v148, 3);
+	clear(v147, 96);
+	std_io_io_print_to_c2b6(v147, 1, v148);
+	u8 v161 = ld8(v147), v162 = ld8(v147+8), v163 = ld8(v147+9), v164 = ld8(v147+10);
+	u8 v165 = ld8(v147+11);
+	u32 v166 = ld32(v147+12);
+	u64 v167 = ld64(v147+16), v168 = ld64(v147+24), v169 = ld64(v147+32);
+	u8 v170 = ld8(v147+40), v171 = ld8(v147+41);
+	copy(v146, v147+42, 54);
+	v33 = v171; v34 = v170; v35 = v169; v36 = v161; v37 = v162; v38 = v163; v39 = v164; v40 = v165; v41 = v166; v42 = v167; v43 = v168; goto L21;
 L4:
-	copy(v124, v118, 16);
-	copy(v125, v119, 16);
-	copy(v125+16, v120, 16);
-	copy(v114, v124, 16);
-	copy(v114+16, v125, 16);
-	copy(v114+32, v125+16, 16);
-	clear(v107, 104);
-	t_64_64 v139 = allocate(262144, 1);
-	if (!(v139.f0 & 1)) { v1 = (ptr)0; v2 = v3 = v5 = 0; v4 = 5; goto L6; }
-	clear((ptr)v139.f1, 262144);
-	st64(v108, v139.f1);
-	st64(v108+8, 262144);
-	st64(v108+16, 262144);
-	clear(v108+24, 16);
-	capcopy_run_commands_run_0456(v107, v114, 3, v108, v126);
-	if (!ld64(v108+16)) goto L5;
-	deallocate(ldp(v108));
+	if (!((lu64(v159) == 0x6f69737265762d2dull) & (lu64(v159+1) == 0x6e6f69737265762dull))) goto L23;
 L5:
-	v1 = ldp(v107+16); v2 = ld64(v107+24); v3 = ld64(v107+32); v4 = ld8(v107); v5 = ld8(v107+8);
-L6:
-	v16 = v1; v17 = v2; v18 = v3; v19 = v4; v20 = v5; goto L18;
+	clear(v148+8, 96);
+	clear(v146, 54);
+	clear(v145, 54);
+	clear(v143, 54);
+	st32(v144, 1);
+	clear(v144+4, 1132);
+	st32(v144+1136, 32);
+	clear(v144+1140, 12);
+	st64(v144+1152, ~0ull);
+	clear(v144+1160, 16);
+	copy(v141, v144+1136, 24);
+	st32(v144+1136, 32);
+	clear(v144+1140, 12);
+	st64(v144+1152, ~0ull);
+	v3 = (ptr)static_4; v1 = 0; v2 = 8;
+L6:;
+	u64 v172 = v2 - 1;
+	u8 v173 = ld8(v3);
+	if (v1 <= 1023) { v4 = v1; goto L7; }
+	u8 v174 = std_io_io_buffer_Buffer_flush(v144);
+	u64 v175 = ld64(v144+1032);
+	if (!(v174 && v175 < 1024)) goto L9;
+	v4 = v175;
 L7:
-	goto L17;
-L8:
-	copy(v124, v118, 16);
-	copy(v125, v119, 16);
-	copy(v113, v124, 16);
-	copy(v113+16, v125, 16);
-	clear(v109, 104);
-	t_64_64 v140 = allocate(262144, 1);
-	if (!(v140.f0 & 1)) { v6 = (ptr)0; v7 = v8 = v10 = 0; v9 = 5; goto L10; }
-	clear((ptr)v140.f1, 262144);
-	st64(v110, v140.f1);
-	st64(v110+8, 262144);
-	st64(v110+16, 262144);
-	clear(v110+24, 16);
-	capcopy_run_commands_run_0456(v109, v113, 2, v110, v126);
-	if (!ld64(v110+16)) goto L9;
-	deallocate(ldp(v110));
+	st8(at(v144+4, v4), v173);
+	u64 v176 = v4 + 1;
+	st64(v144+1032, v176);
+	if (v172) { v1 = v176; v2 = v172; v3 = v3+1; goto L6; }
+	u8 v177 = ld64(v144+1160) == 0;
+	st32(v144+1136, 32);
+	clear(v144+1140, 12);
+	st64(v144+1152, ~0ull);
+	if (!v177) goto L11;
+	v5 = v176; v7 = (ptr)&static_5+16; v6 = 5;
+L8:;
+	u64 v178 = v6 - 1;
+	u8 v179 = ld8(v7);
+	if (v5 <= 1023) { v8 = v5; goto L10; }
+	u8 v180 = std_io_io_buffer_Buffer_flush(v144);
+	u64 v181 = ld64(v144+1032);
+	if (v180 && v181 < 1024) { v8 = v181; goto L10; }
 L9:
-	v6 = ldp(v109+16); v7 = ld64(v109+24); v8 = ld64(v109+32); v9 = ld8(v109); v10 = ld8(v109+8);
+	copy(v144+1136, v141, 24);
+	v11 = 0; goto L16;
 L10:
-	v16 = v6; v17 = v7; v18 = v8; v19 = v9; v20 = v10; goto L18;
-L11:
-	goto L17;
+	st8(at(v144+4, v8), v179);
+	u64 v182 = v8 + 1;
+	st64(v144+1032, v182);
+	if (v178) { v5 = v182; v6 = v178; v7 = v7+1; goto L8; }
+	copy(v144+1136, v141, 24);
+	goto L12;
+L11:;
+	u8 v183 = core_fmt_formatter_Formatter_write_indented_bf26(v144, (ptr)&static_5+16, 5);
+	copy(v144+1136, v141, 24);
+	if (v183) { v11 = 0; goto L16; }
 L12:
-	copy(v124, v118, 16);
-	clear(v111, 104);
-	t_64_64 v141 = allocate(262144, 1);
-	if (!(v141.f0 & 1)) { v11 = (ptr)0; v12 = v13 = v15 = 0; v14 = 5; goto L14; }
-	clear((ptr)v141.f1, 262144);
-	st64(v112, v141.f1);
-	st64(v112+8, 262144);
-	st64(v112+16, 262144);
-	clear(v112+24, 16);
-	capcopy_run_commands_run_0456(v111, v124, 1, v112, v126);
-	if (!ld64(v112+16)) goto L13;
-	deallocate(ldp(v112));
+	copy(v142, v144+1136, 24);
+	st32(v144+1136, 32);
+	clear(v144+1140, 12);
+	st64(v144+1152, ~0ull);
+	if (ld64(v144+1160)) goto L14;
+	u64 v184 = ld64(v144+1032);
+	if (v184 <= 1023) { v9 = v184; goto L13; }
+	u8 v185 = std_io_io_buffer_Buffer_flush(v144);
+	u64 v186 = ld64(v144+1032);
+	if (!(v185 && v186 < 1024)) { v10 = 0; goto L15; }
+	v9 = v186;
 L13:
-	v11 = ldp(v111+16); v12 = ld64(v111+24); v13 = ld64(v111+32); v14 = ld8(v111); v15 = ld8(v111+8);
-L14:
-	v16 = v11; v17 = v12; v18 = v13; v19 = v14; v20 = v15; goto L18;
+	st8(at(v144+4, v9), 10);
+	st64(v144+1032, v9 + 1);
+	v10 = 1; goto L15;
+L14:;
+	u8 v187 = core_fmt_formatter_Formatter_write_indented_bf26(v144, (ptr)static_6, 1);
+	v10 = v187 == 0;
 L15:
-	goto L17;
+	copy(v144+1136, v142, 24);
+	v11 = v10;
 L16:
+	st32(v139, ld32(v144));
+	copy(v139+4, v144+4, 1132);
+	u8 v188 = std_io_io_buffer_Buffer_flush(v139);
+	if (!(v11 & v188)) goto L17;
+	clear(v143, 54);
+	v22 = v23 = v24 = v25 = v26 = v27 = v28 = v29 = v30 = v31 = v32 = 0; goto L20;
 L17:
-	v16 = (ptr)0; v17 = v18 = v20 = 0; v19 = 3;
+	if (ld8(v139+1040) != 1) goto L18;
+	u8 v189 = ld8(v139+1048), v190 = ld8(v139+1049), v191 = ld8(v139+1050), v192 = ld8(v139+1051);
+	u32 v193 = ld32(v139+1052);
+	u64 v194 = ld64(v139+1056), v195 = ld64(v139+1064), v196 = ld64(v139+1072);
+	u8 v197 = ld8(v139+1080), v198 = ld8(v139+1081);
+	copy(v140, v139+1082, 54);
+	v12 = v196; v13 = v197; v14 = v198; v15 = v189; v16 = v190; v17 = v191; v18 = v192; v19 = v193; v20 = v194; v21 = v195; goto L19;
 L18:
-	clear(v106, 96);
-	std_io_buffered_BufWriter_flush_buf_9d90(v106, v126);
-	if (ld8(v106)) goto L21;
-	copy(v104, v126, 24);
-	std_io_buffered_BufWriter_flush_buf_9d90(v105, v104);
-	if (!ld64(v104+16)) goto L19;
-	deallocate(ldp(v104));
-L19:;
-	u64 v142 = (u64)v16;
-	switch (v19) {
-	case 4: goto L20;
-	case 0: v94 = 0; goto L98;
-	default: v25 = v142; v26 = v18; v27 = v17; v28 = v16; v29 = v20; v30 = v19; goto L31;
-	}
+	fill(v140, 46, 54);
+	v12 = 0x2e2e2e2e2e2e2e2eull; v20 = 0x657474616d726f66ull; v21 = 0x2e726f7272652072ull; v13 = v14 = 46; v15 = 2; v16 = 41; v17 = 15; v18 = v19 = 0;
+L19:
+	copy(v143, v140, 54);
+	v22 = v12; v23 = v13; v24 = v14; v26 = v15; v27 = v16; v28 = v17; v29 = v18; v30 = v19; v31 = v20; v32 = v21; v25 = 1;
 L20:
-	if (v20 == 1) { v21 = v16; v22 = v17; v23 = v18; v24 = v142; goto L27; }
-	v25 = v142; v26 = v18; v27 = v17; v28 = v16; v29 = v20; v30 = 4; goto L31;
-L21:;
-	ptr v143 = ldp(v106+8);
-	u64 v144 = ld64(v106+16), v145 = ld64(v106+24);
-	switch (v19) {
-	case 1: goto L22;
-	case 4: goto L23;
-	case 0: case 2: case 3: case 5: goto L25;
-	default: goto L29;
-	}
+	copy(v145, v143, 54);
+	copy(v146, v145, 54);
+	v33 = v24; v34 = v23; v35 = v22; v36 = v25; v37 = v26; v38 = v27; v39 = v28; v40 = v29; v41 = v30; v42 = v31; v43 = v32;
+L21:
+	clear(v138, 54);
+	if (!v36) { v46 = (ptr)0; v44 = v45 = v47 = v48 = v49 = v50 = v51 = 0; goto L22; }
+	copy(v138, v146, 54);
+	v44 = v43; v45 = v42; v46 = (ptr)(((u64)v38 << 8) | (u64)v37 | ((u64)v39 << 16) | ((u64)v40 << 24) | ((u64)v41 << 32)); v47 = v35; v48 = v34; v49 = v33; v50 = 4; v51 = 1;
 L22:
-	if (v20 != 4 || !v18) goto L25;
-	goto L24;
+	copy(v152, v138, 54);
+	v93 = v50; v94 = v51; v95 = v46; v96 = v45; v97 = v44; v98 = v47; v99 = v48; v100 = v49; goto L56;
 L23:
-	if (v20 != 4 || !v18) goto L25;
-L24:
-	deallocate(v16);
-L25:
-	copy(v102, v126, 24);
-	std_io_buffered_BufWriter_flush_buf_9d90(v103, v102);
-	if (!ld64(v102+16)) goto L26;
-	deallocate(ldp(v102));
-L26:
-	v21 = v143; v22 = v144; v23 = v145; v24 = (u64)v143;
-L27:;
-	u64 v146 = v24 >> 8;
-	st8(v101, 0);
-	st8(v101+1, 1);
-	st8(v101+2, 2);
-	st8(v101+3, 3);
-	st8(v101+4, 4);
-	st8(v101+5, 5);
-	st8(v101+6, 6);
-	st8(v101+7, 7);
-	st8(v101+8, 8);
-	st8(v101+9, 9);
-	st8(v101+10, 10);
-	st8(v101+11, 11);
-	st8(v101+12, 12);
-	st8(v101+13, 13);
-	st8(v101+14, 14);
-	st8(v101+15, 15);
-	st8(v101+16, 16);
-	st8(v101+17, 17);
-	st8(v101+18, 18);
-	st8(v101+19, 19);
-	st8(v101+20, 20);
-	st8(v101+21, 21);
-	st8(v101+22, 22);
-	st8(v101+23, 23);
-	st8(v101+24, 24);
-	st8(v101+25, 25);
-	st8(v101+26, 26);
-	st8(v101+27, 27);
-	st8(v101+28, 28);
-	st8(v101+29, 29);
-	st8(v101+30, 30);
-	st8(v101+31, 31);
-	st8(v101+32, 32);
-	st8(v101+33, 33);
-	st8(v101+34, 34);
-	st8(v101+35, 35);
-	st8(v101+36, 36);
-	st8(v101+37, 37);
-	st8(v101+38, 38);
-	st8(v101+39, 39);
-	st8(v101+40, 40);
-	if ((u8)v146 >= 41) goto L28;
-	if (ld8(at(v101, v146 & 63)) == 11) { v94 = 141; goto L98; }
-	M10: v25 = v24; v26 = v23; v27 = v22; v28 = v21; v29 = 1; v30 = 4; goto L31;
+	clear(v134, 54);
+	clear(v136, 54);
+	clear(v137, 54);
+	t_64_64 v199 = allocate(65536, 1);
+	if (!(v199.f0 & 1)) goto L54;
+	st64(v135, v199.f1);
+	st64(v135+8, 0);
+	st64(v135+16, 65536);
+	clear(v128, 54);
+	clear(v132, 16);
+	clear(v133, 32);
+	clear(v129, 64);
+	clear(v130, 64);
+	clear(v131, 64);
+	clear(v125, 16);
+	clear(v126, 16);
+	clear(v127, 16);
+	clear(v121, 24);
+	u64 v200 = os_arg(1, v129, 64);
+	os_set_errno((s64)v200 > -1 ? 0 : (v200 == ~0ull ? 22u : 36u));
+	u32 v201 = os_errno();
+	switch (v201) {
+	case 0: goto L24;
+	case 36: goto L42;
+	default: goto L43;
+	}
+L24:;
+	u64 v202 = (s64)v200 > 0 ? v200 : 0;
+	core_str_utf8_from_utf8(v121, v129, v202 < 64 ? v202 : 64);
+	if (ld8(v121)) goto L42;
+	copy(v122, v121+8, 16);
+	clear(v120, 24);
+	u64 v203 = os_arg(2, v130, 64);
+	os_set_errno((s64)v203 > -1 ? 0 : (v203 == ~0ull ? 22u : 36u));
+	u32 v204 = os_errno();
+	switch (v204) {
+	case 0: goto L25;
+	case 36: goto L37;
+	default: goto L38;
+	}
+L25:;
+	u64 v205 = (s64)v203 > 0 ? v203 : 0;
+	core_str_utf8_from_utf8(v120, v130, v205 < 64 ? v205 : 64);
+	if (ld8(v120)) goto L37;
+	copy(v123, v120+8, 16);
+	clear(v119, 24);
+	u64 v206 = os_arg(3, v131, 64);
+	os_set_errno((s64)v206 > -1 ? 0 : (v206 == ~0ull ? 22u : 36u));
+	u32 v207 = os_errno();
+	switch (v207) {
+	case 0: goto L26;
+	case 36: goto L32;
+	default: goto L33;
+	}
+L26:;
+	u64 v208 = (s64)v206 > 0 ? v206 : 0;
+	core_str_utf8_from_utf8(v119, v131, v208 < 64 ? v208 : 64);
+	if (ld8(v119)) goto L32;
+	copy(v124, v119+8, 16);
+	u64 v209 = os_arg(4, v102, 0);
+	os_set_errno((s64)v209 > -1 ? 0 : (v209 == ~0ull ? 22u : 36u));
+	u32 v210 = os_errno();
+	switch (v210) {
+	case 0: case 36: v52 = 1; goto L28;
+	default: goto L27;
+	}
+L27:
+	copy(v125, v122, 16);
+	copy(v126, v123, 16);
+	copy(v127, v124, 16);
+	v52 = 0;
 L28:
-	goto M10;
-L29:
-	__builtin_trap();
+	copy(v132, v125, 16);
+	copy(v133, v126, 16);
+	copy(v133+16, v127, 16);
+	clear(v116, 54);
+	if (v52) { v77 = (ptr)0; v78 = v79 = v80 = v81 = v82 = v84 = 0; v83 = 3; goto L45; }
+	copy(v118, v132, 16);
+	copy(v118+16, v133, 16);
+	copy(v118+32, v133+16, 16);
+	clear(v110, 104);
+	t_64_64 v211 = allocate(262144, 1);
+	if (!(v211.f0 & 1)) goto L30;
+	clear((ptr)v211.f1, 262144);
+	st64(v111, v211.f1);
+	st64(v111+8, 262144);
+	st64(v111+16, 262144);
+	clear(v111+24, 16);
+	capcopy_run_commands_run_0456(v110, v118, 3, v111, v135);
+	if (!ld64(v111+16)) goto L29;
+	deallocate(ldp(v111));
+L29:;
+	u8 v212 = ld8(v110), v213 = ld8(v110+8);
+	ptr v214 = ldp(v110+16);
+	u64 v215 = ld64(v110+24), v216 = ld64(v110+32), v217 = ld64(v110+40);
+	u8 v218 = ld8(v110+48), v219 = ld8(v110+49);
+	copy(v116, v110+50, 54);
+	v53 = v214; v54 = v215; v55 = v216; v56 = v217; v57 = v218; v58 = v219; v59 = v212; v60 = v213; goto L31;
 L30:
-	v28 = (ptr)0; v25 = v26 = v27 = v29 = 0; v30 = 5;
+	clear(v116, 54);
+	v53 = (ptr)0; v54 = v55 = v56 = v57 = v58 = v60 = 0; v59 = 5;
 L31:
-	st32(v100, 2);
-	clear(v100+4, 1132);
-	st32(v100+1136, 32);
-	clear(v100+1140, 12);
-	st64(v100+1152, ~0ull);
-	clear(v100+1160, 16);
-	copy(v99, v100+1136, 24);
-	st32(v100+1136, 32);
-	clear(v100+1140, 12);
-	st64(v100+1152, ~0ull);
-	switch (v30) {
-	case 5: v33 = (ptr)static_82; v31 = 0; v32 = 22; goto L32;
-	case 1: v37 = (ptr)static_78; v35 = 0; v36 = 9; goto L34;
-	case 2: v83 = (ptr)static_79; v81 = 0; v82 = 22; goto L80;
-	case 3: v87 = (ptr)static_80; v85 = 0; v86 = 59; goto L82;
-	case 4: v91 = (ptr)static_81; v89 = 0; v90 = 46; goto L84;
-	default: goto L100;
-	}
-L32:;
-	u64 v147 = v32 - 1;
-	u8 v148 = ld8(v33);
-	if (v31 <= 1023) { v34 = v31; goto L33; }
-	u8 v149 = std_io_io_buffer_Buffer_flush(v100);
-	u64 v150 = ld64(v100+1032);
-	if (!(v149 && v150 < 1024)) goto L85;
-	v34 = v150;
+	v77 = v53; v78 = v54; v79 = v55; v80 = v56; v81 = v57; v82 = v58; v83 = v59; v84 = v60; goto L45;
+L32:
+	goto L44;
 L33:
-	st8(at(v100+4, v34), v148);
-	u64 v151 = v34 + 1;
-	st64(v100+1032, v151);
-	if (!v147) goto L87;
-	v31 = v151; v32 = v147; v33 = v33+1; goto L32;
+	copy(v132, v122, 16);
+	copy(v133, v123, 16);
+	copy(v117, v132, 16);
+	copy(v117+16, v133, 16);
+	clear(v112, 104);
+	t_64_64 v220 = allocate(262144, 1);
+	if (!(v220.f0 & 1)) goto L35;
+	clear((ptr)v220.f1, 262144);
+	st64(v113, v220.f1);
+	st64(v113+8, 262144);
+	st64(v113+16, 262144);
+	clear(v113+24, 16);
+	capcopy_run_commands_run_0456(v112, v117, 2, v113, v135);
+	if (!ld64(v113+16)) goto L34;
+	deallocate(ldp(v113));
 L34:;
-	u64 v152 = v36 - 1;
-	u8 v153 = ld8(v37);
-	if (v35 <= 1023) { v38 = v35; goto L35; }
-	u8 v154 = std_io_io_buffer_Buffer_flush(v100);
-	u64 v155 = ld64(v100+1032);
-	if (!(v154 && v155 < 1024)) goto L75;
-	v38 = v155;
+	u8 v221 = ld8(v112), v222 = ld8(v112+8);
+	ptr v223 = ldp(v112+16);
+	u64 v224 = ld64(v112+24), v225 = ld64(v112+32), v226 = ld64(v112+40);
+	u8 v227 = ld8(v112+48), v228 = ld8(v112+49);
+	copy(v116, v112+50, 54);
+	v61 = v223; v62 = v224; v63 = v225; v64 = v226; v65 = v227; v66 = v228; v67 = v221; v68 = v222; goto L36;
 L35:
-	st8(at(v100+4, v38), v153);
-	u64 v156 = v38 + 1;
-	st64(v100+1032, v156);
-	if (v152) { v35 = v156; v36 = v152; v37 = v37+1; goto L34; }
-	st32(v100+1136, 32);
-	clear(v100+1140, 12);
-	st64(v100+1152, ~0ull);
-	u8 v157 = ld64(v100+1160) == 0;
-	switch (v29) {
-	case 0: goto L36;
-	case 1: goto L53;
-	case 2: goto L57;
-	case 3: case 4: goto L65;
-	case 5: goto L69;
-	case 6: goto L73;
-	default: goto L79;
-	}
+	clear(v116, 54);
+	v61 = (ptr)0; v62 = v63 = v64 = v65 = v66 = v68 = 0; v67 = 5;
 L36:
-	if (!v157) goto L39;
-	v39 = v156; v41 = (ptr)static_83; v40 = 14;
-L37:;
-	u64 v158 = v40 - 1;
-	u8 v159 = ld8(v41);
-	if (v39 <= 1023) { v42 = v39; goto L38; }
-	u8 v160 = std_io_io_buffer_Buffer_flush(v100);
-	u64 v161 = ld64(v100+1032);
-	if (!(v160 && v161 < 1024)) goto L75;
-	v42 = v161;
+	v77 = v61; v78 = v62; v79 = v63; v80 = v64; v81 = v65; v82 = v66; v83 = v67; v84 = v68; goto L45;
+L37:
+	goto L44;
 L38:
-	st8(at(v100+4, v42), v159);
-	u64 v162 = v42 + 1;
-	st64(v100+1032, v162);
-	if (!v158) goto L40;
-	v39 = v162; v40 = v158; v41 = v41+1; goto L37;
+	copy(v132, v122, 16);
+	clear(v114, 104);
+	t_64_64 v229 = allocate(262144, 1);
+	if (!(v229.f0 & 1)) goto L40;
+	clear((ptr)v229.f1, 262144);
+	st64(v115, v229.f1);
+	st64(v115+8, 262144);
+	st64(v115+16, 262144);
+	clear(v115+24, 16);
+	capcopy_run_commands_run_0456(v114, v132, 1, v115, v135);
+	if (!ld64(v115+16)) goto L39;
+	deallocate(ldp(v115));
 L39:;
-	u8 v163 = core_fmt_formatter_Formatter_write_indented_bf26(v100, (ptr)static_83, 14);
-	if (v163) goto L75;
+	u8 v230 = ld8(v114), v231 = ld8(v114+8);
+	ptr v232 = ldp(v114+16);
+	u64 v233 = ld64(v114+24), v234 = ld64(v114+32), v235 = ld64(v114+40);
+	u8 v236 = ld8(v114+48), v237 = ld8(v114+49);
+	copy(v116, v114+50, 54);
+	v69 = v232; v70 = v233; v71 = v234; v72 = v235; v73 = v236; v74 = v237; v75 = v230; v76 = v231; goto L41;
 L40:
-	st32(v100+1136, 32);
-	clear(v100+1140, 12);
-	st64(v100+1152, ~0ull);
-	clear(v97, 24);
-	if ((u64)v28 <= (u64)(ptr)99ull) { v45 = v25; v46 = 24; goto L42; }
-	v44 = v25; v43 = 24;
-L41:;
-	u8 v164 = (u8)(v44 % 100);
-	ptr v165 = at(v97, v43);
-	st8(v165-1, (v164 % 10) | 48);
-	st8(v165-2, (v164 / 10) | 48);
-	u64 v166 = v44 / 100, v167 = v43 - 2;
-	if (v44 > 9999) { v43 = v167; v44 = v166; goto L41; }
-	v45 = v166; v46 = v167;
-L42:;
-	u8 v168 = (u8)v45;
-	if (v45 <= 9) goto L43;
-	ptr v169 = at(v97, v46);
-	st8(v169-1, (v168 % 10) | 48);
-	st8(v169-2, (v168 / 10) | 48);
-	v47 = v46 - 2; goto L44;
-L43:;
-	u64 v170 = v46 - 1;
-	st8(at(v97, v170), v168 | 48);
-	v47 = v170;
-L44:;
-	ptr v171 = at(v97, v47);
-	st8(v171-1, 45);
-	u64 v172 = 24ull - v47;
-	if (ld64(v100+1160)) goto L48;
-	if (v47 == 24) goto L47;
-	v48 = ld64(v100+1032); v49 = v172; v50 = v171;
-L45:;
-	u64 v173 = v49 - 1;
-	u8 v174 = ld8(v50);
-	if (v48 <= 1023) { v51 = v48; goto L46; }
-	u8 v175 = std_io_io_buffer_Buffer_flush(v100);
-	u64 v176 = ld64(v100+1032);
-	if (v175 && v176 < 1024) { v51 = v176; goto L46; }
-	goto L75;
+	clear(v116, 54);
+	v69 = (ptr)0; v70 = v71 = v72 = v73 = v74 = v76 = 0; v75 = 5;
+L41:
+	v77 = v69; v78 = v70; v79 = v71; v80 = v72; v81 = v73; v82 = v74; v83 = v75; v84 = v76; goto L45;
+L42:
+	goto L44;
+L43:
+L44:
+	clear(v116, 54);
+	v77 = (ptr)0; v78 = v79 = v80 = v81 = v82 = v84 = 0; v83 = 3;
+L45:
+	copy(v128, v116, 54);
+	copy(v136, v128, 54);
+	clear(v109, 96);
+	std_io_buffered_BufWriter_flush_buf_9d90(v109, v135);
+	if (ld8(v109)) goto L47;
+	copy(v107, v135, 24);
+	std_io_buffered_BufWriter_flush_buf_9d90(v108, v107);
+	if (!ld64(v107+16)) goto L46;
+	deallocate(ldp(v107));
 L46:
-	st8(at(v100+4, v51), v174);
-	u64 v177 = v51 + 1;
-	st64(v100+1032, v177);
-	if (v173) { v48 = v177; v49 = v173; v50 = v50+1; goto L45; }
-L47:
-	goto L49;
-L48:;
-	u8 v178 = core_fmt_formatter_Formatter_write_indented_bf26(v100, v171, v172);
-	if (v178) goto L75;
-L49:
-	st32(v100+1136, 32);
-	clear(v100+1140, 12);
-	st64(v100+1152, ~0ull);
-	if (ld64(v100+1160)) goto L52;
-	v52 = ld64(v100+1032); v54 = (ptr)static_84; v53 = 11;
-L50:;
-	u64 v179 = v53 - 1;
-	u8 v180 = ld8(v54);
-	if (v52 <= 1023) { v55 = v52; goto L51; }
-	u8 v181 = std_io_io_buffer_Buffer_flush(v100);
-	u64 v182 = ld64(v100+1032);
-	if (!(v181 && v182 < 1024)) goto L75;
-	v55 = v182;
-L51:
-	st8(at(v100+4, v55), v180);
-	u64 v183 = v55 + 1;
-	st64(v100+1032, v183);
-	if (!v179) goto L87;
-	v52 = v183; v53 = v179; v54 = v54+1; goto L50;
-L52:;
-	u8 v184 = core_fmt_formatter_Formatter_write_indented_bf26(v100, (ptr)static_84, 11);
-	v80 = v184; goto L78;
-L53:
-	if (!v157) goto L56;
-	v56 = v156; v58 = (ptr)static_85; v57 = 19;
-L54:;
-	u64 v185 = v57 - 1;
-	u8 v186 = ld8(v58);
-	if (v56 <= 1023) { v59 = v56; goto L55; }
-	u8 v187 = std_io_io_buffer_Buffer_flush(v100);
-	u64 v188 = ld64(v100+1032);
-	if (!(v187 && v188 < 1024)) goto L75;
-	v59 = v188;
-L55:
-	st8(at(v100+4, v59), v186);
-	u64 v189 = v59 + 1;
-	st64(v100+1032, v189);
-	if (!v185) goto L87;
-	v56 = v189; v57 = v185; v58 = v58+1; goto L54;
-L56:;
-	u8 v190 = core_fmt_formatter_Formatter_write_indented_bf26(v100, (ptr)static_85, 19);
-	v80 = v190; goto L78;
-L57:
-	if (!v157) goto L60;
-	v60 = v156; v62 = (ptr)static_86; v61 = 21;
-L58:;
-	u64 v191 = v61 - 1;
-	u8 v192 = ld8(v62);
-	if (v60 <= 1023) { v63 = v60; goto L59; }
-	u8 v193 = std_io_io_buffer_Buffer_flush(v100);
-	u64 v194 = ld64(v100+1032);
-	if (!(v193 && v194 < 1024)) goto L75;
-	v63 = v194;
-L59:
-	st8(at(v100+4, v63), v192);
-	u64 v195 = v63 + 1;
-	st64(v100+1032, v195);
-	if (!v191) goto L61;
-	v60 = v195; v61 = v191; v62 = v62+1; goto L58;
-L60:;
-	u8 v196 = core_fmt_formatter_Formatter_write_indented_bf26(v100, (ptr)static_86, 21);
-	if (v196) goto L75;
-L61:
-	st32(v100+1136, 32);
-	clear(v100+1140, 12);
-	st64(v100+1152, ~0ull);
-	if (ld64(v100+1160)) goto L64;
-	if (!v27) goto L87;
-	v64 = ld64(v100+1032); v65 = v27; v66 = v28;
-L62:;
-	u64 v197 = v65 - 1;
-	u8 v198 = ld8(v66);
-	if (v64 <= 1023) { v67 = v64; goto L63; }
-	u8 v199 = std_io_io_buffer_Buffer_flush(v100);
-	u64 v200 = ld64(v100+1032);
-	if (!(v199 && v200 < 1024)) goto L75;
-	v67 = v200;
-L63:
-	st8(at(v100+4, v67), v198);
-	u64 v201 = v67 + 1;
-	st64(v100+1032, v201);
-	if (!v197) goto L87;
-	v64 = v201; v65 = v197; v66 = v66+1; goto L62;
-L64:;
-	u8 v202 = core_fmt_formatter_Formatter_write_indented_bf26(v100, v28, v27);
-	v80 = v202; goto L78;
-L65:
-	if (!v157) goto L68;
-	v68 = v156; v70 = (ptr)static_89; v69 = 10;
-L66:;
-	u64 v203 = v69 - 1;
-	u8 v204 = ld8(v70);
-	if (v68 <= 1023) { v71 = v68; goto L67; }
-	u8 v205 = std_io_io_buffer_Buffer_flush(v100);
-	u64 v206 = ld64(v100+1032);
-	if (!(v205 && v206 < 1024)) goto L75;
-	v71 = v206;
-L67:
-	st8(at(v100+4, v71), v204);
-	u64 v207 = v71 + 1;
-	st64(v100+1032, v207);
-	if (!v203) goto L87;
-	v68 = v207; v69 = v203; v70 = v70+1; goto L66;
-L68:;
-	u8 v208 = core_fmt_formatter_Formatter_write_indented_bf26(v100, (ptr)static_89, 10);
-	v80 = v208; goto L78;
-L69:
-	if (!v157) goto L72;
-	v72 = v156; v74 = (ptr)static_87; v73 = 13;
-L70:;
-	u64 v209 = v73 - 1;
-	u8 v210 = ld8(v74);
-	if (v72 <= 1023) { v75 = v72; goto L71; }
-	u8 v211 = std_io_io_buffer_Buffer_flush(v100);
-	u64 v212 = ld64(v100+1032);
-	if (!(v211 && v212 < 1024)) goto L75;
-	v75 = v212;
-L71:
-	st8(at(v100+4, v75), v210);
-	u64 v213 = v75 + 1;
-	st64(v100+1032, v213);
-	if (!v209) goto L87;
-	v72 = v213; v73 = v209; v74 = v74+1; goto L70;
-L72:;
-	u8 v214 = core_fmt_formatter_Formatter_write_indented_bf26(v100, (ptr)static_87, 13);
-	v80 = v214; goto L78;
-L73:
-	if (!v157) goto L77;
-	v76 = v156; v78 = (ptr)static_88; v77 = 21;
-L74:;
-	u64 v215 = v77 - 1;
-	u8 v216 = ld8(v78);
-	if (v76 <= 1023) { v79 = v76; goto L76; }
-	u8 v217 = std_io_io_buffer_Buffer_flush(v100);
-	u64 v218 = ld64(v100+1032);
-	if (v217 && v218 < 1024) { v79 = v218; goto L76; }
-L75:
-	copy(v100+1136, v99, 24);
-	goto L92;
-L76:
-	st8(at(v100+4, v79), v216);
-	u64 v219 = v79 + 1;
-	st64(v100+1032, v219);
-	if (!v215) goto L87;
-	v76 = v219; v77 = v215; v78 = v78+1; goto L74;
-L77:;
-	u8 v220 = core_fmt_formatter_Formatter_write_indented_bf26(v100, (ptr)static_88, 21);
-	v80 = v220;
-L78:
-	copy(v100+1136, v99, 24);
-	if (!v80) goto L88;
-	goto L92;
-L79:
-	__builtin_trap();
-L80:;
-	u64 v221 = v82 - 1;
-	u8 v222 = ld8(v83);
-	if (v81 <= 1023) { v84 = v81; goto L81; }
-	u8 v223 = std_io_io_buffer_Buffer_flush(v100);
-	u64 v224 = ld64(v100+1032);
-	if (!(v223 && v224 < 1024)) goto L85;
-	v84 = v224;
-L81:
-	st8(at(v100+4, v84), v222);
-	u64 v225 = v84 + 1;
-	st64(v100+1032, v225);
-	if (!v221) goto L87;
-	v81 = v225; v82 = v221; v83 = v83+1; goto L80;
-L82:;
-	u64 v226 = v86 - 1;
-	u8 v227 = ld8(v87);
-	if (v85 <= 1023) { v88 = v85; goto L83; }
-	u8 v228 = std_io_io_buffer_Buffer_flush(v100);
-	u64 v229 = ld64(v100+1032);
-	if (!(v228 && v229 < 1024)) goto L85;
-	v88 = v229;
-L83:
-	st8(at(v100+4, v88), v227);
-	u64 v230 = v88 + 1;
-	st64(v100+1032, v230);
-	if (!v226) goto L87;
-	v85 = v230; v86 = v226; v87 = v87+1; goto L82;
-L84:;
-	u64 v231 = v90 - 1;
-	u8 v232 = ld8(v91);
-	if (v89 <= 1023) { v92 = v89; goto L86; }
-	u8 v233 = std_io_io_buffer_Buffer_flush(v100);
-	u64 v234 = ld64(v100+1032);
-	if (v233 && v234 < 1024) { v92 = v234; goto L86; }
-L85:
-	copy(v100+1136, v99, 24);
-	goto L92;
-L86:
-	st8(at(v100+4, v92), v232);
-	u64 v235 = v92 + 1;
-	st64(v100+1032, v235);
-	if (v231) { v89 = v235; v90 = v231; v91 = v91+1; goto L84; }
-L87:
-	copy(v100+1136, v99, 24);
-L88:
-	copy(v98, v100+1136, 24);
-	st32(v100+1136, 32);
-	clear(v100+1140, 12);
-	st64(v100+1152, ~0ull);
-	if (ld64(v100+1160)) goto L90;
-	u64 v236 = ld64(v100+1032);
-	if (v236 <= 1023) { v93 = v236; goto L89; }
-	u8 v237 = std_io_io_buffer_Buffer_flush(v100);
-	u64 v238 = ld64(v100+1032);
-	if (!(v237 && v238 < 1024)) goto L91;
-	v93 = v238;
-L89:
-	st8(at(v100+4, v93), 10);
-	st64(v100+1032, v93 + 1);
-	goto L91;
-L90:
-	core_fmt_formatter_Formatter_write_indented_bf26(v100, (ptr)static_61, 1);
-L91:
-	copy(v100+1136, v98, 24);
-L92:
-	st32(v96, ld32(v100));
-	copy(v96+4, v100+4, 1132);
-	std_io_io_buffer_Buffer_flush(v96);
-	switch (v30) {
-	case 0: v94 = 0; goto L98;
-	case 5: goto L93;
-	case 4: goto L94;
-	case 3: goto L95;
-	case 1: goto L96;
-	case 2: goto L97;
-	default: goto L99;
+	copy(v152, v136, 54);
+	v85 = v83; v86 = v84; v87 = v77; v88 = v78; v89 = v79; v90 = v80; v91 = v81; v92 = v82; goto L55;
+L47:;
+	ptr v238 = ldp(v109+8);
+	u64 v239 = ld64(v109+16), v240 = ld64(v109+24), v241 = ld64(v109+32);
+	u8 v242 = ld8(v109+40), v243 = ld8(v109+41);
+	copy(v137, v109+42, 54);
+	copy(v134, v137, 54);
+	switch (v83) {
+	case 1: goto L48;
+	case 4: goto L49;
+	case 0: case 2: case 3: case 5: goto L51;
+	default: goto L53;
 	}
-L93:
-	v94 = 4; goto L98;
-L94:
-	if (v29 != 4 || !v26) { v94 = 3; goto L98; }
-	deallocate(v28);
-	v94 = 3; goto L98;
-L95:
-	v94 = 2; goto L98;
-L96:
-	if (v29 != 4 || !v26) { v94 = 1; goto L98; }
-	deallocate(v28);
-	v94 = 1; goto L98;
-L97:
-	v94 = 1;
-L98:
-	return (int32_t)(v94);
-L99:
+L48:
+	if (v84 != 4 || !v79) goto L51;
+	goto L50;
+L49:
+	if (v84 != 4 || !v79) goto L51;
+L50:
+	deallocate(v77);
+L51:
+	copy(v105, v135, 24);
+	std_io_buffered_BufWriter_flush_buf_9d90(v106, v105);
+	if (!ld64(v105+16)) goto L52;
+	deallocate(ldp(v105));
+L52:
+	copy(v152, v134, 54);
+	v87 = v238; v88 = v239; v89 = v240; v90 = v241; v91 = v242; v92 = v243; v85 = 4; v86 = 1; goto L55;
+L53:
 	__builtin_trap();
-L100:
+L54:
+	clear(v152, 54);
+	v87 = (ptr)0; v85 = 5; v86 = v88 = v89 = v90 = v91 = v92 = 0;
+L55:
+	v93 = v85; v94 = v86; v95 = v87; v96 = v88; v97 = v89; v98 = v90; v99 = v91; v100 = v92;
+L56:
+	st64(v151, (u64)v93);
+	st8(v151+8, v94);
+	stp(v151+16, v95);
+	st64(v151+24, v96);
+	st64(v151+32, v97);
+	st64(v151+40, v98);
+	st8(v151+48, v99);
+	st8(v151+49, v100);
+	copy(v151+50, v152, 54);
+	u64 v244 = (u64)v95 >> 8;
+	u8 v245 = (u8)v244;
+	switch (v93) {
+	case 4: goto L57;
+	case 0: v101 = 0; goto L64;
+	default: goto L60;
+	}
+L57:
+	if (v94 != 1) goto L59;
+	st8(v104, 0);
+	st8(v104+1, 1);
+	st8(v104+2, 2);
+	st8(v104+3, 3);
+	st8(v104+4, 4);
+	st8(v104+5, 5);
+	st8(v104+6, 6);
+	st8(v104+7, 7);
+	st8(v104+8, 8);
+	st8(v104+9, 9);
+	st8(v104+10, 10);
+	st8(v104+11, 11);
+	st8(v104+12, 12);
+	st8(v104+13, 13);
+	st8(v104+14, 14);
+	st8(v104+15, 15);
+	st8(v104+16, 16);
+	st8(v104+17, 17);
+	st8(v104+18, 18);
+	st8(v104+19, 19);
+	st8(v104+20, 20);
+	st8(v104+21, 21);
+	st8(v104+22, 22);
+	st8(v104+23, 23);
+	st8(v104+24, 24);
+	st8(v104+25, 25);
+	st8(v104+26, 26);
+	st8(v104+27, 27);
+	st8(v104+28, 28);
+	st8(v104+29, 29);
+	st8(v104+30, 30);
+	st8(v104+31, 31);
+	st8(v104+32, 32);
+	st8(v104+33, 33);
+	st8(v104+34, 34);
+	st8(v104+35, 35);
+	st8(v104+36, 36);
+	st8(v104+37, 37);
+	st8(v104+38, 38);
+	st8(v104+39, 39);
+	st8(v104+40, 40);
+	if (v245 >= 41) goto L58;
+	if (ld8(at(v104, v244 & 63)) == 11) { v101 = 141; goto L64; }
+	goto L59;
+L58:
+L59:
+	std_io_io_print_to_c2b6(v103, 2, v151);
+	if (v94 != 4 || !v97) { v101 = 3; goto L64; }
+	deallocate(v95);
+	v101 = 3; goto L64;
+L60:
+	std_io_io_print_to_c2b6(v103, 2, v151);
+	switch (v93) {
+	case 2: goto L61;
+	case 5: goto L62;
+	case 1: goto L63;
+	case 3: v101 = 2; goto L64;
+	default: goto L65;
+	}
+L61:
+	v101 = 1; goto L64;
+L62:
+	v101 = 4; goto L64;
+L63:
+	if (v94 != 4 || !v97) { v101 = 1; goto L64; }
+	deallocate(v95);
+	v101 = 1;
+L64:
+	return (int32_t)(v101);
+L65:
 	__builtin_trap();
 }
 #endif
