@@ -35,7 +35,7 @@ pub fn repair_file(console: &Console, asked: &Repair) -> io::Result<u8> {
     let told = write_named(console, asked.out, &[asked.from], |output| {
         repair_to(console, asked, output, &mut outcome)
     })?;
-    Ok(told.max(outcome.status()))
+    Ok(if told == 0 { outcome.status() } else { told })
 }
 
 // Writes the repaired capture and the report, and returns the exit status of a failure, or 0. The outcome is set if the repair
