@@ -1,11 +1,13 @@
 """Checks what `pcapfile repair` makes of captures of blocks, and that other words with `--repair` read what it makes of captures of
 either format. The test states again what becomes of a block, over `as_is`, which takes blocks with struct alone."""
 import json
+import os
 import random
 import re
 import struct
 import subprocess
 import tempfile
+import time
 
 import as_is
 import left_out
@@ -13,7 +15,7 @@ import undescribed
 from as_is import DONE, ENHANCED, GUESSED, INTERFACE, MOST, OBSOLETE, REPAIRED, SECTION, SIMPLE, options_flaws, sound_options
 
 UNSTATED = b"\xff" * 8
-USAGE = 2
+USAGE, FAILED = 2, 3
 LEFT = "options that break rules are left out"
 
 
@@ -391,6 +393,8 @@ def as_repaired(tally, help, words, capture, out, said, status):
         ended = as_is.ran(tally, folder, *words, "--repair")
         left = help.files(folder)
     if out is None:
+        # Only `repair` names its options.
+        said = said.replace(f"pcapfile: in: {as_is.NO_HEADER}\n", "")
         is_wrong = ended[0] != status or said not in ended[2] or not set(left) <= {"in", "sound", "out"}
         return (is_wrong and f"it ended with {ended} and left {sorted(left)}",)
     with tempfile.TemporaryDirectory() as folder:
@@ -445,6 +449,20 @@ def try_parts(tally, help):
     tally.note("cut --parts --repair", not is_refused and f"it gave {ended} and left {sorted(left)}")
 
 
+def try_unwritten(tally, help):
+    """Checks that a repair whose output can't get its name ends as a failure, although the capture is repaired."""
+    with tempfile.TemporaryDirectory() as folder:
+        words = [tally.program, "repair", "-", "-o", "out"]
+        with subprocess.Popen(words, cwd=folder, stdin=subprocess.PIPE, stdout=subprocess.PIPE, stderr=subprocess.PIPE) as ran:
+            end = time.monotonic() + 30
+            while not os.path.exists(f"{folder}/out.part") and time.monotonic() < end:
+                time.sleep(0.01)
+            os.mkdir(f"{folder}/out")
+            _, said = ran.communicate(section("<") + b"garbage", timeout=30)
+        left = help.files(folder)
+    tally.note("a folder with the name of the output", ran.returncode != FAILED and f"it ended with {ran.returncode} and said {said!r}", left.get("out") and "it made a file")
+
+
 def try_all(tally, help):
-    for tries in (try_blocks, try_by_hand, try_reports, try_words, try_older_spelling, try_parts):
+    for tries in (try_blocks, try_by_hand, try_reports, try_words, try_older_spelling, try_parts, try_unwritten):
         tries(tally, help)
