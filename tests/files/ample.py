@@ -74,7 +74,8 @@ def list_rows(help):
     short = help.enhanced(LITTLE, 0, 1, 9, b"")[1][:12] + struct.pack("<II", 9, 9)
     whole = help.enhanced(LITTLE, 0, 1, 9, b"whole")
     capture, _ = help.blocks(LITTLE, [help.interface(LITTLE, RAW), whole, (listing.ENHANCED, short), whole])
-    yield Row("list --utc of a refused packet", ["list", "--utc", "-"], capture, 0, "".join(listing.utc(capture)).encode(), "")
+    said = "pcapfile: -: 1 packet has a malformed body; 'pcapfile list --as-is' names the rules\n"
+    yield Row("list --utc of a refused packet", ["list", "--utc", "-"], capture, 1, "".join(listing.utc(capture)).encode(), said)
     count = MILLION + 9
     rows = "".join(f"{k},1,0,0,9,\n" for k in range(1, count + 1))
     many = classic([]) + struct.pack("<IIII", 1, 0, 0, 9) * count

@@ -96,10 +96,11 @@ def try_words(tally, folder):
     for word in words:
         before, behind, status = said_by(tally, [*word, "-"], folder, 1.3)
         found, size = lines(before), 24 if "whole" in word else 12
+        told = "pcapfile: -: no damage found; 241 packets kept\r\n" if word[0] == "repair" else ""
         tally.note(
             f"{' '.join(word)}, on a terminal",
             not (found and found[-1][:3] == (str(size), None, str(10 * size + 1)) and 0 < int(found[-1][3]) < size) and f"it said {before!r}",
-            not behind.endswith(TAKEN_AWAY) and f"it left {behind!r}",
+            not behind.endswith(TAKEN_AWAY + told) and f"it left {behind!r}",
             status != 0 and f"it ended with {status}",
         )
 
