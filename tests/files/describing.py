@@ -176,12 +176,12 @@ def try_later(tally, help):
         expects(tally, help, f"another one later, {order}", b"", [head, one, it[0], raw, *it[1:]], wanted, text(said))
 
 
-def sections(order, draw):
+def sections(order):
     """Yields names of captures whose section header is lost, the bytes at their front that are no blocks, and their blocks."""
     blocks = [interface(order, 1), *packets(order, 0, 0, 0), *packets(order, 0, 0, 0, 0)]
     for size in (0, 1, 4, 27, 28):
         yield f"{size} bytes of a section header", section(order)[28 - size :] if size < 28 else bytes(28), blocks
-        yield f"{size} other bytes", bytes(draw.randrange(128, 256) for _ in range(size)), blocks
+        yield f"{size} other bytes", b"\xff" * size, blocks
     yield "a wrong magic number", section(order)[:8] + b"\1\2\3\4" + section(order)[12:], blocks
     yield "another section behind", b"", [*blocks, section(order), interface(order, 101), *packets(order, 0)]
     for at in (1, 19):
@@ -192,9 +192,8 @@ def sections(order, draw):
 
 def try_sections(tally, help):
     """Checks blocks whose section header is lost."""
-    draw = random.Random(17)
     for order, name in ORDERS.items():
-        for kind, front, blocks in sections(order, draw):
+        for kind, front, blocks in sections(order):
             lost = [f"{len(front)} bytes at byte 0 are no blocks, and are left out"] * bool(front)
             is_described = blocks[0] == interface(order, 1)
             for words, how, link, message in (

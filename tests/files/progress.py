@@ -13,7 +13,7 @@ MILLION = 10**6
 # second. On a slow machine it may print that earlier as well.
 HALF = 12 * MILLION
 LINE = r"(\d+)(?: of (\d+))? MB read, (\d+) packets, (\d+) MB a second\x1b\[K\r"
-REPAIRED = 5
+REPAIRED, GUESSED = 5, 6
 HEADER = struct.pack("<IHHiIII", 0xA1B23C4D, 2, 4, 0, 0, 262144, 1)
 TAKEN_AWAY = "\x1b[K"
 
@@ -109,11 +109,11 @@ def try_packets(tally, folder):
     """Checks that packets of each kind are counted, wherever the bytes are cut, up to where they make no sense."""
     big = struct.pack(">IHHiIII", 0xA1B2C3D4, 2, 4, 0, 0, 262144, 1)
     few = small_packets("<", 3)
-    for name, capture, more, count, word in (
-        ("little", HEADER + small_packets("<", 30), small_packets("<", 1), 31, ["check"]),
-        ("big", big + small_packets(">", 30), small_packets(">", 1), 31, ["check"]),
-        ("blocks", blocks("<") + blocks(">") + blocks("<"), block("<", 3, bytes(8)), 22, ["list"]),
-        ("garbage", HEADER + few + b"\xff" * 100 + few, few, 3, ["repair", "-o", "out"]),
+    for name, capture, more, count, word, wanted in (
+        ("little", HEADER + small_packets("<", 30), small_packets("<", 1), 31, ["check"], 0),
+        ("big", big + small_packets(">", 30), small_packets(">", 1), 31, ["check"], 0),
+        ("blocks", blocks("<") + blocks(">") + blocks("<"), block("<", 3, bytes(8)), 22, ["list"], 0),
+        ("garbage", HEADER + few + b"\xff" * 100 + few, few, 3, ["repair", "-o", "out"], GUESSED),
     ):
         for size in (1, 5, 13, len(capture)):
             pieces = [capture[at : at + size] for at in range(0, len(capture), size)]
@@ -122,7 +122,7 @@ def try_packets(tally, folder):
             tally.note(
                 f"packets of {name}, by {size} bytes",
                 not (found and found[-1][2] == str(count)) and f"it said {before!r}, and not of {count}",
-                status != 0 and f"it ended with {status}",
+                status != wanted and f"it ended with {status}",
             )
 
 
