@@ -7,7 +7,7 @@
  * Toolchain: rattle-kit-13f logic dac8208d650f15bf
  * Proof of the crate pcapfile: logic=proved functions=86 axioms=44 target=x86_64-unknown-linux-gnu cpu=x86-64-v2
  * sum=dac8208d650f15bf native=nat,char,string
- * Sources: sha256 7ce9bdd371d066d60e315a810350aea2ec43f786c51452d676f0d5f98b8f8a1d
+ * Sources: sha256 aff91c603dc23c39b847fea758c9a214d75719fb944cd00dbd2ece3de6baec04
  * (of src and specs of capcopy_run, pcap_altered, pcap_blocks, pcap_classic, pcap_core, pcap_damaged, pcap_file,
  * pcap_filter, pcap_items, pcap_ng, pcap_options, pcap_parts, pcap_raw_options, pcap_times, pcap_tolerant,
  * pcap_tolerant_blocks, pcap_tolerant_captures, pcap_variants, pcap_walk, pcap_written, pcapfile, pcapfile_as_is,
@@ -123187,9 +123187,9 @@ L916:
 L917:
 	copy(v490+6, v434, 88);
 	if (v435) goto L920;
-	u8 v2291 = (u8)(394496u >> (((u32)ld8(v488) << 3) & 16777215 & 31));
+	u8 v2291 = !v436 ? (u8)(394496u >> (((u32)ld8(v488) << 3) & 16777215 & 31)) : v436;
 	copy(v1026+8, v487+6, 88);
-	v437 = v2291 > v436 ? v2291 : v436; v438 = 0; goto L921;
+	v437 = v2291; v438 = 0; goto L921;
 L918:
 	st8(v467+8, 1);
 	st8(v467+9, 38);
