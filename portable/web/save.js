@@ -7,7 +7,7 @@ function splitName(name) {
 }
 
 /** The statuses of runs that wrote all of their output: a repair of a damaged capture ends with 5, or with 6 if a part of it is a guess. */
-const WHOLE = [0, 5, 6];
+const WROTE_ALL = [0, 5, 6];
 
 const BEFORE_FAULT = "The capture has a fault. What stands before it was written.";
 const NOTHING_WRITTEN = "The capture has a fault, and nothing was written.";
@@ -39,7 +39,7 @@ class Job {
 
   async end(result) {
     const failure = failureOf(result), { lines, isAll } = await messagesOf(result);
-    const isWhole = !failure && WHOLE.includes(result.status);
+    const isWhole = !failure && WROTE_ALL.includes(result.status);
     const said = failure ?? (isWhole ? null : result.written.length ? BEFORE_FAULT : NOTHING_WRITTEN);
     this.body.replaceChildren(
       ...(said ? [make("p.note", said)] : []),
