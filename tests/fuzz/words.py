@@ -112,7 +112,9 @@ def repair_is_stable(folder, random, capture):
         assert not os.path.exists(f"{folder.room}/out")
         return
     folder.run("check", "out", statuses=[DONE])
-    folder.run("repair", "out", "-o", "again", statuses=[DONE])
+    again = folder.run("repair", "out", "-o", "again", statuses=[DONE, GUESSED])
+    # Packets of an interface that nothing describes stay a guess.
+    assert again.returncode == DONE or b"is not described: packets are kept" in again.stderr, again.stderr[-300:]
     assert folder.read("again") == folder.read("out")
 
 
