@@ -1,6 +1,7 @@
 """Checks outputs of `pcapfile`: links, the access to a replaced file, captures that are read, unfinished files, and names of parts."""
 import fcntl
 import os
+import shutil
 import signal
 import stat
 import struct
@@ -62,7 +63,18 @@ class Folder:
 
     def run(self, *words, **how):
         """Returns the status, the output and the messages."""
-        ran = subprocess.run([self.program, *words], cwd=self.path, capture_output=True, timeout=SECONDS, **how)
+        return self.ran(self.program, *words, **how)
+
+    def run_as_nobody(self, *words):
+        """Returns the same of another user's run. The program is a copy, since that user may not reach the folder of the program."""
+        with tempfile.TemporaryDirectory() as room:
+            os.chmod(room, 0o755)
+            program = shutil.copy(self.program, room)
+            os.chmod(program, 0o755)
+            return self.ran(program, *words, user=NOBODY, group=NOBODY, extra_groups=[])
+
+    def ran(self, program, *words, **how):
+        ran = subprocess.run([program, *words], cwd=self.path, capture_output=True, timeout=SECONDS, **how)
         return ran.returncode, ran.stdout, ran.stderr.decode()
 
 
@@ -147,7 +159,7 @@ def try_access(tally):
             os.chmod(folder.path, 0o777)
             os.chmod(folder.at("out"), mode)
             os.chown(folder.at("out"), OTHER, OTHER + 1)
-            ended = folder.run(*COPY, "out", **as_nobody())
+            ended = folder.run_as_nobody(*COPY, "out")
             wanted = (DONE, b"", "") if mode & 2 else None
             tally.note(
                 f"a file of access {mode:o} that another user replaces",
@@ -158,7 +170,7 @@ def try_access(tally):
         os.chmod(folder.path, 0o777)
         os.chmod(folder.at("out"), 0o444)
         os.chown(folder.at("out"), NOBODY, NOBODY)
-        status, _, said = folder.run(*COPY, "out", **as_nobody())
+        status, _, said = folder.run_as_nobody(*COPY, "out")
         tally.note(
             "a file that may only be read",
             status != FAILED and f"it ended with {status}",
@@ -166,10 +178,6 @@ def try_access(tally):
             folder.get("out") != b"old" and "it was replaced",
             folder.names() != ["in", "out"] and f"it left {folder.names()}",
         )
-
-
-def as_nobody():
-    return {"user": NOBODY, "group": NOBODY, "extra_groups": []}
 
 
 def try_inputs(tally):
