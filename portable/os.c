@@ -85,6 +85,7 @@ int __xpg_strerror_r(int, char *, size_t);
 uint32_t os_xpg_strerror_r(uint32_t number, ptr to, uint64_t room) { return (uint32_t)strerror_r((int)number, (char *)to, room); }
 
 uint64_t os_read(uint32_t file, ptr to, uint64_t room) { return (uint64_t)read((int)file, to, room); }
+uint64_t os_pread(uint32_t file, ptr to, uint64_t room, uint64_t place) { return (uint64_t)pread((int)file, to, room, (off_t)place); }
 uint64_t os_write(uint32_t file, ptr from, uint64_t length) { return (uint64_t)write((int)file, from, length); }
 uint64_t os_lseek(uint32_t file, uint64_t to, uint32_t from) { return (uint64_t)lseek((int)file, (off_t)to, (int)from); }
 uint32_t os_close(uint32_t file) { return (uint32_t)close((int)file); }

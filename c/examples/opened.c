@@ -44,3 +44,21 @@ int32_t print_comments(const char *path) {
     pcapfile_close(reader);
     return status == PCAPFILE_END ? PCAPFILE_OK : status; /* PCAPFILE_NOTHING for a classic capture */
 }
+
+/* Prints the packets of a damaged capture with the rule that each breaks, and the gaps where bytes are corrupt. */
+int32_t print_gaps(const char *path) {
+    pcapfile_reader *reader = pcapfile_open(path);
+    pcapfile_found found = PCAPFILE_FOUND_INIT;
+    pcapfile_error error = PCAPFILE_ERROR_INIT;
+    int32_t status;
+    if (!reader)
+        return PCAPFILE_SYSTEM; /* errno says why */
+    while ((status = pcapfile_next_as_is(reader, &found, &error)) == PCAPFILE_OK)
+        if (found.kind == PCAPFILE_FOUND_GAP)
+            printf("no packets in %llu bytes from %llu on: %s, rule %u\n", (unsigned long long)found.len,
+                   (unsigned long long)found.offset, pcapfile_status_text(found.status), (unsigned)found.error.rule);
+        else
+            printf("%zu bytes, rule %u\n", found.packet.bytes.len, (unsigned)found.error.rule);
+    pcapfile_close(reader);
+    return status == PCAPFILE_END ? PCAPFILE_OK : status;
+}

@@ -12,6 +12,7 @@ typedef uint8_t *ptr;
 HOST(argument) double host_argument(double index, double to, double room);
 HOST(open) int host_open(double path, double length, int flags);
 HOST(read) double host_read(int file, double to, double room);
+HOST(readAt) double host_readAt(int file, double to, double room, double place);
 HOST(write) double host_write(int file, double from, double length);
 HOST(close) int host_close(int file);
 HOST(duplicate) int host_duplicate(int file);
@@ -75,6 +76,9 @@ uint64_t os_env(ptr name, ptr to, uint64_t room) { return (void)name, (void)to, 
 
 uint32_t os_open(ptr path, uint32_t flags, uint32_t mode) { return (void)mode, (uint32_t)checked(host_open(place(path), length_of(path), (int)flags)); }
 uint64_t os_read(uint32_t file, ptr to, uint64_t room) { return checked(host_read((int)file, place(to), (double)room)); }
+uint64_t os_pread(uint32_t file, ptr to, uint64_t room, uint64_t at) {
+    return checked(host_readAt((int)file, place(to), (double)room, (double)at));
+}
 uint64_t os_write(uint32_t file, ptr from, uint64_t length) { return checked(host_write((int)file, place(from), (double)length)); }
 uint32_t os_close(uint32_t file) { return (uint32_t)checked(host_close((int)file)); }
 uint32_t os_unlink(ptr path) { return (uint32_t)checked(host_unlink(place(path), length_of(path))); }

@@ -33,7 +33,7 @@ class System {
 
   /** Runs the program to its end, and returns its status. Throws if WebAssembly stops. */
   run(module) {
-    const names = ["argument", "open", "read", "write", "close", "duplicate", "rename", "unlink", "stat", "clock"];
+    const names = ["argument", "open", "read", "readAt", "write", "close", "duplicate", "rename", "unlink", "stat", "clock"];
     const host = Object.fromEntries(names.map((name) => [name, (...numbers) => this[name === "open" ? "openFile" : name](...numbers)]));
     const instance = new WebAssembly.Instance(module, { host });
     this.memory = instance.exports.memory;
@@ -91,17 +91,26 @@ class System {
 
   read(number, to, room) {
     const file = this.open[number];
+    const length = this.readAt(number, to, room, file?.at);
+    if (length >= 0) {
+      file.at += length;
+      this.progress(length);
+    }
+    return length;
+  }
+
+  /** Reads at a place of the file, and leaves its position as it is. */
+  readAt(number, to, room, place) {
+    const file = this.open[number];
     if (!file?.input) return -EBADF;
     let bytes;
     try {
-      bytes = file.input.read(file.at, room);
+      bytes = file.input.read(place, room);
     } catch (fault) {
       this.unreadable = fault;
       return -EIO;
     }
     this.bytes(to, bytes.length).set(bytes);
-    file.at += bytes.length;
-    this.progress(bytes.length);
     return bytes.length;
   }
 

@@ -84,9 +84,9 @@ class _InThread:
         return await asyncio.get_running_loop().run_in_executor(None, self._file.read, count)
 
 
-async def aopen(source: Union[Name, Any], *, strict: bool = True) -> AsyncCapture:
+async def aopen(source: Union[Name, Any], *, strict: bool = True, gaps: bool = False) -> AsyncCapture:
     """Opens a capture for asyncio. `source` is the name of a file, or an object with an asynchronous `read`, for example
-    asyncio's StreamReader. `strict` has the meaning that it has for `parse`.
+    asyncio's StreamReader. `strict` and `gaps` have the meanings that they have for `parse`.
 
     The call returns as soon as the header has arrived. It raises a `CaptureError` if the header is truncated or malformed. The
     caller must decompress a compressed stream first.
@@ -103,7 +103,7 @@ async def aopen(source: Union[Name, Any], *, strict: bool = True) -> AsyncCaptur
     try:
         while True:
             try:
-                return AsyncCapture(reader, fed, _open_capture(fed, strict=strict))
+                return AsyncCapture(reader, fed, _open_capture(fed, strict=strict, gaps=gaps))
             except BlockingIOError:
                 fed.put(await reader.read(CHUNK))
     except BaseException:

@@ -61,6 +61,14 @@ class Invalid(CaptureError):
         self._made_of = (number, offset)
 
 
+class CaptureWarning(UserWarning):
+    """Warns that an output lacks a part of the captures or changes it, or that reading with `strict=False` skips a part. The text
+    says what.
+
+        >>> warnings.simplefilter("error", pcapfile.CaptureWarning)  # what is left out is an error
+    """
+
+
 class Flaw(NamedTuple):
     """A fault of a block's body, as reading with `strict=False` reports it. `rule` is the broken `Rule`, or None for text
     that is not UTF-8. `code` is the code of the malformed option, or None for the body as a whole and for the list of options.

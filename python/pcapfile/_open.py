@@ -22,29 +22,33 @@ Name = Union[str, bytes, "os.PathLike[Any]"]
 _SECTION = b"\x0a\x0d\x0d\x0a"
 
 
-def parse(data: Data, *, strict: bool = True) -> Union[Capture, BlockCapture]:
+def parse(data: Data, *, strict: bool = True, gaps: bool = False) -> Union[Capture, BlockCapture]:
     """Returns the capture that the bytes in `data` are. `data` must not change while the capture is in use. Closing the capture
     does not close a mapping that the caller gave.
 
     With `strict=False` reading is lenient. The capture returns malformed packets too, and each packet has `flaws`: the rules that
-    it breaks, or for PcapNg each a `Flaw`.
+    it breaks, or for PcapNg each a `Flaw`. After corrupt bytes it goes on with the packets that follow them, and it skips a truncated
+    end. With `gaps=True` a loop returns each part that it skips, as a `Gap` between the packets. Otherwise each is a `CaptureWarning`.
 
     Bytes that gzip, bzip2, xz, zstd or lz4 compressed are decompressed. The capture is then a stream, whose packets come only
     once.
 
-    It raises `Incomplete` if the header is truncated, and `Invalid` if it is malformed.
+    It raises `Incomplete` if the header is truncated, `Invalid` if it is malformed, and a ValueError for `gaps=True` without
+    `strict=False`.
 
         >>> pcapfile.parse(open("capture.pcap", "rb").read())
         <pcap capture, 138 bytes>
     """
-    return capture_of(Memory(data), strict=strict)
+    return capture_of(Memory(data), strict=strict, gaps=gaps)
 
 
-def open(file: Union[Name, int, Any], *, strict: bool = True, follow: bool = False) -> Union[Capture, BlockCapture]:
+def open(
+    file: Union[Name, int, Any], *, strict: bool = True, gaps: bool = False, follow: bool = False
+) -> Union[Capture, BlockCapture]:
     """Opens a capture in a file, or reads one from a stream.
 
     `file` is the name of a file, the number of a descriptor, or an object that has `readinto` or `read`. Such objects are open
-    files, pipes, and a socket's `makefile("rb")`. `strict` has the meaning that it has for `parse`.
+    files, pipes, and a socket's `makefile("rb")`. `strict` and `gaps` have the meanings that they have for `parse`.
 
     The package reads a regular file while the program asks for packets, and a program can iterate over it again. Everything else
     is a stream. The package reads it piece by piece, in memory that does not grow with the capture, and a program can iterate
@@ -71,13 +75,13 @@ def open(file: Union[Name, int, Any], *, strict: bool = True, follow: bool = Fal
         file = Growing(file)
     if not _arguments.is_name(file) and not isinstance(file, int):
         wanted = "a name, the number of a descriptor, or an object with `readinto` or `read`"
-        return _of_stream(_arguments.stream("file", file, ("readinto", "read"), wanted), strict)
+        return _of_stream(_arguments.stream("file", file, ("readinto", "read"), wanted), strict, gaps)
     stream = _open(file, "rb", buffering=0)
     status = os.fstat(stream.fileno())
     try:
         if stat.S_ISREG(status.st_mode) and status.st_size > 0 and not isinstance(file, int):
-            return capture_of(File(stream), strict=strict)
-        return capture_of(Stream(stream), strict=strict)
+            return capture_of(File(stream), strict=strict, gaps=gaps)
+        return capture_of(Stream(stream), strict=strict, gaps=gaps)
     except BaseException:
         stream.close()
         raise
@@ -94,11 +98,11 @@ def _decompressed(made: Callable[[Any], Any], source: Source) -> Stream:
     return Stream(Decompressed(made, b"", source.raw().readinto, source.close))
 
 
-def _of_stream(stream: Any, strict: bool) -> Union[Capture, BlockCapture]:
+def _of_stream(stream: Any, strict: bool, gaps: bool) -> Union[Capture, BlockCapture]:
     """Returns the capture in a stream. It goes on with the bytes that an earlier, interrupted call read."""
     begun = Stream(stream, _BEGUN.pop(stream, b"") if _is_remembered(stream) else b"")
     try:
-        return capture_of(begun, strict=strict)
+        return capture_of(begun, strict=strict, gaps=gaps)
     except BlockingIOError:
         if _is_remembered(stream):
             _BEGUN[stream] = bytes(begun.data)
@@ -129,7 +133,11 @@ def in_file(path: Name, stretch: Optional[Stretch] = None) -> Union[Capture, Blo
         raise
 
 
-def capture_of(source: Source, stretch: Optional[Stretch] = None, strict: bool = True) -> Union[Capture, BlockCapture]:
+def capture_of(
+    source: Source, stretch: Optional[Stretch] = None, strict: bool = True, gaps: bool = False
+) -> Union[Capture, BlockCapture]:
+    if gaps and strict:
+        raise ValueError("gaps=True needs strict=False")
     window = source.window()
     front = _front(window)
     made = decompressor(front)
@@ -137,8 +145,8 @@ def capture_of(source: Source, stretch: Optional[Stretch] = None, strict: bool =
         source = window = _decompressed(made, source)
         front = _front(window)
     if front != _SECTION:
-        return (Capture if strict else CaptureAsIs)(source, window, stretch)
-    return (BlockCapture if strict else BlockCaptureAsIs)(source, window, stretch)
+        return Capture(source, window, stretch) if strict else CaptureAsIs(source, window, stretch, gaps)
+    return BlockCapture(source, window, stretch) if strict else BlockCaptureAsIs(source, window, stretch, gaps)
 
 
 def _front(window: Window) -> bytes:

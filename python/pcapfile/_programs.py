@@ -13,7 +13,7 @@ from pathlib import Path
 from typing import Any, Dict, List, NoReturn, Optional, Sequence, Union
 
 from . import _arguments
-from ._errors import CaptureError
+from ._errors import CaptureError, CaptureWarning
 from ._filter import Filter, Moment, nanoseconds_of
 from ._open import open as open_capture
 
@@ -34,13 +34,6 @@ _HEAD, _HINT, _SOUND = "pcapfile: ", "--repair reads on", ": no damage found; "
 
 # The most lines that a warning shows.
 _SHOWN = 10
-
-
-class CaptureWarning(UserWarning):
-    """Warns that the output lacks a part of the captures, or changes it. The text says what.
-
-        >>> warnings.simplefilter("error", pcapfile.CaptureWarning)  # what is left out is an error
-    """
 
 
 class ProgramError(CaptureError):

@@ -81,16 +81,15 @@ class PacketsAsTheyStand(unittest.TestCase):
             times = [time for columns in batches for time in columns["time_ns"].tolist()]
             self.assertEqual(times, [row[1] for row in ROWS])
 
-    def test_refusals(self):
+    def test_what_it_cannot_read_is_a_gap(self):
         cut, too_long = packet(0, 0, b"", 0)[:15], struct.pack("<IIII", 0, 0, (1 << 24) + 1, 0)
-        for bad, kind in ((cut, pcapfile.Incomplete), (too_long, pcapfile.Invalid)):
+        texts = "1 byte is missing", Rule.INCLUDED_TOO_LONG.text
+        for bad, rule, text in ((cut, None, texts[0]), (too_long, Rule.INCLUDED_TOO_LONG, texts[1])):
             data = header() + ROWS[2][0] + bad
-            for capture in (pcapfile.parse(data, strict=False), pcapfile.open(io.BytesIO(data), strict=False)):
-                packets = iter(capture)
-                self.assertEqual(next(packets).flaws, ROWS[2][2])
-                with self.assertRaises(kind) as told:
-                    next(packets)
-                self.assertEqual(told.exception.offset, 41)
+            for capture in (pcapfile.parse(data, strict=False, gaps=True), pcapfile.open(io.BytesIO(data), strict=False, gaps=True)):
+                found, gap = capture
+                self.assertEqual(found.flaws, ROWS[2][2])
+                self.assertEqual(gap, pcapfile.Gap(41, len(bad), rule, text))
 
 
 if __name__ == "__main__":

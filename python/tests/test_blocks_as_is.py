@@ -94,15 +94,14 @@ class BlocksAsTheyStand(unittest.TestCase):
             batches = pcapfile.parse(data, strict=False).columns(1, threads)
             self.assertEqual([list(columns["time_ns"]) for columns in batches], [[5], [6000]])
 
-    def test_refusals(self):
+    def test_what_it_cannot_read_is_a_gap(self):
         good = CAPTURE + packet(0, 1, b"good", option(2, b""))
-        for bad, kind in ((struct.pack("<III", 6, 17, 0), pcapfile.Invalid), (packet(0, 1, b"")[:-1], pcapfile.Incomplete)):
-            for capture in (pcapfile.parse(good + bad, strict=False), pcapfile.open(io.BytesIO(good + bad), strict=False)):
-                packets = iter(capture)
-                self.assertEqual(len(next(packets).flaws), 1)
-                with self.assertRaises(kind) as told:
-                    next(packets)
-                self.assertEqual(told.exception.offset, len(good))
+        for bad, rule in ((struct.pack("<III", 6, 17, 0), Rule.BLOCK_UNALIGNED), (packet(0, 1, b"")[:-1], None)):
+            data = good + bad
+            for capture in (pcapfile.parse(data, strict=False, gaps=True), pcapfile.open(io.BytesIO(data), strict=False, gaps=True)):
+                found, gap = capture
+                self.assertEqual(len(found.flaws), 1)
+                self.assertEqual(gap, pcapfile.Gap(len(good), len(bad), rule, "1 byte is missing" if rule is None else rule.text))
 
     def test_strict_stops_at_the_flawed_interface(self):
         with self.assertRaises(pcapfile.CaptureError) as told:
@@ -124,11 +123,10 @@ class BlocksAsTheyStand(unittest.TestCase):
                     wanted[-1].append(int(rest[1]) or None)
                 elif kind.isdigit():
                     wanted.append([])
-            try:
-                for found in pcapfile.parse(data, strict=False).blocks():
-                    got.append([flaw.code for flaw in found.flaws])
-            except pcapfile.CaptureError:
-                pass
+            for found in pcapfile.parse(data, strict=False, gaps=True).blocks():
+                if isinstance(found, pcapfile.Gap):
+                    break
+                got.append([flaw.code for flaw in found.flaws])
             self.assertEqual(got, wanted)
 
 

@@ -144,14 +144,6 @@ extern "C" {
         error: *mut Error,
     ) -> i32;
     #[cfg(feature = "std")]
-    pub fn pcapfile_resync(
-        header: *const crate::Header,
-        bytes: *const Bytes,
-        row: usize,
-        place: *mut usize,
-        error: *mut Error,
-    ) -> i32;
-    #[cfg(feature = "std")]
     pub fn pcapfile_write_header(
         header: *const crate::Header,
         room: *mut u8,

@@ -2,20 +2,26 @@
 
 use crate::blocks::{Block, Interface, Section};
 use crate::packet::Source;
-use crate::{calls, AnyPacket, BlockAsIs, Blocks, Capture, Error, Header, OwnedPacket, Reader, Time};
+use crate::{AnyPacket, BlockAsIs, Blocks, Capture, Error, Header, OwnedPacket, Reader, Time};
 use core::ops::Range;
 use std::io::{self, Read};
 use std::vec::Vec;
 
 const MAGIC_OF_SECTION: [u8; 4] = [0x0a, 0x0d, 0x0d, 0x0a];
-/// How many packets or blocks must follow each other where reading goes on after corrupt bytes, unless they reach the end.
+/// How many packets must follow each other where reading goes on after corrupt bytes, unless they reach the end.
 const ROW: usize = 3;
+/// The same of blocks.
+const BLOCKS: usize = 2;
+/// The length of a packet's header, and of a capture's.
+const PACKET_HEADER: usize = 16;
+const CAPTURE_HEADER: usize = 24;
 /// The longest packet that breaks no rule, with its header.
 const LONGEST_PACKET: usize = 262_144 + 16;
 /// The longest block at which reading goes on after corrupt bytes.
 const LONGEST_BLOCK: usize = LONGEST_PACKET + 65_536;
-/// The longest block that is read, unless the limit is larger.
-const BLOCK_LIMIT: usize = 1 << 24;
+/// The most bytes that a packet of a classic capture may store, unless another limit is set, and that a block may have, unless the limit is
+/// larger.
+const LIMIT: u32 = 1 << 24;
 /// How many bytes are searched at once, in items of the longest kind.
 const WINDOW: usize = 8;
 
@@ -28,7 +34,7 @@ pub struct Gap {
     /// How many bytes it has.
     pub len: u64,
     /// Why its first item is refused. None if it breaks no rule: bytes that are all zero, a packet inside whose data other packets
-    /// follow each other, or the frame of a block above the limit.
+    /// follow each other, the frame of a block above the limit, or the header of another classic capture.
     pub error: Option<Error>,
 }
 
@@ -118,7 +124,7 @@ enum Step {
 }
 
 /// What is known of a capture between two steps.
-#[derive(Clone, Debug, Default)]
+#[derive(Clone, Debug)]
 struct Walk {
     /// The header of a classic capture. Its magic number is 0 before it was read.
     header: Header,
@@ -132,6 +138,20 @@ struct Walk {
     is_done: bool,
 }
 
+impl Default for Walk {
+    fn default() -> Walk {
+        Walk {
+            header: Header::default(),
+            section: Section::default(),
+            is_ng: false,
+            interfaces: Vec::new(),
+            limit: LIMIT,
+            gap: None,
+            is_done: false,
+        }
+    }
+}
+
 impl Walk {
     /// Takes what is at the front of these bytes, which end the capture if `is_end`.
     fn step(&mut self, bytes: &[u8], is_end: bool) -> Step {
@@ -142,6 +162,18 @@ impl Walk {
             (true, true) => Step::End,
             _ if self.gap.is_some() => self.search(bytes, is_end),
             _ if self.is_ng => self.step_ng(bytes, is_end),
+            _ => self.step_after_header(bytes, is_end),
+        }
+    }
+
+    /// Takes the header of another classic capture, which then applies, or what else is at the front.
+    fn step_after_header(&mut self, bytes: &[u8], is_end: bool) -> Step {
+        match capture_at(bytes) {
+            Err(missing) if !is_end => Step::More(missing),
+            Ok(Some(header)) => {
+                self.header = header;
+                Step::Corrupt(CAPTURE_HEADER, None, true)
+            }
             _ => self.step_classic(bytes, is_end),
         }
     }
@@ -170,8 +202,10 @@ impl Walk {
             Err(error) => return Step::Corrupt(1, Some(error), false),
         };
         let used = bytes.len() - packets.rest().len();
-        if is_zero(&bytes[..16]) {
-            return Step::Corrupt(1, None, false);
+        match self.are_zeros(bytes, is_end) {
+            Err(missing) => return Step::More(missing),
+            Ok(true) => return Step::Corrupt(1, None, false),
+            Ok(false) => {}
         }
         match self.place_inside(bytes, used, is_end) {
             Err(missing) => return Step::More(missing),
@@ -185,32 +219,60 @@ impl Walk {
             interface_id: 0,
             time: Some(found.time),
             original_len: found.original_len,
-            data: 16..used,
+            data: PACKET_HEADER..used,
             block: None,
         })
     }
 
-    /// Returns where packets go on inside the first packet, which then has a wrong length. It is asked only if what follows the packet
-    /// is no packet without a flaw. Fails with the number of bytes that are missing to decide.
-    fn place_inside(&self, bytes: &[u8], used: usize, is_end: bool) -> Result<Option<usize>, usize> {
-        let rest = &bytes[used..];
-        if rest.is_empty() && is_end {
-            return Ok(None);
+    /// Returns whether an all-zero header is at the front, and zero bytes follow it. Fails with the number of missing bytes.
+    fn are_zeros(&self, bytes: &[u8], is_end: bool) -> Result<bool, usize> {
+        let (header, rest) = bytes.split_at(PACKET_HEADER);
+        let next = &rest[..rest.len().min(PACKET_HEADER)];
+        match is_zero(header) {
+            true if next.len() < PACKET_HEADER && !is_end => Err(PACKET_HEADER - next.len()),
+            true => Ok(!next.is_empty() && is_zero(next)),
+            false => Ok(false),
         }
-        match Capture::at(self.header, rest).as_is(self.limit).take_one() {
-            Ok(next) if next.flaws.is_empty() && !is_zero(&rest[..16]) => return Ok(None),
-            Err(Error::Incomplete(missing)) if !is_end => return Err(missing),
-            _ => {}
+    }
+
+    /// Returns whether a packet is followed by the end, by a packet without a flaw, or by some packets with flaws. Fails with the number of
+    /// missing bytes.
+    fn is_followed(&self, rest: &[u8], is_end: bool) -> Result<bool, usize> {
+        let mut packets = Capture::at(self.header, rest).as_is(0);
+        for count in 0..ROW {
+            let left = packets.rest();
+            if left.is_empty() && is_end {
+                return Ok(true);
+            }
+            match packets.take_one() {
+                Ok(_) if is_zero(&left[..PACKET_HEADER]) => return Ok(false),
+                Ok(next) if count == 0 && next.flaws.is_empty() => return Ok(true),
+                Ok(_) => {}
+                Err(Error::Incomplete(missing)) if !is_end => return Err(missing),
+                Err(_) => return Ok(false),
+            }
+        }
+        Ok(true)
+    }
+
+    /// Returns where packets go on inside the first packet, which then has a wrong length. It looks only if no packets follow it. Fails with
+    /// the number of missing bytes.
+    fn place_inside(&self, bytes: &[u8], used: usize, is_end: bool) -> Result<Option<usize>, usize> {
+        if self.is_followed(&bytes[used..], is_end)? {
+            return Ok(None);
         }
         let wanted = used + ROW * LONGEST_PACKET;
         if bytes.len() < wanted && !is_end {
             return Err(wanted - bytes.len());
         }
-        Ok((1..used).find(|&place| self.is_row(&bytes[place..])))
+        Ok((1..used).find(|&place| self.packets_go_on(&bytes[place..])))
     }
 
-    /// Returns whether packets with data follow each other at the front of these bytes, or fewer to their end.
-    fn is_row(&self, bytes: &[u8]) -> bool {
+    /// Returns whether another capture begins at the front of these bytes, or packets with data follow each other, or fewer to their end.
+    fn packets_go_on(&self, bytes: &[u8]) -> bool {
+        if let Ok(Some(_)) = capture_at(bytes) {
+            return true;
+        }
         let mut capture = Capture::at(self.header, bytes);
         for _ in 0..ROW {
             match capture.take_one() {
@@ -232,38 +294,36 @@ impl Walk {
         }
         // At a place before the bound, more bytes change nothing.
         let bound = if is_end { bytes.len() } else { bytes.len() - ROW * longest };
-        let place = if self.is_ng { self.place_of_blocks(bytes, bound) } else { self.place_of_packets(bytes) };
-        match place.filter(|&place| place < bound) {
-            Some(place) => Step::Corrupt(place, None, true),
-            None => Step::Corrupt(bound, None, is_end),
+        for place in 0..bound {
+            match self.goes_on(&bytes[place..]) {
+                Ok(true) => return Step::Corrupt(place, None, true),
+                Ok(false) => {}
+                Err(error) => return Step::Fail(error),
+            }
+        }
+        Step::Corrupt(bound, None, is_end)
+    }
+
+    /// Returns whether reading goes on at the front of these bytes. Fails if an allocation does.
+    fn goes_on(&self, bytes: &[u8]) -> Result<bool, Error> {
+        match self.is_ng {
+            true => blocks_go_on(self.section, bytes),
+            false => Ok(self.packets_go_on(bytes)),
         }
     }
 
-    fn place_of_packets(&self, bytes: &[u8]) -> Option<usize> {
-        let (mut place, mut error) = (0, calls::Error::default());
-        // SAFETY: each pointer points to a value of its own, and the bytes are a slice's.
-        let status = unsafe {
-            calls::pcapfile_resync(&self.header, &calls::Bytes::of(bytes), ROW, &mut place, &mut error)
-        };
-        (status == 0).then_some(place)
-    }
-
-    fn place_of_blocks(&self, bytes: &[u8], bound: usize) -> Option<usize> {
-        (0..bound).find(|&place| is_row_of_blocks(self.section, &bytes[place..]))
-    }
-
     fn step_ng(&mut self, bytes: &[u8], is_end: bool) -> Step {
-        let mut blocks = Blocks::at(self.section, bytes).as_is();
+        let limit = LIMIT.max(self.limit) as usize;
+        let seen = &bytes[..bytes.len().min(limit)];
+        let mut blocks = Blocks::at(self.section, seen).as_is();
         let found = match blocks.take_one() {
             Ok(found) => found,
             Err(Error::NoMemory) => return Step::Fail(Error::NoMemory),
-            Err(Error::Incomplete(missing)) if bytes.len().saturating_add(missing) > self.block_limit() => {
-                return Step::Corrupt(1, None, false)
-            }
+            Err(Error::Incomplete(missing)) if missing > limit - seen.len() => return Step::Corrupt(1, None, false),
             Err(Error::Incomplete(missing)) if !is_end => return Step::More(missing),
             Err(error) => return Step::Corrupt(1, Some(error), false),
         };
-        let used = bytes.len() - blocks.rest().len();
+        let used = seen.len() - blocks.rest().len();
         self.section = *blocks.section();
         match found.block.type_ {
             0x0a0d_0d0a => self.interfaces.clear(),
@@ -272,10 +332,6 @@ impl Walk {
             _ => {}
         }
         Step::Skip(used)
-    }
-
-    fn block_limit(&self) -> usize {
-        BLOCK_LIMIT.max(self.limit as usize)
     }
 
     /// Returns the packet of a block. A block without room for it is a gap.
@@ -323,37 +379,34 @@ fn is_zero(bytes: &[u8]) -> bool {
     bytes.iter().all(|&byte| byte == 0)
 }
 
-/// Returns the length of the block whose frame is at the front of these bytes, and the section that then applies.
-fn frame(section: Section, bytes: &[u8]) -> Option<(usize, Section)> {
-    let mut section = section;
-    let is_header = bytes.starts_with(&MAGIC_OF_SECTION);
-    if is_header {
-        section = match section.number_at(bytes, 8)? {
-            0x1a2b_3c4d => section,
-            0x4d3c_2b1a => if section.is_big_endian() { Section::LITTLE_ENDIAN } else { Section::BIG_ENDIAN },
-            _ => return None,
-        };
+/// Returns the header of version 2.4 of a classic capture at the front of these bytes. Fails with the number of missing bytes.
+fn capture_at(bytes: &[u8]) -> Result<Option<Header>, usize> {
+    match Capture::parse(bytes) {
+        Ok(capture) => Ok(Some(*capture.header()).filter(|it| (it.version_major, it.version_minor) == (2, 4))),
+        Err(Error::Incomplete(missing)) => Err(missing),
+        Err(_) => Ok(None),
     }
-    let len = section.number_at(bytes, 4)? as usize;
-    let is_possible = len % 4 == 0 && (if is_header { 28 } else { 12 }..=LONGEST_BLOCK).contains(&len);
-    let is_framed = is_possible && section.number_at(bytes, len - 4)? as usize == len;
-    (is_framed && section != Section::default()).then_some((len, section))
 }
 
-/// Returns whether these bytes begin with a section header, or with some blocks that follow each other, or with fewer to their end.
-fn is_row_of_blocks(section: Section, bytes: &[u8]) -> bool {
+/// Returns whether these bytes begin with a section header, or with some blocks that follow each other, or with fewer to their end. Fails if
+/// an allocation does.
+fn blocks_go_on(section: Section, bytes: &[u8]) -> Result<bool, Error> {
     let (mut section, mut left) = (section, bytes);
-    for _ in 0..ROW {
-        let Some((len, after)) = frame(section, left) else { return false };
-        if left.starts_with(&MAGIC_OF_SECTION) {
-            return true;
+    for _ in 0..BLOCKS {
+        let seen = &left[..left.len().min(LONGEST_BLOCK)];
+        let mut blocks = Blocks::at(section, seen).as_is();
+        match blocks.take_one() {
+            Ok(found) if found.block.type_ == 0x0a0d_0d0a => return Ok(true),
+            Ok(_) => {}
+            Err(Error::NoMemory) => return Err(Error::NoMemory),
+            Err(_) => return Ok(false),
         }
-        (section, left) = (after, &left[len..]);
+        (section, left) = (*blocks.section(), &left[seen.len() - blocks.rest().len()..]);
         if left.is_empty() {
-            return true;
+            return Ok(true);
         }
     }
-    true
+    Ok(true)
 }
 
 /// Reads a damaged capture of either format in memory: an iterator over packets that borrow from it, and gaps. Every byte after the
@@ -374,9 +427,10 @@ fn is_row_of_blocks(section: Section, bytes: &[u8]) -> bool {
 /// # Ok::<(), pcapfile::Error>(())
 /// ```
 ///
-/// Packets that break a rule are returned with it. A packet of a classic capture is a gap if its header is all zero, or if what
-/// follows it is malformed and three packets follow each other inside its data: then its length is wrong. Where packets go on after
-/// corrupt bytes is a guess, since corrupt bytes may look like packets.
+/// Packets that break a rule are returned with it. A packet of a classic capture is a gap if packets follow each other inside it and not
+/// after it: then its length is wrong. So are two all-zero headers, and the header of another capture, by which the packets after it are
+/// read. Where reading goes on after corrupt bytes is a guess, since corrupt bytes may look like packets: three packets with data follow
+/// each other there without a flaw, or two blocks, or fewer to the end.
 ///
 /// An error is the last item: the bytes do not begin a capture, or an allocation failed.
 #[derive(Clone, Debug)]
@@ -392,8 +446,8 @@ impl<'a> Lenient<'a> {
         Lenient { walk: Walk::default(), bytes, at: 0 }
     }
 
-    /// Sets the most bytes that a packet of a classic capture may store. Below 262144 it means 262144. A block of PcapNg may have 16 MiB,
-    /// or the limit if that is more.
+    /// Sets the most bytes that a packet of a classic capture may store, 16 MiB if it is not set. Below 262144 it means 262144. A block of
+    /// PcapNg may have 16 MiB, or the limit if that is more.
     pub fn limit(mut self, limit: u32) -> Lenient<'a> {
         self.walk.limit = limit;
         self

@@ -97,8 +97,14 @@ fn corrupt_bytes_between_packets_are_a_gap() {
 fn zero_bytes_are_no_packets() {
     let bytes = [HEADER, &packet(b"abc"), &[0; 64], &packet(b"d")].concat();
     assert_found(&bytes, &[data(b"abc"), Seen::Gap(43, 64, None), data(b"d")]);
-    let bytes = [HEADER, &packet(b"abc"), &[0; 64]].concat();
-    assert_found(&bytes, &[data(b"abc"), Seen::Gap(43, 64, None)]);
+    for len in [17, 31, 32, 64] {
+        let bytes = [HEADER, &packet(b"abc"), &vec![0; len]].concat();
+        assert_found(&bytes, &[data(b"abc"), Seen::Gap(43, len as u64, None)]);
+    }
+    // One all-zero header is a packet without data.
+    let bytes = [HEADER, &packet(b"abc"), &[0; 16], &packet(b"d")].concat();
+    assert_found(&bytes, &[data(b"abc"), data(b""), data(b"d")]);
+    assert_found(&bytes[..59], &[data(b"abc"), data(b"")]);
 }
 
 #[test]
@@ -215,13 +221,28 @@ fn bytes_that_begin_no_capture_are_an_error() {
 }
 
 #[test]
-fn a_limit_admits_longer_packets() {
+fn a_limit_excludes_longer_packets() {
     let bytes = [HEADER, &packet(&[1; 300_000]), &packet(b"a")].concat();
     let flaw = Some(Error::Invalid(Rule::IncludedTooLong));
-    let found: Vec<_> = Lenient::parse(&bytes).limit(400_000).map(|found| seen(found.unwrap().into_owned())).collect();
+    let found: Vec<_> = Lenient::parse(&bytes).map(|found| seen(found.unwrap().into_owned())).collect();
     assert_eq!(found, [Seen::Data(vec![1; 300_000], flaw), data(b"a")]);
-    let found: Vec<_> = Reader::new(&bytes[..]).lenient().map(|found| seen(found.unwrap())).collect();
+    let found: Vec<_> = Reader::new(&bytes[..]).lenient().limit(262_144).map(|found| seen(found.unwrap())).collect();
     assert_eq!(found, [Seen::Gap(24, 300_016, flaw), data(b"a")]);
+}
+
+/// The packets after the header of another capture are read by it. Here it is big-endian, with nanoseconds and another link type.
+#[test]
+fn another_capture_may_follow() {
+    let other: &[u8] = b"\xa1\xb2\x3c\x4d\0\x02\0\x04\0\0\0\0\0\0\0\0\0\0\xff\xff\0\0\0\x65";
+    let packets: &[u8] = b"\x5f\x5e\x10\0\0\0\0\x07\0\0\0\x01\0\0\0\x01x\x5f\x5e\x10\0\0\0\0\x07\0\0\0\x01\0\0\0\x01y";
+    let bytes = [HEADER, &packet(b"abc"), other, packets].concat();
+    assert_found(&bytes, &[data(b"abc"), Seen::Gap(43, 24, None), data(b"x"), data(b"y")]);
+    let last = Lenient::parse(&bytes).last().unwrap().unwrap().packet().unwrap();
+    assert_eq!((last.link, last.time.map(|time| time.nanoseconds)), (Some(101), Some(7)));
+    // A truncated packet before it ends there.
+    let bytes = [HEADER, &packet(b"abc"), &packet(b"defgh")[..18], other, packets].concat();
+    let gap = Seen::Gap(43, 18, None);
+    assert_found(&bytes, &[data(b"abc"), gap, Seen::Gap(61, 24, None), data(b"x"), data(b"y")]);
 }
 
 /// The window of a search is bounded however long the stream is.

@@ -10,6 +10,9 @@
  *   open -h [BYTES] FILE   before the packets what pcapfile_head gives: `pcap` and the fields of the header, or `pcapng`, the fields of the
  *                          section, and a line for each interface; or `no head STATUS`
  *   open -k [BYTES] FILE   the blocks: type, magic number, version and interfaces of the section, and bytes; after an interface its line
+ *   open -l [BYTES] FILE   the packets and gaps of lenient reading: `packet STATUS RULE` and then as above, or
+ *                          `gap OFFSET LENGTH STATUS RULE MISSING`. Bytes that are in neither must be blocks of another kind.
+ *   open -g                counts the packets and gaps of standard input by lenient reading, and prints the KiB too
  *   open -t STATUS         the text of this status
  *   open -s FILE           the status after the last packet
  *   open -x FILE           each read and each allocation fails in turn, and is repeated: the lines of packets, of the head and of blocks
@@ -65,7 +68,7 @@ static ssize_t test_read(int descriptor, void *room, size_t len) {
 
 enum { MOST_BATCH = 16, REFUSED = 1, USAGE = 2, ENDED_EARLY = 3, NO_MEMORY = 4, DIFFERS = 5 };
 static size_t batch;
-static enum { PACKETS, HEAD, BLOCKS } what;
+static enum { PACKETS, HEAD, BLOCKS, AS_IS } what;
 
 static int status_of(int32_t status) {
     switch (status) {
@@ -85,6 +88,34 @@ static int32_t next(FILE *out, pcapfile_reader *reader, pcapfile_error *error) {
     int32_t status = batch > 0 ? pcapfile_next_batch(reader, packets, batch, &taken, error)
                                : pcapfile_next(reader, packets, error);
     for (size_t i = 0; status == PCAPFILE_OK && i < taken; i++) print_any(out, &packets[i]);
+    return status;
+}
+
+/* Checks that an item begins where it may: in a classic capture where the item before it ends. */
+static void check_place(const pcapfile_reader *reader, const pcapfile_found *found, uint64_t *end) {
+    if (found->offset < *end || (found->offset > *end && !reader->is_blocks)) abort();
+    *end = found->offset + found->len;
+    if (*end != pcapfile_offset(reader)) abort();
+}
+
+/* Prints the next packet or gap of lenient reading. */
+static int32_t print_found(FILE *out, pcapfile_reader *reader, uint64_t *end, pcapfile_error *error) {
+    pcapfile_found found = PCAPFILE_FOUND_INIT;
+    int32_t status = pcapfile_next_as_is(reader, &found, error);
+    if (status != PCAPFILE_OK) {
+        if (found.kind != 0 || found.len != 0) abort();
+        return status;
+    }
+    if (*end == 0) *end = reader->is_blocks ? 0 : 24;
+    check_place(reader, &found, end);
+    if (found.kind == PCAPFILE_FOUND_GAP) {
+        fprintf(out, "gap %" PRIu64 " %" PRIu64 " %" PRId32 " %" PRIu32 " %zu\n", found.offset, found.len, found.status, found.error.rule,
+                found.error.missing);
+        if (found.packet.bytes.len != 0 || found.packet.has_time) abort();
+        return status;
+    }
+    fprintf(out, "packet %" PRId32 " %" PRIu32 " ", found.status, found.error.rule);
+    print_any(out, &found.packet);
     return status;
 }
 
@@ -148,8 +179,9 @@ static int32_t print_block(FILE *out, pcapfile_reader *reader, pcapfile_error *e
     return status;
 }
 
-/* Prints what comes next: the head once, and then packets; or a block. */
-static int32_t print_next(FILE *out, pcapfile_reader *reader, int *has_head, pcapfile_error *error) {
+/* Prints what comes next: the head once, and then packets; or a block; or what lenient reading finds, whose end is `*end`. */
+static int32_t print_next(FILE *out, pcapfile_reader *reader, int *has_head, uint64_t *end, pcapfile_error *error) {
+    if (what == AS_IS) return print_found(out, reader, end, error);
     if (what == BLOCKS) return print_block(out, reader, error);
     if (what == PACKETS || *has_head) return next(out, reader, error);
     int32_t status = print_head(out, reader, error);
@@ -163,10 +195,10 @@ static int32_t print_next(FILE *out, pcapfile_reader *reader, int *has_head, pca
  * the same place again, nothing follows. */
 static int list(FILE *out, pcapfile_reader *reader, int *failed) {
     pcapfile_error error = PCAPFILE_ERROR_INIT;
-    uint64_t refused = UINT64_MAX;
+    uint64_t refused = UINT64_MAX, end = 0;
     int has_head = 0;
     for (;;) {
-        int32_t status = print_next(out, reader, &has_head, &error);
+        int32_t status = print_next(out, reader, &has_head, &end, &error);
         if (status == PCAPFILE_NO_MEMORY || status == PCAPFILE_SYSTEM) {
             if (status == PCAPFILE_SYSTEM && errno != read_error) return DIFFERS;
             if (++*failed > 1) return DIFFERS;
@@ -228,7 +260,7 @@ static int fail_each_of(const char *path) {
 /* Fails each call of each way to read the capture. */
 static int fail_each(const char *path) {
     int status = 0;
-    for (what = PACKETS; status == 0 && what <= BLOCKS; what++) status = fail_each_of(path);
+    for (what = PACKETS; status == 0 && what <= AS_IS; what++) status = fail_each_of(path);
     return status;
 }
 
@@ -278,6 +310,20 @@ static int count_packets(pcapfile_reader *reader) {
     return status_of(status);
 }
 
+/* Counts the packets and the gaps of lenient reading. */
+static int count_found(pcapfile_reader *reader) {
+    pcapfile_found found = PCAPFILE_FOUND_INIT;
+    pcapfile_error error = PCAPFILE_ERROR_INIT;
+    unsigned long packets = 0, gaps = 0;
+    int32_t status;
+    if (!reader) return NO_MEMORY;
+    while ((status = pcapfile_next_as_is(reader, &found, &error)) == PCAPFILE_OK)
+        found.kind == PCAPFILE_FOUND_GAP ? gaps++ : packets++;
+    pcapfile_close(reader);
+    printf("%lu %lu %lu\n", packets, gaps, resident());
+    return status_of(status);
+}
+
 /* Prints the status after the last packet. Each further call must return it too. */
 static int print_status(const char *path) {
     pcapfile_reader *reader = pcapfile_open(path);
@@ -297,6 +343,7 @@ int main(int argc, char **argv) {
     if (argc < 2) return USAGE;
     if (!strcmp(way, "-p")) return list_reader(pcapfile_fdopen(0));
     if (!strcmp(way, "-q")) return count_packets(pcapfile_fdopen(0));
+    if (!strcmp(way, "-g")) return count_found(pcapfile_fdopen(0));
     if (!strcmp(way, "-x")) return fail_each(file);
     if (!strcmp(way, "-s")) return print_status(file);
     if (!strcmp(way, "-t")) return printf("%s\n", pcapfile_status_text((int32_t)strtol(file, NULL, 10))) < 0;
@@ -305,6 +352,7 @@ int main(int argc, char **argv) {
     if (!strcmp(way, "-r") && argc == 4) most_read = strtoul(argv[2], NULL, 10);
     if (!strcmp(way, "-h")) what = HEAD;
     if (!strcmp(way, "-k")) what = BLOCKS;
-    if ((!strcmp(way, "-h") || !strcmp(way, "-k")) && argc == 4) most_read = strtoul(argv[2], NULL, 10);
+    if (!strcmp(way, "-l")) what = AS_IS;
+    if ((!strcmp(way, "-h") || !strcmp(way, "-k") || !strcmp(way, "-l")) && argc == 4) most_read = strtoul(argv[2], NULL, 10);
     return batch > MOST_BATCH ? USAGE : list_reader(pcapfile_open(file));
 }

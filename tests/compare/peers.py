@@ -34,7 +34,7 @@ FIELDS = ("frame.number", "frame.time_epoch", "_ws.col.Time", "frame.cap_len", "
 TOOLS = ("capinfos", "tshark", "editcap", "mergecap")
 ENDINGS = r"(\d+) bytes|(cut short) at byte \d+|refused at byte \d+ by rule (\d+)"
 CHECKED = re.compile(rf"(?:pcap|pcapng), (\d+) (?:packets|blocks), (?:{ENDINGS})")
-FIGURES = "-T -r -M -S -c -s -d -u -a -e -x -y -z".split()
+FIGURES = "-T -r -M -S -c -s -d -u -a -e -x -y -z -o".split()
 TORN = re.compile(rb"An error occurred after reading (\d+) packets")
 INTERFACE = re.compile(r"Interface #\d+ info:\n(?: +.*\n)*? +Capture length = (\d+)\n(?: +.*\n)*? +Number of packets = (\d+)")
 LONGEST, WRAPS = 262144, Decimal(2**32) / 10**9
@@ -186,16 +186,32 @@ def info(capture):
         yield "info", capture.refusal() if told["packets"] <= int(row[0]) else DIFFERENT
         return
     yield "info, counts", SAME if [told["packets"], told["original"]] == [int(row[0]), int(row[2])] else DIFFERENT
+    yield "info --table", SAME if has_row(capture, told, row) else DIFFERENT
     if told["packets"]:
         yield "info, average size", SAME if is_near(told["average"], row[7]) else DIFFERENT
         yield "info, times and rates", times_verdict(capture, told, row)
+        yield "info, time order", order_verdict(capture, told, row[9])
     yield "info, interfaces", interfaces_verdict(capture, told)
     if told["sections"] < 2 and not told["refused"]:
         yield "info, by interface", SAME if all(has_figures(capture, *it) for it in told_by_interface(capture, told)) else DIFFERENT
 
 
+def has_row(capture, told, row):
+    """Returns whether the row of `info --table` has capinfos' counts and link type, and the other figures of `info --json`."""
+    heads, values = (it.split("\t") for it in capture.run("info", "--table", capture.path).stdout.decode().splitlines())
+    found = dict(zip(heads, values, strict=True))
+    figures = [it for it in heads if it in told and it not in ("file", "earliest", "latest", "interfaces", "link")]
+    links = {it["link"] for it in (told["interfaces"] if capture.is_pcapng else [told])}
+    return (
+        [found["packets"], found["original"]] == [row[0], row[2]]
+        and all(found[it] == ("-" if told[it] is None else str(told[it])) for it in figures)
+        and (found["link"] == "several") == (len(links) > 1)
+        and (len(links) != 1 or found["link"].endswith(f" ({links.pop()})"))
+    )
+
+
 def times_verdict(capture, told, row):
-    duration, first, last, byte_rate, _, rate = row[3:]
+    duration, first, last, byte_rate, _, rate = row[3:9]
     if any(it.is_carried for it in capture.packets):
         return capture.means("carried")
     if Decimal(told["latest"] or 0) >= 2**31:
@@ -210,6 +226,16 @@ def times_verdict(capture, told, row):
     if all(is_near(*pair) for pair in pairs):
         return SAME
     return capture.means("doubles") if all(is_near(*pair, DOUBLE / Decimal(told["duration"])) for pair in pairs) else DIFFERENT
+
+
+def order_verdict(capture, told, theirs):
+    if any(it.is_carried for it in capture.packets):
+        return capture.means("carried")
+    if Decimal(told["latest"] or 0) >= 2**31:
+        return capture.means("signed")
+    if theirs == "Unknown" and told["in_order"] is not False:
+        return capture.means("untimed") if any(it.time is None for it in capture.packets) else DIFFERENT
+    return SAME if str(told["in_order"]) == theirs else DIFFERENT
 
 
 def interfaces_verdict(capture, told):

@@ -45,6 +45,7 @@ def informs_blocks(help, name, interfaces, others):
         "  File type:         pcapng 1.0, little-endian",
         "  Sections:          1",
         f"  Interfaces:        {interfaces}",
+        *informing.kinds(capture),
         *informing.figures(packets),
     ]
     for k, packet in enumerate(packets):
@@ -59,14 +60,19 @@ def info_rows(help):
     yield informs("info of packets that are stored in part", few)
     yield informs("info of packets from 2038 to 2106", [(time * 10**9 + 5, 60, b"") for time in (2**31 - 1, 2**31, 2**32 - 1)])
     yield informs("info of few long packets among short ones", [(k, 9, b"") for k in range(40)] + [(40, 9000, b"")])
+    yield informs("info of a packet before the one before it", [(6, 9, b""), (5, 9, b"")])
     yield informs("info of one packet in a span and many in another", [(0, 9, b""), *[(10**9, 9, b"")] * 40])
-    custom = [(CUSTOM, struct.pack("<I", 32473) + b"text"), (0xBAD, b"any data")]
+    custom = [(CUSTOM, struct.pack("<I", 32473) + b"text"), (0xBADBAD, b"any data")]
     yield informs_blocks(help, "info of custom and unknown blocks", 2, custom)
     for count in (65, 5000):
         yield informs_blocks(help, f"info of {count} interfaces", count, [])
     for link, name in ((1, "ETHERNET"), (RAW, "RAW"), (105, "IEEE802_11")):
         members = {"format": "pcap", "packets": 1, "link": link, "link_name": name}
         yield Row(f"info --json of the link type {name}", ["info", "--json", "-"], classic([(5, 60, b"data")], link=link), 0, members, "")
+    capture = classic(few)
+    own = informing.row("-", len(capture), few, ("pcap", 1, "RAW (101)", 0, 0, f"pcap, {len(few)} packets, {len(capture)} bytes"))
+    total = informing.row("total", len(capture), few, (None, 1, None, 0, 0, "1 files"))
+    yield Row("info --table --total", ["info", "--table", "--total", "-"], capture, 0, informing.table([own, total]).encode(), "")
 
 
 def list_rows(help):

@@ -38,6 +38,7 @@ MESSAGES = {
 }
 SECTION, INTERFACE, OBSOLETE, SIMPLE, ENHANCED = 0x0A0D0D0A, 1, 2, 3, 6
 NO_HEADER = "if its header is lost, --guess guesses one, and --header ORDER,RESOLUTION,LINK gives one"
+TOO_FEW = "--guess finds no four packets or two blocks in a row; --header ORDER,RESOLUTION,LINK gives a header"
 NO_SECTION = "begins with blocks that have no section header; 'pcapfile repair --guess' or --header keeps them"
 # The number of bytes at its front at which a repair looks for blocks without a section header.
 WINDOW = 2097152

@@ -12,7 +12,7 @@ SECONDS, BUFFER = 20, 65536
 # The character that ends the input at a terminal. No capture here has it.
 END = 0xFE
 WORDS = (
-    ["check"], ["check", "--as-is"], ["info"], ["info", "--json"], ["info", "--repair"], ["list"], ["list", "--utc"], ["list", "--as-is"],
+    ["check"], ["check", "--as-is"], ["info"], ["info", "--json"], ["info", "--table"], ["info", "--repair"], ["list"], ["list", "--utc"], ["list", "--as-is"],
     ["convert", "-o", "-"], ["convert", "--to", "pcap", "-o", "-"], ["convert", "--to", "pcapng", "-o", "-"], ["cut", "-o", "-"],
     ["cut", "--repair", "-o", "-"], ["join", "-o", "-"], ["merge", "-o", "-"], ["merge", "--repair", "-o", "-"], ["repair", "-o", "-"],
 )

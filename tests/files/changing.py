@@ -1,4 +1,5 @@
 """Checks how `pcapfile cut` changes packets, by the same changes made with struct, and beside editcap if that is installed."""
+import random
 import struct
 
 import cutting
@@ -119,6 +120,106 @@ def try_wrong_lengths(tally, help):
         refuses(tally, help, ["--snaplen", "4", *words])
 
 
+def repeating():
+    """Returns packets (nanoseconds, length on the wire, data) of which many have the data of an earlier one, some with another length."""
+    draw = random.Random(58)
+    kinds = [(90, b""), (90, b"a"), (91, b"a"), (90, b"a\0"), (90, bytes(60)), (90, bytes(59) + b"\1"), (60, bytes(60))]
+    return [(START + k * SECOND, *kinds[min(draw.randrange(14), 6)]) for k in range(60)]
+
+
+def distinct(packets, most, mark=lambda it: it[1:]):
+    """Returns the packets whose mark none of this many packets before them has."""
+    marks = [mark(it) for it in packets]
+    return [it for k, it in enumerate(packets) if marks[k] not in marks[max(0, k - most) : k]]
+
+
+def left_out_of(packets, kept):
+    """Returns what the program says of duplicates."""
+    count = len(packets) - len(kept)
+    return f"pcapfile: in: left out {count} packet{'s' * (count != 1)} {'as duplicates' if count != 1 else 'as a duplicate'}\n" * bool(count)
+
+
+def try_classic_duplicates(tally, help):
+    """Checks duplicates of classic captures. They are found among the packets that pass all tests, before these are shortened."""
+    for order, magic, fraction in ORDERS:
+        packets = repeating()
+        capture, _ = help.classic(order, magic, fraction, 1, packets)
+        for word, most in (("--dedup", 4), ("--dedup=1", 1), ("--dedup=2", 2), ("--dedup=4", 4), ("--dedup=17", 17), ("--dedup=1000000", 60)):
+            kept = distinct(packets, most)
+            wanted, _ = help.classic(order, magic, fraction, 1, kept)
+            cutting.expects(tally, help, f"{word}, {order}", {"in": capture}, ["cut", "in", word, "-o", "out"], {"out": wanted}, said=left_out_of(packets, kept))
+            if order == "<" and left_out.has("editcap", "duplicates beside editcap, in tests/files/run"):
+                # editcap takes packets with other lengths on the wire for duplicates.
+                alike = [(time, 90, data) for time, _, data in packets]
+                given = help.packets_of(cutting.edited(help.classic(order, magic, fraction, 1, alike)[0], ["-D", str(most + 1), "IN", "OUT"]))
+                tally.note(f"editcap -D {most + 1}", [it[1:] for it in given] != distinct(alike, most) and f"it has {given}")
+        one = help.classic(order, magic, fraction, 1, packets[:1] * 2)[0]
+        wanted = help.classic(order, magic, fraction, 1, packets[:1])[0]
+        said = "pcapfile: in: left out 1 packet as a duplicate\n"
+        cutting.expects(tally, help, "one duplicate", {"in": one}, ["cut", "in", "--dedup", "-o", "out"], {"out": wanted}, said=said)
+        for words, test, most in (
+            (["--packets", "3-20,40-"], lambda k, it: 3 <= k <= 20 or k >= 40, 4),
+            (["--from", "+5s", "--max-len", "90"], lambda k, it: it[0] >= START + 5 * SECOND and it[1] <= 90, 1),
+            (["--min-len", "1000"], lambda k, it: False, 4),
+        ):
+            passing = [it for k, it in enumerate(packets, 1) if test(k, it)]
+            kept = distinct(passing, most)
+            wanted, _ = help.classic(order, magic, fraction, 1, kept)
+            words = ["cut", "in", *words, f"--dedup={most}", "-o", "out"]
+            cutting.expects(tally, help, " ".join(words), {"in": capture}, words, {"out": wanted}, said=left_out_of(passing, kept))
+        kept = distinct(packets, 4)
+        wanted, _ = help.classic(order, magic, fraction, 1, [(time, wire, data[:1]) for time, wire, data in kept])
+        words = ["cut", "in", "--dedup", "--snaplen", "1", "-o", "out"]
+        cutting.expects(tally, help, "duplicates of short packets", {"in": capture}, words, {"out": wanted}, said=left_out_of(packets, kept))
+
+
+def duplicated_blocks(order, packets):
+    """Returns blocks of each kind with these packets, over two interfaces, each as (its part of a capture, its packet or None)."""
+    parts = [((1, struct.pack(order + "HHI", link, 0, 0)), None) for link in (1, 101)]
+    for k, (time, wire, data) in enumerate(packets):
+        units, padding = time // 1000, bytes([k]) * (-len(data) % 4)
+        if k % 3 == 0:
+            front = struct.pack(order + "III", k % 2, units >> 32, units & 0xFFFFFFFF)
+            body = ENHANCED, front + struct.pack(order + "II", len(data), wire) + data + padding + (COMMENT[order] if k % 2 else b"")
+        elif k % 3 == 1 or len(data) != wire:
+            front = struct.pack(order + "HHII", 1, k, units >> 32, units & 0xFFFFFFFF)
+            body = OLD, front + struct.pack(order + "II", len(data), wire) + data + padding
+        else:
+            body = SIMPLE, struct.pack(order + "I", wire) + data + padding
+        parts += [(body, (wire, data)), ((UNKNOWN, bytes([k, 0, 0, 0])), None)]
+    return parts
+
+
+def try_block_duplicates(tally, help):
+    """Checks duplicates of blocks: neither interface nor kind of block nor options nor padding counts, and other blocks stay."""
+    for order in "<>":
+        packets = repeating()
+        parts = duplicated_blocks(order, packets)
+        given, _ = help.blocks(order, [part for part, _ in parts])
+        for words, most, passes in ((["--dedup"], 4, lambda it: True), (["--dedup=9", "--max-len", "90"], 9, lambda it: it[0] <= 90)):
+            passing = [it for it in parts if it[1] and passes(it[1])]
+            kept = distinct(passing, most, lambda it: it[1])
+            wanted, _ = help.blocks(order, [it[0] for it in parts if it[1] is None or any(it is one for one in kept)])
+            words = ["cut", "in", *words, "-o", "out"]
+            cutting.expects(tally, help, f"{words} of blocks, {order}", {"in": given}, words, {"out": wanted}, said=left_out_of(passing, kept))
+        torn = (ENHANCED, struct.pack(order + "IIIII", 0, 0, 5, 9, 9) + b"only")
+        whole = (ENHANCED, packet_body(order, struct.pack(order + "III", 0, 0, 5), 90, b"data", b"", b""))
+        front = [(1, struct.pack(order + "HHI", 1, 0, 0))]
+        given, _ = help.blocks(order, front + [whole, torn, torn, whole])
+        wanted, _ = help.blocks(order, front + [whole, torn, torn])
+        said = "pcapfile: in: left out 1 packet as a duplicate\npcapfile: in: did not compare 2 packets with a malformed body\n"
+        cutting.expects(tally, help, f"malformed duplicates, {order}", {"in": given}, ["cut", "in", "--dedup=1", "-o", "out"], {"out": wanted}, said=said)
+
+
+def try_wrong_duplicates(tally, help):
+    for text in ("0", "-1", "", "a", "1000001", "1.5", "1K"):
+        refuses(tally, help, [f"--dedup={text}"])
+    refuses(tally, help, ["--dedup", "4"])
+    for words in (["--every", "2"], ["--parts", "2"], ["--bytes", "1K"]):
+        refuses(tally, help, ["--dedup", *words])
+
+
 def try_all(tally, help):
-    for tries in (try_classic_lengths, try_block_lengths, try_kept_whole, try_wrong_lengths):
+    for tries in (try_classic_lengths, try_block_lengths, try_kept_whole, try_wrong_lengths, try_classic_duplicates, try_block_duplicates,
+                  try_wrong_duplicates):
         tries(tally, help)

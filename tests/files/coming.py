@@ -1,6 +1,6 @@
 """Runs both commands of each row of docs/DIFFERENCES.md that has two, and checks that they give the same packets.
 
-The captures have packets of several lengths and times. x.pcapng has two interfaces. A command writes y.pcap, y.pcapng or parts of them, or
+The captures have packets of several lengths and times. x.pcapng has two interfaces, and mixed.pcap is not in order of time. A command writes y.pcap, y.pcapng or parts of them, or
 it reports. The test compares written packets by a reader made with struct alone, and of reports the number of packets.
 """
 import glob
@@ -15,21 +15,25 @@ SECONDS = 60
 START, SECOND = 1700000000000000000, 10**9
 ROW = re.compile(r"^\| `([^`]+)` \| `([^`]+)`(?:;[^|]*)? \|$", re.M)
 HEADING = "## Coming from "
-TOOLS = ("capinfos", "tcpdump", "tshark", "editcap", "mergecap")
+TOOLS = ("capinfos", "tcpdump", "tshark", "editcap", "mergecap", "reordercap")
 COUNT = re.compile(r"(\d+) packets|^Number of packets: +(\d+)|^  Packets: +(\d+)", re.M)
 LINES = ("tcpdump", "tshark")
+# The names of a table's column that has the number of packets.
+COUNTS = ("Number of packets", "packets")
 UDP = bytes(12) + b"\x08\0" + bytes.fromhex("450000200000000040110000" + "0a0000010a000002" + "d43100350008")
 
 
 def captures(help):
-    """Returns the files of the commands: two classic captures, and one of blocks."""
+    """Returns the files of the commands: three classic captures, and one of blocks. The last packet of most is a duplicate."""
     data = [UDP[:36] + bytes([0, 53 + k % 2]) + UDP[38:] + bytes(k * 9) for k in range(10)]
+    data.append(data[8])
     packets = [(START + k * SECOND // 2, len(it), it) for k, it in enumerate(data)]
     later = [(time + SECOND // 4, wire, data) for time, wire, data in packets]
     parts = [help.interface("<", 1, 0, True), help.interface("<", 1, 0, True)]
     parts += [help.enhanced("<", k % 2, time, wire, data) for k, (time, wire, data) in enumerate(packets)]
     made = [help.classic("<", 0xA1B2C3D4, 1000, 1, them)[0] for them in (packets, later)]
-    return {"x.pcap": made[0], "z.pcap": made[1], "x.pcapng": help.blocks("<", parts)[0]}
+    mixed = help.classic("<", 0xA1B2C3D4, 1000, 1, packets[5:] + later + packets[:5])[0]
+    return {"x.pcap": made[0], "z.pcap": made[1], "mixed.pcap": mixed, "x.pcapng": help.blocks("<", parts)[0]}
 
 
 def outcome(help, command, held, program):
@@ -52,6 +56,9 @@ def count_of(command, report):
     """Returns how many packets a report has: lines of packets, or the number that the report states."""
     if command.split()[0] in LINES or "list" in command.split():
         return len(report.splitlines())
+    if "\t" in report.partition("\n")[0]:
+        heads, row = (it.split("\t") for it in report.splitlines()[:2])
+        return next((int(it) for head, it in zip(heads, row) if head in COUNTS), None)
     found = COUNT.search(report)
     return found and int(next(it for it in found.groups() if it))
 

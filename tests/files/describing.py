@@ -229,6 +229,22 @@ def try_classic(tally, help):
             written = help.files(folder).get("guessed", b"")
         tally.note(f"no header, {order}", code != AT_FAULT and f"it ended with {code}", (as_is.NO_HEADER not in said or "blocks" in said) and f"it said {said!r}")
         tally.note(f"no header, {order}, --guess", (guessed, written[24:]) != (GUESSED, capture[24:]) and f"it ended with {guessed}")
+        try_few(tally, help, order, items)
+
+
+def try_few(tally, help, order, items):
+    """Checks that --guess takes four packets in a row for a capture, and names the option that helps if there are fewer."""
+    for count, status in ((3, AT_FAULT), (4, GUESSED)):
+        capture, _ = help.classic(order, 0xA1B2C3D4, 1000, 1, items[:count])
+        with tempfile.TemporaryDirectory() as folder:
+            help.put(folder, "in", capture[24:])
+            code, _, said = cutting.ran(tally, folder, "repair", "in", "-o", "out", "--guess")
+            made = "out" in help.files(folder)
+        tally.note(
+            f"{count} packets without a header, {order}, --guess",
+            (code, made) != (status, status == GUESSED) and f"it ended with {code}",
+            (as_is.TOO_FEW in said) != (status == AT_FAULT) and f"it said {said!r}",
+        )
 
 
 def try_random(tally, help):

@@ -66,6 +66,13 @@ def try_counts(tally, help):
                 ended[1] != b"".join(wanted) and f"it wrote {ended[1]}",
                 bool(ended[2]) != is_read and f"it said {ended[2]!r}",
             )
+    packets = [help.enhanced("<", 0, k * 10**6, 60, b"data") for k in range(5)]
+    capture_of_blocks, _ = help.blocks("<", [help.interface("<", 1), packets[0], help.interface("<", 101), (4, bytes(4)), *packets[1:]])
+    for count in range(1, 8):
+        with tempfile.TemporaryDirectory() as folder:
+            ended = cutting.ran(tally, folder, "list", "-n", str(count), "-", given=capture_of_blocks)
+        wanted = b"".join(line[:-1] + b" 0\n" for line in lines[:count])
+        tally.note(f"{count} packets among blocks", ended != (DONE, wanted, "") and f"it gave {ended}")
     for words in (["-n", "0"], ["-n", "a"], ["-n", "1", "--as-is"]):
         cutting.fails(tally, help, f"list {words}", {"in": capture}, ["list", *words, "in"], USAGE, "error: ")
     with tempfile.TemporaryDirectory() as folder:

@@ -101,11 +101,21 @@ def csv(capture):
     return [",".join("" if it is None else str(it) for it in row) + "\n" for row, _ in rows_of(capture)]
 
 
+def utc_csv(capture):
+    lines = []
+    for (index, _, _, *rest), time in rows_of(capture):
+        shown = "" if utc_text(time) == "-" else utc_text(time)
+        lines.append(",".join("" if it is None else str(it) for it in (index, shown, *rest)) + "\n")
+    return lines
+
+
 def objects(capture):
     return [dict(zip(COLUMNS, row)) for row, _ in rows_of(capture)]
 
 
 HEADING = ",".join(COLUMNS) + "\n"
+UTC_HEADING = "index,time,captured,original,interface\n"
+BOTH = ("--utc", "--csv")
 
 
 def malformed(refused):
@@ -138,8 +148,9 @@ class Lists:
         for piped in (False, True):
             # A pipe can't be read again to find where its last packet begins.
             told = re.sub("cut short at byte .*", "cut short", said.format("-")) if piped else said.format("in")
-            for form, wanted in (("--utc", "".join(utc(whole))), ("--csv", HEADING + "".join(csv(whole)))):
-                ended = self.run({"in": capture}, [form], piped)
+            dated, rows = UTC_HEADING + "".join(utc_csv(whole)), HEADING + "".join(csv(whole))
+            for form, wanted in ((("--utc",), "".join(utc(whole))), (("--csv",), rows), (BOTH, dated)):
+                ended = self.run({"in": capture}, form, piped)
                 self.tally.note(f"list {form}, {name}", ended != (status, wanted, told) and f"it gives {ended}, and not {wanted!r}")
             code, out, stderr = self.run({"in": capture}, ["--json"], piped)
             found = [json.loads(it) for it in out.splitlines()]
@@ -205,13 +216,15 @@ def try_several(lists):
     two, _ = lib.blocks(">", [lib.interface(">", 1), lib.enhanced(">", 0, 1, 2, b"3")])
     captures = {"one": one, "two": two}
     named = "".join(f"{name}:\n{''.join(utc(it))}" for name, it in captures.items())
-    for form, wanted in (("--utc", named), ("--csv", HEADING + "".join(csv(one) + csv(two)))):
-        ended = lists.run(captures, [form])
+    for form, wanted in ((BOTH, UTC_HEADING + "".join(utc_csv(one) + utc_csv(two))), (("--utc",), named), (("--csv",), HEADING + "".join(csv(one) + csv(two)))):
+        ended = lists.run(captures, form)
         tally.note(f"list {form} of two", ended != (DONE, wanted, "") and f"it gives {ended}, and not {wanted!r}")
     code, out, said = lists.run(captures, ["--json"])
     found = [json.loads(it) for it in out.splitlines()]
     tally.note("list --json of two", (code, found, said) != (DONE, objects(one) + objects(two), "") and f"it gives {code}, {found}, {said!r}")
     for pair in itertools.combinations(("--utc", "--csv", "--json", "--as-is"), 2):
+        if pair == BOTH:
+            continue
         code, out, said = lists.run(captures, pair)
         tally.note(f"list {' '.join(pair)}", (code, out, said[:7]) != (USAGE, "", "error: ") and f"it gives {code}, {out!r}, {said!r}")
 
@@ -251,7 +264,7 @@ def try_memory(lists):
         lists.tally.note(f"list {form}, memory", much > little + 1024 and f"{much} KiB of 200000 packets, and {little} of 1000")
 
 
-def try_all(tally, lib):
-    lists = Lists(tally, lib)
+def try_all(tally, help):
+    lists = Lists(tally, help)
     for tries in (try_classic, try_blocks, try_cut, try_several, try_live, try_memory):
         tries(lists)

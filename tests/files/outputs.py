@@ -190,6 +190,7 @@ def try_inputs(tally):
         ("join", ["join", "in", "other", "-o"]),
         ("merge", ["merge", "in", "other", "-o"]),
         ("merge, second", ["merge", "other", "in", "-o"]),
+        ("sort", ["sort", "in", "-o"]),
         ("repair", ["repair", "in", "-o"]),
     ]
     for name, asked in words:

@@ -371,6 +371,7 @@ def shown_by_tshark(capture):
 WORDS = (
     ("info", "in"),
     ("info", "--json", "in"),
+    ("info", "--table", "--total", "in"),
     ("convert", "in", "-o", "out"),
     ("convert", "--to", "pcapng", "in", "-o", "out"),
     ("convert", "in", "-o", "-"),

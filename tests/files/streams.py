@@ -14,6 +14,7 @@ REMEDIES = (
     "pcapfile: --as-is reads on after the error, and 'pcapfile repair' writes a well-formed capture\n",
     "pcapfile: --repair reads on after the error, and 'pcapfile repair' writes a well-formed capture\n",
     "pcapfile: 'pcapfile repair' writes a well-formed capture of the malformed part\n",
+    "pcapfile: 'pcapfile repair' writes a well-formed capture, which 'pcapfile sort' reads\n",
 )
 FLAWED = CAPTURE + struct.pack("<IIII", 9, 0, 4, 1) + b"data"
 TOP = os.path.dirname(os.path.dirname(os.path.dirname(os.path.abspath(__file__))))
@@ -24,6 +25,7 @@ WORDS = (
     (["check", "--as-is", "flawed"], True, False),
     (["info", "in"], True, False),
     (["info", "--json", "in"], True, False),
+    (["info", "--table", "--total", "in"], True, False),
     (["info", "--repair", "flawed"], True, True),
     (["list", "in"], True, False),
     (["list", "--csv", "in"], True, False),
@@ -38,6 +40,8 @@ WORDS = (
     (["join", "in", "-o", "out"], False, False),
     (["merge", "in", "in", "-o", "out"], False, False),
     (["merge", "--repair", "flawed", "in", "-o", "out"], False, True),
+    (["sort", "in", "-o", "out"], False, False),
+    (["sort", "in", "-o", "-"], True, False),
     (["repair", "in", "-o", "out"], False, True),
     (["repair", "--json", "flawed", "-o", "out"], True, False),
     (["repair", "flawed", "-o", "out"], False, True),
@@ -93,7 +97,7 @@ def try_unread(tally):
     many = HEADER + packet(1, b"") * 200000
     flaws = HEADER + (struct.pack("<IIII", 1, 0, 4, 1) + b"data") * 20000
     words = [["list", "in"], ["list", "--json", "in"], ["list", "--csv", "in"], ["list", "--as-is", "in"], ["check", "--as-is", "flaws"]]
-    words += [[*it, "-o", "-"] for it in (["convert", "in"], ["convert", "--to", "pcap", "in"], ["cut", "in"], ["join", "in"], ["merge", "in"], ["repair", "in"])]
+    words += [[*it, "-o", "-"] for it in (["convert", "in"], ["convert", "--to", "pcap", "in"], ["cut", "in"], ["join", "in"], ["merge", "in"], ["sort", "in"], ["repair", "in"])]
     with Folder(tally.program, **{"in": many, "flaws": flaws}) as folder:
         for it in words:
             try_gone(tally, f"{' '.join(it)}, unread", [tally.program, *it], folder.path)
@@ -131,16 +135,18 @@ def try_shown(tally):
     for sign in SIGNS:
         try_names(tally, sign)
         text = f"a{sign}b"
-        section = block(0x0A0D0D0A, struct.pack("<IHHq", 0x1A2B3C4D, 1, 0, -1) + option(1, text))
-        stored = section + block(1, struct.pack("<HHI", 1, 0, 0) + option(2, text) + option(1, text))
+        section = block(0x0A0D0D0A, struct.pack("<IHHq", 0x1A2B3C4D, 1, 0, -1) + b"".join(option(code, text) for code in (1, 2, 3, 4)))
+        stored = section + block(1, struct.pack("<HHI", 1, 0, 0) + b"".join(option(code, text) for code in (2, 1, 3, 12, 15)))
         with Folder(tally.program, **{"in": stored}) as folder:
             for words in (["info", "in"], ["info", "--json", "in"]):
                 status, written, said = folder.run(*words)
                 written = written.decode()
                 tally.note(f"{' '.join(words)} of {text!r}", status != DONE and f"it ended with {status}", (ACTS.search(written) or said) and f"it wrote {written!r} {said!r}")
             told = json.loads(written)
-            shown = told["comments"] + told["interfaces"][0]["comments"] + [told["interfaces"][0]["name"]]
-            tally.note(f"the texts {text!r} as JSON", shown != [text] * 3 and f"they are {shown}")
+            interface = told["interfaces"][0]
+            shown = told["comments"] + interface["comments"] + [interface[it] for it in ("name", "description", "hardware", "os")]
+            shown += [told[it] for it in ("application", "hardware", "os")]
+            tally.note(f"the texts {text!r} as JSON", shown != [text] * 9 and f"they are {shown}")
 
 
 def try_names(tally, sign):
@@ -152,9 +158,9 @@ def try_names(tally, sign):
         missing = f"no{sign}ne"
         for words in (
             ["check", name], ["check", "--as-is", name], ["info", name], ["info", "--repair", name], ["list", name, "in"], ["list", "--as-is", name, "in"],
-            ["convert", name, "-o", "d/o"], ["cut", name, "-o", "d/o"], ["join", name, "-o", "d/o"], ["merge", name, "-o", "d/o"], ["repair", name, "-o", "d/o"],
+            ["convert", name, "-o", "d/o"], ["cut", name, "-o", "d/o"], ["join", name, "-o", "d/o"], ["merge", name, "-o", "d/o"], ["sort", name, "-o", "d/o"], ["repair", name, "-o", "d/o"],
             ["convert", "in", "-o", f"{name}out"], ["convert", "in", "-o", f"none/{name}"], ["convert", name, "-o", name], ["cut", "in", "--every", "1", "-o", f"{name}/"],
-            ["join", "torn", name, "-o", "d/o"], *([it, missing, "-o", "d/o"] for it in ("convert", "cut", "join", "merge", "repair")),
+            ["join", "torn", name, "-o", "d/o"], *([it, missing, "-o", "d/o"] for it in ("convert", "cut", "join", "merge", "sort", "repair")),
             ["check", missing], ["info", missing], ["list", missing], [missing], [f"--{missing}"], ["check", f"--{missing}", "in"], ["check"],
             ["convert", "in", "--to", name, "-o", "d/o"], ["cut", "in", "--from", name, "-o", "d/o"], ["cut", "in", "--every", name, "-o", "d/o"], ["cut", "in", name, "-o", "d/o"],
         ):
@@ -163,6 +169,9 @@ def try_names(tally, sign):
             faults = ACTS.search(shown) or (sign == "\n" and any(line.startswith(("y", "ne")) for line in shown.splitlines()))
             tally.note(f"{words!r}", faults and f"it shows {shown!r}")
         _, written, _ = folder.run("info", "--json", name)
+        _, table, _ = folder.run("info", "--table", name)
+        rows = table.decode().splitlines()
+        tally.note(f"{name!r} in a table", ACTS.search("".join(rows).replace("\t", "")) and f"it wrote {table}", [row.count("\t") for row in rows] != [16, 16] and f"it wrote {rows}")
         tally.note(f"{name!r} as JSON", ACTS.search(written.decode()) and f"it wrote {written}", json.loads(written)["file"] != name and f"it names {json.loads(written)['file']!r}")
 
 
@@ -172,7 +181,7 @@ def try_other_names(tally):
         with Folder(tally.program, **{"in": CAPTURE}) as folder:
             with open(os.path.join(folder.path.encode(), name), "wb") as it:
                 it.write(CAPTURE)
-            for word in (["check"], ["info"], ["info", "--json"], ["list"], ["check", "--as-is"], ["list", "--as-is"]):
+            for word in (["check"], ["info"], ["info", "--json"], ["info", "--table"], ["list"], ["check", "--as-is"], ["list", "--as-is"]):
                 alone = folder.run(*word, "in", "in")
                 status, written, said = folder.run(*word, "in", name, "in")
                 shown = "".join(chr(it) if it < 128 else f"\\x{it:02x}" for it in name)
@@ -194,6 +203,7 @@ def try_remedies(tally):
         *((it, REMEDIES[0]) for it in (["check", "torn"], ["list", "torn"])),
         *((it, REMEDIES[1]) for it in (["info", "torn"], ["convert", "torn", "-o", "out"], ["cut", "torn", "-o", "out"], ["merge", "torn", "-o", "out"])),
         (["join", "torn", "-o", "out"], REMEDIES[2]),
+        (["sort", "torn", "-o", "out"], REMEDIES[3]),
         *((it, None) for it in (["check", "--as-is", "torn"], ["list", "--as-is", "torn"], ["info", "--repair", "torn"], ["convert", "--repair", "torn", "-o", "out"])),
         *((it, None) for it in (["check", "in"], ["check", "none"], ["repair", "torn", "-o", "out"], ["list", "in"])),
     ):
@@ -213,8 +223,8 @@ def try_foreign(tally):
     alone = ("empty", "zipped", "page", "text", "one")
     for words, has_remedy in (
         *((["check", it], False) for it in alone),
-        *(([*word, it, "-o", "out"], False) for it in alone for word in (["convert"], ["cut"], ["merge"], ["join"])),
-        *(([*word, it], False) for it in alone for word in (["info"], ["info", "--json"], ["list"], ["list", "--csv"])),
+        *(([*word, it, "-o", "out"], False) for it in alone for word in (["convert"], ["cut"], ["merge"], ["sort"], ["join"])),
+        *(([*word, it], False) for it in alone for word in (["info"], ["info", "--json"], ["info", "--table"], ["list"], ["list", "--csv"])),
         *(([word, "in", *alone, "in"], False) for word in ("check", "info", "list")),
         *(([word, "torn", *alone], True) for word in ("check", "info", "list")),
         *(([word, *alone, "torn"], True) for word in ("check", "info", "list")),

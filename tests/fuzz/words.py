@@ -2,6 +2,7 @@
 fails by an assertion. tests/model is the independent reading of the strict grammar."""
 import csv
 import io
+import itertools
 import json
 import os
 import subprocess
@@ -91,6 +92,11 @@ def words_agree(folder, random, capture):
     told = json.loads(folder.run("info", "--json", "in", statuses=(DONE, AT_FAULT, FAILED)).stdout or b"null")
     if told and told.get("packets") is not None:
         assert told["packets"] <= len(listed), (told["packets"], len(listed))
+    rows = folder.run("info", "--table", "in", statuses=(DONE, AT_FAULT, FAILED)).stdout.decode().splitlines()
+    rows = [dict(zip(rows[0].split("\t"), it.split("\t"), strict=True)) for it in rows[1:]]
+    assert len(rows) == (told is not None), rows
+    for row, name in itertools.product(rows, ("packets", "original", "stored", "bytes", "status", "average", "duration")):
+        assert row[name] == ("-" if told[name] is None else str(told[name])), (name, row, told)
 
 
 def lenient_is_strict_on_sound(folder, random, capture):
@@ -136,6 +142,35 @@ def seconds_of(row):
     return int(row["seconds"]) * 10**9 + int(row["nanoseconds"])
 
 
+def duplicates_are_left_out(folder, random, capture):
+    """Checks that `cut --dedup` leaves out exactly the packets whose length on the wire and data one of the packets before them has."""
+    capture, found = sound(random)
+    folder.write("in", capture)
+    folder.run("join", "in", "in", "-o", "twice", statuses=[DONE])
+    most = random.choice([1, 2, max(len(found), 1), 1000])
+    folder.run("cut", "twice", f"--dedup={most}", "-o", "out", statuses=[DONE])
+    marks = [(it.wire, it.data) for it in found + found]
+    kept = [it for k, it in enumerate(found + found) if marks[k] not in marks[max(0, k - most) : k]]
+    told = [(seconds_of(it), int(it["captured"]), int(it["original"])) for it in packets_of(folder, "out", statuses=[DONE])]
+    assert told == [(it.time, len(it.data), it.wire) for it in kept], (most, told)
+
+
+def shifts_go_back(folder, random, capture):
+    """Checks that times that `cut --shift` moves exactly are moved, and move back to the same bytes."""
+    capture, found = sound(random)
+    folder.write("in", capture)
+    text = random.choice(["1", "86400", "1000000000", "0.001", "0.000001", "1.000000001"])
+    whole, _, fraction = text.partition(".")
+    shift = int(whole) * 10**9 + int(fraction.ljust(9, "0"))
+    moved = folder.run("cut", "in", "--shift", text, "-o", "there", statuses=[DONE])
+    if moved.stderr:
+        return
+    times = [seconds_of(it) for it in packets_of(folder, "there", statuses=[DONE])]
+    assert times == [it.time + shift for it in found], (text, times)
+    folder.run("cut", "there", "--shift", f"-{text}", "-o", "back", statuses=[DONE])
+    assert folder.read("back") == capture, text
+
+
 def conversion_goes_round(folder, random, capture):
     """Checks that a sound classic capture becomes blocks and packets again with the same times, lengths and bytes."""
     capture, found = sound(random)
@@ -171,6 +206,27 @@ def merge_is_the_sorted_union(folder, random, capture):
     assert sorted(told) == sorted((it.time, len(it.data), it.wire) for found in every for it in found)
 
 
+def sort_is_stable(folder, random, capture):
+    """Checks that a sound classic capture, twice in a row, is sorted by time and stable, and that any other capture spares the output."""
+    folder.write("in", capture)
+    folder.write("out", b"old")
+    if folder.run("sort", "in", "-o", "out", statuses=(DONE, AT_FAULT, FAILED)).returncode != DONE:
+        assert folder.read("out") == b"old"
+    capture, found = sound(random)
+    while capture[:4] not in MAGICS:
+        capture, found = sound(random)
+    folder.write("in", capture + capture[24:])
+    folder.run("sort", "in", "-o", "out", statuses=[DONE])
+    wanted = sorted(found + found, key=lambda it: it.time)
+    told = [(seconds_of(it), int(it["captured"]), int(it["original"])) for it in packets_of(folder, "out", statuses=[DONE])]
+    assert told == [(it.time, len(it.data), it.wire) for it in wanted]
+    out, at = folder.read("out"), 24
+    for packet in wanted:
+        assert out[at + 16 : at + 16 + len(packet.data)] == packet.data
+        at += 16 + len(packet.data)
+    assert out[:24] == capture[:24] and at == len(out)
+
+
 def lenient_words_end(folder, random, capture):
     """Checks that words that read leniently end with a documented status, and that what they write is sound."""
     folder.write("in", capture)
@@ -182,8 +238,8 @@ def lenient_words_end(folder, random, capture):
         folder.run("check", "out", statuses=[DONE])
 
 
-PROPERTIES = [check_is_the_model, words_agree, lenient_is_strict_on_sound, repair_is_stable, parts_join, conversion_goes_round,
-              merge_is_the_sorted_union, lenient_words_end]
+PROPERTIES = [check_is_the_model, words_agree, lenient_is_strict_on_sound, repair_is_stable, parts_join, duplicates_are_left_out, shifts_go_back,
+              conversion_goes_round, merge_is_the_sorted_union, sort_is_stable, lenient_words_end]
 
 
 def tried(program, random, capture, of):

@@ -13,6 +13,7 @@ import os
 import random
 import struct
 import sys
+import warnings
 from pathlib import Path
 
 sys.path.insert(0, str(Path(__file__).parents[2] / "python" / "tests"))
@@ -95,6 +96,8 @@ def plain(value):
 
 
 def of_packet(each):
+    if isinstance(each, pcapfile.Gap):
+        return plain(each)
     try:
         comment = each.comment
     except pcapfile.CaptureError as error:
@@ -132,9 +135,9 @@ def told(data, path, most):
     got = []
     for strict in (True, False):
         for opened in (
-            lambda: pcapfile.parse(data, strict=strict),
-            lambda: pcapfile.open(path, strict=strict),
-            lambda: pcapfile.open(Some(data, most), strict=strict),
+            lambda: pcapfile.parse(data, strict=strict, gaps=not strict),
+            lambda: pcapfile.open(path, strict=strict, gaps=not strict),
+            lambda: pcapfile.open(Some(data, most), strict=strict, gaps=not strict),
         ):
             got.append(walked(opened, iter, of_packet))
             got.append(walked(opened, lambda capture: capture.pairs(), plain))
@@ -152,6 +155,7 @@ def joined(batches):
 
 
 def main():
+    warnings.simplefilter("ignore", pcapfile.CaptureWarning)
     seed, count, folder = int(sys.argv[1]), int(sys.argv[2]), sys.argv[3]
     only = int(os.path.basename(folder)) if os.path.basename(folder).isdigit() else None
     folder = folder if only is None else os.path.dirname(folder)

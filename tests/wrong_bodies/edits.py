@@ -2,8 +2,6 @@
 import collections
 import functools
 import glob
-import importlib.machinery
-import importlib.util
 import os
 import sys
 
@@ -15,12 +13,11 @@ Edit = collections.namedtuple("Edit", "changes wanted")
 @functools.cache
 def sample():
     """Returns tests/files/ample.py, and its rows by their names."""
-    folder = os.path.join(os.path.dirname(HERE), "files")
-    sys.path.insert(0, folder)
-    loader = importlib.machinery.SourceFileLoader("files_run", f"{folder}/run")
-    help = importlib.util.module_from_spec(importlib.util.spec_from_loader("files_run", loader))
-    loader.exec_module(help)
-    return help.ample, {row.name: row for row in help.ample.rows(help)}
+    sys.path[:0] = [os.path.dirname(HERE), os.path.join(os.path.dirname(HERE), "files")]
+    import ample
+    import converting
+
+    return ample, {row.name: row for row in ample.rows(converting)}
 
 
 def names():

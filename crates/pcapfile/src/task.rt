@@ -4,14 +4,17 @@ use crate::sizes::size;
 use crate::words;
 use crate::words::Word;
 use clap::ArgMatches;
-use pcapfile_cut::Range;
+use pcapfile_cut::{Changes, Range, Shift};
 use pcapfile_files::Console;
 use pcapfile_lines::Form;
 use pcapfile_run::Format;
-use pcapfile_words_check::{Checking, Informing, Listing, check_files, inform_files, list_files};
+use pcapfile_words_check::{
+    Checking, Informing, Listing, Reporting, check_files, inform_files, list_files,
+};
 use pcapfile_words_convert::{Conversion, Merge, convert_file, merge_files};
 use pcapfile_words_cut::{
-    Cutting, Joining, Moment, Selecting, Way, Zone, cut_file, join_files, ranges,
+    Cutting, Joining, Moment, Selecting, Sorting, Way, Zone, cut_file, join_files, ranges,
+    shift_of_text, sort_file,
 };
 use pcapfile_words_repair::{Repair, check_files_as_is, list_files_as_is, opening_of, repair_file};
 use std::alloc::AllocError;
@@ -26,6 +29,9 @@ const SIZES: &str = "5000, 100K, 1M or 2GB";
 /// The forms of a time.
 const TIMES: &str =
     "1700000000.25, 2023-11-14, '2023-11-14 22:13:20.25', 2023-11-14T22:13:20.25Z or +10s";
+
+/// The forms of a change of times.
+const SHIFTS: &str = "3600, -3600, +0.000001, '1h 30m' or '-1h 30m'";
 
 /// The forms of a header.
 const HEADERS: &str = "little,micro,1, with big for little, nano for micro, and any link type";
@@ -64,6 +70,7 @@ pub(crate) enum Task<'a> {
     Cut(Cutting<'a>),
     Join(Joining<'a>),
     Merge(Merge<'a>),
+    Sort(Sorting<'a>),
     Repair(Repair<'a>),
 }
 
@@ -84,6 +91,7 @@ impl<'a> Task<'a> {
             Word::Cut => Task::Cut(cutting(rt, words)?),
             Word::Join => Task::Join(joining(words)),
             Word::Merge => Task::Merge(merging(words)),
+            Word::Sort => Task::Sort(sorting(words)),
             Word::Repair => Task::Repair(repairing(words)?),
         })
     }
@@ -104,6 +112,7 @@ impl<'a> Task<'a> {
         let (out, format) = match self {
             Task::Convert(asked) => (asked.out, asked.to?),
             Task::Merge(asked) => (asked.out, Format::PcapNg),
+            Task::Sort(asked) => (asked.out, Format::Pcap),
             _ => return None,
         };
         match (format_of_name(out)?, format) {
@@ -128,6 +137,9 @@ impl<'a> Task<'a> {
             Task::Join(_) => Some(
                 "'pcapfile repair' writes a well-formed capture of the malformed part",
             ),
+            Task::Sort(_) => Some(
+                "'pcapfile repair' writes a well-formed capture, which 'pcapfile sort' reads",
+            ),
             Task::CheckAsIs(_)
             | Task::ListAsIs(_)
             | Task::Info(_)
@@ -150,6 +162,7 @@ impl<'a> Task<'a> {
             Task::Cut(asked) => cut_file(console, asked),
             Task::Join(asked) => join_files(console, asked),
             Task::Merge(asked) => merge_files(console, asked),
+            Task::Sort(asked) => sort_file(console, *asked),
             Task::Repair(asked) => repair_file(console, asked),
         }
     }
@@ -220,8 +233,23 @@ fn selecting(rt: &HostRuntime, words: &ArgMatches) -> Result<Selecting, Refusal>
             last: words.get_one(words::MOST).unwrap_or(Range::ALL.last),
         },
         interface: words.get_one(words::INTERFACE),
-        snaplen: words.get_one(words::SNAPLEN),
+        dedup: words.get_one(words::DEDUP).unwrap_or(0),
+        changes: Changes {
+            snaplen: words.get_one(words::SNAPLEN),
+            shift: shift(words)?,
+        },
     })
+}
+
+// Returns the change of the packets' times.
+fn shift(words: &ArgMatches) -> Result<Option<Shift>, Refusal> {
+    let Some(text) = words.get_str(words::SHIFT) else {
+        return Ok(None);
+    };
+    match shift_of_text(text) {
+        Some(shift) => Ok(Some(shift)),
+        None => Err(Refusal::Value(words::SHIFT, SHIFTS)),
+    }
 }
 
 // Returns the ranges of the wanted packets' numbers.
@@ -272,16 +300,15 @@ fn listing<'a>(words: &'a ArgMatches<'_>) -> Listing<'a> {
 
 // Returns the form of the lines of `list`.
 fn form(words: &ArgMatches) -> Option<Form> {
-    if words.get_flag(words::UTC) {
-        return Some(Form::Utc);
+    let (utc, csv) = (words.get_flag(words::UTC), words.get_flag(words::CSV));
+    let json = words.get_flag(words::JSON);
+    match (utc, csv, json) {
+        (true, true, _) => Some(Form::UtcCsv),
+        (true, false, _) => Some(Form::Utc),
+        (false, true, _) => Some(Form::Csv),
+        (false, false, true) => Some(Form::Json),
+        (false, false, false) => None,
     }
-    if words.get_flag(words::CSV) {
-        return Some(Form::Csv);
-    }
-    if words.get_flag(words::JSON) {
-        return Some(Form::Json);
-    }
-    None
 }
 
 // Returns the arguments of the word `merge`.
@@ -290,6 +317,14 @@ fn merging<'a>(words: &'a ArgMatches<'_>) -> Merge<'a> {
         names: files(words),
         out: words.get_str(words::OUT).unwrap_or_default(),
         as_is: is_repaired(words),
+    }
+}
+
+// Returns the arguments of the word `sort`.
+fn sorting<'a>(words: &ArgMatches<'a>) -> Sorting<'a> {
+    Sorting {
+        from: words.get_str(words::IN).unwrap_or_default(),
+        out: words.get_str(words::OUT).unwrap_or_default(),
     }
 }
 
@@ -305,9 +340,21 @@ fn checking<'a>(words: &'a ArgMatches<'_>) -> Checking<'a> {
 fn informing<'a>(words: &'a ArgMatches<'_>) -> Informing<'a> {
     Informing {
         names: files(words),
-        as_json: words.get_flag(words::JSON),
+        form: reporting(words),
+        in_total: words.get_flag(words::TOTAL),
         as_is: is_repaired(words),
     }
+}
+
+// Returns the form of the reports of `info`.
+fn reporting(words: &ArgMatches) -> Reporting {
+    if words.get_flag(words::JSON) {
+        return Reporting::Json;
+    }
+    if words.get_flag(words::TABLE) {
+        return Reporting::Table;
+    }
+    Reporting::Lines
 }
 
 // Returns the arguments of the word `repair`.

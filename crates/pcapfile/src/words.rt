@@ -43,8 +43,14 @@ pub(crate) const INTERFACE: &str = "interface";
 /// The option for the file with a filter.
 pub(crate) const BPF: &str = "bpf";
 
+/// The option for the number of packets before each with which it is compared.
+pub(crate) const DEDUP: &str = "dedup";
+
 /// The option for the most bytes of each packet.
 pub(crate) const SNAPLEN: &str = "snaplen";
+
+/// The option for the change of the packets' times.
+pub(crate) const SHIFT: &str = "shift";
 
 /// The option for the number of packets of each part.
 pub(crate) const EVERY: &str = "every";
@@ -75,6 +81,12 @@ pub(crate) const LINK: &str = "link";
 
 /// The option for JSON output.
 pub(crate) const JSON: &str = "json";
+
+/// The option for a table of captures.
+pub(crate) const TABLE: &str = "table";
+
+/// The option for totals over all captures.
+pub(crate) const TOTAL: &str = "total";
 
 /// The option that hides the progress.
 pub(crate) const QUIET: &str = "quiet";
@@ -125,14 +137,23 @@ const INFO: &str =
 
 The first line is that of check. Sizes and rates are those of the packets on the wire. Each line of
 sizes has a bar. In the last line each sign is a span of time, and a taller sign means more packets.
-The interfaces of PcapNg follow, with figures for each where there are several. A packet with a
-malformed body is counted only as malformed. Names and comments are quoted and escaped.
+The interfaces of PcapNg follow, with figures for each where there are several. Its other blocks are
+counted by kind. A packet with a malformed body is counted only as malformed. The application, hardware
+and operating system are those of the first section. Texts from a capture are quoted and escaped.
 
 With --json each capture is one object on a line: file, format, check, status, bytes, packets,
 original and stored (bytes), average, sizes (packets with fewer than 20 bytes, 40, 80 and so on),
-earliest, latest and duration in seconds, packets_per_second, bytes_per_second, over_time (width of a
-span in nanoseconds, number of the first span, packets of each), sections, refused, comments and
-interfaces with the same figures. Numbers with decimals are strings, and unknown values are null.";
+earliest, latest and duration in seconds, in_order (no packet has a time before that of an earlier one),
+packets_per_second, bytes_per_second, over_time (width of a span in nanoseconds, number of the first
+span, packets of each), sections, refused, blocks (numbers of names, statistics, journal, secrets,
+custom and unknown ones), application, hardware, os, comments, and interfaces with the same figures and
+their name, description, hardware, os and comments. Numbers with decimals are strings, and unknown values
+are null.
+
+With --table each capture is a row of tab-separated columns below a row of their names: file, format,
+packets, bytes, original, stored, earliest and latest in UTC, duration, average, packets_per_second,
+bytes_per_second, interfaces (their number), link (type, or several), refused, status and check. Unknown
+values are hyphens. With --total a last report has the sums over all captures that could be read.";
 
 const LIST: &str =
     "Writes a line for each packet: index, time, stored/original length, and for PcapNg the interface.
@@ -143,7 +164,7 @@ the name of each is written before its lines.
 
 With --utc times are in UTC, as 2023-11-14T22:13:20.250000000Z. With --csv each packet is a row of
 index, seconds, nanoseconds, captured, original (the lengths) and interface, below a row of these
-names. With --json each packet is an object on a line of its own, with members of these names. Unknown
+names. Both together write one column, time, in place of seconds and nanoseconds. With --json each packet is an object on a line of its own, with members of these names. Unknown
 values are empty, or null. No names of captures are written, and each capture's index begins at 1.
 
 With --as-is packets that break rules are listed too, followed by ! and the number of each rule, and
@@ -174,11 +195,11 @@ written as OUT.part, and renamed to OUT when it is complete.";
 const CUT: &str = "Copies the chosen packets of a capture, or splits all of it into parts.
 
 OUT gets the packets that pass all tests: --packets, --from, --until, --min-len, --max-len, --interface
-and --bpf. Headers and packets keep their bytes, unless --snaplen shortens packets. With --every, --parts
-or --bytes the parts have a number of five digits before the extension of OUT, so that a shell sorts them:
-OUT.pcap becomes OUT-00001.pcap, OUT-00002.pcap and so on. 'pcapfile join' restores the capture. Each file
-is written as FILE.part, and renamed to FILE when it is complete. If the capture is truncated or
-malformed, the parts before the error stay.
+and --bpf, except duplicates with --dedup. Headers and packets keep their bytes, unless --snaplen shortens
+packets or --shift moves them. With --every, --parts or --bytes the parts have a number of five digits before the extension of
+OUT, so that a shell sorts them: OUT.pcap becomes OUT-00001.pcap, OUT-00002.pcap and so on. 'pcapfile join'
+restores the capture. Each file is written as FILE.part, and renamed to FILE when it is complete. If the
+capture is truncated or malformed, the parts before the error stay.
 
 A TIME is 1700000000.25 (seconds since 1970), 2023-11-14, '2023-11-14 22:13:20.25' (in UTC, or with
 --local in the system's zone), 2023-11-14T22:13:20.25+01:00, or +10s, +1.5s or '+1h 30m' after the first
@@ -212,10 +233,22 @@ const BPF_HELP: &str =
 
 const LOCAL_HELP: &str = "Reads a TIME without a zone in the system's zone";
 
+const DEDUP_HELP: &str =
+    "Leaves out a packet with the data and lengths of one of the N before it that pass all tests [4 without N]";
+
 const SNAPLEN_HELP: &str =
     "At most the first N bytes of each packet; its length on the wire and the headers stay";
 
-/// The options for several parts. None of them goes with an option that selects or shortens packets.
+const SHIFT_HELP: &str =
+    "Adds seconds to the time of each packet: 3600, -0.5 or '-1h 30m'; the tests see the time before";
+
+/// The number of packets with which each is compared if the user gives none. editcap -d compares with as many.
+const DEDUP_DEFAULT: &str = "4";
+
+/// The most packets with which each is compared. Their digests take 32 megabytes.
+const DEDUP_MOST: u64 = 1_000_000;
+
+/// The options for several parts. None of them goes with an option that selects or changes packets.
 const MANY: &[&str] = &[EVERY, PARTS, BYTES];
 
 const PARTS_HELP: &str = "N parts of nearly equal length; needs a file, and excludes --repair";
@@ -239,6 +272,13 @@ other options. Names, statistics, secrets and other blocks of little-endian capt
 packet of their capture. Standard error says how many blocks and options of each kind are left out. If
 a capture is malformed, its packets before the error are merged, and standard error gives the reason.
 The output is written as OUT.part, and renamed to OUT when it is complete.";
+
+const SORT: &str = "Writes the packets of a classic capture in order of time.
+
+Packets of equal times keep their order. The header and each packet record keep their bytes. The capture
+is read twice, so IN is a file, and the program keeps 24 bytes of memory for each packet. If the capture is
+truncated or malformed, there is no output, and standard error gives the reason. The output is written as
+OUT.part, and renamed to OUT when it is complete.";
 
 const REPAIR: &str = "Reads a damaged capture and writes a well-formed one.
 
@@ -269,11 +309,12 @@ pub(crate) enum Word {
     Cut,
     Join,
     Merge,
+    Sort,
     Repair,
 }
 
 /// All words, in the order of the help.
-const WORDS: [Word; 8] = [
+const WORDS: [Word; 9] = [
     Word::Check,
     Word::Info,
     Word::List,
@@ -281,6 +322,7 @@ const WORDS: [Word; 8] = [
     Word::Cut,
     Word::Join,
     Word::Merge,
+    Word::Sort,
     Word::Repair,
 ];
 
@@ -299,7 +341,7 @@ impl Word {
     pub(crate) fn reads_repaired(self) -> bool {
         match self {
             Word::Info | Word::Convert | Word::Cut | Word::Merge => true,
-            Word::Check | Word::List | Word::Join | Word::Repair => false,
+            Word::Check | Word::List | Word::Join | Word::Sort | Word::Repair => false,
         }
     }
 
@@ -312,6 +354,7 @@ impl Word {
             Word::Cut => "cut",
             Word::Join => "join",
             Word::Merge => "merge",
+            Word::Sort => "sort",
             Word::Repair => "repair",
         }
     }
@@ -327,6 +370,7 @@ impl Word {
             Word::Cut => "Copies the chosen packets of a capture, or splits it into parts",
             Word::Join => "Joins the parts of a capture",
             Word::Merge => "Merges captures by time into one PcapNg capture",
+            Word::Sort => "Sorts the packets of a classic capture by time",
             Word::Repair => "Reads a damaged capture and writes a well-formed one",
         }
     }
@@ -344,6 +388,7 @@ impl Word {
             Word::Cut => cut(alloc, command),
             Word::Join => join(alloc, command),
             Word::Merge => merge(alloc, command),
+            Word::Sort => sort(alloc, command),
             Word::Repair => repair(alloc, command),
         }
     }
@@ -362,7 +407,7 @@ fn program<'a>(alloc: Global) -> Result<Command<'a>, AllocError> {
     Command::new(alloc, "pcapfile")
         .version(VERSION)
         .about(
-            "Checks, lists, converts, cuts, joins, merges and repairs packet captures, pcap and PcapNg.",
+            "Checks, lists, converts, cuts, joins, merges, sorts and repairs packet captures, pcap and PcapNg.",
         )
         .after_help(STATUSES)
         .subcommand_required(true)
@@ -388,8 +433,19 @@ fn info<'a>(alloc: Global, command: Command<'a>) -> Result<Command<'a>, AllocErr
         .long_about(INFO)
         .arg(files(alloc))?
         .arg(json(alloc))?
+        .arg(table(
+            alloc,
+            TABLE,
+            "A row of tab-separated values for each capture",
+        )?)?
+        .arg(flag(alloc, TOTAL).help("Totals over all captures at the end"))?
         .arg(repaired(alloc))?
         .arg(once_as_is(alloc))
+}
+
+fn table<'a>(alloc: Global, name: &'a str, help: &'a str) -> Result<Arg<'a>, AllocError> {
+    let table = flag(alloc, name).help(help);
+    table.conflicts_with_all(&[JSON])
 }
 
 fn list<'a>(alloc: Global, command: Command<'a>) -> Result<Command<'a>, AllocError> {
@@ -414,7 +470,7 @@ fn count<'a>(alloc: Global, name: &'a str, help: &'a str) -> Result<Arg<'a>, All
 
 fn utc<'a>(alloc: Global, name: &'a str, help: &'a str) -> Result<Arg<'a>, AllocError> {
     let utc = flag(alloc, name).help(help);
-    utc.conflicts_with_all(&[CSV, JSON, AS_IS])
+    utc.conflicts_with_all(&[JSON, AS_IS])
 }
 
 fn csv<'a>(alloc: Global, name: &'a str, help: &'a str) -> Result<Arg<'a>, AllocError> {
@@ -463,7 +519,9 @@ fn cut<'a>(alloc: Global, command: Command<'a>) -> Result<Command<'a>, AllocErro
         .arg(length(alloc, MOST, MOST_HELP)?)?
         .arg(interface(alloc, INTERFACE, INTERFACE_HELP)?)?
         .arg(bpf(alloc, BPF, BPF_HELP)?)?
+        .arg(dedup(alloc, DEDUP, DEDUP_HELP)?)?
         .arg(snaplen(alloc, SNAPLEN, SNAPLEN_HELP)?)?
+        .arg(shift(alloc, SHIFT, SHIFT_HELP)?)?
         .arg(every(alloc, EVERY, "Parts of N packets")?)?
         .arg(parts(alloc, PARTS, PARTS_HELP)?)?
         .arg(bytes(alloc, BYTES, BYTES_HELP)?)?
@@ -516,6 +574,18 @@ fn bpf<'a>(alloc: Global, name: &'a str, help: &'a str) -> Result<Arg<'a>, Alloc
     bpf.conflicts_with_all(MANY)
 }
 
+fn dedup<'a>(alloc: Global, name: &'a str, help: &'a str) -> Result<Arg<'a>, AllocError> {
+    let dedup = Arg::new(alloc, name)
+        .long(name)
+        .value_name("N")
+        .num_args(0..=1)
+        .require_equals(true)
+        .default_missing_value(DEDUP_DEFAULT)
+        .value_parser(ValueParser::unsigned(1, DEDUP_MOST))
+        .help(help);
+    dedup.conflicts_with_all(MANY)
+}
+
 fn snaplen<'a>(alloc: Global, name: &'a str, help: &'a str) -> Result<Arg<'a>, AllocError> {
     let snaplen = Arg::new(alloc, name)
         .long(name)
@@ -523,6 +593,15 @@ fn snaplen<'a>(alloc: Global, name: &'a str, help: &'a str) -> Result<Arg<'a>, A
         .value_parser(ValueParser::unsigned(1, u64::from(u32::MAX)))
         .help(help);
     snaplen.conflicts_with_all(MANY)
+}
+
+fn shift<'a>(alloc: Global, name: &'a str, help: &'a str) -> Result<Arg<'a>, AllocError> {
+    let shift = Arg::new(alloc, name)
+        .long(name)
+        .value_name("SECONDS")
+        .allow_hyphen_values(true)
+        .help(help);
+    shift.conflicts_with_all(MANY)
 }
 
 fn every<'a>(alloc: Global, name: &'a str, help: &'a str) -> Result<Arg<'a>, AllocError> {
@@ -576,6 +655,14 @@ fn merge<'a>(alloc: Global, command: Command<'a>) -> Result<Command<'a>, AllocEr
         .arg(repaired(alloc))?
         .arg(once_as_is(alloc))?
         .arg(output(alloc, OUT_HELP)?)
+}
+
+fn sort<'a>(alloc: Global, command: Command<'a>) -> Result<Command<'a>, AllocError> {
+    let from = Arg::new(alloc, IN)
+        .required(true)
+        .help("The classic capture to sort");
+    let out = output(alloc, OUT_HELP)?;
+    command.long_about(SORT).arg(from)?.arg(out)
 }
 
 fn repair<'a>(alloc: Global, command: Command<'a>) -> Result<Command<'a>, AllocError> {

@@ -1,14 +1,15 @@
 -- Lemmas on the packets behind the last number of a selection.
 use Rattle.std.proofs.Common.{◌≡◌, ◌+◌, ℕ, List, [], ◌∷◌, ◌++◌, length, Bool, true, false, Bor, refl, sym, ap, ◌∙◌, subst, arith, append_assoc, append-nil, length-append}
-use Rattle.std.specs.Prelude.{◌&&◌, ◌||◌, nat_le, nat_lt}
+use Rattle.std.specs.Prelude.{◌&&◌, ◌||◌, nat_le, nat_lt, not}
 use Rattle.std.specs.List.{list_any}
 use Rattle.std.proofs.lemmas.Bool.Decides.{nat_tests}
 use Rattle.pcapfile_cut.specs.declared.selection.Range.{Range}
 use Rattle.pcapfile_cut.specs.declared.selection.Selection.{Selection}
 use Rattle.pcapfile_cut.specs.declared.wanted.Wanted.TheVariants.{Selected}
 use Rattle.pcapfile_cut.specs.Choice.{Stored, chosen}
+use Rattle.pcapfile_cut.specs.Duplicates.{digest_of, is_among}
 use Rattle.pcapfile_cut.specs.Selections.{accepts, goes_behind, is_in, is_selected, is_within, time_of}
-use Rattle.pcapfile_cut.proofs.Chosen.{chosen_push, one_if}
+use Rattle.pcapfile_cut.proofs.Chosen.{chosen_push, one_if, recent_of}
 
 first_false : (a b : Bool) → (a || b) ≡ false → a ≡ false
 first_false false b none = refl
@@ -56,8 +57,9 @@ pub selections_end : (selection : Bor Selection) (packets more : List Stored) �
 selections_end selection packets [] none = ap (chosen (Selected selection)) (append-nil packets)
 selections_end selection packets (x ∷ xs) none =
     let kept = chosen (Selected selection) packets in
+    let is_other = not (is_among (digest_of x.packet) (recent_of (Selected selection) packets)) in
     let once : chosen (Selected selection) (packets ++ x ∷ []) ≡ kept =
-    chosen_push (Selected selection) packets x ∙ ap (λ (b : Bool). kept ++ one_if b x) (not_selected selection.now (length packets) x none) ∙ append-nil kept in
+    chosen_push (Selected selection) packets x ∙ ap (λ (b : Bool). kept ++ one_if (b && is_other) x) (not_selected selection.now (length packets) x none) ∙ append-nil kept in
     let next : goes_behind selection.now (length (packets ++ x ∷ [])) ≡ false =
     subst (λ (n : ℕ). goes_behind selection.now n ≡ false) (sym (length-append packets (x ∷ []))) (none_goes_on selection.now.numbers.now (length packets) none) in
     ap (chosen (Selected selection)) (sym (append_assoc packets (x ∷ []) xs)) ∙ selections_end selection (packets ++ x ∷ []) xs next ∙ once

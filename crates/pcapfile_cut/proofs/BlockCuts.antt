@@ -117,6 +117,8 @@ puts_none wanted a out outcome packets bytes = record {
   went = Appends-nil out;
   packets = counted_same outcome.packets packets;
   bytes = counted_same outcome.bytes bytes;
+  duplicates = refl;
+  unmoved = refl;
   needed = inl refl;
   pending = inl (refl, refl);
 }
@@ -134,6 +136,8 @@ puts_more wanted a m b out mid out_now old new next xs so_far one =
           (packets_more xs (x ∷ []) ∙ ap (λ (n : ℕ). packets_in xs + n) (one_packet x (has_packet x) refl));
       bytes = counted_more old.bytes new.bytes next.bytes (length (bytes_in xs)) (length x.text) (length (bytes_in (xs ++ x ∷ []))) so_far.bytes one.counts.bytes
           (ap (λ (l : List ℕ). length l) text ∙ length-append (bytes_in xs) x.text);
+      duplicates = one.counts.duplicates ∙ so_far.duplicates;
+      unmoved = one.counts.unmoved ∙ so_far.unmoved;
       needed = needed_by wanted old.packets old.bytes new.packets new.bytes xs x (has_packet x) refl so_far.needed so_far.packets so_far.bytes one.needed;
       pending = inr one.pending;
     }

@@ -16,10 +16,10 @@ use Rattle.pcap_classic.specs.PacketText.{Captured, packet_limit}
 use Rattle.pcap_classic.proofs.CaptureFormat.{under_lawful}
 use Rattle.pcapfile_cut.specs.declared.cutting.Outcome.{Outcome}
 use Rattle.pcapfile_cut.specs.declared.wanted.Wanted.{Wanted}
-use Rattle.pcapfile_cut.specs.Choice.{Stored, chosen, takes, text_of}
+use Rattle.pcapfile_cut.specs.Choice.{Stored, chosen, is_new, text_of}
 use Rattle.pcapfile_cut.specs.Cuts.{CutsBehind, Ends, IsStored, PacketIsSaid, Passes, packets_under}
 use Rattle.pcapfile_cut.specs.Fronts.{CutsFront, StopsFront, packets_of}
-use Rattle.pcapfile_cut.proofs.Chosen.{chosen_push, one_if}
+use Rattle.pcapfile_cut.proofs.Chosen.{chosen_push, one_if, recent_of}
 
 lawful : (header : PcapHeader) → IsLawful (packets_under header)
 lawful header = under_lawful packet_limit header
@@ -52,7 +52,7 @@ store header (v ∷ vs) s rest texts =
 pub chosen_append : (wanted : Wanted) (xs ys : List Stored) → (others : List Stored) × (chosen wanted (xs ++ ys) ≡ chosen wanted xs ++ others)
 chosen_append wanted xs [] = ([], ap (chosen wanted) (append-nil xs) ∙ sym (append-nil (chosen wanted xs)))
 chosen_append wanted xs (y ∷ ys) =
-    let one = one_if (takes wanted (length xs + 1) y.packet) y in
+    let one = one_if (is_new wanted (recent_of wanted xs) (length xs + 1) y.packet) y in
     let more = chosen_append wanted (xs ++ y ∷ []) ys in (
       one ++ more.0,
       ap (chosen wanted) (sym (append_assoc xs (y ∷ []) ys)) ∙ more.1 ∙ ap (λ (l : List Stored). l ++ more.0) (chosen_push wanted xs y) ∙ append_assoc (chosen wanted xs) one more.0,
@@ -105,6 +105,8 @@ cut_known header wanted s now out out_now outcome xs (Some after) mid passes end
       place = passes.took;
       went = passes.went;
       count = passes.count;
+      duplicates = passes.duplicates;
+      unmoved = passes.unmoved;
       first_ones = chosen_append wanted xs ms;
       ends = elim ends [
         | inl all ↦ inl (record {

@@ -1,10 +1,10 @@
 mod Behind
 mod BlockCuts
 mod BlockParts
+mod ChangedPackets
 mod Chosen
 mod FrontCuts
 mod JoinedParts
 mod Passing
 mod Repeating
-mod ShortPackets
 mod ShortBlocks

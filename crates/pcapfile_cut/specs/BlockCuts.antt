@@ -19,7 +19,7 @@ use Rattle.pcapfile_cut.specs.declared.blocks.Blocks.{Blocks}
 use Rattle.pcapfile_cut.specs.declared.cutting.Outcome.{Outcome}
 use Rattle.pcapfile_cut.specs.declared.wanted.Wanted.{Wanted}
 use Rattle.pcapfile_cut.specs.declared.wanted.Wanted.TheVariants as wants
-use Rattle.pcapfile_cut.specs.Cuts.{IsNew, counted}
+use Rattle.pcapfile_cut.specs.Cuts.{IsNew, SameCounts, counted}
 use Rattle.pcapfile_cut.specs.Repeating.{Typed, opening_behind, opening_of, texts_of}
 
 -- A block that was read, and its bytes.
@@ -105,6 +105,8 @@ is_enough (wants.Selected selection) packets bytes = false
 pub record Counts (with_packet : Bool) (len : ℕ) (old new : Outcome) : Type 0 where
   pub packets : new.packets ≡ counted (old.packets + (if with_packet then 1 else 0))
   pub bytes : new.bytes ≡ counted (old.bytes + len)
+  pub duplicates : new.duplicates ≡ old.duplicates
+  pub unmoved : new.unmoved ≡ old.unmoved
   pub fault : new.fault ≡ old.fault
   pub read_failed : new.read_failed ≡ old.read_failed
   pub write_failed : new.write_failed ≡ old.write_failed
@@ -142,7 +144,7 @@ FailsBlock a b out out_now new e = (Refuses a b e × Keeps out out_now × (new.w
 abbrev pub StepsBlocks : Wanted → Place → Place → Option (List ℕ) → Option (List ℕ) → Outcome → Outcome → Result Bool PcapError → Type 0
 StepsBlocks wanted a b out out_now old new (Ok true) = PutsBlock wanted a b out out_now old new
 StepsBlocks wanted a b out out_now old new (Ok false) = (IsDone a b ⊎ HasEnough wanted a b old.packets old.bytes) × Keeps out out_now × (new ≡ old)
-StepsBlocks wanted a b out out_now old new (Err e) = FailsBlock a b out out_now new e × (new.packets ≡ old.packets) × (new.bytes ≡ old.bytes)
+StepsBlocks wanted a b out out_now old new (Err e) = FailsBlock a b out out_now new e × SameCounts old new
 
 -- The last packet of these blocks was needed: without it the part did not have enough. Before these blocks the part had these counts.
 abbrev pub LastIsNeeded : Wanted → ℕ → ℕ → List Lent → Type 0
@@ -157,6 +159,8 @@ pub record PutsBlocks (wanted : Wanted) (a b : Place) (out out_now : Option (Lis
   pub went : Appends out out_now (bytes_in blocks)
   pub packets : new.packets ≡ counted (old.packets + packets_in blocks)
   pub bytes : new.bytes ≡ counted (old.bytes + length (bytes_in blocks))
+  pub duplicates : new.duplicates ≡ old.duplicates
+  pub unmoved : new.unmoved ≡ old.unmoved
   pub needed : LastIsNeeded wanted old.packets old.bytes blocks
   pub pending : ((blocks ≡ []) × (b ≡ a)) ⊎ (b.pending ≡ [])
 
@@ -198,8 +202,7 @@ pub record TearsOpeningOf (b now : Place) (out out_now : Option (List ℕ)) (old
   pub refused : IsIo e
   pub write_failed : new.write_failed ≡ true
   pub went : AppendsPart out out_now b.opening
-  pub packets : new.packets ≡ old.packets
-  pub bytes : new.bytes ≡ old.bytes
+  pub counts : SameCounts old new
 
 -- The cut wrote the opening of a part, and then blocks.
 pub record OpensBlocks (wanted : Wanted) (others_follow : Bool) (b now : Place) (out out_now : Option (List ℕ)) (old new : Outcome) (result : Result (Unit {0}) PcapError) : Type 0 where

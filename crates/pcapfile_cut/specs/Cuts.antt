@@ -1,5 +1,5 @@
 -- The bytes that a cut reads and writes.
-use Rattle.std.specs.Prelude.{◌≡◌, ◌+◌, ◌-◌, ◌^◌, ◌++◌, ◌⊎◌, ℕ, List, [], ◌∷◌, length, min, All, Bool, true, false, Option, None, Result, Ok, Err, if◌then◌else◌}
+use Rattle.std.specs.Prelude.{◌≡◌, ◌+◌, ◌-◌, ◌^◌, ◌&&◌, ◌++◌, ◌⊎◌, ℕ, List, [], ◌∷◌, filter, length, min, All, Bool, true, false, Option, None, Result, Ok, Err, if◌then◌else◌}
 use Rattle.std.specs.Option.{IsSomeAnd}
 use Rattle.std.specs.Result.{result_err}
 use Rattle.std.specs.Io.KnownBytes.{Consumes, Appends, Keeps, IsAtEnd}
@@ -15,8 +15,8 @@ use Rattle.pcap_classic.specs.PacketText.{Captured, packet_limit}
 use Rattle.pcapfile_cut.specs.declared.cutting.Outcome.{Outcome}
 use Rattle.pcapfile_cut.specs.declared.opening.Opening.{Opening}
 use Rattle.pcapfile_cut.specs.declared.wanted.Wanted.{Wanted}
-use Rattle.pcapfile_cut.specs.Changes.{written, written_for}
-use Rattle.pcapfile_cut.specs.Choice.{Stored, WantsMore, chosen, takes, text_of}
+use Rattle.pcapfile_cut.specs.Changes.{is_unmoved, written, written_for}
+use Rattle.pcapfile_cut.specs.Choice.{Stored, WantsMore, chosen, is_new, left_out, remembers, repeats, text_of}
 use Rattle.pcapfile_cut.specs.Openings.{bytes_of, header_of}
 
 -- A saturated count: 2^64 - 1 for every number above it.
@@ -35,6 +35,8 @@ PacketIsSaid header = (packets_under header).says tt
 pub record IsNew (outcome : Outcome) : Type 0 where
   pub packets : outcome.packets ≡ 0
   pub bytes : outcome.bytes ≡ 0
+  pub duplicates : outcome.duplicates ≡ 0
+  pub unmoved : outcome.unmoved ≡ 0
   pub no_read_failed : outcome.read_failed ≡ false
   pub no_write_failed : outcome.write_failed ≡ false
 
@@ -51,13 +53,20 @@ LastIsWanted wanted packets =
 abbrev pub IsStored : PcapHeader → Stored → Type 0
 IsStored header stored = PacketIsSaid header stored.text (whole stored.packet [])
 
--- The cut read exactly these packets, and wrote exactly the wanted ones, each with its bytes or shortened.
+-- The written ones of these packets that keep their time because they cannot have the one that is asked for.
+abbrev pub unmoved : PcapHeader → Wanted → List Stored → List Stored
+unmoved header wanted packets = filter (λ (stored : Stored). is_unmoved header wanted stored.packet) (chosen wanted packets)
+
+-- The cut read exactly these packets, and wrote exactly the wanted ones, each with its bytes or changed. It counted the duplicates, and
+-- the packets that keep their time.
 pub record Passes (header : PcapHeader) (wanted : Wanted) (packets : List Stored) (before left out mid : Option (List ℕ)) (outcome : Outcome) : Type 0 where
   pub each : All (IsStored header) packets
   pub took : Consumes before left (text_of packets)
   pub went : Appends out mid (written header wanted (chosen wanted packets))
   pub count : outcome.packets ≡ length packets
   pub bytes : outcome.bytes ≡ counted (length (text_of packets))
+  pub duplicates : outcome.duplicates ≡ counted (length (left_out wanted packets))
+  pub unmoved : outcome.unmoved ≡ counted (length (unmoved header wanted packets))
   pub needed : LastIsWanted wanted packets
 
 -- The cut ended without an error, a further read or a further write: the stream is at its end, or no more packets are wanted.
@@ -105,6 +114,8 @@ pub record CutsBehind (header : PcapHeader) (wanted : Wanted) (before now out ou
 pub record TearsOpening (opening : Opening) (before now out out_now : Option (List ℕ)) (outcome : Outcome) : Type 0 where
   pub none : outcome.packets ≡ 0
   pub no_bytes : outcome.bytes ≡ 0
+  pub no_duplicates : outcome.duplicates ≡ 0
+  pub no_unmoved : outcome.unmoved ≡ 0
   pub refused : IsSomeAnd outcome.fault IsIo
   pub no_read_failed : outcome.read_failed ≡ false
   pub write_failed : outcome.write_failed ≡ true
@@ -121,16 +132,31 @@ pub record OpensPart (opening : Opening) (wanted : Wanted) (before now out out_n
 abbrev pub CutsPart : Opening → Wanted → Option (List ℕ) → Option (List ℕ) → Option (List ℕ) → Option (List ℕ) → Outcome → Type 0
 CutsPart opening wanted before now out out_now outcome = TearsOpening opening before now out out_now outcome ⊎ OpensPart opening wanted before now out out_now outcome
 
--- The cut read the next packet, and wrote it if it is wanted.
-pub record PassesOne (header : PcapHeader) (wanted : Wanted) (before now out out_now : Option (List ℕ)) (old new : Outcome) : Type 0 where
+-- What a cut reads, writes, counts and remembers.
+pub record Progress : Type 0 where
+  pub input : Option (List ℕ)
+  pub output : Option (List ℕ)
+  pub outcome : Outcome
+  pub recent : List (List ℕ)
+
+-- A cut with this input, output, outcome and these remembered digests.
+abbrev pub progress : Option (List ℕ) → Option (List ℕ) → Outcome → List (List ℕ) → Progress
+progress input output outcome recent = record { input = input; output = output; outcome = outcome; recent = recent }
+
+-- The cut read the next packet, and wrote it if it is wanted and no duplicate. It counted it if it is a duplicate.
+pub record PassesOne (header : PcapHeader) (wanted : Wanted) (old new : Progress) : Type 0 where
   pub stored : Stored
   pub is_stored : IsStored header stored
-  pub took : Consumes before now stored.text
-  pub went : Appends out out_now (if takes wanted (old.packets + 1) stored.packet then written_for header wanted stored else [])
-  pub packets : new.packets ≡ old.packets + 1
-  pub bytes : new.bytes ≡ counted (old.bytes + length stored.text)
-  pub no_read_failed : new.read_failed ≡ false
-  pub no_write_failed : new.write_failed ≡ false
+  pub took : Consumes old.input new.input stored.text
+  pub went : Appends old.output new.output (if is_new wanted old.recent (old.outcome.packets + 1) stored.packet then written_for header wanted stored else [])
+  pub packets : new.outcome.packets ≡ old.outcome.packets + 1
+  pub bytes : new.outcome.bytes ≡ counted (old.outcome.bytes + length stored.text)
+  pub duplicates : new.outcome.duplicates ≡ counted (old.outcome.duplicates + (if repeats wanted old.recent (old.outcome.packets + 1) stored.packet then 1 else 0))
+  pub unmoved : new.outcome.unmoved
+      ≡ counted (old.outcome.unmoved + (if is_new wanted old.recent (old.outcome.packets + 1) stored.packet && is_unmoved header wanted stored.packet then 1 else 0))
+  pub recent : new.recent ≡ remembers wanted old.recent (old.outcome.packets + 1) stored.packet
+  pub no_read_failed : new.outcome.read_failed ≡ false
+  pub no_write_failed : new.outcome.write_failed ≡ false
 
 -- There is no next packet.
 pub record FindsEnd (before now out out_now : Option (List ℕ)) (new : Outcome) : Type 0 where
@@ -140,16 +166,16 @@ pub record FindsEnd (before now out out_now : Option (List ℕ)) (new : Outcome)
   pub taken : Keeps before now
   pub went : Keeps out out_now
 
--- The cut read the next packet, which is wanted, and a write failed within its bytes.
-pub record TearsOne (header : PcapHeader) (wanted : Wanted) (before now out out_now : Option (List ℕ)) (old new : Outcome) (e : PcapError) : Type 0 where
+-- The cut read the next packet, which is wanted and no duplicate, and a write failed within its bytes.
+pub record TearsOne (header : PcapHeader) (wanted : Wanted) (old new : Progress) (e : PcapError) : Type 0 where
   pub stored : Stored
   pub is_stored : IsStored header stored
-  pub took : Consumes before now stored.text
-  pub is_wanted : takes wanted (old.packets + 1) stored.packet ≡ true
+  pub took : Consumes old.input new.input stored.text
+  pub is_wanted : is_new wanted old.recent (old.outcome.packets + 1) stored.packet ≡ true
   pub refused : IsIo e
-  pub no_read_failed : new.read_failed ≡ false
-  pub write_failed : new.write_failed ≡ true
-  pub went : AppendsPart out out_now (written_for header wanted stored)
+  pub no_read_failed : new.outcome.read_failed ≡ false
+  pub write_failed : new.outcome.write_failed ≡ true
+  pub went : AppendsPart old.output new.output (written_for header wanted stored)
 
 -- The cut returned an error for the rest.
 pub record RefusesOne (header : PcapHeader) (before now out out_now : Option (List ℕ)) (new : Outcome) (e : PcapError) : Type 0 where
@@ -158,22 +184,14 @@ pub record RefusesOne (header : PcapHeader) (before now out out_now : Option (Li
   pub no_write_failed : new.write_failed ≡ false
   pub went : Keeps out out_now
 
--- What a cut reads, writes and counts.
-pub record Progress : Type 0 where
-  pub input : Option (List ℕ)
-  pub output : Option (List ℕ)
-  pub outcome : Outcome
-
--- A cut with this input, output and outcome.
-abbrev pub progress : Option (List ℕ) → Option (List ℕ) → Outcome → Progress
-progress input output outcome = record { input = input; output = output; outcome = outcome }
+-- The counts of a cut are the same.
+abbrev pub SameCounts : Outcome → Outcome → Type 0
+SameCounts old new = (new.packets ≡ old.packets) × (new.bytes ≡ old.bytes) × (new.duplicates ≡ old.duplicates) × (new.unmoved ≡ old.unmoved)
 
 -- One step of a cut.
 abbrev pub StepsCut : PcapHeader → Wanted → Progress → Progress → Result Bool PcapError → Type 0
-StepsCut header wanted old new (Ok true) = PassesOne header wanted old.input new.input old.output new.output old.outcome new.outcome
-StepsCut header wanted old new (Ok false) =
-    (new.outcome.packets ≡ old.outcome.packets) × (new.outcome.bytes ≡ old.outcome.bytes) × FindsEnd old.input new.input old.output new.output new.outcome
+StepsCut header wanted old new (Ok true) = PassesOne header wanted old new
+StepsCut header wanted old new (Ok false) = SameCounts old.outcome new.outcome × FindsEnd old.input new.input old.output new.output new.outcome
 StepsCut header wanted old new (Err e) =
-    (new.outcome.packets ≡ old.outcome.packets) × (new.outcome.bytes ≡ old.outcome.bytes)
-    × (TearsOne header wanted old.input new.input old.output new.output old.outcome new.outcome e
-    ⊎ RefusesOne header old.input new.input old.output new.output new.outcome e)
+    SameCounts old.outcome new.outcome
+    × (TearsOne header wanted old new e ⊎ RefusesOne header old.input new.input old.output new.output new.outcome e)

@@ -16,8 +16,8 @@ use Rattle.pcapfile_cut.specs.declared.opening.Opening.{Opening}
 use Rattle.pcapfile_cut.specs.declared.wanted.Wanted.{Wanted}
 use Rattle.pcapfile_cut.specs.declared.wanted.Wanted.TheVariants.{All, Numbers, Bytes, Selected}
 use Rattle.pcapfile_cut.specs.Changes.{written}
-use Rattle.pcapfile_cut.specs.Choice.{Stored, WantsMore, chosen, text_of}
-use Rattle.pcapfile_cut.specs.Cuts.{EndsTorn, OpensPart, PacketIsSaid, packets_under}
+use Rattle.pcapfile_cut.specs.Choice.{Stored, WantsMore, chosen, left_out, text_of}
+use Rattle.pcapfile_cut.specs.Cuts.{EndsTorn, OpensPart, PacketIsSaid, counted, packets_under, unmoved}
 use Rattle.pcapfile_cut.specs.Joins.{JoinsPart}
 use Rattle.pcapfile_cut.specs.Openings.{bytes_of, header_of}
 
@@ -62,6 +62,8 @@ pub record CutsFront (header : PcapHeader) (wanted : Wanted) (s : List ℕ) (now
   pub place : s ≡ text_of packets ++ left
   pub went : Appends out mid (written header wanted (chosen wanted packets))
   pub count : outcome.packets ≡ length packets
+  pub duplicates : outcome.duplicates ≡ counted (length (left_out wanted packets))
+  pub unmoved : outcome.unmoved ≡ counted (length (unmoved header wanted packets))
   pub first_ones : (others : List Stored) × (chosen wanted (packets ++ more) ≡ chosen wanted packets ++ others)
   pub ends : EndsAll wanted more rest left now mid out_now outcome ⊎ TearsNext header wanted packets more left now mid out_now outcome
       ⊎ RefusesRest header more rest left now mid out_now outcome

@@ -3,8 +3,11 @@ pub mod BlockParts
 pub mod Changes
 pub mod Choice
 pub mod Cuts
+pub mod Duplicates
 pub mod Fronts
 pub mod Joins
+pub mod MovedBlocks
+pub mod Moves
 pub mod Openings
 pub mod Repeating
 pub mod Selections

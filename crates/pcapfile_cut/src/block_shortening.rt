@@ -7,7 +7,7 @@ ghost use Rattle.pcap_written.specs.Raw.{raw_of};
 ghost use Rattle.pcap_written.specs.Text.{padding};
 ghost use Rattle.pcapfile_cut.specs.ShortBlocks.{HasNoRoom, PartedText, PutsShortened, Shortens, ShortensIn, parted, short_body};
 
-use crate::shortening::front_of;
+use crate::changing::front_of;
 use byteorder::{BigEndian, ByteOrder, LittleEndian};
 use pcap_blocks::BlockType;
 use pcap_core::fields::{split_padded, split_u32};
@@ -18,7 +18,7 @@ use std::alloc::{AllocError, Global};
 use std::io::Write;
 
 /// The longest body of a block whose length fits 32 bits, in bytes.
-const LONGEST_BODY: usize = 4_294_967_283;
+pub(crate) const LONGEST_BODY: usize = 4_294_967_283;
 
 /// The result of shortening the packet of a block.
 #[derive(Clone, Copy, Debug, PartialEq, Eq)]
@@ -60,7 +60,7 @@ fn split_parts<B: ByteOrder>(body: &[u8]) -> Option<Parts<'_>>
 }
 
 // Appends a number of four bytes.
-fn put_u32<B: ByteOrder>(out: &mut Vec<u8>, n: u32) -> Result<(), AllocError>
+pub(crate) fn put_u32<B: ByteOrder>(out: &mut Vec<u8>, n: u32) -> Result<(), AllocError>
     ensures { OnOk result (out.new.items ≡ out.old.items ++ B.bytes_of 4 n) }
 {
     let mut bytes = [0; 4];

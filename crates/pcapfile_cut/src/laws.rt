@@ -1,26 +1,33 @@
 //! Laws of captures that are cut and joined. The contract of each function says what is proved of it.
 
-ghost use Rattle.std.specs.Prelude.{◌≡◌, ◌≤◌, ◌<◌, ◌^◌, ◌++◌, ℕ, List, ◌∷◌, length, false, true, Option, None, Some, []};
+ghost use Rattle.std.specs.Prelude.{◌≡◌, ◌≤◌, ◌<◌, ◌+◌, ◌^◌, ◌++◌, ℕ, List, ◌∷◌, length, false, true, Option, None, Some, []};
 ghost use Rattle.pcap_blocks.specs.EnhancedPacket.{Enhanced, EnhancedText};
 ghost use Rattle.pcap_core.specs.declared.common.Endianness.{Endianness};
 ghost use Rattle.pcap_core.specs.Answer.{number_in};
 ghost use Rattle.pcap_core.specs.Bytes.{IsBytes};
 ghost use Rattle.pcap_core.specs.Codec.{number_bytes};
+ghost use Rattle.pcap_classic.specs.declared.common.TsResolution.{TsResolution};
 ghost use Rattle.pcap_classic.specs.declared.pcap.header.PcapHeader.{PcapHeader};
+ghost use Rattle.pcap_classic.specs.declared.pcap.packet.PacketHeader.{PacketHeader};
+ghost use Rattle.pcap_classic.specs.Magic.{resolution_of};
 ghost use Rattle.pcap_classic.specs.Written.{written_under};
+ghost use Rattle.pcapfile_cut.specs.declared.changing.Changes.{Changes};
 ghost use Rattle.pcapfile_cut.specs.declared.cutting.Outcome.{Outcome};
+ghost use Rattle.pcapfile_cut.specs.declared.moving.Shift.TheVariants.{Later, Earlier};
 ghost use Rattle.pcapfile_cut.specs.declared.opening.Opening.{Opening};
 ghost use Rattle.pcapfile_cut.specs.declared.wanted.Wanted.{Wanted};
 ghost use Rattle.pcapfile_cut.specs.declared.wanted.Wanted.TheVariants.{All, Numbers, Selected};
 ghost use Rattle.pcapfile_cut.specs.BlockCuts.{Place};
 ghost use Rattle.pcapfile_cut.specs.BlockParts.{CutsEach, HasPacketNext, HoldsBlocks};
-ghost use Rattle.pcapfile_cut.specs.Changes.{shortened};
+ghost use Rattle.pcapfile_cut.specs.Changes.{changed, shortened};
 ghost use Rattle.pcapfile_cut.specs.Choice.{Stored, WantsMore, chosen};
 ghost use Rattle.pcapfile_cut.specs.Cuts.{CutsBehind, IsStored, OpensPart};
+ghost use Rattle.pcapfile_cut.specs.Duplicates.{message_with};
 ghost use Rattle.pcapfile_cut.specs.Fronts.{CutsFront, CutsInto, HoldsPackets, JoinsOthers};
+ghost use Rattle.pcapfile_cut.specs.Moves.{moved};
 ghost use Rattle.pcapfile_cut.specs.Openings.{bytes_of};
 ghost use Rattle.pcapfile_cut.specs.Repeating.{HasNoHeader, Typed, about_packets, is_header, opening_behind, texts_of};
-ghost use Rattle.pcapfile_cut.specs.Selections.{goes_behind};
+ghost use Rattle.pcapfile_cut.specs.Selections.{goes_behind, time_of};
 ghost use Rattle.pcapfile_cut.specs.ShortBlocks.{Parted, PartedText, first_bytes, short_body};
 
 /// A cut of known bytes writes the bytes of the first wanted packets of their front, and of all of these if it ended without an
@@ -40,6 +47,27 @@ pub fn numbers_end_at_the_last()
 pub fn selections_end_at_the_last()
     ensures { (selection : _) (packets more : List Stored) → goes_behind selection.now (length packets) ≡ false →
         chosen (Selected selection) (packets ++ more) ≡ chosen (Selected selection) packets }
+{}
+
+/// Two packets have the same message only if they had the same length on the wire and have the same data. So unless two different messages
+/// have the same SHA-256 digest, a cut leaves out a packet only if it has the length and the data of one of the packets before it.
+pub fn messages_tell_packets_apart()
+    ensures { (n m : ℕ) (s t : List ℕ) → n < 2 ^ 32 → m < 2 ^ 32 → message_with n s ≡ message_with m t → (n ≡ m) × (s ≡ t) }
+{}
+
+/// A packet that is written after changes is read again, as it was changed.
+pub fn changed_packets_are_read()
+    ensures { (header : PcapHeader) (changes : Changes) (stored : Stored) → IsBytes stored.text → IsStored header stored →
+        IsStored header (record {
+          packet = changed (resolution_of header.magic_number) changes stored.packet;
+          text = written_under header (changed (resolution_of header.magic_number) changes stored.packet);
+        }) }
+{}
+
+/// A packet whose time is moved is later or earlier by exactly so many nanoseconds.
+pub fn moves_are_exact()
+    ensures later { (r : TsResolution) (n : ℕ) (head new : PacketHeader) → moved r (Later n) head ≡ Some new → time_of new ≡ time_of head + n }
+    ensures earlier { (r : TsResolution) (n : ℕ) (head new : PacketHeader) → moved r (Earlier n) head ≡ Some new → time_of new + n ≡ time_of head }
 {}
 
 /// A packet that is written with at most a number of its bytes is read again: with the first ones of its bytes, and with its time and

@@ -4,6 +4,7 @@ ghost use Rattle.std.specs.Prelude.{◌≡◌};
 ghost use Rattle.std.specs.List.{list_any};
 ghost use Rattle.pcapfile_cut.specs.Selections.{captured, goes_behind, is_in, is_selected, time_of};
 
+use crate::changing::Changes;
 use pcap_classic::pcap::PacketHeader;
 use pcap_filter::Filter;
 
@@ -31,7 +32,7 @@ impl Range {
     }
 }
 
-/// The tests that a wanted packet passes, all of them, and the most bytes that are written of it.
+/// The tests that a wanted packet passes, all of them, the packets before it that it is compared with, and how it is changed.
 #[derive(Clone, Copy)]
 pub struct Selection<'a> {
     /// The ranges of the packets' numbers, in any order. The first packet has number 1. A packet that is in several ranges is
@@ -45,12 +46,15 @@ pub struct Selection<'a> {
     pub lengths: Range,
     /// The program that accepts the packets. `None` accepts all.
     pub filter: Option<&'a Filter>,
-    /// The most bytes that are written of each packet. `None` if each packet keeps all its bytes.
-    pub snaplen: Option<u32>,
+    /// How many of the packets before it that pass the tests a packet is compared with. A packet with the digest of one of them is a
+    /// duplicate, and is left out. 0 keeps duplicates.
+    pub dedup: u32,
+    /// The changes of the packets that are written.
+    pub changes: Changes,
 }
 
 // Returns the time of a packet in nanoseconds since 1970.
-fn nanoseconds(head: &PacketHeader) -> u64
+pub(crate) fn nanoseconds(head: &PacketHeader) -> u64
     ensures { result ≡ time_of head.now }
 {
     let PacketHeader {

@@ -1,10 +1,13 @@
 //! The packets that a cut writes.
 
 ghost use Rattle.std.specs.Prelude.{◌≡◌, ◌↔◌, IsTrue};
-ghost use Rattle.pcapfile_cut.specs.Changes.{snaplen_of};
-ghost use Rattle.pcapfile_cut.specs.Choice.{WantsMore, takes};
+ghost use Rattle.pcapfile_cut.specs.Changes.{changes_of};
+ghost use Rattle.pcapfile_cut.specs.Choice.{WantsMore, dedup_of, is_new, remembers, repeats, takes};
+ghost use Rattle.pcapfile_cut.specs.Duplicates.{most_remembered, remembered};
 ghost use Rattle.pcapfile_cut.specs.Selections.{captured};
 
+use crate::changing::Changes;
+use crate::duplicates::Recent;
 use crate::selection::Selection;
 use pcap_classic::pcap::PacketHeader;
 
@@ -23,8 +26,15 @@ pub enum Wanted<'a> {
     },
     /// The first packets, until they have at least this many bytes. The cut reads nothing after them.
     Bytes(u64),
-    /// The packets that pass the tests of this selection. The cut reads nothing after the last number of its ranges.
+    /// The packets that pass the tests of this selection, without duplicates. The cut reads nothing after the last number of its ranges.
     Selected(&'a Selection<'a>),
+}
+
+/// What a cut does with a packet. It does neither if the packet fails a test.
+#[derive(Clone, Copy)]
+pub(crate) struct Choice {
+    pub(crate) is_written: bool,
+    pub(crate) is_duplicate: bool,
 }
 
 impl Wanted<'_> {
@@ -40,17 +50,27 @@ impl Wanted<'_> {
         }
     }
 
-    // Returns the most bytes that the cut writes of each packet, if there is such a number.
-    pub(crate) fn snaplen(self) -> Option<u32>
-        ensures { result ≡ snaplen_of self.entry }
+    // Returns how many of the packets before it a packet is compared with.
+    pub(crate) fn dedup(self) -> u32
+        ensures { result ≡ dedup_of self.entry }
     {
         match self {
-            Wanted::All | Wanted::Numbers { .. } | Wanted::Bytes(_) => None,
-            Wanted::Selected(selection) => selection.snaplen,
+            Wanted::All | Wanted::Numbers { .. } | Wanted::Bytes(_) => 0,
+            Wanted::Selected(selection) => selection.dedup,
         }
     }
 
-    // Returns whether the packet of this number is wanted.
+    // Returns the changes of the packets that the cut writes.
+    pub(crate) fn changes(self) -> Changes
+        ensures { result ≡ changes_of self.entry }
+    {
+        match self {
+            Wanted::All | Wanted::Numbers { .. } | Wanted::Bytes(_) => Changes::NONE,
+            Wanted::Selected(selection) => selection.changes,
+        }
+    }
+
+    // Returns whether the packet of this number passes the tests.
     pub(crate) fn takes(self, number: u64, head: &PacketHeader, data: &[u8]) -> bool
         ensures { result ≡ takes self.entry number (captured head.now data.now) }
     {
@@ -58,6 +78,34 @@ impl Wanted<'_> {
             Wanted::Numbers { first, last } => first <= number && number <= last,
             Wanted::All | Wanted::Bytes(_) => true,
             Wanted::Selected(selection) => selection.takes(number, head, data),
+        }
+    }
+
+    // Returns whether the packet of this number is written, and whether it is left out as a duplicate of one of the recent packets. If it
+    // passes the tests, it is recent from now on.
+    pub(crate) fn choose(
+        self,
+        recent: &mut Recent,
+        number: u64,
+        head: &PacketHeader,
+        bytes: &[u8],
+    ) -> Choice
+        requires { most_remembered recent.old ≡ dedup_of self }
+        ensures written { result.is_written ≡ is_new self.entry (remembered recent.old) number (captured head.now bytes.now) }
+        ensures duplicate { result.is_duplicate ≡ repeats self.entry (remembered recent.old) number (captured head.now bytes.now) }
+        ensures recent { remembered recent.new ≡ remembers self.entry (remembered recent.old) number (captured head.now bytes.now) }
+        ensures most { most_remembered recent.new ≡ most_remembered recent.old }
+    {
+        if !self.takes(number, head, bytes) {
+            return Choice {
+                is_written: false,
+                is_duplicate: false,
+            };
+        }
+        let is_duplicate = recent.repeats(head.orig_len, bytes);
+        Choice {
+            is_written: !is_duplicate,
+            is_duplicate,
         }
     }
 }

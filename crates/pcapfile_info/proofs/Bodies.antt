@@ -9,6 +9,7 @@ use Rattle.pcap_blocks.specs.declared.parsed_block.ParsedBlock.{ParsedBlock}
 use Rattle.pcap_blocks.specs.declared.parsed_block.ParsedBlock.TheVariants as block_of
 use Rattle.pcap_blocks.specs.InterfaceDescription.{Interface}
 use Rattle.pcap_blocks.specs.ParsedBlock.{body_of}
+use Rattle.pcapfile_info.specs.declared.others.Kind.TheVariants as kinds
 use Rattle.pcapfile_info.specs.declared.seen.Seen.{Seen}
 use Rattle.pcapfile_info.specs.declared.seen.Sight.{Sight}
 use Rattle.pcapfile_info.specs.declared.seen.Sight.TheVariants as sights
@@ -22,7 +23,7 @@ use Rattle.pcapfile_info.specs.Totals.{IsFirstBy, NeedsRoom}
 -- A body of any other type has no packet.
 pub other_sight : (described : ℕ) (interfaces : List Interface) (parsed : ParsedBlock)
     → ((b : EnhancedPacketBlock) → parsed ≡ block_of.EnhancedPacket b → ⊥) → ((b : PacketBlock) → parsed ≡ block_of.Packet b → ⊥)
-    → ((b : SimplePacketBlock) → parsed ≡ block_of.SimplePacket b → ⊥) → IsBodySight described interfaces (body_of parsed) sights.Other
+    → ((b : SimplePacketBlock) → parsed ≡ block_of.SimplePacket b → ⊥) → IsBodySight described interfaces (body_of parsed) (sights.Other kinds.Unknown)
 other_sight described interfaces (block_of.SectionHeader b) no_enhanced no_packet no_simple = refl
 other_sight described interfaces (block_of.InterfaceDescription b) no_enhanced no_packet no_simple = refl
 other_sight described interfaces (block_of.Packet b) no_enhanced no_packet no_simple = absurd (no_packet b refl)
@@ -61,7 +62,7 @@ room_named type described interfaces block totals (sights.Packet seen) is room =
 room_named type described interfaces block totals sights.Refused is room = absurd room
 room_named type described interfaces block totals sights.Interface is room = inl (interface_kept type described interfaces block is)
 room_named type described interfaces block totals sights.Section is room = absurd room
-room_named type described interfaces block totals sights.Other is room = absurd room
+room_named type described interfaces block totals (sights.Other kind) is room = absurd room
 
 -- A fact that always holds also holds of each error.
 pub err_says : {A E : Type 0} (P : Type 0) → P → (result : Result A E) → IfErr result (λ _. P)

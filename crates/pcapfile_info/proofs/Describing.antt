@@ -1,10 +1,10 @@
 -- Lemmas on descriptions and comments, one block after another.
-use Rattle.std.proofs.Common.{◌≡◌, ◌<◌, ◌+◌, ◌⊎◌, ◌++◌, ◌∷◌, [], ℕ, List, Bool, true, false, cond, length, map, take, drop, get_or, suc, inl, inr, refl, sym, ap, ◌∙◌, arith, add-one, append_assoc, append-nil, length-append, Option, Some, None}
+use Rattle.std.proofs.Common.{◌≡◌, ◌<◌, ◌+◌, ◌⊎◌, ◌++◌, ◌∷◌, [], ℕ, List, Bool, true, false, cond, length, map, take, drop, get_or, suc, inl, inr, refl, sym, subst, ap, ◌∙◌, arith, add-one, append_assoc, append-nil, length-append, Option, Some, None}
 use Rattle.std.specs.Prelude.{⊤, count_by, filter, IsSomeAnd, MatchResult, Result, Ok, Err, String, Vec}
 use Rattle.std.specs.Global.{Global}
 use Rattle.std.specs.declared.alloc.AllocError.{AllocError}
 use Rattle.std.specs.List.{filter_map, cons_option}
-use Rattle.std.specs.Option.{option_to_list}
+use Rattle.std.specs.Option.{option_map, option_to_list}
 use Rattle.std.specs.String.{string_bytes}
 use Rattle.std.proofs.Math.Seq.{take-suc}
 use Rattle.std.proofs.lemmas.List.{map-append, take-append-drop}
@@ -32,6 +32,11 @@ use Rattle.pcapfile_info.specs.declared.described.Described.{Described}
 use Rattle.pcapfile_info.specs.declared.progress.Progress.{Progress}
 use Rattle.pcapfile_info.specs.Describing.{AddsDescribed, Description, DescribesBlocks, DescribesFront, LacksMemory, HasComment, LosesNone, SameDescribed, TellsMore, begins, comments_among, comments_in, commented_by, described_by, descriptions, is_begin, last_description, number_behind, section_comments, sections_if, told_of}
 use Rattle.pcapfile_info.proofs.Tallying.{count_push}
+
+-- A text that was mapped is there if the text is.
+pub some_mapped : {A B : Type 0} (f : A → B) (o : Option A) (p : Option B) → option_map f o ≡ p → IsSomeAnd o (λ x. ⊤) → IsSomeAnd p (λ x. ⊤)
+some_mapped f None p is some = absurd some
+some_mapped {A} {B} f (Some x) p is some = subst (λ (q : Option B). IsSomeAnd q (λ y. ⊤)) is tt
 
 given_of : {X : Type 0} (x : Option X) → cons_option x [] ≡ option_to_list x
 given_of None = refl

@@ -1,5 +1,5 @@
 -- Lemmas on the information on whole captures.
-use Rattle.std.proofs.Common.{◌≡◌, ◌<◌, ◌≤◌, ◌+◌, ◌^◌, ℕ, List, [], ◌++◌, length, Bool, true, Option, Some, None, Err, inl, inr, refl, sym, ap, ◌∙◌, subst, arith, length-append, append_assoc}
+use Rattle.std.proofs.Common.{◌≡◌, ◌<◌, ◌≤◌, ◌+◌, ◌^◌, ℕ, List, [], ◌++◌, length, Bool, true, Option, Some, None, Err, ◌⊎◌, inl, inr, refl, sym, ap, ◌∙◌, subst, arith, length-append, append_assoc}
 use Rattle.std.specs.Prelude.{⊤, IfSome, String}
 use Rattle.std.specs.Global.{Global}
 use Rattle.pcap_core.specs.declared.errors.PcapError.{PcapError}
@@ -32,12 +32,13 @@ use Rattle.pcapfile_run.specs.Passing.{counted}
 use Rattle.pcapfile_run.proofs.Ends.{fails_at, stops_at}
 use Rattle.pcapfile_run.proofs.Passing.{counted_behind}
 use Rattle.pcapfile_info.specs.declared.described.Described.{Described}
+use Rattle.pcapfile_info.specs.declared.described.Machine.{Machine}
 use Rattle.pcapfile_info.specs.declared.described.Opened.{Opened}
 use Rattle.pcapfile_info.specs.declared.progress.Progress.{Progress}
 use Rattle.pcapfile_info.specs.declared.seen.Sight.{Sight}
 use Rattle.pcapfile_info.specs.declared.totals.Totals.{Totals}
-use Rattle.pcapfile_info.specs.Describing.{DescribesBlocks, DescribesFront, opened_at, section_comments}
-use Rattle.pcapfile_info.specs.Information.{InformsItems, InformsPackets, InformsBlocks, OpensCommented}
+use Rattle.pcapfile_info.specs.Describing.{DescribesBlocks, DescribesFront, SaysMachine, machine_at, machine_told, no_machine, opened_at, section_comments}
+use Rattle.pcapfile_info.specs.Information.{InformsItems, InformsPackets, InformsBlocks, OpensWithTexts, TellsMachine}
 use Rattle.pcapfile_info.specs.KeptBlocks.{EndsBlocks}
 use Rattle.pcapfile_info.specs.Sights.{IsPacketSight, IsBlockSight}
 use Rattle.pcapfile_info.specs.Telling.{AreSights, KeepsTotals, TellsItems}
@@ -155,10 +156,23 @@ blocks_informed told (Some s) (Some after) now text first n long room failed old
     (DescribesBlocks first tells.items new.described.items new.comments.items) tells.kept.described is in
     (refl, refl, inr (first, after, opens, opens_as, informs.0, elim ended [ inl memory ↦ inl (memory.0, begun memory.1) | inr d ↦ inr (same d) ]))
 
--- The first block is read, and has a comment.
-pub opens_commented : (known after : Option (List ℕ)) (text : List ℕ) (first : State) → TakesText OpeningSays known after text first → 0 < length (section_comments first)
-    → IfSome known OpensCommented
-opens_commented None after text first took some = tt
-opens_commented (Some s) None text first took some = absurd took.1
-opens_commented (Some s) (Some after) text first took some =
+-- The first block is read, and has texts.
+pub opens_with_texts : (known after : Option (List ℕ)) (text : List ℕ) (first : State) → TakesText OpeningSays known after text first
+    → (0 < length (section_comments first)) ⊎ SaysMachine first → IfSome known OpensWithTexts
+opens_with_texts None after text first took some = tt
+opens_with_texts (Some s) None text first took some = absurd took.1
+opens_with_texts (Some s) (Some after) text first took some =
     (first, after, subst (λ (l : List ℕ). OpeningSays l (whole first after)) (sym took.1) (opened_more text after first took.0), some)
+
+-- The first block is read, and says this of how it was made.
+pub machine_opened : (told : Option Opened) (machine : Machine) (known after : Option (List ℕ)) (text : List ℕ) (first : State) → TakesText OpeningSays known after text first
+    → machine_told machine ≡ machine_at first → IfSome known (λ s. TellsMachine s told machine)
+machine_opened told machine None after text first took is = tt
+machine_opened told machine (Some s) None text first took is = absurd took.1
+machine_opened told machine (Some s) (Some after) text first took is =
+    inr (first, after, subst (λ (l : List ℕ). OpeningSays l (whole first after)) (sym took.1) (opened_more text after first took.0), is)
+
+-- The first block is refused, and nothing is told.
+pub machine_unknown : (machine : Machine) (known : Option (List ℕ)) → machine_told machine ≡ no_machine → IfSome known (λ s. TellsMachine s None machine)
+machine_unknown machine None is = tt
+machine_unknown machine (Some s) is = inl (refl, is)

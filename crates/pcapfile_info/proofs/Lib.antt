@@ -5,6 +5,7 @@ mod EnhancedPackets
 mod InForce
 mod Informing
 mod KeptBlocks
+mod OtherBlocks
 mod Spans
 mod Tallying
 mod Telling

@@ -1,5 +1,5 @@
 -- Lemmas on totals with one more item.
-use Rattle.std.proofs.Common.{◌≡◌, ◌<◌, ◌+◌, ◌++◌, ◌∷◌, [], ℕ, List, Bool, true, false, cond, Option, None, Some, length, set, inl, inr, refl, sym, ap, ◌∙◌, arith, length-append, append-nil}
+use Rattle.std.proofs.Common.{◌≡◌, ◌<◌, ◌+◌, ◌++◌, ◌∷◌, [], ℕ, List, Bool, true, false, cond, Option, None, Some, length, set, inl, inr, refl, sym, ap, ◌∙◌, subst, arith, length-append, append-nil}
 use Rattle.std.specs.Prelude.{All, count_by, filter}
 use Rattle.std.proofs.lemmas.Bool.{cases_eq, cases_lt, eq-eqb, ne_eqb}
 use Rattle.std.proofs.lemmas.List.{get_or-set_same, get_or-set_other, get_or_append_left, get_or_push, length-set}
@@ -7,12 +7,15 @@ use Rattle.std.proofs.lemmas.List.Elements.{All-push, All-head, All-tail, All-we
 use Rattle.std.proofs.lemmas.List.Sums.{sum_by_push}
 use Rattle.pcapfile_run.specs.Passing.{counted}
 use Rattle.pcapfile_info.specs.declared.late.Late.{Late}
+use Rattle.pcapfile_info.specs.declared.others.Others.{Others}
 use Rattle.pcapfile_info.specs.declared.seen.Seen.{Seen}
 use Rattle.pcapfile_info.specs.declared.seen.Sight.{Sight}
 use Rattle.pcapfile_info.specs.declared.seen.Sight.TheVariants.{Packet, Interface}
 use Rattle.pcapfile_info.specs.declared.totals.Totals.{Totals}
+use Rattle.pcapfile_info.specs.Others.{CountsOthers}
 use Rattle.pcapfile_info.specs.Tallies.{tally_of, Tallies}
 use Rattle.pcapfile_info.specs.Totals.{TotalsAre, packet_in, packets_of, interfaces_in, is_refused, is_section, is_number, is_by, is_none, is_undescribed, IsBelow}
+use Rattle.pcapfile_info.proofs.OtherBlocks.{others_stay}
 use Rattle.pcapfile_info.proofs.Tallying.{count_push, counted_push}
 
 filter_yes : (p : Seen → Bool) (packets : List Seen) (seen : Seen) → p seen ≡ true → filter p (packets ++ seen ∷ []) ≡ filter p packets ++ seen ∷ []
@@ -42,8 +45,9 @@ module _ (first : ℕ) (sights : List Sight) (old new : Totals) (before : Totals
 
   -- The next item is neither a packet nor an interface.
   pub totals_push : (sight : Sight) → packets_of (sight ∷ []) ≡ [] → interfaces_in sight ≡ 0 → new.all ≡ old.all → new.undescribed ≡ old.undescribed → new.interfaces.items ≡ old.interfaces.items
-      → new.refused ≡ counted (old.refused + cond (is_refused sight) 1 0) → new.sections ≡ counted (old.sections + cond (is_section sight) 1 0) → TotalsAre first (sights ++ sight ∷ []) new
-  totals_push sight none no_interface all undescribed interfaces refused sections =
+      → new.refused ≡ counted (old.refused + cond (is_refused sight) 1 0) → new.sections ≡ counted (old.sections + cond (is_section sight) 1 0) → CountsOthers (sights ++ sight ∷ []) new.others
+      → TotalsAre first (sights ++ sight ∷ []) new
+  totals_push sight none no_interface all undescribed interfaces refused sections others =
       let same : packets_of (sights ++ sight ∷ []) ≡ packets_of sights = packets_push sight ∙ ap (λ (l : List Seen). packets_of sights ++ l) none ∙ append-nil (packets_of sights) in
       record {
         all = rw (same, all) before.all;
@@ -53,6 +57,7 @@ module _ (first : ℕ) (sights : List Sight) (old new : Totals) (before : Totals
         within = rw (same, interfaces) before.within;
         refused = refused ∙ counted_push old.refused (count_by is_refused sights) (cond (is_refused sight) 1 0) before.refused ∙ ap counted (sym (count_push is_refused sights sight));
         sections = sections ∙ counted_push old.sections (count_by is_section sights) (cond (is_section sight) 1 0) before.sections ∙ ap counted (sym (count_push is_section sights sight));
+        others = others;
       }
 
   -- A packet or an interface changes neither the number of malformed packets nor that of sections.
@@ -67,8 +72,9 @@ module _ (first : ℕ) (sights : List Sight) (old new : Totals) (before : Totals
       same ∙ before.sections ∙ ap counted (omega (arith, count))
 
   -- Nothing changes.
-  pub totals_stay : new.all ≡ old.all → new.undescribed ≡ old.undescribed → new.interfaces.items ≡ old.interfaces.items → new.refused ≡ old.refused → new.sections ≡ old.sections → TotalsAre first sights new
-  totals_stay all undescribed interfaces refused sections = record {
+  pub totals_stay : new.all ≡ old.all → new.undescribed ≡ old.undescribed → new.interfaces.items ≡ old.interfaces.items → new.refused ≡ old.refused → new.sections ≡ old.sections
+      → new.others ≡ old.others → TotalsAre first sights new
+  totals_stay all undescribed interfaces refused sections others = record {
     all = rw all before.all;
     undescribed = rw undescribed before.undescribed;
     described = ap length interfaces ∙ before.described;
@@ -76,12 +82,13 @@ module _ (first : ℕ) (sights : List Sight) (old new : Totals) (before : Totals
     within = rw interfaces before.within;
     refused = refused ∙ before.refused;
     sections = sections ∙ before.sections;
+    others = subst (λ (o : Others). CountsOthers sights o) (sym others) before.others;
   }
 
   -- The next item is an interface.
   pub totals_described : (late : Late) → Tallies [] (tally_of late) → new.all ≡ old.all → new.undescribed ≡ old.undescribed → new.interfaces.items ≡ old.interfaces.items ++ late ∷ []
-      → new.refused ≡ old.refused → new.sections ≡ old.sections → TotalsAre first (sights ++ Interface ∷ []) new
-  totals_described late nothing all undescribed interfaces refused sections =
+      → new.refused ≡ old.refused → new.sections ≡ old.sections → new.others ≡ old.others → TotalsAre first (sights ++ Interface ∷ []) new
+  totals_described late nothing all undescribed interfaces refused sections others =
       let items = old.interfaces.items in
       let n = length items in
       let same : packets_of (sights ++ Interface ∷ []) ≡ packets_of sights = packets_push Interface ∙ append-nil (packets_of sights) in
@@ -99,10 +106,11 @@ module _ (first : ℕ) (sights : List Sight) (old new : Totals) (before : Totals
         within = rw (same, long) (All-weaker (λ packet. IsBelow n packet.interface) (λ packet. IsBelow (n + 1) packet.interface) (λ packet below. below_more n packet.interface below) (packets_of sights) before.within);
         refused = refused_same Interface refl refused;
         sections = sections_same Interface refl sections;
+        others = others_stay sights Interface (λ among. refl) old.others new.others before.others others;
       }
 
   -- The next item is a packet.
-  module _ (seen : Seen) (within : IsBelow (length old.interfaces.items) seen.interface) (all : Tallies (packets_of sights ++ seen ∷ []) new.all) (refused : new.refused ≡ old.refused) (sections : new.sections ≡ old.sections) where
+  module _ (seen : Seen) (within : IsBelow (length old.interfaces.items) seen.interface) (all : Tallies (packets_of sights ++ seen ∷ []) new.all) (refused : new.refused ≡ old.refused) (sections : new.sections ≡ old.sections) (others : new.others ≡ old.others) where
     -- Its interface isn't described.
     pub totals_undescribed : seen.interface ≡ None → Tallies (filter is_undescribed (packets_of sights) ++ seen ∷ []) new.undescribed → new.interfaces.items ≡ old.interfaces.items
         → TotalsAre first (sights ++ Packet seen ∷ []) new
@@ -114,6 +122,7 @@ module _ (first : ℕ) (sights : List Sight) (old new : Totals) (before : Totals
       within = rw (packets_push (Packet seen), interfaces) (All-push (λ packet. IsBelow (length old.interfaces.items) packet.interface) (packets_of sights) seen before.within within);
       refused = refused_same (Packet seen) refl refused;
       sections = sections_same (Packet seen) refl sections;
+      others = others_stay sights (Packet seen) (λ among. refl) old.others new.others before.others others;
     }
 
     -- Its interface has this index.
@@ -135,4 +144,5 @@ module _ (first : ℕ) (sights : List Sight) (old new : Totals) (before : Totals
           within = rw (packets_push (Packet seen), long) (All-push (λ packet. IsBelow (length items) packet.interface) (packets_of sights) seen before.within within);
           refused = refused_same (Packet seen) refl refused;
           sections = sections_same (Packet seen) refl sections;
+          others = others_stay sights (Packet seen) (λ among. refl) old.others new.others before.others others;
         }

@@ -1,5 +1,5 @@
 -- Descriptions of sections and interfaces.
-use Rattle.std.specs.Prelude.{◌≡◌, ◌<◌, ◌+◌, ◌-◌, ◌++◌, ℕ, List, [], ◌∷◌, length, map, flat_map, Bool, true, false, Option, Some, None, String, if◌then◌else◌}
+use Rattle.std.specs.Prelude.{⊤, ◌≡◌, ◌<◌, ◌+◌, ◌-◌, ◌++◌, ◌⊎◌, IsSomeAnd, ℕ, List, [], ◌∷◌, length, map, flat_map, Bool, true, false, Option, Some, None, String, if◌then◌else◌}
 use Rattle.std.specs.List.{filter_map, slice_get}
 use Rattle.std.specs.Option.{option_map, option_to_list}
 use Rattle.std.specs.String.{string_bytes}
@@ -18,16 +18,67 @@ use Rattle.pcap_ng.specs.State.{interfaces_at}
 use Rattle.pcap_ng.specs.State.{State, opening, within}
 use Rattle.pcapfile_run.specs.Passing.{counted}
 use Rattle.pcapfile_info.specs.declared.described.Described.{Described}
+use Rattle.pcapfile_info.specs.declared.described.Device.{Device}
+use Rattle.pcapfile_info.specs.declared.described.Device.TheVariants.{Untold, Told}
+use Rattle.pcapfile_info.specs.declared.described.Machine.{Machine}
 use Rattle.pcapfile_info.specs.declared.described.Opened.{Opened}
 use Rattle.pcapfile_info.specs.declared.progress.Progress.{Progress}
 
--- The description of an interface: its link type, snapshot length, section, number, name and comments.
+-- What the options of an interface say of its device: a description, the hardware, and the operating system.
+pub record DeviceSaid : Type 0 where
+  pub description : Option (List ℕ)
+  pub hardware : Option (List ℕ)
+  pub os : Option (List ℕ)
+
+-- What these options of an interface say of its device ('Interface Description Block', if_description, if_hardware and if_os).
+abbrev pub device_in : List Entry → DeviceSaid
+device_in options = record { description = first_under 3 string_in options; hardware = first_under 15 string_in options; os = first_under 12 string_in options }
+
+-- What a `Device` holds.
+abbrev pub device_told : Device → DeviceSaid
+device_told Untold = record { description = None; hardware = None; os = None }
+device_told (Told texts) = record {
+  description = option_map string_bytes texts.value.description;
+  hardware = option_map string_bytes texts.value.hardware;
+  os = option_map string_bytes texts.value.os;
+}
+
+-- What the options of a section say of how it was made: the application, the hardware, and the operating system.
+pub record MachineSaid : Type 0 where
+  pub application : Option (List ℕ)
+  pub hardware : Option (List ℕ)
+  pub os : Option (List ℕ)
+
+-- What these options of a section say of how it was made ('Section Header Block', shb_userappl, shb_hardware and shb_os).
+abbrev pub machine_in : List Entry → MachineSaid
+machine_in options = record { application = first_under 4 string_in options; hardware = first_under 2 string_in options; os = first_under 3 string_in options }
+
+-- Nothing is said of a machine.
+abbrev pub no_machine : MachineSaid
+no_machine = record { application = None; hardware = None; os = None }
+
+-- What a `Machine` holds.
+abbrev pub machine_told : Machine → MachineSaid
+machine_told machine = record {
+  application = option_map string_bytes machine.application;
+  hardware = option_map string_bytes machine.hardware;
+  os = option_map string_bytes machine.os;
+}
+
+-- These options of a section say something of how it was made.
+abbrev pub HasMachine : List Entry → Type 0
+HasMachine options =
+    IsSomeAnd (first_under 4 string_in options) (λ text. ⊤)
+    ⊎ (IsSomeAnd (first_under 2 string_in options) (λ text. ⊤) ⊎ IsSomeAnd (first_under 3 string_in options) (λ text. ⊤))
+
+-- The description of an interface: its link type, snapshot length, section, number, name, device and comments.
 pub record Description : Type 0 where
   pub link : DataLink
   pub snaplen : ℕ
   pub section : ℕ
   pub number : ℕ
   pub name : Option (List ℕ)
+  pub device : DeviceSaid
   pub comments : List (List ℕ)
 
 -- The comments among these options.
@@ -42,6 +93,7 @@ description_of section number interface = record {
   section = section;
   number = number;
   name = first_under 2 string_in interface.options;
+  device = device_in interface.options;
   comments = comments_among interface.options;
 }
 
@@ -58,6 +110,7 @@ told_of described = record {
   section = described.section;
   number = described.number;
   name = option_map string_bytes described.name;
+  device = device_told described.device;
   comments = map string_bytes described.comments.items;
 }
 
@@ -90,6 +143,16 @@ section_comments (within section interfaces) = comments_among section.options
 abbrev pub commented_by : BlockType → State → List (List ℕ)
 commented_by types.SectionHeader q = section_comments q
 commented_by _ q = []
+
+-- What the current section says of how it was made.
+abbrev pub machine_at : State → MachineSaid
+machine_at opening = no_machine
+machine_at (within section interfaces) = machine_in section.options
+
+-- The current section says something of how it was made.
+abbrev pub SaysMachine : State → Type 0
+SaysMachine opening = ⊥
+SaysMachine (within section interfaces) = HasMachine section.options
 
 -- The item begins a section.
 abbrev pub is_begin : Item → Bool

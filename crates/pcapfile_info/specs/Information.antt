@@ -15,10 +15,11 @@ use Rattle.pcapfile_run.specs.declared.checked.Format.TheVariants.{Pcap, PcapNg}
 use Rattle.pcapfile_run.specs.declared.checked.End.TheVariants.{Memory}
 use Rattle.pcapfile_run.specs.Checks.{ChecksItems, FailsOpening, most_passed}
 use Rattle.pcapfile_info.specs.declared.described.Described.{Described}
+use Rattle.pcapfile_info.specs.declared.described.Machine.{Machine}
 use Rattle.pcapfile_info.specs.declared.described.Opened.{Opened}
 use Rattle.pcapfile_info.specs.declared.seen.Sight.{Sight}
 use Rattle.pcapfile_info.specs.declared.totals.Totals.{Totals}
-use Rattle.pcapfile_info.specs.Describing.{DescribesBlocks, DescribesFront, opened_at, section_comments}
+use Rattle.pcapfile_info.specs.Describing.{DescribesBlocks, DescribesFront, SaysMachine, machine_at, machine_told, no_machine, opened_at, section_comments}
 use Rattle.pcapfile_info.specs.Sights.{IsPacketSight, IsBlockSight}
 use Rattle.pcapfile_info.specs.Telling.{AreSights}
 use Rattle.pcapfile_info.specs.Totals.{TotalsAre}
@@ -49,6 +50,12 @@ InformsBlocks s checked told_header totals told_opening described comments =
     × (((checked.end ≡ Memory) × DescribesFront first informs.checks.items described comments)
     ⊎ DescribesBlocks first informs.checks.items described comments)))
 
--- s begins with a section header that has a comment.
-abbrev pub OpensCommented : List ℕ → Type 0
-OpensCommented s = (first : State) × (after : List ℕ) × OpeningSays s (whole first after) × (0 < length (section_comments first))
+-- s begins with a section header that has a comment, or says something of how it was made.
+abbrev pub OpensWithTexts : List ℕ → Type 0
+OpensWithTexts s = (first : State) × (after : List ℕ) × OpeningSays s (whole first after) × ((0 < length (section_comments first)) ⊎ SaysMachine first)
+
+-- What the first section header of s says of how it was made, or nothing if the information has no opening.
+abbrev pub TellsMachine : List ℕ → Option Opened → Machine → Type 0
+TellsMachine s told_opening machine =
+    ((told_opening ≡ None) × (machine_told machine ≡ no_machine))
+    ⊎ ((first : State) × (after : List ℕ) × OpeningSays s (whole first after) × (machine_told machine ≡ machine_at first))

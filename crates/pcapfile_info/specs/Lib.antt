@@ -2,6 +2,7 @@ pub mod Describing
 pub mod InForce
 pub mod Information
 pub mod KeptBlocks
+pub mod Others
 pub mod Sights
 pub mod Spreads
 pub mod Tallies

@@ -17,9 +17,11 @@ use Rattle.pcap_ng.specs.Frames.{Framed}
 use Rattle.pcap_file.specs.Placed.{carried, time_in}
 use Rattle.pcap_ng.specs.State.{interfaces_at}
 use Rattle.pcapfile_run.specs.BlockPackets.{InBlock, packet_in}
+use Rattle.pcapfile_info.specs.declared.others.Kind.TheVariants as kinds
 use Rattle.pcapfile_info.specs.declared.seen.Seen.{Seen}
 use Rattle.pcapfile_info.specs.declared.seen.Sight.{Sight}
 use Rattle.pcapfile_info.specs.declared.seen.Sight.TheVariants as sights
+use Rattle.pcapfile_info.specs.Others.{kind_of}
 
 -- The packet of this header and this data.
 abbrev pub captured_as : PacketHeader → List ℕ → Captured
@@ -65,7 +67,7 @@ IsInBlockSight described interfaces (Some packet) (sights.Packet seen) =
     Sees (place_of described (length interfaces) packet.interface) (length packet.bytes) packet.original_len seen
     × IsUnitsSeen interfaces packet.interface packet.units seen.time
 IsInBlockSight described interfaces (Some packet) sight = ⊥
-IsInBlockSight described interfaces None sight = sight ≡ sights.Other
+IsInBlockSight described interfaces None sight = sight ≡ sights.Other kinds.Unknown
 
 -- The sight of a body.
 abbrev pub IsBodySight : ℕ → List Interface → Body → Sight → Type 0
@@ -84,7 +86,10 @@ IsSightOf types.InterfaceDescription described interfaces block sight = sight �
 IsSightOf types.EnhancedPacket described interfaces block sight = IsStoredSight described interfaces block sight
 IsSightOf types.Packet described interfaces block sight = IsStoredSight described interfaces block sight
 IsSightOf types.SimplePacket described interfaces block sight = IsStoredSight described interfaces block sight
-IsSightOf type described interfaces block sight = sight ≡ sights.Other
+IsSightOf types.NameResolution described interfaces block sight = sight ≡ sights.Other kinds.Names
+IsSightOf types.InterfaceStatistics described interfaces block sight = sight ≡ sights.Other kinds.Statistics
+IsSightOf types.SystemdJournalExport described interfaces block sight = sight ≡ sights.Other kinds.Journal
+IsSightOf (types.Unknown number) described interfaces block sight = sight ≡ sights.Other (kind_of number)
 
 -- The sight of a block, by its type.
 abbrev pub IsFramedSight : ℕ → List Interface → Framed → Sight → Type 0

@@ -1,5 +1,5 @@
 -- Counts of packets.
-use Rattle.std.specs.Prelude.{◌≡◌, ◌<◌, ◌⊎◌, ◌==◌, ◌^◌, ◌+◌, ◌*◌, ◌<ℤ◌, ◌++◌, ◌∷◌, ℕ, ℤ, pos, negsuc, List, [], Bool, Option, None, Some, nat_lt, if◌then◌else◌, length, sum_by, count_by, map, filter_map, replicate, All, Contains, slice_index}
+use Rattle.std.specs.Prelude.{◌≡◌, ◌<◌, ◌⊎◌, ◌==◌, ◌^◌, ◌+◌, ◌*◌, ◌<ℤ◌, ◌↔◌, ◌++◌, ◌∷◌, ℕ, ℤ, pos, negsuc, List, [], Bool, true, false, IsTrue, Option, None, Some, nat_lt, if◌then◌else◌, length, sum_by, count_by, map, filter_map, replicate, All, AllPairs, Contains, slice_index}
 use Rattle.pcap_times.specs.declared.clock.Timestamp.{Timestamp}
 use Rattle.pcapfile_run.specs.Passing.{counted}
 use Rattle.pcapfile_info.specs.declared.late.Late.{Late}
@@ -32,6 +32,20 @@ IsFirstWith Comes known (Some time) (Some first) = IsFirstOf Comes known time fi
 abbrev pub IsFirst : (Timestamp → Timestamp → Type 0) → List Timestamp → Option Timestamp → Type 0
 IsFirst Comes times None = times ≡ []
 IsFirst Comes times (Some first) = Contains times first × All (λ time. Comes time first → ⊥) times
+
+-- No time is before an earlier one in the list.
+abbrev pub AreInOrder : List Timestamp → Type 0
+AreInOrder = AllPairs (λ earlier later. IsBefore later earlier → ⊥)
+
+-- Whether times are in order after one more: as before, or no longer if it is before the latest one.
+abbrev pub IsOrderOf : Option Timestamp → Timestamp → Bool → Bool → Type 0
+IsOrderOf None time before after = after ≡ before
+IsOrderOf (Some latest) time before after = (IsBefore time latest × (after ≡ false)) ⊎ ((IsBefore time latest → ⊥) × (after ≡ before))
+
+-- Whether times are in order after one more packet, which may have no time.
+abbrev pub IsOrderWith : Option Timestamp → Option Timestamp → Bool → Bool → Type 0
+IsOrderWith latest None before after = after ≡ before
+IsOrderWith latest (Some time) before after = IsOrderOf latest time before after
 
 -- The times of those packets that have one.
 abbrev pub times_of : List Seen → List Timestamp
@@ -85,12 +99,13 @@ pub record Tallies (packets : List Seen) (tally : Tally) : Type 0 where
   pub original : tally.original ≡ counted (sum_by (λ packet. packet.original) packets)
   pub earliest : IsFirst IsBefore (times_of packets) tally.earliest
   pub latest : IsFirst IsAfter (times_of packets) tally.latest
+  pub in_order : IsTrue tally.in_order ↔ AreInOrder (times_of packets)
   pub sizes : (class : ℕ) → class < 10 → slice_index tally.sizes class ≡ counted (count_by (is_of_class class) packets)
   pub spread : IsSpread (instants_of packets) tally.spread
 
 -- The counts of no packets.
 abbrev pub no_tally : Tally
-no_tally = record { packets = 0; stored = 0; original = 0; earliest = None; latest = None; sizes = replicate 10 0; spread = None }
+no_tally = record { packets = 0; stored = 0; original = 0; earliest = None; latest = None; in_order = true; sizes = replicate 10 0; spread = None }
 
 -- The counts of an interface's packets, which are those of no packets before its first one.
 abbrev pub tally_of : Late → Tally

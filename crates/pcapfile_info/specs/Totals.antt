@@ -7,6 +7,7 @@ use Rattle.pcapfile_info.specs.declared.seen.Seen.{Seen}
 use Rattle.pcapfile_info.specs.declared.seen.Sight.{Sight}
 use Rattle.pcapfile_info.specs.declared.seen.Sight.TheVariants.{Packet, Refused, Interface, Section}
 use Rattle.pcapfile_info.specs.declared.totals.Totals.{Totals}
+use Rattle.pcapfile_info.specs.Others.{CountsOthers}
 use Rattle.pcapfile_info.specs.Tallies.{tally_of, Tallies}
 
 -- The packet of a sight, if it has one.
@@ -66,6 +67,7 @@ pub record TotalsAre (first : ℕ) (sights : List Sight) (totals : Totals) : Typ
   pub within : All (λ packet. IsBelow (length totals.interfaces.items) packet.interface) (packets_of sights)
   pub refused : totals.refused ≡ counted (count_by is_refused sights)
   pub sections : totals.sections ≡ counted (count_by is_section sights)
+  pub others : CountsOthers sights totals.others
 
 -- The counts of packets that all came from one interface, before they are copied to that interface.
 pub record AllAre (sights : List Sight) (totals : Totals) : Type 0 where
@@ -74,6 +76,7 @@ pub record AllAre (sights : List Sight) (totals : Totals) : Type 0 where
   pub described : length totals.interfaces.items ≡ 1
   pub refused : totals.refused ≡ 0
   pub sections : totals.sections ≡ 0
+  pub others : CountsOthers [] totals.others
 
 -- The counts before the copy have one more packet of the one interface.
 abbrev pub AddsAlone : Seen → Totals → Totals → Type 0

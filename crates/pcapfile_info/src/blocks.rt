@@ -10,6 +10,7 @@ ghost use Rattle.pcapfile_run.specs.BlockPackets.{snaplen_of};
 ghost use Rattle.pcapfile_info.specs.Sights.{IsBodySight, IsFramedSight, IsStoredSight, IsTimeSeen, place_of};
 ghost use Rattle.pcapfile_info.specs.Totals.{IsBelow, IsWithin};
 
+use crate::others::{Kind, kind_of};
 use crate::seen::{Seen, Sight};
 use pcap_file::pcapng::{Block, BlockType, InterfaceDescriptionBlock, ParsedBlock, Timestamp};
 use pcap_file::{PcapError, ResultParsing};
@@ -90,7 +91,7 @@ fn sight_of_body(
             stored: block.stored(snaplen_at(interfaces, 0)).len() as u64,
             original: block.original_len,
         }),
-        _ => Sight::Other,
+        _ => Sight::Other(Kind::Unknown),
     }
 }
 
@@ -130,9 +131,9 @@ pub(crate) fn sight_of_block(
         BlockType::EnhancedPacket | BlockType::Packet | BlockType::SimplePacket => {
             sight_of_stored(alloc, described, interfaces, block)
         }
-        BlockType::NameResolution
-        | BlockType::InterfaceStatistics
-        | BlockType::SystemdJournalExport
-        | BlockType::Unknown(_) => Ok(Sight::Other),
+        BlockType::NameResolution => Ok(Sight::Other(Kind::Names)),
+        BlockType::InterfaceStatistics => Ok(Sight::Other(Kind::Statistics)),
+        BlockType::SystemdJournalExport => Ok(Sight::Other(Kind::Journal)),
+        BlockType::Unknown(number) => Ok(Sight::Other(kind_of(number))),
     }
 }

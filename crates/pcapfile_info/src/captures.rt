@@ -1,9 +1,10 @@
 //! Information on whole captures.
 
 ghost use Rattle.std.specs.Prelude.{◌≡◌, [], None, IfSome, IfOk, IfErr};
-ghost use Rattle.pcapfile_info.specs.Information.{InformsPackets, InformsBlocks, OpensCommented};
+ghost use Rattle.pcapfile_info.specs.Information.{InformsPackets, InformsBlocks, OpensWithTexts, TellsMachine};
+ghost use Rattle.pcapfile_info.specs.Describing.{machine_told, no_machine};
 
-use crate::described::{Described, Opened, opened_by, push_comments};
+use crate::described::{Described, Machine, Opened, machine_of, opened_by, push_comments};
 use crate::passing::tell_packets;
 use crate::progress::{MOST, Progress, tell_blocks};
 use crate::tally::Tally;
@@ -24,6 +25,8 @@ pub struct Information {
     /// The byte order and version of the first section header of a PcapNg capture. `None` if it couldn't be read, and for a
     /// classic capture.
     pub opened: Option<Opened>,
+    /// What the first section header of a PcapNg capture says of how it was made.
+    pub machine: Machine,
     /// The totals of the items that were read.
     pub totals: Totals,
     /// The descriptions of the interfaces of a PcapNg capture, in order over all sections.
@@ -40,6 +43,7 @@ pub fn inform_packets<R: BufRead + Drop>(
 ) -> Result<Information, AllocError>
     ensures informs { IfOk result (λ told. IfSome (R.remaining input) (λ s. InformsPackets s told.checked told.header told.totals)) }
     ensures nothing_described { IfOk result (λ told. (told.opened ≡ None) × (told.described.items ≡ []) × (told.comments.items ≡ [])) }
+    ensures no_machine { IfOk result (λ told. machine_told told.machine ≡ no_machine) }
 {
     let format = Format::Pcap;
     let totals = Totals::with_interface(alloc)?;
@@ -58,6 +62,7 @@ pub fn inform_packets<R: BufRead + Drop>(
                 },
                 header: None,
                 opened: None,
+                machine: Machine::unknown(),
                 totals,
                 described: Vec::new(alloc),
                 comments: Vec::new(alloc),
@@ -98,6 +103,7 @@ pub fn inform_packets<R: BufRead + Drop>(
         },
         header: Some(header),
         opened: None,
+        machine: Machine::unknown(),
         totals,
         described,
         comments,
@@ -105,11 +111,12 @@ pub fn inform_packets<R: BufRead + Drop>(
 }
 
 /// Reads a PcapNg capture from a stream and returns its information. In memory are at most one block, the current section and
-/// its interfaces, and what is collected. `AllocError` if there is no memory for the comments on the first section.
+/// its interfaces, and what is collected. `AllocError` if there is no memory for the texts of the first section.
 pub fn inform_blocks<R: BufRead + Drop>(alloc: Global, input: R) -> Result<Information, AllocError>
     ensures informs { IfOk result
         (λ told. IfSome (R.remaining input) (λ s. InformsBlocks s told.checked told.header told.totals told.opened told.described.items told.comments.items)) }
-    ensures no_room { IfErr result (λ e. IfSome (R.remaining input) OpensCommented) }
+    ensures machine { IfOk result (λ told. IfSome (R.remaining input) (λ s. TellsMachine s told.opened told.machine)) }
+    ensures no_room { IfErr result (λ e. IfSome (R.remaining input) OpensWithTexts) }
 {
     let format = Format::PcapNg;
     let totals = Totals::new(alloc);
@@ -126,6 +133,7 @@ pub fn inform_blocks<R: BufRead + Drop>(alloc: Global, input: R) -> Result<Infor
                 },
                 header: None,
                 opened: None,
+                machine: Machine::unknown(),
                 totals,
                 described: Vec::new(alloc),
                 comments: Vec::new(alloc),
@@ -135,6 +143,7 @@ pub fn inform_blocks<R: BufRead + Drop>(alloc: Global, input: R) -> Result<Infor
     let opened = opened_by(reader.section());
     let mut comments = Vec::new(alloc);
     push_comments(alloc, &mut comments, reader.section())?;
+    let machine = machine_of(alloc, reader.section())?;
     let mut read_failed = false;
     let mut progress = Progress {
         items: 0,
@@ -164,6 +173,7 @@ pub fn inform_blocks<R: BufRead + Drop>(alloc: Global, input: R) -> Result<Infor
         },
         header: None,
         opened,
+        machine,
         totals,
         described,
         comments,

@@ -9,7 +9,7 @@ ghost use Rattle.pcap_blocks.specs.InterfaceDescription.{interface_of};
 ghost use Rattle.pcap_options.specs.SectionOption.{section_entry};
 ghost use Rattle.pcap_blocks.specs.SectionHeader.{section_of};
 ghost use Rattle.pcap_options.specs.Values.{Entry};
-ghost use Rattle.pcapfile_info.specs.Describing.{comments_among, HasComment, last_description, opened_of, TellsMore, told_of};
+ghost use Rattle.pcapfile_info.specs.Describing.{comments_among, device_in, device_told, HasComment, HasMachine, last_description, machine_in, machine_told, no_machine, opened_of, TellsMore, told_of};
 
 use pcap_file::pcapng::{
     InterfaceDescriptionBlock, InterfaceDescriptionOption, SectionHeaderBlock, SectionHeaderOption,
@@ -41,8 +41,54 @@ pub struct Described {
     pub number: usize,
     /// The interface's name. `None` if it has none.
     pub name: Option<String>,
+    /// What its options say of the device.
+    pub device: Device,
     /// The comments on the interface.
     pub comments: Vec<String>,
+}
+
+/// What the options of an interface say of its device. The texts take memory only if there are any.
+#[derive(Debug, Drop)]
+pub enum Device {
+    /// Nothing.
+    Untold,
+    /// These texts.
+    Told(Box<DeviceTexts>),
+}
+
+/// The texts of an interface on its device. A text is `None` if the interface has none.
+#[derive(Debug, Drop)]
+pub struct DeviceTexts {
+    /// The description of the device (if_description).
+    pub description: Option<String>,
+    /// The description of its hardware (if_hardware).
+    pub hardware: Option<String>,
+    /// The operating system of its machine (if_os).
+    pub os: Option<String>,
+}
+
+/// What the options of a section say of how it was made. A text is `None` if the section has none.
+#[derive(Debug, Drop)]
+pub struct Machine {
+    /// The application that made the section (shb_userappl).
+    pub application: Option<String>,
+    /// The hardware on which it was made (shb_hardware).
+    pub hardware: Option<String>,
+    /// The operating system on which it was made (shb_os).
+    pub os: Option<String>,
+}
+
+impl Machine {
+    // Returns what a capture without sections says.
+    pub(crate) fn unknown() -> Machine
+        ensures { machine_told result ≡ no_machine }
+    {
+        Machine {
+            application: None,
+            hardware: None,
+            os: None,
+        }
+    }
 }
 
 // An option that may be a comment.
@@ -126,12 +172,57 @@ pub(crate) fn opened_by(section: &SectionHeaderBlock<'static>) -> Option<Opened>
 
 // Copies a string.
 fn owned(alloc: Global, text: Option<&str>) -> Result<Option<String>, AllocError>
-    ensures { IfOk result (λ told. option_map string_bytes told ≡ option_map (λ string. string.now) text.entry) }
+    ensures { MatchResult result
+        (λ told. option_map string_bytes told ≡ option_map (λ string. string.now) text.entry)
+        (λ e. IsSomeAnd text.entry (λ string. ⊤)) }
 {
     let Some(text) = text else {
         return Ok(None);
     };
     Ok(Some(String::from_str(alloc, text)?))
+}
+
+/// Returns what the options of a section say of how it was made. An `Err` occurs only if they say something.
+pub(crate) fn machine_of(
+    alloc: Global,
+    section: &SectionHeaderBlock<'static>,
+) -> Result<Machine, AllocError>
+    ensures { MatchResult result
+        (λ machine. machine_told machine ≡ machine_in (section_of section.now).options)
+        (λ e. HasMachine (section_of section.now).options) }
+{
+    let application = owned(alloc, section.application())?;
+    let hardware = owned(alloc, section.hardware())?;
+    let os = owned(alloc, section.os())?;
+    Ok(Machine {
+        application,
+        hardware,
+        os,
+    })
+}
+
+// Returns what the options of an interface say of its device.
+fn device_of(
+    alloc: Global,
+    interface: &InterfaceDescriptionBlock<'static>,
+) -> Result<Device, AllocError>
+    ensures { IfOk result (λ device. device_told device ≡ device_in (interface_of interface.now).options) }
+{
+    match (
+        interface.description(),
+        interface.hardware(),
+        interface.os(),
+    ) {
+        (None, None, None) => Ok(Device::Untold),
+        (description, hardware, os) => {
+            let texts = DeviceTexts {
+                description: owned(alloc, description)?,
+                hardware: owned(alloc, hardware)?,
+                os: owned(alloc, os)?,
+            };
+            Ok(Device::Told(Box::new(alloc, texts)?))
+        }
+    }
 }
 
 /// Describes the last of a section's interfaces. `None` if there are none.
@@ -153,6 +244,7 @@ pub(crate) fn describe_last(
         section,
         number: interfaces.len() - 1,
         name: owned(alloc, interface.name())?,
+        device: device_of(alloc, interface)?,
         comments,
     }))
 }

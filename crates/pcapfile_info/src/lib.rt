@@ -7,6 +7,7 @@ mod clocks;
 mod described;
 mod late;
 pub mod laws;
+mod others;
 mod packets;
 mod passing;
 mod progress;
@@ -18,8 +19,9 @@ mod tally;
 mod totals;
 
 pub use captures::{Information, inform_blocks, inform_packets};
-pub use described::{Described, Opened};
+pub use described::{Described, Device, DeviceTexts, Machine, Opened};
 pub use late::Late;
+pub use others::{Kind, Others};
 pub use seen::{Seen, Sight};
 pub use spread::{SPANS, Spread};
 pub use tally::{CLASSES, LEAST, Tally};

@@ -1,5 +1,6 @@
 //! The data of items that the totals use.
 
+use crate::others::Kind;
 use pcap_file::pcapng::Timestamp;
 
 /// The data of a packet that the totals use.
@@ -27,6 +28,6 @@ pub enum Sight {
     Interface,
     /// The header of a section.
     Section,
-    /// Any other block.
-    Other,
+    /// Any other block, of this kind.
+    Other(Kind),
 }

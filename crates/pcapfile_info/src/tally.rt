@@ -2,7 +2,7 @@
 
 ghost use Rattle.std.specs.Prelude.{◌≡◌, ◌<◌, ◌++◌, ◌∷◌, [], ℕ, List, Some, IsTrue, ◌↔◌};
 ghost use Rattle.pcapfile_info.specs.declared.seen.Seen.{Seen};
-ghost use Rattle.pcapfile_info.specs.Tallies.{instant_of, IsAfter, IsBefore, IsFirstWith, IsSpread, IsSpreadWith, no_tally, size_class, Tallies};
+ghost use Rattle.pcapfile_info.specs.Tallies.{instant_of, IsAfter, IsBefore, IsFirstWith, IsOrderWith, IsSpread, IsSpreadWith, no_tally, size_class, Tallies};
 
 use crate::seen::Seen;
 use crate::spread::Spread;
@@ -30,6 +30,8 @@ pub struct Tally {
     pub earliest: Option<Timestamp>,
     /// The latest time of a packet. `None` if no packet has a time.
     pub latest: Option<Timestamp>,
+    /// Whether no packet has a time before that of an earlier packet. Packets without a time don't count.
+    pub in_order: bool,
     /// The number of packets whose original length is in each class.
     pub sizes: [u64; CLASSES],
     /// The number of packets in each time span. `None` if no packet has a time.
@@ -55,13 +57,15 @@ fn keep_earlier(known: &mut Option<Timestamp>, time: Timestamp)
     *known = Some(time);
 }
 
-// Keeps the later of a time and the known one, if any.
+// Keeps the later of a time and the known one, if any. Times are no longer in order if the time is before the known one.
 #[inline(always)]
-fn keep_later(known: &mut Option<Timestamp>, time: Timestamp)
-    ensures { IsFirstWith IsAfter known.old (Some time) known.new }
+fn keep_later(known: &mut Option<Timestamp>, in_order: &mut bool, time: Timestamp)
+    ensures latest { IsFirstWith IsAfter known.old (Some time) known.new }
+    ensures order { IsOrderWith known.old (Some time) in_order.old in_order.new }
 {
     if let Some(last) = known {
         if is_before(time, *last) {
+            *in_order = false;
             return;
         }
     }
@@ -125,6 +129,7 @@ impl Tally {
             original: 0,
             earliest: None,
             latest: None,
+            in_order: true,
             sizes: [0; CLASSES],
             spread: None,
         }
@@ -137,13 +142,14 @@ impl Tally {
             × (self.new.original ≡ self.old.original) × (self.new.sizes ≡ self.old.sizes) }
         ensures earliest { IsFirstWith IsBefore self.old.earliest time self.new.earliest }
         ensures latest { IsFirstWith IsAfter self.old.latest time self.new.latest }
+        ensures order { IsOrderWith self.old.latest time self.old.in_order self.new.in_order }
         ensures spread { IsSpreadWith self.old.spread time self.new.spread }
     {
         let Some(time) = time else {
             return;
         };
         keep_earlier(&mut self.earliest, time);
-        keep_later(&mut self.latest, time);
+        keep_later(&mut self.latest, &mut self.in_order, time);
         add_instant(&mut self.spread, instant_of(time));
     }
 

@@ -8,6 +8,7 @@ ghost use Rattle.pcapfile_info.specs.Telling.{AreSights};
 ghost use Rattle.pcapfile_info.specs.Totals.{Adds, AllAre, IsBelow, IsFirstBy, IsWithin, NeedsRoom, Stay, TotalsAre};
 
 use crate::late::Late;
+use crate::others::Others;
 use crate::seen::{Seen, Sight};
 use crate::tally::Tally;
 use std::alloc::{AllocError, Global};
@@ -19,6 +20,8 @@ pub struct Totals {
     pub sections: u64,
     /// The number of packets with a malformed body. They are counted nowhere else.
     pub refused: u64,
+    /// The counts of blocks that are no packets, no interfaces and no section headers.
+    pub others: Others,
     /// The counts of all packets.
     pub all: Tally,
     /// The counts of the packets whose interface isn't described.
@@ -35,6 +38,7 @@ impl Totals {
         Totals {
             sections: 0,
             refused: 0,
+            others: Others::new(),
             all: Tally::new(),
             undescribed: Tally::new(),
             interfaces: Vec::new(alloc),
@@ -88,7 +92,7 @@ impl Totals {
             Sight::Refused => self.refused = self.refused.saturating_add(1),
             Sight::Interface => self.interfaces.push(Late::NoPacket)?,
             Sight::Section => self.sections = self.sections.saturating_add(1),
-            Sight::Other => {}
+            Sight::Other(kind) => self.others.add(kind),
         }
         Ok(())
     }

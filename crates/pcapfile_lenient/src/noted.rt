@@ -9,7 +9,7 @@ use pcap_tolerant::{Flaws, PacketAsIs};
 use pcap_tolerant_blocks::{Broken, Flaw};
 use pcap_tolerant_captures::{LentAsIs, PcapNgReaderAsIs};
 use pcapfile_as_is::{BlockTeller, Spot, Teller, Told};
-use std::alloc::Global;
+use std::alloc::{AllocError, Global};
 use std::io::Write;
 
 /// A teller of packets that keeps the flaws of the last one.
@@ -26,8 +26,8 @@ pub(crate) struct NotedPackets<P> {
 pub(crate) struct NotedBlocks<B> {
     /// The teller.
     pub(crate) teller: B,
-    /// The rule of the first flaw, if a rule names it.
-    pub(crate) rule: Option<Rule>,
+    /// The rule of the first flaw, if a rule names it, or the refusal of memory to find it out.
+    pub(crate) rule: Result<Option<Rule>, AllocError>,
     /// Whether the block is a section header without a flaw. The teller may then change only the length that it declares.
     pub(crate) is_sound_section: bool,
 }
@@ -52,19 +52,19 @@ fn first_rule(flaws: &[Flaw]) -> Option<Rule> {
 }
 
 // Returns the rule of the first flaw of the block that a reader lends, if a rule names it.
-fn rule_in<T>(reader: &PcapNgReaderAsIs<T>, lent: &LentAsIs) -> Option<Rule> {
+fn rule_in<T>(reader: &PcapNgReaderAsIs<T>, lent: &LentAsIs) -> Result<Option<Rule>, AllocError> {
     if !lent.flaws.is_empty() {
-        return first_rule(lent.flaws.as_slice());
+        return Ok(first_rule(lent.flaws.as_slice()));
     }
-    if let Ok(Some(read)) = reader.enhanced(lent.header) {
-        return first_rule(read.flaws.as_slice());
+    if let Some(read) = reader.enhanced(lent.header)? {
+        return Ok(first_rule(read.flaws.as_slice()));
     }
-    if let Ok(Some(read)) = reader.packet_block(lent.header) {
-        return first_rule(read.flaws.as_slice());
+    if let Some(read) = reader.packet_block(lent.header)? {
+        return Ok(first_rule(read.flaws.as_slice()));
     }
-    match reader.simple(lent.header) {
-        Ok(Some(read)) => first_rule(read.flaws.as_slice()),
-        _ => None,
+    match reader.simple(lent.header)? {
+        Some(read) => Ok(first_rule(read.flaws.as_slice())),
+        None => Ok(None),
     }
 }
 
@@ -109,7 +109,7 @@ impl<B: BlockTeller> BlockTeller for NotedBlocks<B> {
         self.rule = if told.has_flaw {
             rule_in(reader, lent)
         } else {
-            None
+            Ok(None)
         };
         Ok(told)
     }

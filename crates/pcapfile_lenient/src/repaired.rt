@@ -132,11 +132,12 @@ impl Blocks {
     }
 
     // Reports what became of a block.
-    fn tell(&mut self, report: &mut Report, item: Item) {
+    fn tell(&mut self, report: &mut Report, item: Item) -> Result<(), AllocError> {
         if item.is_changed {
+            let rule = self.repairs.rule?;
             let notes = &mut self.repairs.teller.notes;
             for line in str::from_utf8(notes.as_slice()).unwrap_or_default().lines() {
-                report.tell_repair(item.at, self.repairs.rule, action_in(line));
+                report.tell_repair(item.at, rule, action_in(line));
             }
             notes.clear();
         }
@@ -147,6 +148,7 @@ impl Blocks {
         } else {
             report.count(outcome_if(item.is_changed && !self.repairs.is_sound_section));
         }
+        Ok(())
     }
 }
 
@@ -190,7 +192,7 @@ impl Making {
         };
         let repairs = NotedBlocks {
             teller,
-            rule: None,
+            rule: Ok(None),
             is_sound_section: false,
         };
         let mut blocks = Blocks { rows, repairs };
@@ -230,11 +232,12 @@ impl Making {
     }
 
     // Reports what became of an item.
-    fn tell(&mut self, report: &mut Report, item: Item) {
+    fn tell(&mut self, report: &mut Report, item: Item) -> Result<(), AllocError> {
         match self {
             Making::Packets(packets) => packets.tell(report, item),
-            Making::Blocks(blocks) => blocks.tell(report, item),
+            Making::Blocks(blocks) => return blocks.tell(report, item),
         }
+        Ok(())
     }
 }
 
@@ -291,7 +294,11 @@ impl Repaired {
     /// Returns the next bytes of the repaired capture, or none at its end.
     pub fn next_bytes(&mut self) -> io::Result<&[u8]> {
         if self.given >= self.made.len() {
-            self.make_more()?;
+            let made = self.make_more();
+            if made.is_err() {
+                self.report.flush();
+            }
+            made?;
         }
         Ok(self.made.get(self.given..).unwrap_or_default())
     }
@@ -352,10 +359,7 @@ impl Repaired {
         let counted = &mut self.place.counted;
         let mut making = match making.make(self.alloc, &mut self.made, counted) {
             Ok(making) => making,
-            Err(exit) => {
-                self.report.flush();
-                return Err(io_error(exit));
-            }
+            Err(exit) => return Err(io_error(exit)),
         };
         let now = self.place.counted;
         if now.items > before.items {
@@ -368,7 +372,7 @@ impl Repaired {
                 is_changed: now.flawed > before.flawed,
                 is_left_out: self.made.len() == len,
             };
-            making.tell(&mut self.report, item);
+            making.tell(&mut self.report, item)?;
         }
         Ok(making)
     }

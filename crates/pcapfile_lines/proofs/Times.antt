@@ -6,7 +6,7 @@ use Rattle.jiff_fmt.specs.declared.temporal.printer.DateTimePrinter.{DateTimePri
 use Rattle.jiff_fmt.specs.Printer.{options, IsTimestampText}
 use Rattle.jiff_fmt.specs.Text.{datetime_text, zulu_text}
 use Rattle.pcap_times.specs.declared.clock.Timestamp.{Timestamp}
-use Rattle.pcapfile_lines.specs.Lines.{IsUtcText, ShowsInstant, nanoseconds_of}
+use Rattle.pcapfile_lines.specs.Lines.{IsUtcTextOr, ShowsInstant, nanoseconds_of}
 
 -- A printer with nine digits after the point shows an instant.
 pub printer_shows : (p : DateTimePrinter) (instant : Instant) (text : List ℕ) → options p ≡ (false, 84, Some 9) → IsTimestampText p instant text → ShowsInstant instant.nanosecond text
@@ -14,5 +14,5 @@ printer_shows p instant text are (shown, at, is) =
     (shown, at, is ∙ ap (λ (o : Bool × ℕ × Option ℕ). datetime_text o.0 o.1 o.2 shown ++ zulu_text o.0) are)
 
 -- A text that shows the instant of a time shows the time.
-pub instant_shows : (time : Timestamp) (n : ℤ) (text : List ℕ) → n ≡ nanoseconds_of time → ShowsInstant n text → IsUtcText (Some time) text
-instant_shows time n text same shows = inl (subst (λ m. ShowsInstant m text) same shows)
+pub instant_shows : (other : List ℕ) (time : Timestamp) (n : ℤ) (text : List ℕ) → n ≡ nanoseconds_of time → ShowsInstant n text → IsUtcTextOr other (Some time) text
+instant_shows other time n text same shows = inl (subst (λ m. ShowsInstant m text) same shows)

@@ -10,7 +10,7 @@ use Rattle.serde_json.specs.Written.{compact_text}
 use Rattle.pcap_times.specs.declared.clock.Timestamp.{Timestamp}
 use Rattle.pcapfile_lines.specs.declared.columns.Columns.{Columns}
 use Rattle.pcapfile_lines.specs.declared.form.Form.{Form}
-use Rattle.pcapfile_lines.specs.declared.form.Form.TheVariants.{Utc, Csv, Json}
+use Rattle.pcapfile_lines.specs.declared.form.Form.TheVariants.{Utc, Csv, UtcCsv, Json}
 use Rattle.pcapfile_lines.specs.declared.seen.Seen.{Seen}
 
 -- The seconds since 1970, if they are a natural number of 64 bits, and the nanoseconds after them.
@@ -76,12 +76,16 @@ nanoseconds_of time = time.seconds *ℤ pos 1_000_000_000 +ℤ pos time.nanoseco
 abbrev pub ShowsInstant : ℤ → List ℕ → Type 0
 ShowsInstant n text = (shown : DateTime) × (civil_nanos shown ≡ n) × (text ≡ datetime_text false 84 (Some 9) shown ++ zulu_text false)
 
+-- IsUtcTextOr other time text: `text` is the time in UTC, or this other text if there is no time or its year is not in the calendar.
+abbrev pub IsUtcTextOr : List ℕ → Option Timestamp → List ℕ → Type 0
+IsUtcTextOr other None text = text ≡ other
+IsUtcTextOr other (Some time) text =
+    ShowsInstant (nanoseconds_of time) text
+    ⊎ ((IsTimestampNanos (nanoseconds_of time) → ⊥) × (text ≡ other))
+
 -- IsUtcText time text: `text` is the time in UTC, or a hyphen if there is no time or its year is not in the calendar.
 abbrev pub IsUtcText : Option Timestamp → List ℕ → Type 0
-IsUtcText None text = text ≡ codes "-"
-IsUtcText (Some time) text =
-    ShowsInstant (nanoseconds_of time) text
-    ⊎ ((IsTimestampNanos (nanoseconds_of time) → ⊥) × (text ≡ codes "-"))
+IsUtcText = IsUtcTextOr (codes "-")
 
 -- The end of a line is the number of an interface, if there is one.
 abbrev pub interface_text : Option ℕ → List ℕ
@@ -99,8 +103,21 @@ IsUtcLine index (Some seen) line =
     (time : List ℕ) × IsUtcText seen.time time × (line ≡ utc_line index time seen.captured seen.original (interface_text seen.interface))
 IsUtcLine index None line = line ≡ decimal index ++ codes " refused\n"
 
+-- The line of a packet in a CSV table with this text of its time.
+abbrev pub utc_csv_row : ℕ → List ℕ → Seen → List ℕ
+utc_csv_row index time seen =
+    decimal index ++ (codes "," ++ (time ++ (codes "," ++ (decimal seen.captured ++ (codes "," ++ (decimal seen.original ++ (codes ","
+    ++ (column_text seen.interface ++ codes "\n"))))))))
+
+-- IsUtcCsvLine: the line of a packet in a CSV table with its time in UTC, empty if it has none. All columns behind the index are empty if its
+-- body is malformed.
+abbrev pub IsUtcCsvLine : ℕ → Option Seen → List ℕ → Type 0
+IsUtcCsvLine index (Some seen) line = (time : List ℕ) × IsUtcTextOr [] seen.time time × (line ≡ utc_csv_row index time seen)
+IsUtcCsvLine index None line = line ≡ decimal index ++ codes ",,,,\n"
+
 -- IsLineIn form index packet line: `line` is the line of a packet in this form.
 abbrev pub IsLineIn : Form → ℕ → Option Seen → List ℕ → Type 0
 IsLineIn Utc index packet line = IsUtcLine index packet line
 IsLineIn Csv index packet line = line ≡ csv_line index (columns_of packet)
+IsLineIn UtcCsv index packet line = IsUtcCsvLine index packet line
 IsLineIn Json index packet line = line ≡ json_line index (columns_of packet)

@@ -28,7 +28,7 @@ pub(crate) struct Columns {
 
 /// A column, empty if the number isn't known.
 #[derive(Clone, Copy)]
-struct Column(Option<u64>);
+pub(crate) struct Column(Option<u64>);
 
 impl fmt::Display for Column {
     ghost output = { λ column. Some (column_text column.0) };
@@ -79,7 +79,7 @@ pub(crate) fn columns_of(packet: Option<Seen>) -> Columns
 }
 
 // Returns the column of a 32-bit number.
-fn short(number: Option<u32>) -> Column
+pub(crate) fn short(number: Option<u32>) -> Column
     ensures { result.0 ≡ number }
 {
     match number {

@@ -7,6 +7,7 @@ use crate::columns::{columns_of, csv};
 use crate::json::json;
 use crate::seen::Seen;
 use crate::utc::utc;
+use crate::utc_csv::utc_csv;
 use std::alloc::{AllocError, Global};
 
 /// The form of the line of a packet.
@@ -16,6 +17,8 @@ pub enum Form {
     Utc,
     /// Columns separated by commas, as `HEADING` names them.
     Csv,
+    /// Columns separated by commas, as `UTC_HEADING` names them, with the time in UTC.
+    UtcCsv,
     /// A JSON object with the same members.
     Json,
 }
@@ -32,6 +35,7 @@ pub fn line_of(
     match form {
         Form::Utc => utc(alloc, index, packet),
         Form::Csv => csv(alloc, index, columns_of(packet)),
+        Form::UtcCsv => utc_csv(alloc, index, packet),
         Form::Json => json(alloc, index, columns_of(packet)),
     }
 }

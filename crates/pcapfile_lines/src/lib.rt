@@ -6,8 +6,10 @@ mod form;
 mod json;
 mod seen;
 mod utc;
+mod utc_csv;
 
 pub use columns::HEADING;
 pub use form::{Form, line_of};
 pub use seen::Seen;
-pub use utc::instant_of;
+pub use utc::{instant_of, utc_text};
+pub use utc_csv::UTC_HEADING;

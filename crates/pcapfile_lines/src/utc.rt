@@ -2,7 +2,7 @@
 
 ghost use Rattle.std.specs.Prelude.{◌≡◌, ◌<◌, IfOk, MatchOption, string_bytes};
 ghost use Rattle.jiff_core.specs.Timestamp.{IsTimestampNanos};
-ghost use Rattle.pcapfile_lines.specs.Lines.{IsUtcLine, IsUtcText, ShowsInstant, nanoseconds_of, utc_line, interface_text};
+ghost use Rattle.pcapfile_lines.specs.Lines.{IsUtcLine, IsUtcTextOr, ShowsInstant, nanoseconds_of, utc_line, interface_text};
 
 use crate::seen::Seen;
 use jiff_core::Timestamp as Instant;
@@ -37,16 +37,17 @@ fn instant_text(alloc: Global, instant: Instant) -> Result<String, AllocError>
     String::from_str(alloc, text.as_str())
 }
 
-// Returns a time in that form, or a hyphen if there is no time or it isn't in the calendar.
+/// Returns a time in UTC as in RFC 3339, with nine decimal places, or this other text if there is no time or its year isn't within -9999
+/// to 9999.
 #[tactic(auto, using(crate::proofs::Times::instant_shows))]
-fn text_of(alloc: Global, time: Option<Timestamp>) -> Result<String, AllocError>
-    ensures { IfOk result (λ text. IsUtcText time (string_bytes text)) }
+pub fn utc_text(alloc: Global, time: Option<Timestamp>, other: &str) -> Result<String, AllocError>
+    ensures { IfOk result (λ text. IsUtcTextOr other.now time (string_bytes text)) }
 {
     let Some(time) = time else {
-        return String::from_str(alloc, "-");
+        return String::from_str(alloc, other);
     };
     match instant_of(time) {
-        None => String::from_str(alloc, "-"),
+        None => String::from_str(alloc, other),
         Some(instant) => instant_text(alloc, instant),
     }
 }
@@ -83,7 +84,7 @@ pub(crate) fn utc(alloc: Global, index: u64, packet: Option<Seen>) -> Result<Str
     let Some(seen) = packet else {
         return format!(in alloc; "{index} refused\n");
     };
-    let time = text_of(alloc, seen.time)?;
+    let time = utc_text(alloc, seen.time, "-")?;
     let interface = interface_of(alloc, seen.interface)?;
     line_with(alloc, index, time.as_str(), seen, interface.as_str())
 }

@@ -4,3 +4,4 @@ pub mod Numbers
 pub mod Padding
 pub mod Pieces
 pub mod Plain
+pub mod Sums

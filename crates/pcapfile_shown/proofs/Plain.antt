@@ -3,7 +3,7 @@ use Rattle.std.specs.Prelude.{⊤, ◌≡◌, ◌+◌, ◌++◌, ◌∷◌, [], 
 use Rattle.std.specs.Fmt.{decimal}
 use Rattle.std.specs.Global.{Global}
 use Rattle.std.proofs.Common.{◌∙◌, ap, refl}
-use Rattle.serde_json.specs.Data.{Data, Members, no_members, number, unsigned, string, put}
+use Rattle.serde_json.specs.Data.{Data, Members, no_members, null, number, unsigned, string, put}
 use Rattle.serde_json.specs.View.{items_of}
 use Rattle.serde_json.specs.Written.{has_float, items_have_float, members_have_float}
 use Rattle.pcap_core.specs.Link.{link_number}
@@ -14,21 +14,28 @@ use Rattle.pcap_classic.specs.Magic.{is_magic, order_of, resolution_of}
 use Rattle.pcap_classic.specs.declared.common.TsResolution.{TsResolution}
 use Rattle.pcap_classic.specs.declared.common.TsResolution.TheVariants.{MicroSecond, NanoSecond}
 use Rattle.pcap_classic.specs.declared.pcap.header.PcapHeader.{PcapHeader}
+use Rattle.pcap_times.specs.declared.clock.Timestamp.{Timestamp}
 use Rattle.pcapfile_run.specs.Lines.{format_name, status_of}
 use Rattle.pcapfile_run.specs.Passing.{counted}
 use Rattle.pcapfile_run.specs.declared.checked.Checked.{Checked}
 use Rattle.pcapfile_info.specs.declared.captures.Information.{Information}
 use Rattle.pcapfile_info.specs.declared.described.Described.{Described}
+use Rattle.pcapfile_info.specs.declared.described.Device.{Device}
+use Rattle.pcapfile_info.specs.declared.described.Device.TheVariants.{Told, Untold}
+use Rattle.pcapfile_info.specs.declared.described.Machine.{Machine}
 use Rattle.pcapfile_info.specs.declared.described.Opened.{Opened}
 use Rattle.pcapfile_info.specs.declared.late.Late.{Late}
+use Rattle.pcapfile_info.specs.declared.others.Others.{Others}
 use Rattle.pcapfile_info.specs.declared.spread.Spread.{Spread}
 use Rattle.pcapfile_info.specs.declared.tally.Tally.{Tally}
 use Rattle.pcapfile_info.specs.Tallies.{tally_of}
 use Rattle.pcapfile_shown.specs.Json.{hundredths_data, number_data, order_data, or_null, resolution_data, seconds_data, text_data, text_or_null}
 use Rattle.pcapfile_shown.specs.Json.{TellsCheck, TellsFile, TellsHeader, TellsInterface, TellsSpread, TellsWhole}
-use Rattle.pcapfile_shown.specs.Json.{with_description, with_figures, with_kind, with_link, with_opened}
-use Rattle.pcapfile_shown.specs.Json.{duration_in, instant_in, numbers_data, rate_in, texts_data, version_data}
+use Rattle.pcapfile_shown.specs.Json.{with_description, with_device, with_figures, with_kind, with_link, with_machine, with_opened}
+use Rattle.pcapfile_shown.specs.Json.{duration_in, in_order_data, instant_in, numbers_data, others_data, rate_in, texts_data, version_data}
+use Rattle.pcapfile_shown.specs.Sums.{total_members}
 use Rattle.pcapfile_shown.specs.Texts.{average_of}
+use Rattle.pcapfile_shown.specs.declared.total.Total.{Total}
 use Rattle.pcapfile_shown.proofs.Pieces.{put_plain}
 
 -- No member has a float.
@@ -54,6 +61,10 @@ seconds_plain (Some n) = refl
 text_plain : (o : Option (String Global)) → has_float (text_or_null o) ≡ false
 text_plain None = refl
 text_plain (Some text) = refl
+
+in_order_plain : (latest : Option Timestamp) (in_order : Bool) → has_float (in_order_data latest in_order) ≡ false
+in_order_plain None in_order = refl
+in_order_plain (Some time) in_order = refl
 
 order_plain : (order : Endianness) → has_float (order_data order) ≡ false
 order_plain Big = refl
@@ -86,6 +97,7 @@ abbrev figures : Tally → List (List ℕ × Data)
 figures tally =
     (codes "bytes_per_second", or_null hundredths_data (rate_in tally.original (duration_in tally)))
     ∷ (codes "packets_per_second", or_null hundredths_data (rate_in tally.packets (duration_in tally)))
+    ∷ (codes "in_order", in_order_data tally.latest tally.in_order)
     ∷ (codes "duration", or_null seconds_data (duration_in tally))
     ∷ (codes "latest", or_null seconds_data (instant_in tally.latest))
     ∷ (codes "earliest", or_null seconds_data (instant_in tally.earliest))
@@ -102,16 +114,19 @@ figures_plain tally ms plain = puts_plain (figures tally) ms (
   (
     hundredths_plain (rate_in tally.packets (duration_in tally)),
     (
-      seconds_plain (duration_in tally),
+      in_order_plain tally.latest tally.in_order,
       (
-        seconds_plain (instant_in tally.latest),
+        seconds_plain (duration_in tally),
         (
-          seconds_plain (instant_in tally.earliest),
+          seconds_plain (instant_in tally.latest),
           (
-            numbers_plain tally.sizes,
+            seconds_plain (instant_in tally.earliest),
             (
-              hundredths_plain (average_of tally.original tally.packets),
-              (refl, (refl, (refl, tt))),
+              numbers_plain tally.sizes,
+              (
+                hundredths_plain (average_of tally.original tally.packets),
+                (refl, (refl, (refl, tt))),
+              ),
             ),
           ),
         ),
@@ -123,6 +138,16 @@ figures_plain tally ms plain = puts_plain (figures tally) ms (
 -- The members on a link type, the last one first.
 abbrev link : DataLink → List ℕ → List (List ℕ × Data)
 link type name = (codes "link_name", string name) ∷ (codes "link", number_data (link_number type)) ∷ []
+
+-- The members on an interface's device, the last one first.
+abbrev device : Device → List (List ℕ × Data)
+device (Told texts) = (codes "os", text_or_null texts.value.os) ∷ (codes "hardware", text_or_null texts.value.hardware) ∷ (codes "description", text_or_null texts.value.description) ∷ []
+device Untold = (codes "os", null) ∷ (codes "hardware", null) ∷ (codes "description", null) ∷ []
+
+device_plain : (told : Device) (ms : Members) → IsPlain ms → IsPlain (with_device told ms)
+device_plain (Told texts) ms plain =
+    puts_plain (device (Told texts)) ms (text_plain texts.value.os, (text_plain texts.value.hardware, (text_plain texts.value.description, tt))) plain
+device_plain Untold ms plain = puts_plain (device Untold) ms (refl, (refl, (refl, tt))) plain
 
 -- The members on the description of an interface, the last one first.
 abbrev description : Described → List (List ℕ × Data)
@@ -136,8 +161,9 @@ description described =
 
 description_plain : (described : Described) (name : List ℕ) → IsPlain (with_description described name no_members)
 description_plain described name =
-    puts_plain (link described.link name) (puts (description described) no_members) (refl, (refl, tt))
-    (puts_plain (description described) no_members (texts_plain described.comments.items, (text_plain described.name, (refl, (refl, (refl, tt))))) refl)
+    let front = puts (description described) no_members in
+    let front_plain = puts_plain (description described) no_members (texts_plain described.comments.items, (text_plain described.name, (refl, (refl, (refl, tt))))) refl in
+    puts_plain (link described.link name) (with_device described.device front) (refl, (refl, tt)) (device_plain described.device front front_plain)
 
 spread_plain : (spread : Option Spread) (shown : Data) → TellsSpread spread shown → has_float shown ≡ false
 spread_plain None shown is = ap has_float is
@@ -195,14 +221,49 @@ file_plain : (name : List ℕ) (told : Information) (after : Members) → TellsF
 file_plain name told after (checked, made, check, header, is) =
     ap members_have_float is ∙ opened_plain told.opened made (header_plain told.header checked made header (check_plain name told.checked checked check))
 
+-- The members on how a section was made, the last one first.
+abbrev machine : Machine → List (List ℕ × Data)
+machine told = (codes "os", text_or_null told.os) ∷ (codes "hardware", text_or_null told.hardware) ∷ (codes "application", text_or_null told.application) ∷ []
+
+machine_plain : (told : Machine) (ms : Members) → IsPlain ms → IsPlain (with_machine told ms)
+machine_plain told ms plain = puts_plain (machine told) ms (text_plain told.os, (text_plain told.hardware, (text_plain told.application, tt))) plain
+
+-- The members on blocks by kind, the last one first.
+abbrev kinds : Others → List (List ℕ × Data)
+kinds others =
+    (codes "unknown", number_data others.unknown)
+    ∷ (codes "custom", number_data others.custom)
+    ∷ (codes "secrets", number_data others.secrets)
+    ∷ (codes "journal", number_data others.journal)
+    ∷ (codes "statistics", number_data others.statistics)
+    ∷ (codes "names", number_data others.names)
+    ∷ []
+
+others_plain : (others : Others) → has_float (others_data others) ≡ false
+others_plain others = puts_plain (kinds others) no_members (refl, (refl, (refl, (refl, (refl, (refl, tt)))))) refl
+
 -- The members on the capture as a whole have no float.
 pub whole_plain : (name : List ℕ) (told : Information) (members : Members) → TellsWhole name told members → members_have_float members ≡ false
 whole_plain name told members (file, spread, tells_file, tells_spread, is) =
     let others : List (List ℕ × Data) =
-    (codes "refused", number_data told.totals.refused)
+    (codes "blocks", others_data told.totals.others)
+    ∷ (codes "refused", number_data told.totals.refused)
     ∷ (codes "sections", number_data (counted (told.totals.sections + 1)))
     ∷ (codes "over_time", spread)
     ∷ (codes "comments", texts_data told.comments.items)
     ∷ [] in
     ap members_have_float is
-    ∙ figures_plain told.totals.all (puts others file) (puts_plain others file (refl, (refl, (spread_plain told.totals.all.spread spread tells_spread, (texts_plain told.comments.items, tt)))) (file_plain name told file tells_file))
+    ∙ figures_plain told.totals.all (puts others (with_machine told.machine file))
+    (puts_plain others (with_machine told.machine file) (others_plain told.totals.others, (refl, (refl, (spread_plain told.totals.all.spread spread tells_spread, (texts_plain told.comments.items, tt)))))
+    (machine_plain told.machine file (file_plain name told file tells_file)))
+
+-- The members of totals have no float.
+pub total_plain : (total : Total) (status : ℕ) (members : Members) → members ≡ total_members total status → members_have_float members ≡ false
+total_plain total status members is =
+    let others : List (List ℕ × Data) =
+    (codes "refused", number_data total.refused)
+    ∷ (codes "bytes", number_data total.bytes)
+    ∷ (codes "status", number_data status)
+    ∷ (codes "files", number_data total.files)
+    ∷ [] in
+    ap members_have_float is ∙ figures_plain total.counts (puts others no_members) (puts_plain others no_members (refl, (refl, (refl, (refl, tt)))) refl)

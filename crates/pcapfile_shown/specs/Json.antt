@@ -1,9 +1,9 @@
 -- The JSON report on a capture.
-use Rattle.std.specs.Prelude.{◌≡◌, ◌+◌, ◌-◌, ◌++◌, ℕ, List, String, map, codes, count_by, string_bytes, zip, if◌then◌else◌, Option, None, Some, IfSome, option_and_then}
+use Rattle.std.specs.Prelude.{◌≡◌, ◌+◌, ◌-◌, ◌++◌, ℕ, List, String, map, codes, count_by, Bool, string_bytes, zip, if◌then◌else◌, Option, None, Some, IfSome, option_and_then}
 use Rattle.std.specs.List.{AllZip, range_with_len}
 use Rattle.std.specs.Fmt.{decimal}
 use Rattle.std.specs.Global.{Global}
-use Rattle.serde_json.specs.Data.{Data, Members, array, no_members, null, number, object, string, unsigned, put}
+use Rattle.serde_json.specs.Data.{Data, Members, array, boolean, no_members, null, number, object, string, unsigned, put}
 use Rattle.serde_json.specs.View.{items_of}
 use Rattle.pcap_core.specs.Link.{link_number}
 use Rattle.pcap_core.specs.declared.common.Endianness.{Endianness}
@@ -19,8 +19,13 @@ use Rattle.pcapfile_run.specs.Passing.{counted}
 use Rattle.pcapfile_run.specs.declared.checked.Checked.{Checked}
 use Rattle.pcapfile_info.specs.declared.captures.Information.{Information}
 use Rattle.pcapfile_info.specs.declared.described.Described.{Described}
+use Rattle.pcapfile_info.specs.declared.described.Device.{Device}
+use Rattle.pcapfile_info.specs.declared.described.Device.TheVariants.{Told, Untold}
+use Rattle.pcapfile_info.specs.declared.described.DeviceTexts.{DeviceTexts}
+use Rattle.pcapfile_info.specs.declared.described.Machine.{Machine}
 use Rattle.pcapfile_info.specs.declared.described.Opened.{Opened}
 use Rattle.pcapfile_info.specs.declared.late.Late.{Late}
+use Rattle.pcapfile_info.specs.declared.others.Others.{Others}
 use Rattle.pcapfile_info.specs.declared.spread.Spread.{Spread}
 use Rattle.pcapfile_info.specs.declared.tally.Tally.{Tally}
 use Rattle.pcapfile_info.specs.Spreads.{Rows, lies_in}
@@ -69,12 +74,18 @@ with_amounts tally members =
     (put (codes "original") (number_data tally.original)
     (put (codes "packets") (number_data tally.packets) members))))
 
+-- Whether the times of these packets are in order, or null if no packet has a time.
+abbrev pub in_order_data : Option Timestamp → Bool → Data
+in_order_data None in_order = null
+in_order_data (Some latest) in_order = boolean in_order
+
 -- The members on the times of packets.
 abbrev pub with_times : Tally → Members → Members
 with_times tally members =
-    put (codes "duration") (or_null seconds_data (duration_in tally))
+    put (codes "in_order") (in_order_data tally.latest tally.in_order)
+    (put (codes "duration") (or_null seconds_data (duration_in tally))
     (put (codes "latest") (or_null seconds_data (instant_in tally.latest))
-    (put (codes "earliest") (or_null seconds_data (instant_in tally.earliest)) members))
+    (put (codes "earliest") (or_null seconds_data (instant_in tally.earliest)) members)))
 
 -- The members on packets and bytes per second.
 abbrev pub with_rates : Tally → Members → Members
@@ -124,15 +135,32 @@ text_or_null (Some text) = text_data text
 abbrev pub with_link : DataLink → List ℕ → Members → Members
 with_link link name members = put (codes "link_name") (string name) (put (codes "link") (number_data (link_number link)) members)
 
+-- The members on the texts on a device.
+abbrev pub with_texts : DeviceTexts → Members → Members
+with_texts texts members =
+    put (codes "os") (text_or_null texts.os)
+    (put (codes "hardware") (text_or_null texts.hardware)
+    (put (codes "description") (text_or_null texts.description) members))
+
+-- The members on a device of which nothing is said.
+abbrev pub with_no_texts : Members → Members
+with_no_texts members = put (codes "os") null (put (codes "hardware") null (put (codes "description") null members))
+
+-- The members on an interface's device, null where the interface says nothing.
+abbrev pub with_device : Device → Members → Members
+with_device (Told texts) members = with_texts texts.value members
+with_device Untold members = with_no_texts members
+
 -- The members on the description of an interface whose link type has this name.
 abbrev pub with_description : Described → List ℕ → Members → Members
 with_description described link_name members =
     with_link described.link link_name
+    (with_device described.device
     (put (codes "comments") (texts_data described.comments.items)
     (put (codes "name") (text_or_null described.name)
     (put (codes "snaplen") (number_data described.snaplen)
     (put (codes "number") (number_data described.number)
-    (put (codes "section") (number_data described.section) members)))))
+    (put (codes "section") (number_data described.section) members))))))
 
 -- The value shows an interface: its description, the counts of its packets, and their spread over time.
 abbrev pub TellsInterface : Described × Late → Data → Type 0
@@ -200,15 +228,33 @@ TellsFile name told before after =
     (checked made : Members) × TellsCheck name told.checked before checked × TellsHeader told.header checked made
     × (after ≡ with_opened told.opened made)
 
--- The members on the capture of this name, except its interfaces: its file, comments, the spread of its packets, and their counts.
+-- The members on how the first section was made.
+abbrev pub with_machine : Machine → Members → Members
+with_machine machine members =
+    put (codes "os") (text_or_null machine.os)
+    (put (codes "hardware") (text_or_null machine.hardware)
+    (put (codes "application") (text_or_null machine.application) members))
+
+-- An object with the number of blocks of each kind.
+abbrev pub others_data : Others → Data
+others_data others = object
+    (put (codes "unknown") (number_data others.unknown)
+    (put (codes "custom") (number_data others.custom)
+    (put (codes "secrets") (number_data others.secrets)
+    (put (codes "journal") (number_data others.journal)
+    (put (codes "statistics") (number_data others.statistics)
+    (put (codes "names") (number_data others.names) no_members))))))
+
+-- The members on the capture of this name, except its interfaces: its file, comments, the spread of its packets, and all counts.
 abbrev pub TellsWhole : List ℕ → Information → Members → Type 0
 TellsWhole name told members =
     (file : Members) × (spread : Data) × TellsFile name told no_members file × TellsSpread told.totals.all.spread spread
     × (members ≡ with_figures told.totals.all
+    (put (codes "blocks") (others_data told.totals.others)
     (put (codes "refused") (number_data told.totals.refused)
     (put (codes "sections") (number_data (counted (told.totals.sections + 1)))
     (put (codes "over_time") spread
-    (put (codes "comments") (texts_data told.comments.items) file)))))
+    (put (codes "comments") (texts_data told.comments.items) (with_machine told.machine file)))))))
 
 -- The values show the interfaces, in order.
 abbrev pub TellsInterfaces : Information → List Data → Type 0

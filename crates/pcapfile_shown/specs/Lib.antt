@@ -1,3 +1,5 @@
 pub mod Json
 pub mod Pieces
+pub mod Sums
+pub mod Table
 pub mod Texts

@@ -50,8 +50,14 @@ impl fmt::Display for Times<'_> {
     fn fmt<W: fmt::Write>(&self, f: &mut fmt::Formatter<W>) -> fmt::Result {
         let earliest = Utc(self.earliest);
         let latest = Utc(self.latest);
+        let order = if self.tally.in_order {
+            "in order"
+        } else {
+            "not in order"
+        };
         writeln!(f, "  Earliest packet:   {earliest}")?;
         writeln!(f, "  Latest packet:     {latest}")?;
+        writeln!(f, "  Time order:        {order}")?;
         let Some(duration) = duration_of(self.earliest, self.latest) else {
             return Ok(());
         };

@@ -1,13 +1,17 @@
 //! Descriptions of interfaces and the counts of their packets, as text.
 
 use crate::figures::Figures;
-use pcapfile_info::{Described, Information};
+use pcapfile_info::{Described, Device, DeviceTexts, Information};
 use std::fmt;
 
 /// The lines that describe an interface. Names and comments are written as literals, so that no byte of them reaches a terminal
 /// as it is.
 #[derive(Clone, Copy)]
 struct Interface<'a>(&'a Described);
+
+/// The lines on an interface's device. The texts are written as literals too.
+#[derive(Clone, Copy)]
+struct Texts<'a>(&'a DeviceTexts);
 
 /// The lines on all interfaces of a PcapNg capture. If there are several, the counts of each follow its description.
 #[derive(Clone, Copy)]
@@ -32,8 +36,32 @@ impl fmt::Display for Interface<'_> {
             write!(f, ", at most {snaplen} bytes of a packet")?;
         }
         f.write_str("\n")?;
+        if let Device::Told(texts) = &described.device {
+            let texts = Texts(&**texts);
+            write!(f, "{texts}")?;
+        }
         for comment in described.comments.iter() {
             writeln!(f, "  Comment:           {comment:?}")?;
+        }
+        Ok(())
+    }
+}
+
+impl fmt::Display for Texts<'_> {
+    fn fmt<W: fmt::Write>(&self, f: &mut fmt::Formatter<W>) -> fmt::Result {
+        let DeviceTexts {
+            description,
+            hardware,
+            os,
+        } = self.0;
+        if let Some(description) = description {
+            writeln!(f, "  Description:       {description:?}")?;
+        }
+        if let Some(hardware) = hardware {
+            writeln!(f, "  Hardware:          {hardware:?}")?;
+        }
+        if let Some(os) = os {
+            writeln!(f, "  Operating system:  {os:?}")?;
         }
         Ok(())
     }

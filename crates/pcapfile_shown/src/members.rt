@@ -2,7 +2,7 @@
 
 ghost use Rattle.std.specs.Prelude.{◌≡◌, ℕ, List, option_map, OnOk, IfOk};
 ghost use Rattle.serde_json.specs.View.{members_view, view};
-ghost use Rattle.pcapfile_shown.specs.Json.{AreCountsOf, duration_in, hundredths_data, instant_in, numbers_data, or_null, rate_in, seconds_data};
+ghost use Rattle.pcapfile_shown.specs.Json.{AreCountsOf, duration_in, hundredths_data, in_order_data, instant_in, numbers_data, or_null, rate_in, seconds_data};
 ghost use Rattle.pcapfile_shown.specs.Json.{spread_data, TellsSpread, with_amounts, with_rates, with_times};
 
 use crate::rate::{
@@ -53,8 +53,8 @@ fn seconds_at(time: Option<Timestamp>) -> Option<Seconds>
     }
 }
 
-// Returns the time from the earliest to the latest of these packets.
-fn duration_of_all(tally: &Tally) -> Option<Seconds>
+/// Returns the time from the earliest to the latest of these packets.
+pub(crate) fn duration_of_all(tally: &Tally) -> Option<Seconds>
     ensures { option_map (λ s. s.0) result ≡ duration_in tally.now }
 {
     match (tally.earliest, tally.latest) {
@@ -63,13 +63,23 @@ fn duration_of_all(tally: &Tally) -> Option<Seconds>
     }
 }
 
-// Returns the hundredths of a unit per second, if the duration is known.
-fn rate_of(count: u64, duration: Option<Seconds>) -> Option<Hundredths>
+/// Returns the hundredths of a unit per second, if the duration is known.
+pub(crate) fn rate_of(count: u64, duration: Option<Seconds>) -> Option<Hundredths>
     ensures { option_map (λ h. h.0) result ≡ rate_in count (option_map (λ s. s.0) duration) }
 {
     match duration {
         None => None,
         Some(duration) => hundredths_per_second(count, duration),
+    }
+}
+
+// Returns whether the times of these packets are in order. Null if no packet has a time.
+fn order_or_null(tally: &Tally) -> Value
+    ensures { view result ≡ in_order_data tally.now.latest tally.now.in_order }
+{
+    match tally.latest {
+        None => Value::Null,
+        Some(_) => Value::Bool(tally.in_order),
     }
 }
 
@@ -87,7 +97,7 @@ fn put_amounts(map: &mut Map<String, Value>, alloc: Global, tally: &Tally) -> Re
     put(map, alloc, "sizes", sizes)
 }
 
-// Puts the earliest and the latest time, and the time between them.
+// Puts the earliest and the latest time, the time between them, and whether times are in order.
 fn put_times(map: &mut Map<String, Value>, alloc: Global, tally: &Tally) -> Result<(), AllocError>
     ensures { OnOk result (members_view map.new.entries ≡ with_times tally.now (members_view map.old.entries)) }
 {
@@ -96,7 +106,8 @@ fn put_times(map: &mut Map<String, Value>, alloc: Global, tally: &Tally) -> Resu
     let duration = seconds_or_null(alloc, duration_of_all(tally))?;
     put(map, alloc, "earliest", earliest)?;
     put(map, alloc, "latest", latest)?;
-    put(map, alloc, "duration", duration)
+    put(map, alloc, "duration", duration)?;
+    put(map, alloc, "in_order", order_or_null(tally))
 }
 
 // Puts the packets and bytes per second.

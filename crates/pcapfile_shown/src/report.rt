@@ -6,9 +6,10 @@ ghost use Rattle.pcapfile_shown.specs.Json.{order_data, resolution_data};
 
 use crate::figures::Figures;
 use crate::interfaces::Interfaces;
+use crate::others::OtherBlocks;
 use pcap_file::pcap::PcapHeader;
 use pcap_file::{Endianness, TsResolution};
-use pcapfile_info::{Information, Opened};
+use pcapfile_info::{Information, Machine, Opened};
 use std::fmt;
 
 /// The text report on a capture, in lines: the result of its check, its opening, its counts, and its interfaces.
@@ -30,6 +31,10 @@ struct Sections<'a> {
     information: &'a Information,
     opened: Opened,
 }
+
+/// The lines on how a section was made. The texts are written as literals, so that no byte of them reaches a terminal as it is.
+#[derive(Clone, Copy)]
+struct Made<'a>(&'a Machine);
 
 pub(crate) fn order_name(order: Endianness) -> &'static str
     ensures { string result.now ≡ order_data order }
@@ -91,6 +96,27 @@ impl fmt::Display for Sections<'_> {
         if undescribed > 0 {
             writeln!(f, "  No interface:      {undescribed} packets")?;
         }
+        let others = OtherBlocks(&told.totals.others);
+        write!(f, "{others}")
+    }
+}
+
+impl fmt::Display for Made<'_> {
+    fn fmt<W: fmt::Write>(&self, f: &mut fmt::Formatter<W>) -> fmt::Result {
+        let Machine {
+            application,
+            hardware,
+            os,
+        } = self.0;
+        if let Some(application) = application {
+            writeln!(f, "  Application:       {application:?}")?;
+        }
+        if let Some(hardware) = hardware {
+            writeln!(f, "  Hardware:          {hardware:?}")?;
+        }
+        if let Some(os) = os {
+            writeln!(f, "  Operating system:  {os:?}")?;
+        }
         Ok(())
     }
 }
@@ -113,6 +139,8 @@ impl fmt::Display for Report<'_> {
             };
             write!(f, "{sections}")?;
         }
+        let made = Made(&told.machine);
+        write!(f, "{made}")?;
         for comment in told.comments.iter() {
             writeln!(f, "  Comment:           {comment:?}")?;
         }

@@ -1,5 +1,9 @@
 //! Times in UTC.
 
+ghost use Rattle.pcapfile_lines.specs.Lines.{ShowsInstant};
+
+use arrayvec::ArrayString;
+use jiff_core::Timestamp as Instant;
 use jiff_fmt::temporal::DateTimePrinter;
 use pcap_file::pcapng::Timestamp;
 use pcapfile_lines::instant_of;
@@ -10,16 +14,20 @@ use std::fmt;
 #[derive(Clone, Copy, Debug)]
 pub struct Utc(pub Timestamp);
 
+// Returns an instant in RFC 3339 form, with nine digits after the point.
+fn instant_text(instant: Instant) -> ArrayString<33>
+    ensures { ShowsInstant instant.nanosecond result.bytes }
+{
+    DateTimePrinter::new()
+        .precision(Some(9))
+        .timestamp_text(instant)
+}
+
 impl fmt::Display for Utc {
     fn fmt<W: fmt::Write>(&self, f: &mut fmt::Formatter<W>) -> fmt::Result {
         match instant_of(self.0) {
             None => write!(f, "-"),
-            Some(instant) => {
-                let text = DateTimePrinter::new()
-                    .precision(Some(9))
-                    .timestamp_text(instant);
-                f.write_str(text.as_str())
-            }
+            Some(instant) => f.write_str(instant_text(instant).as_str()),
         }
     }
 }

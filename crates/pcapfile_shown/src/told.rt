@@ -7,23 +7,25 @@ ghost use Rattle.serde_json.specs.View.{items_of, members_view, view};
 ghost use Rattle.serde_json.specs.Written.{compact_text};
 ghost use Rattle.pcapfile_run.specs.Lines.{format_name};
 ghost use Rattle.pcapfile_shown.specs.Json.{Tells, TellsCheck, TellsFile, TellsHeader, TellsInterface, TellsInterfaces, TellsWhole, text_or_null};
-ghost use Rattle.pcapfile_shown.specs.Json.{texts_data, with_description, with_kind, with_link, with_opened};
+ghost use Rattle.pcapfile_shown.specs.Json.{texts_data, with_description, with_device, with_kind, with_machine, with_no_texts, with_link, with_opened, with_texts};
 ghost use Rattle.pcapfile_shown.specs.Pieces.{items_inside};
 
 use crate::members::{put_figures, spread_or_null};
+use crate::others::by_kind;
 use crate::piecewise::{
     Unwritten, comma, text_around, write_before, write_behind, write_text, write_value,
 };
 use crate::report::{order_name, resolution_name};
 use pcap_core::DataLink;
 use pcap_file::pcap::PcapHeader;
-use pcapfile_info::{Described, Information, Late, Opened};
+use pcapfile_info::{Described, Device, DeviceTexts, Information, Late, Machine, Opened};
 use pcapfile_run::{Checked, Format};
 use serde_json::{Map, Value, push, put};
 use std::alloc::{AllocError, Global};
 use std::fmt;
 
-fn name_of(format: Format) -> &'static str
+/// Returns the name of a format.
+pub(crate) fn name_of(format: Format) -> &'static str
     ensures { result.now ≡ format_name format }
 {
     match format {
@@ -118,6 +120,61 @@ fn put_opened(
     put(map, alloc, "order", order)
 }
 
+// Puts the texts on a device.
+fn put_texts(
+    map: &mut Map<String, Value>,
+    alloc: Global,
+    texts: &DeviceTexts,
+) -> Result<(), AllocError>
+    ensures { OnOk result (members_view map.new.entries ≡ with_texts texts.now (members_view map.old.entries)) }
+{
+    let description = text_or_null(alloc, &texts.description)?;
+    let hardware = text_or_null(alloc, &texts.hardware)?;
+    let os = text_or_null(alloc, &texts.os)?;
+    put(map, alloc, "description", description)?;
+    put(map, alloc, "hardware", hardware)?;
+    put(map, alloc, "os", os)
+}
+
+// Puts null for each text on a device.
+fn put_no_texts(map: &mut Map<String, Value>, alloc: Global) -> Result<(), AllocError>
+    ensures { OnOk result (members_view map.new.entries ≡ with_no_texts (members_view map.old.entries)) }
+{
+    put(map, alloc, "description", Value::Null)?;
+    put(map, alloc, "hardware", Value::Null)?;
+    put(map, alloc, "os", Value::Null)
+}
+
+// Puts what an interface says of its device.
+fn put_device(
+    map: &mut Map<String, Value>,
+    alloc: Global,
+    device: &Device,
+) -> Result<(), AllocError>
+    ensures { OnOk result (members_view map.new.entries ≡ with_device device.now (members_view map.old.entries)) }
+{
+    match device {
+        Device::Told(texts) => put_texts(map, alloc, texts),
+        Device::Untold => put_no_texts(map, alloc),
+    }
+}
+
+// Puts what the first section says of how it was made.
+fn put_machine(
+    map: &mut Map<String, Value>,
+    alloc: Global,
+    machine: &Machine,
+) -> Result<(), AllocError>
+    ensures { OnOk result (members_view map.new.entries ≡ with_machine machine.now (members_view map.old.entries)) }
+{
+    let application = text_or_null(alloc, &machine.application)?;
+    let hardware = text_or_null(alloc, &machine.hardware)?;
+    let os = text_or_null(alloc, &machine.os)?;
+    put(map, alloc, "application", application)?;
+    put(map, alloc, "hardware", hardware)?;
+    put(map, alloc, "os", os)
+}
+
 // Puts the description of an interface.
 fn put_description(
     map: &mut Map<String, Value>,
@@ -133,6 +190,7 @@ fn put_description(
     put(map, alloc, "snaplen", Value::from(described.snaplen))?;
     put(map, alloc, "name", name)?;
     put(map, alloc, "comments", comments)?;
+    put_device(map, alloc, &described.device)?;
     put_link(map, alloc, described.link)
 }
 
@@ -207,13 +265,16 @@ fn told_of(alloc: Global, name: &str, told: &Information) -> Result<Map<String, 
 {
     let comments = texts(alloc, told.comments.as_slice())?;
     let over_time = spread_or_null(alloc, &told.totals.all.spread)?;
+    let blocks = by_kind(alloc, &told.totals.others)?;
     let mut map = Map::new(alloc);
     put_file(&mut map, alloc, name, told)?;
+    put_machine(&mut map, alloc, &told.machine)?;
     put(&mut map, alloc, "comments", comments)?;
     put(&mut map, alloc, "over_time", over_time)?;
     let sections = told.totals.sections.saturating_add(1);
     put(&mut map, alloc, "sections", Value::from(sections))?;
     put(&mut map, alloc, "refused", Value::from(told.totals.refused))?;
+    put(&mut map, alloc, "blocks", blocks)?;
     put_figures(&mut map, alloc, &told.totals.all)?;
     Ok(map)
 }

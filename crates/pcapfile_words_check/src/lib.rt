@@ -6,5 +6,5 @@ mod info;
 mod list;
 
 pub use check::{Checking, check_files};
-pub use info::{Informing, inform_files};
+pub use info::{Informing, Reporting, inform_files};
 pub use list::{Listing, list_files};

@@ -6,10 +6,10 @@ use pcapfile_files::{
     AT_FAULT, Console, OUTPUT, Shown, buffered, open_watched, tell_exit, tell_io, tell_unwritten,
 };
 use pcapfile_lenient::{Count, tell_fault};
-use pcapfile_lines::{Form, HEADING};
+use pcapfile_lines::{Form, HEADING, UTC_HEADING};
 use pcapfile_run::list;
 use std::io;
-use std::io::{BufWriter, Write};
+use std::io::{BufWriter, ErrorKind, Write};
 
 /// The arguments of `list`.
 #[derive(Clone, Copy)]
@@ -22,26 +22,60 @@ pub struct Listing<'a> {
     pub most: Option<u64>,
 }
 
-/// An output of lines, each of which is one write. It counts the lines of packets with a malformed body.
+/// The lines that an output takes.
+#[derive(Clone, Copy)]
+struct Taken {
+    form: Option<Form>,
+    /// The number of lines of packets with a malformed body.
+    refused: u64,
+    /// The number of lines that it still takes; `None` is all of them.
+    left: Option<u64>,
+}
+
+impl Taken {
+    // Returns whether it takes no more lines.
+    fn is_full(&self) -> bool {
+        self.left == Some(0)
+    }
+
+    // Counts a line.
+    fn count(&mut self, line: &[u8]) {
+        if is_refused(self.form, line) {
+            self.refused = self.refused.saturating_add(1);
+        }
+        if let Some(left) = self.left {
+            self.left = Some(left.saturating_sub(1));
+        }
+    }
+}
+
+/// An output of lines, each of which is one write. After the last line that it takes, a write or a flush fails, which ends the list.
 #[derive(Drop)]
 struct Lines<'a, W> {
     output: &'a mut W,
-    refused: u64,
+    taken: Taken,
 }
 
 impl<W: Write> Write for Lines<'_, W> {
     ghost contents = { λ lines. W.contents lines.output.now };
 
     fn write(&mut self, buf: &[u8]) -> io::Result<usize> {
+        if self.taken.is_full() {
+            return Err(io::Error::from(ErrorKind::Other));
+        }
         let len = self.output.write(buf)?;
-        if len == buf.len() && is_refused(buf) {
-            self.refused = self.refused.saturating_add(1);
+        if len == buf.len() {
+            self.taken.count(buf);
         }
         Ok(len)
     }
 
     fn flush(&mut self) -> io::Result<()> {
-        self.output.flush()
+        self.output.flush()?;
+        if self.taken.is_full() {
+            return Err(io::Error::from(ErrorKind::Other));
+        }
+        Ok(())
     }
 }
 
@@ -51,6 +85,8 @@ struct Listed {
     exit: Exit,
     /// The number of its packets with a malformed body.
     refused: u64,
+    /// Whether as many packets were listed as were asked for.
+    is_full: bool,
 }
 
 /// Lists the packets of each capture, and returns the worst exit status. If there are several captures, the name of each is
@@ -58,16 +94,14 @@ struct Listed {
 pub fn list_files(console: &Console, asked: Listing<'_>) -> io::Result<u8> {
     let stdout = Uninterrupted::new(console.rt().stdout());
     let mut output = Told::new(BufWriter::with_capacity(console.alloc(), OUTPUT, stdout)?);
-    if asked.form == Some(Form::Csv) {
-        output.write_all(HEADING.as_bytes())?;
-    }
+    output.write_all(heading(asked.form).as_bytes())?;
     let mut status = 0;
     for name in asked.names {
         let listed = open_and_list(console, name, asked, &mut output);
         let write_failed = output.failed();
         // The listed packets are written before the messages on them.
         output.flush()?;
-        status = tell_listed(console, name, listed, asked.most, write_failed)?.max(status);
+        status = tell_listed(console, name, listed, write_failed)?.max(status);
     }
     Ok(status)
 }
@@ -77,10 +111,13 @@ fn tell_listed(
     console: &Console,
     name: &str,
     listed: io::Result<Listed>,
-    most: Option<u64>,
     write_failed: bool,
 ) -> io::Result<u8> {
-    let Listed { exit, refused } = match listed {
+    let Listed {
+        exit,
+        refused,
+        is_full,
+    } = match listed {
         Ok(listed) => listed,
         Err(error) if write_failed => return Err(error),
         Err(error) => return tell_io(console, name, &error),
@@ -89,8 +126,10 @@ fn tell_listed(
         return tell_unwritten(console, name, exit);
     }
     let status = tell_refused(console, name, refused)?;
+    if is_full {
+        return Ok(status);
+    }
     let ended = match exit {
-        Exit::Most if most.is_some() => 0,
         Exit::Refused(error) | Exit::Io(error) => tell_fault(console, name, &error)?,
         exit => tell_exit(console, name, &exit)?,
     };
@@ -114,11 +153,24 @@ fn tell_refused(console: &Console, name: &str, refused: u64) -> io::Result<u8> {
     Ok(AT_FAULT)
 }
 
-// Returns whether a line is that of a packet with a malformed body, in a form for people, as CSV, or as JSON.
-fn is_refused(line: &[u8]) -> bool {
-    line.ends_with(b" refused\n")
-        || line.ends_with(b",,,,,\n")
-        || line.starts_with(b"{\"captured\":null,")
+// Returns whether a line in this form is that of a packet with a malformed body. In a form for people the last letter settles
+// almost every line.
+fn is_refused(form: Option<Form>, line: &[u8]) -> bool {
+    match form {
+        None | Some(Form::Utc) => line.ends_with(b"d\n") && line.ends_with(b" refused\n"),
+        Some(Form::Csv) => line.ends_with(b",,,,,\n"),
+        Some(Form::UtcCsv) => line.ends_with(b",,,,\n"),
+        Some(Form::Json) => line.starts_with(b"{\"captured\":null,"),
+    }
+}
+
+// Returns what precedes all lines in this form.
+fn heading(form: Option<Form>) -> &'static str {
+    match form {
+        Some(Form::Csv) => HEADING,
+        Some(Form::UtcCsv) => UTC_HEADING,
+        None | Some(Form::Utc | Form::Json) => "",
+    }
 }
 
 fn is_read_by_people(form: Option<Form>) -> bool {
@@ -138,9 +190,16 @@ fn open_and_list<W: Write>(
         writeln!(output, "{shown}:")?;
     }
     let mut input = buffered(console.alloc(), stream)?;
-    let most = most.unwrap_or(u64::MAX);
-    let mut lines = Lines { output, refused: 0 };
-    let exit = list(console.alloc(), form, &mut input, &mut lines, most);
-    let refused = lines.refused;
-    Ok(Listed { exit, refused })
+    let taken = Taken {
+        form,
+        refused: 0,
+        left: most,
+    };
+    let mut lines = Lines { output, taken };
+    let exit = list(console.alloc(), form, &mut input, &mut lines, u64::MAX);
+    Ok(Listed {
+        exit,
+        refused: lines.taken.refused,
+        is_full: lines.taken.is_full(),
+    })
 }

@@ -1,5 +1,6 @@
 //! PcapNg captures that are read part by part.
 
+mod changed;
 mod selected;
 
 use crate::selecting::Tests;
@@ -16,7 +17,7 @@ use std::io::{Read, Write};
 #[derive(Drop)]
 pub(crate) struct Blocks<R> {
     blocks: pcapfile_cut::Blocks<R>,
-    /// How many packets were left out because a test doesn't apply to them, and how many were not shortened.
+    /// How many packets were left out or treated otherwise than the user asked.
     exceptions: Exceptions,
     /// The time of the first packet that has one, if a test depends on it and that packet was read.
     first: Option<Timestamp>,
@@ -66,6 +67,7 @@ impl<R: Read + Drop> Source for Blocks<R> {
         let done = self.put_selected(alloc, output, tests, &mut outcome);
         outcome.fault = done.err();
         outcome.read_failed = self.blocks.reader().failed();
+        self.exceptions.duplicates = outcome.duplicates;
         outcome
     }
 

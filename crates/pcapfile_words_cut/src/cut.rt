@@ -126,20 +126,35 @@ fn cut_capture(console: &Console, asked: &Cutting, filter: Option<&Filter>) -> i
     }
 }
 
-// Reports how many packets are left out because a test doesn't apply to them, and how many are not shortened.
+// Reports how many packets are left out because a test doesn't apply to them or as duplicates, and how many are not compared, shortened
+// or moved.
 fn tell_exceptions(console: &Console, from: &str, packets: Exceptions) -> io::Result<()> {
     let Exceptions {
         malformed,
         without_time,
+        duplicates,
+        uncompared,
         whole_malformed,
         whole_simple,
+        unmoved_malformed,
+        unmoved,
     } = packets;
-    let (left_out, whole) = ("left out", "did not shorten");
+    let (left_out, whole, still) = ("left out", "did not shorten", "did not move");
     let with_malformed = "with a malformed body";
     tell_packets(console, from, left_out, malformed, with_malformed)?;
     tell_packets(console, from, left_out, without_time, "without a time")?;
+    let as_duplicates = if duplicates == 1 {
+        "as a duplicate"
+    } else {
+        "as duplicates"
+    };
+    tell_packets(console, from, left_out, duplicates, as_duplicates)?;
+    tell_packets(console, from, "did not compare", uncompared, with_malformed)?;
     tell_packets(console, from, whole, whole_malformed, with_malformed)?;
-    tell_packets(console, from, whole, whole_simple, "in a simple block")
+    tell_packets(console, from, whole, whole_simple, "in a simple block")?;
+    tell_packets(console, from, still, unmoved_malformed, with_malformed)?;
+    let to_time = "to a time that the capture can't state";
+    tell_packets(console, from, still, unmoved, to_time)
 }
 
 // Reports what was done with this many packets of this kind, if there are any.

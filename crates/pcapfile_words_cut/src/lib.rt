@@ -1,4 +1,4 @@
-//! The words `cut` and `join` of the program `pcapfile`.
+//! The words `cut`, `join` and `sort` of the program `pcapfile`.
 #![tactic(auto)]
 
 mod blocks;
@@ -7,6 +7,7 @@ mod filters;
 mod join;
 pub mod ranges;
 mod selecting;
+mod sort;
 mod source;
 mod tell;
 mod times;
@@ -14,4 +15,5 @@ mod times;
 pub use cut::{Cutting, Way, cut_file};
 pub use join::{Joining, join_files};
 pub use selecting::Selecting;
-pub use times::{Moment, Zone};
+pub use sort::{Sorting, sort_file};
+pub use times::{Moment, Zone, shift_of_text};

@@ -3,9 +3,10 @@
 use crate::times::{Moment, nanoseconds_of};
 use pcap_file::pcapng::Timestamp;
 use pcap_filter::Filter;
-use pcapfile_cut::{Range, Selection};
+use pcapfile_cut::{Changes, Range, Selection};
 
-/// The tests that a user names. A packet is selected if it passes all of them. A selected packet may be shortened.
+/// The tests that a user names. A packet is selected if it passes all of them. Of the selected packets, duplicates may be left out, and the
+/// others may be changed.
 #[derive(Drop)]
 pub struct Selecting {
     /// The ranges of the packets' numbers.
@@ -18,8 +19,10 @@ pub struct Selecting {
     pub lengths: Range,
     /// The number of the packets' interface in their section.
     pub interface: Option<u32>,
-    /// The most bytes that are written of each packet. `None` if each packet keeps all its bytes.
-    pub snaplen: Option<u32>,
+    /// How many of the selected packets before it a packet is compared with; 0 keeps duplicates.
+    pub dedup: u32,
+    /// How the selected packets are changed.
+    pub changes: Changes,
 }
 
 /// The tests that a user names, and the filter that was read from a file.
@@ -83,7 +86,8 @@ impl<'a> Tests<'a> {
             from,
             until,
             lengths,
-            snaplen,
+            dedup,
+            changes,
             ..
         } = self.asked;
         Selection {
@@ -92,7 +96,8 @@ impl<'a> Tests<'a> {
             until: until.map_or(u64::MAX, |until| nanoseconds_of(until.after(first))),
             lengths: *lengths,
             filter: self.filter,
-            snaplen: *snaplen,
+            dedup: *dedup,
+            changes: *changes,
         }
     }
 }

@@ -13,17 +13,26 @@ use std::io::{BufRead, Read, Write};
 /// The length of a packet's header in a classic capture, in bytes.
 const HEAD: usize = 16;
 
-/// How many packets a selection left out because a test doesn't apply to them, and how many it did not shorten.
+/// How many packets a selection left out because a test doesn't apply to them or as duplicates, and how many it did not compare,
+/// shorten or move.
 #[derive(Clone, Copy, Default)]
 pub(crate) struct Exceptions {
     /// Packets with a malformed body that were left out.
     pub(crate) malformed: u64,
     /// Packets without a time that were left out, if a test depends on it.
     pub(crate) without_time: u64,
+    /// Packets that were left out as duplicates.
+    pub(crate) duplicates: u64,
+    /// Packets with a malformed body, which are written and can't be compared.
+    pub(crate) uncompared: u64,
     /// Packets with a malformed body that were not shortened.
     pub(crate) whole_malformed: u64,
     /// Longer simple packets, which can't be shortened.
     pub(crate) whole_simple: u64,
+    /// Packets with a malformed body whose time was not moved.
+    pub(crate) unmoved_malformed: u64,
+    /// Packets that keep their time, since the capture can't state the new one.
+    pub(crate) unmoved: u64,
 }
 
 /// A capture that is read part by part.
@@ -49,7 +58,7 @@ pub(crate) trait Source {
     /// Returns whether all of the capture is in a part.
     fn is_at_end(&mut self) -> io::Result<bool>;
 
-    /// Returns how many packets were left out because a test doesn't apply to them, and how many were not shortened.
+    /// Returns how many packets were left out or treated otherwise than the user asked.
     fn exceptions(&self) -> Exceptions;
 
     /// Returns the length of the next part's opening, in bytes.
@@ -61,6 +70,8 @@ pub(crate) trait Source {
 pub(crate) struct Packets<R> {
     opening: Opening,
     input: Rest<R>,
+    /// How many packets were left out or treated otherwise than the user asked.
+    exceptions: Exceptions,
 }
 
 impl<R: BufRead + Drop> Packets<R> {
@@ -73,7 +84,11 @@ impl<R: BufRead + Drop> Packets<R> {
             end: 0,
             input,
         };
-        Ok(Packets { opening, input })
+        Ok(Packets {
+            opening,
+            input,
+            exceptions: Exceptions::default(),
+        })
     }
 
     /// Returns the capture's header.
@@ -110,7 +125,10 @@ impl<R: BufRead + Drop> Source for Packets<R> {
             selection.numbers = &[];
         }
         let wanted = Wanted::Selected(&selection);
-        cut_part(alloc, &self.opening, &mut self.input, output, wanted)
+        let outcome = cut_part(alloc, &self.opening, &mut self.input, output, wanted);
+        self.exceptions.duplicates = outcome.duplicates;
+        self.exceptions.unmoved = outcome.unmoved;
+        outcome
     }
 
     fn is_at_end(&mut self) -> io::Result<bool> {
@@ -118,7 +136,7 @@ impl<R: BufRead + Drop> Source for Packets<R> {
     }
 
     fn exceptions(&self) -> Exceptions {
-        Exceptions::default()
+        self.exceptions
     }
 
     fn opening_len(&self) -> u64 {
@@ -211,6 +229,8 @@ pub(crate) fn nothing() -> Outcome {
     Outcome {
         packets: 0,
         bytes: 0,
+        duplicates: 0,
+        unmoved: 0,
         fault: None,
         read_failed: false,
         write_failed: false,

@@ -5,6 +5,7 @@ use jiff::civil::DateTime;
 use jiff::tz::{SystemTimeZone, TimeZone, TimeZoneDatabase};
 use jiff::{SignedDuration, Timestamp as Instant};
 use pcap_file::pcapng::Timestamp;
+use pcapfile_cut::Shift;
 use std::alloc::Global;
 use std::str;
 
@@ -91,6 +92,26 @@ impl Moment {
             Moment::AfterFirst(duration) => sum(first, duration),
         }
     }
+}
+
+/// Returns the change of times that a text names: a number of seconds with at most nine decimal places, or numbers with units such as
+/// `1h 30m`, after `-` for earlier times. It has at most 2^64 - 1 nanoseconds, some 584 years.
+pub fn shift_of_text(text: &str) -> Option<Shift> {
+    match text.strip_prefix('-') {
+        Some(duration) => Some(Shift::Earlier(nanoseconds_in(duration)?)),
+        None => {
+            let duration = text.strip_prefix('+').unwrap_or(text);
+            Some(Shift::Later(nanoseconds_in(duration)?))
+        }
+    }
+}
+
+// Returns the nanoseconds of a duration.
+fn nanoseconds_in(text: &str) -> Option<u64> {
+    let duration = duration_of(text)?;
+    let seconds = u64::try_from(duration.seconds).ok()?;
+    let nanoseconds = seconds.checked_mul(SECOND)?;
+    nanoseconds.checked_add(u64::from(duration.nanoseconds))
 }
 
 /// Returns a time as nanoseconds since 1970: 0 for an earlier time, and the largest number for a time that is too late.

@@ -88,19 +88,30 @@ fn repair_to<W: Write + Drop>(
     Ok(0)
 }
 
+// Returns which options help if the header of a capture may be lost.
+fn advice_after(opening: Opening) -> Option<&'static str> {
+    match opening {
+        Opening::Own => Some(
+            "if its header is lost, --guess guesses one, and --header ORDER,RESOLUTION,LINK gives one",
+        ),
+        Opening::Guess(_) => Some(
+            "--guess finds no four packets or two blocks in a row; --header ORDER,RESOLUTION,LINK gives a header",
+        ),
+        Opening::Given(_) => None,
+    }
+}
+
 // Prints why a capture can't be opened, and if its header may be lost, which options help. Returns the exit status.
 fn tell_refused(console: &Console, asked: &Repair, error: &PcapError) -> io::Result<u8> {
     let is_refused = matches!(error, PcapError::InvalidField(_));
-    if !is_refused || !matches!(asked.opening, Opening::Own) {
+    let Some(advice) = advice_after(asked.opening).filter(|_| is_refused) else {
         return tell_unopened(console, asked.from, error);
-    }
+    };
     if tell_foreign(console, asked.from)? {
         return Ok(AT_FAULT);
     }
     let status = tell_error(console, asked.from, error)?;
     let shown = Shown(asked.from);
-    eprintln!(console.for_line();
-        "pcapfile: {shown}: if its header is lost, --guess guesses one, and --header ORDER,RESOLUTION,LINK gives one"
-    )?;
+    eprintln!(console.for_line(); "pcapfile: {shown}: {advice}")?;
     Ok(status)
 }

@@ -1,6 +1,6 @@
 //! Counts how often a check reads its input, and how often a cut writes its output.
 
-use pcapfile_cut::{Opening, Range, Selection, Wanted, cut_part};
+use pcapfile_cut::{Changes, Opening, Range, Selection, Wanted, cut_part};
 use pcapfile_run::{check_blocks, check_packets};
 use std::alloc::Global;
 use std::io::BufReader;
@@ -50,7 +50,8 @@ fn calls_of_a_cut(alloc: Global) -> Result<(u64, usize), Fail> {
         until: 2_000_000_000,
         lengths: Range::ALL,
         filter: None,
-        snaplen: None,
+        dedup: 0,
+        changes: Changes::NONE,
     };
     let wanted = Wanted::Selected(&selection);
     let outcome = cut_part(alloc, &opening, &mut input, &mut output, wanted);

@@ -1,14 +1,13 @@
 //! The selected packets of a PcapNg capture.
 
+use super::changed::Changing;
 use super::{Blocks, pass_text};
 use crate::selecting::Tests;
 use crate::source::Exceptions;
-use pcap_file::pcapng::{
-    BlockHeader, BlockType, InterfaceDescriptionBlock, ParsedBlock, RawBlock, Timestamp,
-};
+use pcap_file::pcapng::{Block, BlockHeader, InterfaceDescriptionBlock, ParsedBlock, Timestamp};
 use pcap_file::{PcapError, ResultParsing};
 use pcap_items::stream::put;
-use pcapfile_cut::{Outcome, Selection, Shortened, Shortening};
+use pcapfile_cut::{Outcome, Recent, Selection};
 use pcapfile_run::{BlockPacket, holds_packet, interface_at, packet_in_body};
 use std::alloc::Global;
 use std::io::{Read, Write};
@@ -39,10 +38,8 @@ impl<R: Read + Drop> Blocks<R> {
         outcome: &mut Outcome,
     ) -> ResultParsing<()> {
         let selection = tests.selection(NO_TIME);
-        let mut shortening = match selection.snaplen {
-            Some(most) => Some(Shortening::new(alloc, most)),
-            None => None,
-        };
+        let mut changing = Changing::new(alloc, selection.changes);
+        let mut recent = Recent::new(alloc, selection.dedup)?;
         if tests.first() > 1 {
             self.pass_to(alloc, tests, outcome)?;
         }
@@ -54,67 +51,13 @@ impl<R: Read + Drop> Blocks<R> {
             let Some(header) = self.blocks.pass()? else {
                 break;
             };
-            if self.is_kept(alloc, header, tests, outcome)? {
-                self.put_kept(alloc, header, &mut shortening, output, outcome)?;
+            if self.is_kept(alloc, header, tests, &mut recent, outcome)? {
+                self.put_kept(alloc, header, &mut changing, output, outcome)?;
             } else {
                 pass_text(self.blocks.reader().text(), outcome);
             }
         }
         Ok(())
-    }
-
-    // Writes the lent block, with at most so many bytes of its packet if that is asked for.
-    fn put_kept<W: Write>(
-        &mut self,
-        alloc: Global,
-        header: BlockHeader,
-        shortening: &mut Option<Shortening>,
-        output: &mut W,
-        outcome: &mut Outcome,
-    ) -> ResultParsing<()> {
-        let Some(shortening) = shortening else {
-            return self.put_block(output, outcome);
-        };
-        let reader = self.blocks.reader();
-        let block = RawBlock {
-            type_: header.type_,
-            endianness: header.endianness,
-            body: reader.body(),
-        };
-        let failed = &mut outcome.write_failed;
-        let shortened = shortening.put(output, failed, block, reader.text())?;
-        pass_text(reader.text(), outcome);
-        match shortened {
-            Shortened::Changed => {}
-            Shortened::Malformed => self.exceptions.add_whole_malformed(),
-            Shortened::Stays => {
-                if self.is_longer_simple(alloc, header, shortening.most())? {
-                    self.exceptions.add_whole_simple();
-                }
-            }
-        }
-        Ok(())
-    }
-
-    // Returns whether the lent block is a simple packet with more than this many stored bytes.
-    fn is_longer_simple(
-        &self,
-        alloc: Global,
-        header: BlockHeader,
-        most: u32,
-    ) -> ResultParsing<bool> {
-        if header.type_ != BlockType::SimplePacket {
-            return Ok(false);
-        }
-        let reader = self.blocks.reader();
-        let block = reader.block(header);
-        let parsed = match block.parsed(alloc) {
-            Ok(parsed) => parsed,
-            Err(PcapError::OutOfMemory(error)) => return Err(PcapError::OutOfMemory(error)),
-            Err(_) => return Ok(false),
-        };
-        let packet = packet_in_body(reader.interfaces(), &parsed);
-        Ok(packet.is_some_and(|packet| packet.bytes.len() > most as usize))
     }
 
     // Skips blocks until the reader lends the packet of the first number.
@@ -141,12 +84,13 @@ impl<R: Read + Drop> Blocks<R> {
         Ok(())
     }
 
-    // Returns whether the lent block is written: it holds no packet, or a selected one. Counts its packet.
+    // Returns whether the lent block is written: it holds no packet, or a selected one that is no duplicate. Counts its packet.
     fn is_kept(
         &mut self,
         alloc: Global,
         header: BlockHeader,
         tests: Tests<'_>,
+        recent: &mut Recent,
         outcome: &mut Outcome,
     ) -> ResultParsing<bool> {
         if !holds_packet(header.type_) {
@@ -158,12 +102,52 @@ impl<R: Read + Drop> Blocks<R> {
         if !selection.has_number(outcome.packets) {
             return Ok(false);
         }
-        if !tests.reads_packets() {
-            return Ok(true);
+        if tests.reads_packets() {
+            let verdict = self.verdict(alloc, header, tests, &selection)?;
+            self.exceptions.add(verdict);
+            if !matches!(verdict, Verdict::Selected) {
+                return Ok(false);
+            }
         }
-        let verdict = self.verdict(alloc, header, tests, &selection)?;
-        self.exceptions.add(verdict);
-        Ok(matches!(verdict, Verdict::Selected))
+        if selection.dedup > 0 && self.repeats(alloc, header, recent)? {
+            outcome.duplicates = outcome.duplicates.saturating_add(1);
+            return Ok(false);
+        }
+        Ok(true)
+    }
+
+    // Returns whether the packet of the lent block is a duplicate of one of the recent packets. If its body is malformed, it is none.
+    fn repeats(
+        &mut self,
+        alloc: Global,
+        header: BlockHeader,
+        recent: &mut Recent,
+    ) -> ResultParsing<bool> {
+        match self.compared(alloc, header, recent)? {
+            Some(is_duplicate) => Ok(is_duplicate),
+            None => {
+                self.exceptions.add_uncompared();
+                Ok(false)
+            }
+        }
+    }
+
+    // Compares the packet of the lent block with the recent ones. Returns None if its body is malformed.
+    fn compared(
+        &self,
+        alloc: Global,
+        header: BlockHeader,
+        recent: &mut Recent,
+    ) -> ResultParsing<Option<bool>> {
+        let reader = self.blocks.reader();
+        let block = reader.block(header);
+        let Some(parsed) = parsed_in(alloc, &block)? else {
+            return Ok(None);
+        };
+        let Some(packet) = packet_in_body(reader.interfaces(), &parsed) else {
+            return Ok(None);
+        };
+        Ok(Some(recent.repeats(packet.original_len, packet.bytes)))
     }
 
     // Keeps the time of the packet in the lent block, if a test depends on the first time and this is the first one.
@@ -178,10 +162,8 @@ impl<R: Read + Drop> Blocks<R> {
         }
         let reader = self.blocks.reader();
         let block = reader.block(header);
-        let parsed = match block.parsed(alloc) {
-            Ok(parsed) => parsed,
-            Err(PcapError::OutOfMemory(error)) => return Err(PcapError::OutOfMemory(error)),
-            Err(_) => return Ok(()),
+        let Some(parsed) = parsed_in(alloc, &block)? else {
+            return Ok(());
         };
         let first = time_in(reader.interfaces(), &parsed);
         self.first = first;
@@ -198,10 +180,8 @@ impl<R: Read + Drop> Blocks<R> {
     ) -> ResultParsing<Verdict> {
         let reader = self.blocks.reader();
         let block = reader.block(header);
-        let parsed = match block.parsed(alloc) {
-            Ok(parsed) => parsed,
-            Err(PcapError::OutOfMemory(error)) => return Err(PcapError::OutOfMemory(error)),
-            Err(_) => return Ok(Verdict::Malformed),
+        let Some(parsed) = parsed_in(alloc, &block)? else {
+            return Ok(Verdict::Malformed);
         };
         let interfaces = reader.interfaces();
         let Some(packet) = packet_in_body(interfaces, &parsed) else {
@@ -224,14 +204,21 @@ impl Exceptions {
         }
     }
 
-    // Counts a packet with a malformed body that is not shortened.
-    fn add_whole_malformed(&mut self) {
-        self.whole_malformed = self.whole_malformed.saturating_add(1);
+    // Counts a packet with a malformed body that is not compared.
+    fn add_uncompared(&mut self) {
+        self.uncompared = self.uncompared.saturating_add(1);
     }
+}
 
-    // Counts a simple packet that is not shortened.
-    fn add_whole_simple(&mut self) {
-        self.whole_simple = self.whole_simple.saturating_add(1);
+// Returns the parsed body of a block. Returns None if it is malformed.
+pub(super) fn parsed_in<'a>(
+    alloc: Global,
+    block: &'a Block<'_>,
+) -> ResultParsing<Option<ParsedBlock<'a>>> {
+    match block.parsed(alloc) {
+        Ok(parsed) => Ok(Some(parsed)),
+        Err(PcapError::OutOfMemory(error)) => Err(PcapError::OutOfMemory(error)),
+        Err(_) => Ok(None),
     }
 }
 
