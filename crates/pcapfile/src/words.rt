@@ -276,9 +276,9 @@ The output is written as OUT.part, and renamed to OUT when it is complete.";
 const SORT: &str = "Writes the packets of a classic capture in order of time.
 
 Packets of equal times keep their order. The header and each packet record keep their bytes. The capture
-is read twice, so IN is a file, and the program keeps 24 bytes of memory for each packet. If the capture is
-truncated or malformed, there is no output, and standard error gives the reason. The output is written as
-OUT.part, and renamed to OUT when it is complete.";
+is read twice, so IN is a file, and the program takes at most 64 bytes of memory for each packet. If the
+capture is truncated or malformed, there is no output, and standard error gives the reason. The output is
+written as OUT.part, and renamed to OUT when it is complete.";
 
 const REPAIR: &str = "Reads a damaged capture and writes a well-formed one.
 

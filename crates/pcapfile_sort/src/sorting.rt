@@ -74,8 +74,8 @@ fn write_in_order<S: ReadAgain, W: Write>(
 /// Writes a classic capture with its packets in order of time. Packets of equal times keep their order. The header and each packet
 /// record keep their bytes.
 ///
-/// The function reads the input to its end, and keeps 24 bytes for each packet. Then it reads each packet again from `again`, which is the
-/// same capture, and writes it. It checks that this packet has the time and the length that it had before. If the capture is
+/// The function reads the input to its end, and keeps an entry of 24 bytes for each packet. Then it reads each packet again from `again`,
+/// which is the same capture, and writes it. It checks that this packet has the time and the length that it had before. If the capture is
 /// truncated or malformed, it returns the error of `PcapReader`, and writes nothing.
 pub fn sort_capture<R: BufRead + Drop, S: ReadAgain, W: Write>(
     alloc: Global,
