@@ -165,7 +165,7 @@ fn move_timed(
 ) -> Result<Moved, AllocError>
     ensures { let order = block.entry.endianness in
         MatchResult result (MovesIn (number_in order) (number_bytes order) units (raw_of block.entry) text.new.items)
-            (λ e. GetsTimeIn (number_in order) (number_bytes order) units (raw_of block.entry)) }
+        (λ e. GetsTimeIn (number_in order) (number_bytes order) units (raw_of block.entry)) }
 {
     match block.endianness {
         Endianness::Big => move_in::<BigEndian>(block, units, body, text),

@@ -129,7 +129,7 @@ fn shorten_stated(
 ) -> Result<Shortened, AllocError>
     ensures { let order = block.entry.endianness in
         MatchResult result (ShortensIn (number_in order) (number_bytes order) most (raw_of block.entry) text.new.items)
-            (λ e. GetsShorterIn (number_in order) (number_bytes order) most (raw_of block.entry)) }
+        (λ e. GetsShorterIn (number_in order) (number_bytes order) most (raw_of block.entry)) }
 {
     match block.endianness {
         Endianness::Big => shorten_in::<BigEndian>(block, most, body, text),
