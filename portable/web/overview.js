@@ -80,6 +80,7 @@ function formatFacts(info) {
     ],
     [info.status ? "Bytes read" : "File size", bytes(info.bytes)],
     ["Link type", info.link === undefined || info.link === null ? null : `${info.link_name ?? "unknown"} (${info.link})`],
+    ["Frame check", typeof info.fcs_len === "number" ? `${info.fcs_len} bytes at the end of each packet` : null],
     ["Packet size limit", info.snaplen ? `${grouped(info.snaplen)} bytes` : null],
     ["Sections", info.format === "pcapng" ? grouped(info.sections) : null],
     ["Interfaces", info.format === "pcapng" ? grouped(info.interfaces.length) : null],

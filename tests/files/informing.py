@@ -185,13 +185,33 @@ def try_classic(tally, help):
                 name = f"{count} packets, {order_name}, {unit}"
                 shows(tally, help, name, capture, [first, *made, *figures(packets)])
                 file = {"file": "in", "format": "pcap", "check": first[4:], "status": 0, "bytes": len(capture), "version": "2.4"}
-                link = {"order": order_name, "resolution": unit, "link": 1, "link_name": "ETHERNET", "snaplen": 65535}
+                link = {"order": order_name, "resolution": unit, "link": 1, "link_name": "ETHERNET", "fcs_len": None, "snaplen": 65535}
                 rest = {"sections": 1, "refused": 0, "blocks": dict.fromkeys(KINDS, 0), "comments": [], "interfaces": [], **dict.fromkeys(MACHINE)}
                 tells_json(tally, help, name, capture, {**file, **link, **rest, **members(packets)})
                 if count > 1:
                     first = f"in: pcap, {count - 1} packets, cut short at byte {ends[-2]}"
                     shows(tally, help, f"{name}, torn", capture[:-1], [first, *made, *figures(packets[:-1])], AT_FAULT)
     shows(tally, help, "a torn header", bytes(23), ["in: pcap, 0 packets, cut short at byte 0", *figures([])], AT_FAULT)
+
+
+# The field of a link type, and the link type and the length of the frame check sequences that it has ('File Header', LinkType).
+LINK_FIELDS = ((1 << 26 | 2 << 28 | 1, 1, "ETHERNET", 4), (1 << 26 | 101, 101, "RAW", 0), (15 << 28 | 1, 1, "ETHERNET", None), (0x3FF << 16 | 105, 105, "IEEE802_11", None))
+
+
+def try_link_fields(tally, help):
+    """Checks that the link type is the low 16 bits of its field, and that the length of frame check sequences is in the upper ones."""
+    for field, link, link_name, fcs_len in LINK_FIELDS:
+        capture, _ = help.classic("<", 0xA1B23C4D, 1, field, PACKETS[:2])
+        lines = [f"in: pcap, 2 packets, {len(capture)} bytes", "  File type:         pcap 2.4, little-endian, times in nanoseconds", f"  Link type:         {link_name} ({link})"]
+        lines += [f"  Frame check:       {fcs_len} bytes at the end of each packet"] * (fcs_len is not None)
+        name = f"a link field of {field:#x}"
+        shows(tally, help, name, capture, [*lines, "  Packet size limit: 65535 bytes", *figures(PACKETS[:2])])
+        _, written, _ = tally.run(None, ["--json", "-"], given=capture, word="info")
+        said = {it: json.loads(written)[it] for it in ("link", "link_name", "fcs_len")}
+        tally.note(f"info --json of {name}", said != {"link": link, "link_name": link_name, "fcs_len": fcs_len} and f"it tells {said}")
+        _, written, _ = tally.run(None, ["--table", "-"], given=capture, word="info")
+        shown = written.decode().splitlines()[1].split("\t")[COLUMNS.index("link")]
+        tally.note(f"info --table of {name}", shown != f"{link_name} ({link})" and f"it shows {shown}")
 
 
 ORDERS = (((5, 5, 5), True), ((5, 6, 5), False), ((6, 5, 7), False), ((5, 7, 6, 8), False), ((BILLION - 1, BILLION), True), ((BILLION, BILLION - 1), False))
@@ -492,5 +512,5 @@ def try_memory(tally, help):
 
 
 def try_all(tally, help):
-    for tries in (try_classic, try_order, try_blocks, try_texts, try_kinds, try_files, try_tables, try_capinfos, try_memory):
+    for tries in (try_classic, try_link_fields, try_order, try_blocks, try_texts, try_kinds, try_files, try_tables, try_capinfos, try_memory):
         tries(tally, help)

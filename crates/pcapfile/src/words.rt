@@ -147,8 +147,9 @@ earliest, latest and duration in seconds, in_order (no packet has a time before 
 packets_per_second, bytes_per_second, over_time (width of a span in nanoseconds, number of the first
 span, packets of each), sections, refused, blocks (numbers of names, statistics, journal, secrets,
 custom and unknown ones), application, hardware, os, comments, and interfaces with the same figures and
-their name, description, hardware, os and comments. Numbers with decimals are strings, and unknown values
-are null.
+their name, description, hardware, os and comments. Headers give version and order, those of pcap also
+resolution, snaplen, link, link_name and fcs_len (bytes of frame check sequence at the end of each packet).
+Numbers with decimals are strings, and unknown values are null.
 
 With --table each capture is a row of tab-separated columns below a row of their names: file, format,
 packets, bytes, original, stored, earliest and latest in UTC, duration, average, packets_per_second,

@@ -7,9 +7,9 @@ use Rattle.serde_json.specs.Data.{Data, Members, no_members, null, number, unsig
 use Rattle.serde_json.specs.View.{items_of}
 use Rattle.serde_json.specs.Written.{has_float, items_have_float, members_have_float}
 use Rattle.pcap_core.specs.Link.{link_number}
+use Rattle.pcap_core.specs.LinkField.{fcs_bytes}
 use Rattle.pcap_core.specs.declared.common.Endianness.{Endianness}
 use Rattle.pcap_core.specs.declared.common.Endianness.TheVariants.{Big, Little}
-use Rattle.pcap_core.specs.declared.link.DataLink.{DataLink}
 use Rattle.pcap_classic.specs.Magic.{is_magic, order_of, resolution_of}
 use Rattle.pcap_classic.specs.declared.common.TsResolution.{TsResolution}
 use Rattle.pcap_classic.specs.declared.common.TsResolution.TheVariants.{MicroSecond, NanoSecond}
@@ -31,7 +31,7 @@ use Rattle.pcapfile_info.specs.declared.tally.Tally.{Tally}
 use Rattle.pcapfile_info.specs.Tallies.{tally_of}
 use Rattle.pcapfile_shown.specs.Json.{hundredths_data, number_data, order_data, or_null, resolution_data, seconds_data, text_data, text_or_null}
 use Rattle.pcapfile_shown.specs.Json.{TellsCheck, TellsFile, TellsHeader, TellsInterface, TellsSpread, TellsWhole}
-use Rattle.pcapfile_shown.specs.Json.{with_description, with_device, with_figures, with_kind, with_link, with_machine, with_opened}
+use Rattle.pcapfile_shown.specs.Json.{link_of_header, with_description, with_device, with_figures, with_kind, with_link, with_link_field, with_machine, with_opened}
 use Rattle.pcapfile_shown.specs.Json.{duration_in, in_order_data, instant_in, numbers_data, others_data, rate_in, texts_data, version_data}
 use Rattle.pcapfile_shown.specs.Sums.{total_members}
 use Rattle.pcapfile_shown.specs.Texts.{average_of}
@@ -57,6 +57,10 @@ hundredths_plain (Some n) = refl
 seconds_plain : (o : Option ℕ) → has_float (or_null seconds_data o) ≡ false
 seconds_plain None = refl
 seconds_plain (Some n) = refl
+
+length_plain : (o : Option ℕ) → has_float (or_null number_data o) ≡ false
+length_plain None = refl
+length_plain (Some n) = refl
 
 text_plain : (o : Option (String Global)) → has_float (text_or_null o) ≡ false
 text_plain None = refl
@@ -136,8 +140,8 @@ figures_plain tally ms plain = puts_plain (figures tally) ms (
 ) plain
 
 -- The members on a link type, the last one first.
-abbrev link : DataLink → List ℕ → List (List ℕ × Data)
-link type name = (codes "link_name", string name) ∷ (codes "link", number_data (link_number type)) ∷ []
+abbrev link : ℕ → List ℕ → List (List ℕ × Data)
+link number name = (codes "link_name", string name) ∷ (codes "link", number_data number) ∷ []
 
 -- The members on an interface's device, the last one first.
 abbrev device : Device → List (List ℕ × Data)
@@ -163,7 +167,7 @@ description_plain : (described : Described) (name : List ℕ) → IsPlain (with_
 description_plain described name =
     let front = puts (description described) no_members in
     let front_plain = puts_plain (description described) no_members (texts_plain described.comments.items, (text_plain described.name, (refl, (refl, (refl, tt))))) refl in
-    puts_plain (link described.link name) (with_device described.device front) (refl, (refl, tt)) (device_plain described.device front front_plain)
+    puts_plain (link (link_number described.link) name) (with_device described.device front) (refl, (refl, tt)) (device_plain described.device front front_plain)
 
 spread_plain : (spread : Option Spread) (shown : Data) → TellsSpread spread shown → has_float shown ≡ false
 spread_plain None shown is = ap has_float is
@@ -209,8 +213,11 @@ header_plain : (header : Option PcapHeader) (before after : Members) → TellsHe
 header_plain None before after is plain = ap members_have_float is ∙ plain
 header_plain (Some header) before after (link_name, is) plain =
     let first : Members = puts (version header) before in
+    let linked : Members = with_link (link_of_header header) link_name first in
+    let fcs : Option ℕ = fcs_bytes (link_number header.datalink) in
     ap members_have_float is
-    ∙ kind_plain header.magic_number (with_link header.datalink link_name first) (puts_plain (link header.datalink link_name) first (refl, (refl, tt)) (puts_plain (version header) before (refl, (refl, tt)) plain))
+    ∙ kind_plain header.magic_number (with_link_field header link_name first) (put_plain (codes "fcs_len") (or_null number_data fcs) linked (length_plain fcs)
+    (puts_plain (link (link_of_header header) link_name) first (refl, (refl, tt)) (puts_plain (version header) before (refl, (refl, tt)) plain)))
 
 opened_plain : (opened : Option Opened) (ms : Members) → IsPlain ms → IsPlain (with_opened opened ms)
 opened_plain None ms plain = plain

@@ -1,14 +1,14 @@
 -- The JSON report on a capture.
-use Rattle.std.specs.Prelude.{◌≡◌, ◌+◌, ◌-◌, ◌++◌, ℕ, List, String, map, codes, count_by, Bool, string_bytes, zip, if◌then◌else◌, Option, None, Some, IfSome, option_and_then}
+use Rattle.std.specs.Prelude.{◌≡◌, ◌+◌, ◌-◌, ◌%◌, ◌^◌, ◌++◌, ℕ, List, String, map, codes, count_by, Bool, string_bytes, zip, if◌then◌else◌, Option, None, Some, IfSome, option_and_then}
 use Rattle.std.specs.List.{AllZip, range_with_len}
 use Rattle.std.specs.Fmt.{decimal}
 use Rattle.std.specs.Global.{Global}
 use Rattle.serde_json.specs.Data.{Data, Members, array, boolean, no_members, null, number, object, string, unsigned, put}
 use Rattle.serde_json.specs.View.{items_of}
 use Rattle.pcap_core.specs.Link.{link_number}
+use Rattle.pcap_core.specs.LinkField.{fcs_bytes}
 use Rattle.pcap_core.specs.declared.common.Endianness.{Endianness}
 use Rattle.pcap_core.specs.declared.common.Endianness.TheVariants.{Big, Little}
-use Rattle.pcap_core.specs.declared.link.DataLink.{DataLink}
 use Rattle.pcap_classic.specs.Magic.{is_magic, order_of, resolution_of}
 use Rattle.pcap_classic.specs.declared.common.TsResolution.{TsResolution}
 use Rattle.pcap_classic.specs.declared.common.TsResolution.TheVariants.{MicroSecond, NanoSecond}
@@ -132,8 +132,8 @@ text_or_null None = null
 text_or_null (Some text) = text_data text
 
 -- The members on a link type: its number, and this text as its name.
-abbrev pub with_link : DataLink → List ℕ → Members → Members
-with_link link name members = put (codes "link_name") (string name) (put (codes "link") (number_data (link_number link)) members)
+abbrev pub with_link : ℕ → List ℕ → Members → Members
+with_link number name members = put (codes "link_name") (string name) (put (codes "link") (number_data number) members)
 
 -- The members on the texts on a device.
 abbrev pub with_texts : DeviceTexts → Members → Members
@@ -154,7 +154,7 @@ with_device Untold members = with_no_texts members
 -- The members on the description of an interface whose link type has this name.
 abbrev pub with_description : Described → List ℕ → Members → Members
 with_description described link_name members =
-    with_link described.link link_name
+    with_link (link_number described.link) link_name
     (with_device described.device
     (put (codes "comments") (texts_data described.comments.items)
     (put (codes "name") (text_or_null described.name)
@@ -189,10 +189,19 @@ with_kind magic members =
     then put (codes "resolution") (resolution_data (resolution_of magic)) (put (codes "order") (order_data (order_of magic)) members)
     else members
 
+-- The number of the link type of a classic capture, in the low 16 bits of the header's field ('File Header', LinkType).
+abbrev pub link_of_header : PcapHeader → ℕ
+link_of_header header = link_number header.datalink % 2 ^ 16
+
+-- The members on the field of a link type: the link type, with this name, and the length of a frame check sequence, or null.
+abbrev pub with_link_field : PcapHeader → List ℕ → Members → Members
+with_link_field header link_name members =
+    put (codes "fcs_len") (or_null number_data (fcs_bytes (link_number header.datalink))) (with_link (link_of_header header) link_name members)
+
 -- The members on the header of a classic capture whose link type has this name.
 abbrev pub with_header : PcapHeader → List ℕ → Members → Members
 with_header header link_name members =
-    with_kind header.magic_number (with_link header.datalink link_name
+    with_kind header.magic_number (with_link_field header link_name
     (put (codes "snaplen") (number_data header.snaplen)
     (put (codes "version") (version_data header.version_major header.version_minor) members)))
 

@@ -3,7 +3,6 @@ use Rattle.std.specs.Prelude.{◌≡◌, ◌==◌, ◌+◌, ◌++◌, ℕ, List,
 use Rattle.std.specs.List.{list_all}
 use Rattle.std.specs.Fmt.{decimal}
 use Rattle.pcap_core.specs.Link.{link_number}
-use Rattle.pcap_core.specs.declared.link.DataLink.{DataLink}
 use Rattle.pcap_classic.specs.declared.pcap.header.PcapHeader.{PcapHeader}
 use Rattle.pcapfile_run.specs.Lines.{format_name, line_of, status_of}
 use Rattle.pcapfile_run.specs.Passing.{counted}
@@ -11,7 +10,7 @@ use Rattle.pcapfile_lines.specs.Lines.{IsUtcText}
 use Rattle.pcapfile_info.specs.declared.captures.Information.{Information}
 use Rattle.pcapfile_info.specs.declared.described.Described.{Described}
 use Rattle.pcapfile_info.specs.declared.tally.Tally.{Tally}
-use Rattle.pcapfile_shown.specs.Json.{duration_in, rate_in}
+use Rattle.pcapfile_shown.specs.Json.{duration_in, link_of_header, rate_in}
 use Rattle.pcapfile_shown.specs.Texts.{average_of, hundredths_text, seconds_text}
 
 -- Two texts are columns of a row, with a tab between them.
@@ -57,24 +56,23 @@ row name format figures last = name ++ (codes "\t" ++ (format ++ (codes "\t" ++ 
 abbrev pub has_link : ℕ → Described → Bool
 has_link number described = link_number described.link == number
 
--- The text is a link type: a name, and its number.
-abbrev pub IsLinkText : DataLink → List ℕ → Type 0
-IsLinkText link text = (name : List ℕ) × (text ≡ name ++ (codes " (" ++ (decimal (link_number link) ++ codes ")")))
+-- The text is the link type of this number: a name, and the number.
+abbrev pub IsLinkText : ℕ → List ℕ → Type 0
+IsLinkText number text = (name : List ℕ) × (text ≡ name ++ (codes " (" ++ (decimal number ++ codes ")")))
 
--- The text shows this link type if all these interfaces have it, and the word several otherwise.
-abbrev pub ShowsShared : DataLink → List Described → List ℕ → Type 0
-ShowsShared link described text =
-    MatchBool (list_all (has_link (link_number link)) described) (IsLinkText link text) (text ≡ codes "several")
+-- The text shows the link type of this number if all these interfaces have it, and the word several otherwise.
+abbrev pub ShowsShared : ℕ → List Described → List ℕ → Type 0
+ShowsShared number described text = MatchBool (list_all (has_link number) described) (IsLinkText number text) (text ≡ codes "several")
 
--- The link type of a capture's first interface, if there is one. The header of a classic capture counts as an interface.
-abbrev pub first_link : Option PcapHeader → List Described → Option DataLink
-first_link (Some header) described = Some header.datalink
-first_link None described = option_map (λ first. first.link) (slice_get described 0)
+-- The number of the link type of a capture's first interface, if there is one. The header of a classic capture counts as an interface.
+abbrev pub first_link : Option PcapHeader → List Described → Option ℕ
+first_link (Some header) described = Some (link_of_header header)
+first_link None described = option_map (λ first. link_number first.link) (slice_get described 0)
 
 -- The text shows the link type that the first interface shares with all others, the word several, or a hyphen if there is no interface.
-abbrev pub ShowsLink : Option DataLink → List Described → List ℕ → Type 0
+abbrev pub ShowsLink : Option ℕ → List Described → List ℕ → Type 0
 ShowsLink None described text = text ≡ codes "-"
-ShowsLink (Some link) described text = ShowsShared link described text
+ShowsLink (Some number) described text = ShowsShared number described text
 
 -- The number of interfaces. The header of a classic capture counts as one.
 abbrev pub interfaces_in : Option PcapHeader → List Described → ℕ

@@ -8,7 +8,7 @@ use crate::figures::Figures;
 use crate::interfaces::Interfaces;
 use crate::others::OtherBlocks;
 use pcap_file::pcap::PcapHeader;
-use pcap_file::{Endianness, TsResolution};
+use pcap_file::{Endianness, LinkField, TsResolution};
 use pcapfile_info::{Information, Machine, Opened};
 use std::fmt;
 
@@ -64,7 +64,7 @@ impl fmt::Display for Header<'_> {
         let resolution = resolution_name(header.ts_resolution());
         let major = header.version_major;
         let minor = header.version_minor;
-        let link = header.datalink;
+        let LinkField { link, fcs_len } = LinkField::from(u32::from(header.datalink));
         let link_number = u32::from(link);
         let snaplen = header.snaplen;
         writeln!(
@@ -72,6 +72,12 @@ impl fmt::Display for Header<'_> {
             "  File type:         pcap {major}.{minor}, {order}, times in {resolution}"
         )?;
         writeln!(f, "  Link type:         {link:?} ({link_number})")?;
+        if let Some(bytes) = fcs_len {
+            writeln!(
+                f,
+                "  Frame check:       {bytes} bytes at the end of each packet"
+            )?;
+        }
         writeln!(f, "  Packet size limit: {snaplen} bytes")
     }
 }

@@ -2,13 +2,14 @@
 
 ghost use Rattle.std.specs.Prelude.{◌≡◌, option_map, IfOk, string_bytes};
 ghost use Rattle.std.specs.List.{list_all};
+ghost use Rattle.pcap_core.specs.Link.{link_number};
 ghost use Rattle.pcapfile_shown.specs.Table.{amounts, AreFigures, AreTimes, ending, first_link, has_link, interfaces_of, IsLinkText, IsRow, or_hyphen, rates, row, ShowsLink, ShowsShared};
 ghost use Rattle.pcapfile_shown.specs.Texts.{hundredths_text, seconds_text};
 
 use crate::members::{duration_of_all, rate_of};
 use crate::rate::{Hundredths, Seconds, hundredths_of};
 use crate::told::name_of;
-use pcap_core::DataLink;
+use pcap_core::{DataLink, LinkField};
 use pcap_file::pcap::PcapHeader;
 use pcapfile_info::{Described, Information, Tally};
 use pcapfile_lines::utc_text;
@@ -119,7 +120,7 @@ fn have_all(number: u32, described: &[Described]) -> bool
 
 // Returns a link type: a name, and its number.
 fn link_text(alloc: Global, link: DataLink) -> Result<String, AllocError>
-    ensures { IfOk result (λ text. IsLinkText link (string_bytes text)) }
+    ensures { IfOk result (λ text. IsLinkText (link_number link) (string_bytes text)) }
 {
     let name = format!(in alloc; "{link:?}")?;
     let number = u32::from(link);
@@ -128,7 +129,7 @@ fn link_text(alloc: Global, link: DataLink) -> Result<String, AllocError>
 
 // Returns this link type if all these interfaces have it, and the word several otherwise.
 fn shared(alloc: Global, link: DataLink, described: &[Described]) -> Result<String, AllocError>
-    ensures { IfOk result (λ text. ShowsShared link described.now (string_bytes text)) }
+    ensures { IfOk result (λ text. ShowsShared (link_number link) described.now (string_bytes text)) }
 {
     if have_all(u32::from(link), described) {
         link_text(alloc, link)
@@ -139,10 +140,10 @@ fn shared(alloc: Global, link: DataLink, described: &[Described]) -> Result<Stri
 
 // Returns the link type of the first interface, if there is one. The header of a classic capture counts as an interface.
 fn first_link(header: &Option<PcapHeader>, described: &[Described]) -> Option<DataLink>
-    ensures { result ≡ first_link header.now described.now }
+    ensures { option_map link_number result ≡ first_link header.now described.now }
 {
     match header {
-        Some(header) => Some(header.datalink),
+        Some(header) => Some(LinkField::from(u32::from(header.datalink)).link),
         None => match described.first() {
             Some(first) => Some(first.link),
             None => None,
@@ -156,7 +157,7 @@ fn link_of(
     first: Option<DataLink>,
     described: &[Described],
 ) -> Result<String, AllocError>
-    ensures { IfOk result (λ text. ShowsLink first described.now (string_bytes text)) }
+    ensures { IfOk result (λ text. ShowsLink (option_map link_number first) described.now (string_bytes text)) }
 {
     match first {
         None => String::from_str(alloc, "-"),

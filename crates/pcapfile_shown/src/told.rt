@@ -5,9 +5,10 @@ ghost use Rattle.std.specs.Fmt.{WritesInCalls};
 ghost use Rattle.serde_json.specs.Data.{Data};
 ghost use Rattle.serde_json.specs.View.{items_of, members_view, view};
 ghost use Rattle.serde_json.specs.Written.{compact_text};
+ghost use Rattle.pcap_core.specs.Link.{link_number};
 ghost use Rattle.pcapfile_run.specs.Lines.{format_name};
-ghost use Rattle.pcapfile_shown.specs.Json.{Tells, TellsCheck, TellsFile, TellsHeader, TellsInterface, TellsInterfaces, TellsWhole, text_or_null};
-ghost use Rattle.pcapfile_shown.specs.Json.{texts_data, with_description, with_device, with_kind, with_machine, with_no_texts, with_link, with_opened, with_texts};
+ghost use Rattle.pcapfile_shown.specs.Json.{number_data, or_null, Tells, TellsCheck, TellsFile, TellsHeader, TellsInterface, TellsInterfaces, TellsWhole, text_or_null};
+ghost use Rattle.pcapfile_shown.specs.Json.{texts_data, with_description, with_device, with_kind, with_machine, with_no_texts, with_link, with_link_field, with_opened, with_texts};
 ghost use Rattle.pcapfile_shown.specs.Pieces.{items_inside};
 
 use crate::members::{put_figures, spread_or_null};
@@ -16,7 +17,7 @@ use crate::piecewise::{
     Unwritten, comma, text_around, write_before, write_behind, write_text, write_value,
 };
 use crate::report::{order_name, resolution_name};
-use pcap_core::DataLink;
+use pcap_core::{DataLink, LinkField};
 use pcap_file::pcap::PcapHeader;
 use pcapfile_info::{Described, Device, DeviceTexts, Information, Late, Machine, Opened};
 use pcapfile_run::{Checked, Format};
@@ -55,13 +56,35 @@ fn text_or_null(alloc: Global, text: &Option<String>) -> Result<Value, AllocErro
     }
 }
 
+fn length_or_null(length: Option<u8>) -> Value
+    ensures { view result ≡ or_null number_data length }
+{
+    match length {
+        None => Value::Null,
+        Some(length) => Value::from(length),
+    }
+}
+
 // Puts the number of a link type, and its name.
 fn put_link(map: &mut Map<String, Value>, alloc: Global, link: DataLink) -> Result<(), AllocError>
-    ensures { OnOk result ((name : List ℕ) × (members_view map.new.entries ≡ with_link link name (members_view map.old.entries))) }
+    ensures { OnOk result ((name : List ℕ) × (members_view map.new.entries ≡ with_link (link_number link) name (members_view map.old.entries))) }
 {
     let name = format!(in alloc; "{link:?}")?;
     put(map, alloc, "link", Value::from(u32::from(link)))?;
     put(map, alloc, "link_name", Value::String(name))
+}
+
+// Puts the link type of a classic capture, and the length of the frame check sequences of its packets.
+fn put_link_field(
+    map: &mut Map<String, Value>,
+    alloc: Global,
+    header: &PcapHeader,
+) -> Result<(), AllocError>
+    ensures { OnOk result ((name : List ℕ) × (members_view map.new.entries ≡ with_link_field header.now name (members_view map.old.entries))) }
+{
+    let LinkField { link, fcs_len } = LinkField::from(u32::from(header.datalink));
+    put_link(map, alloc, link)?;
+    put(map, alloc, "fcs_len", length_or_null(fcs_len))
 }
 
 // Puts the byte order and the timestamp resolution, if the magic number names them.
@@ -97,7 +120,7 @@ fn put_header(
     let version = format!(in alloc; "{major}.{minor}")?;
     put(map, alloc, "version", Value::String(version))?;
     put(map, alloc, "snaplen", Value::from(header.snaplen))?;
-    put_link(map, alloc, header.datalink)?;
+    put_link_field(map, alloc, header)?;
     put_kind(map, alloc, header)
 }
 
