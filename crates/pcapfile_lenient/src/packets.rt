@@ -16,7 +16,7 @@ use std::{fmt, io};
 pub(crate) const LIMIT: u32 = 16_777_216;
 
 /// The longest packet that breaks no rule, in bytes.
-const PACKET_LIMIT: u32 = 262_144;
+pub(crate) const PACKET_LIMIT: u32 = 262_144;
 
 /// The length of a packet's head, in bytes.
 const HEAD: usize = 16;
@@ -56,6 +56,8 @@ pub(crate) struct Packets {
     run: usize,
     /// Whether the next packet was reported as one of such a run.
     is_reported: bool,
+    /// Whether the last packet was reported as one of such a run.
+    was_reported: bool,
     /// Whether the length of the next packet was changed, and is right.
     is_settled: bool,
     /// The number of bytes of the last packet, if nothing confirms where it ends.
@@ -204,6 +206,7 @@ impl Packets {
             is_found: false,
             run: 0,
             is_reported: false,
+            was_reported: false,
             is_settled: false,
             unconfirmed: None,
         })
@@ -298,7 +301,8 @@ impl Packets {
             };
             let is_last = behind.len() < HEAD;
             if !is_last && !follows(&self.parser, head.seconds, behind) {
-                return Ok(at);
+                let is_usual = head.included as usize <= bound;
+                return Ok(if is_usual { at.saturating_add(end) } else { at });
             }
             at = at.saturating_add(end);
         }
@@ -323,7 +327,7 @@ impl Packets {
         if head.included <= LIMIT && window.reach(end.saturating_add(HEAD))? {
             let behind = window.shown().get(end..).unwrap_or_default();
             if begins_near(&self.parser, time, behind) {
-                return Ok(self.take(window, head));
+                return self.take_confirmed(window, head, time);
             }
         }
         window.reach(end.min(HEAD + LIMIT as usize).saturating_add(ROW))?;
@@ -333,6 +337,38 @@ impl Packets {
             Weight::Wrong => self.look_on(window, head, time),
             Weight::Short => Ok(Here::Torn),
         }
+    }
+
+    // Takes a packet behind which another one follows, unless its stored length is doubtful and packets go on inside its data, or its
+    // head is zero bytes behind a guess.
+    fn take_confirmed(
+        &mut self,
+        window: &mut Window,
+        head: Numbers,
+        time: u32,
+    ) -> io::Result<Here> {
+        if self.was_reported && is_zero(head) {
+            return self.look_on(window, head, time);
+        }
+        if head.included > head.original || head.included > self.limit() {
+            let end = HEAD.saturating_add(head.included as usize);
+            window.reach(end.saturating_add(ROW))?;
+            if self.length_before_packets(window, head, time).is_some() {
+                return self.look_on(window, head, time);
+            }
+        }
+        Ok(self.take(window, head))
+    }
+
+    // Returns the length of the data before the first place inside it from which packets go on, if the packet of this head can have it.
+    fn length_before_packets(&self, window: &Window, head: Numbers, time: u32) -> Option<u32> {
+        let bytes = window.shown();
+        let data = bytes.get(HEAD..).unwrap_or_default();
+        let length = resync(&self.parser, time, data, head.included as usize)? as u32;
+        if !can_be_this_long(&self.parser, time, bytes, length) {
+            return None;
+        }
+        Some(length)
     }
 
     // Takes a packet whose length nothing speaks against, unless a better length is found, or its time is far from the one before and
@@ -440,6 +476,7 @@ impl Packets {
         self.time = Some(head.seconds);
         self.longest = self.longest.max(head.included);
         self.run = self.run.saturating_sub(end);
+        self.was_reported = self.is_reported;
         self.is_reported = false;
         self.unconfirmed = None;
         if !self.is_kept() {
@@ -467,6 +504,9 @@ impl Packets {
         if let Some(length) = resync(&self.parser, time, behind, bound) {
             let length = length as u32;
             if can_be_this_long(&self.parser, time, window.shown(), length) {
+                if let Some(len) = self.unconfirmed.take() {
+                    return Ok(Here::Changed(Change::Unconfirmed(len)));
+                }
                 self.find();
                 return Ok(self.change(window, head, length, true));
             }
@@ -511,6 +551,11 @@ impl Packets {
             Err(error) => error.rule(),
         }
     }
+}
+
+// Returns whether all numbers of a head are 0.
+fn is_zero(head: Numbers) -> bool {
+    (head.seconds, head.fraction, head.included, head.original) == (0, 0, 0, 0)
 }
 
 // Returns the bytes of a head of this capture.

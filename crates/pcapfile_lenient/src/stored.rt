@@ -1,7 +1,7 @@
 //! Packets of a PcapNg capture whose stored length is wrong, although the lengths of their block are right.
 
 use crate::frames::number_at;
-use crate::packets::Change;
+use crate::packets::{Change, PACKET_LIMIT};
 use crate::window::Window;
 use pcap_file::Endianness;
 use pcap_tolerant_captures::PcapNgParserAsIs;
@@ -29,7 +29,8 @@ const OPTION: usize = 4;
 
 /// Puts another stored length into the enhanced packet at the front of the window, whose block has this many bytes, if data of the
 /// stored length and well-formed options do not fill the block. It is the original length, or the snapshot length, if that does;
-/// and otherwise, if the data would go on past the block, up to the end of the block, by a guess.
+/// and otherwise, if the data would go on past the block, up to the end of the block, by a guess. It is a guess too if the original
+/// length is above the limit, since the numbers beside it may then be as wrong.
 pub(crate) fn mend_stored(
     parser: &PcapNgParserAsIs,
     window: &mut Window,
@@ -53,7 +54,7 @@ pub(crate) fn mend_stored(
     Some(Change::Length {
         stated,
         length,
-        is_guess,
+        is_guess: is_guess || original > PACKET_LIMIT,
     })
 }
 
