@@ -6,7 +6,7 @@ use crate::describing::{Describing, Next};
 use crate::frames::mend_frame;
 use crate::lost::{Lost, section_text};
 use crate::packets::{Change, HEADER, Here, LIMIT, Packets};
-use crate::stored::mend_stored;
+use crate::stored::{is_zero_packet, mend_stored};
 use crate::torn::complete_last;
 use crate::window::{IN_A_ROW, Sought, Window};
 use pcap_file::pcap::PcapHeader;
@@ -324,12 +324,18 @@ impl Rows {
         };
     }
 
-    // Takes a block of this many bytes, or leaves it out. First it mends the stored length of its packet, and describes its interface.
+    // Takes a block of this many bytes, or leaves it out. First it mends the stored length of its packet, and describes its interface. A
+    // packet whose body is zero bytes counts as corrupt bytes.
     fn pass_block(&mut self, len: usize) -> io::Result<Step> {
         let Kind::Blocks(parser) = &mut self.kind else {
             return Ok(Step::Done);
         };
         self.is_leaving_out = false;
+        if is_zero_packet(parser, &self.window, len) {
+            self.window.pass(len);
+            self.leave_out(len as u64, Scrap::NoBlocks, None);
+            return Ok(Step::Done);
+        }
         if let Some(change) = mend_stored(parser, &mut self.window, len) {
             self.note(change);
             return Ok(Step::Done);
