@@ -60,10 +60,11 @@ LENGTHS = {
 
 class Packet:
     """A packet as it is: its number, its offset, its time, its lengths, and the rules that it breaks. It may be one of a short run behind
-    corrupt bytes (`is_found`), or nothing may confirm where it ends."""
+    corrupt bytes (`is_found`), or have no data in a damaged capture (`is_empty`), or nothing may confirm where it ends."""
 
     def __init__(self, number, place, unit, numbers, stated=None, is_guess=False):
         self.number, self.place, self.stated, self.is_guess, self.is_found, self.is_unconfirmed = number, place, stated, is_guess, False, False
+        self.is_empty = self.is_by_search = False
         self.seconds, self.fraction, self.stored, self.wire = numbers
         self.time = self.seconds * BILLION + self.fraction * unit
         broken = self.fraction * unit > 0xFFFFFFFF, self.stored > LONGEST, self.wire > LONGEST, self.stored > self.wire
@@ -93,6 +94,9 @@ class Packets:
         self.items, self.time, self.longest = [], None, lenient.USUAL
         # Whether the next packet was found behind corrupt bytes, the end of a short run of packets there, and the last packet's number.
         self.is_found, self.end_of_run, self.count = False, 0, 0
+        # How many bytes behind the last packet its stored length claimed, whether that was reported as found or empty, and whether anything
+        # was changed or left out.
+        self.claimed, self.was_reported, self.is_damaged = 0, False, False
 
     def packet_at(self, at, numbers, size, is_confirmed, is_guess):
         self.count, stored = self.count + 1, numbers[2]
@@ -100,9 +104,12 @@ class Packets:
             numbers = *numbers[:2], size, size if numbers[3] > LONGEST else max(numbers[3], size)
         packet = Packet(self.count, at, self.kind[1], numbers, stored, is_guess)
         packet.is_found = at < self.end_of_run
+        self.is_damaged |= packet.is_found or size != stored
+        packet.is_empty = self.is_damaged and not packet.is_found and lenient.Head(numbers).is_empty()
         packet.is_unconfirmed = is_confirmed is False and not packet.is_found
-        self.time, self.longest = numbers[0], max(self.longest, size)
-        self.is_found = is_guess and is_confirmed is None
+        packet.is_by_search = self.is_found = is_guess and is_confirmed is None
+        self.time, self.longest, self.was_reported = numbers[0], max(self.longest, size), packet.is_found or packet.is_empty
+        self.claimed = stored - size if self.is_found and stored <= self.reading.limit else 0
         return packet
 
     def item_at(self, at):
@@ -110,13 +117,13 @@ class Packets:
         numbers = struct.unpack_from(self.kind[0] + "IIII", self.capture, at) if len(self.capture) - at >= 16 else None
         if numbers and self.is_found:
             self.time, self.is_found = numbers[0], False
-            self.end_of_run = at + self.reading.short_run(at, self.longest)
-        size, way, is_guess = self.reading.size_at(at, self.time)
+            self.end_of_run = at + max(self.reading.short_run(at, self.longest), self.claimed)
+        size, way, is_guess = self.reading.size_at(at, self.time, self.was_reported)
         if size is not None:
             return self.packet_at(at, numbers, size, way, is_guess), at + 16 + size
         if way is None:
             return Gap(at, len(self.capture) - at, "of a packet that is cut short", None), len(self.capture)
-        self.is_found = True
+        self.is_found, self.is_damaged, self.claimed, self.end_of_run = True, True, 0, 0
         flaws = Packet(0, at, self.kind[1], numbers).flaws
         return Gap(at, way - at, "no packets", 3 if numbers[2] > MOST else next(iter(flaws), None)), way
 
@@ -127,7 +134,7 @@ class Packets:
             self.items.append(item)
         for item, behind in zip(self.items, [*self.items[1:], None]):
             if isinstance(item, Packet):
-                item.is_unconfirmed &= isinstance(behind, Gap) and CUT not in behind.what
+                item.is_unconfirmed &= isinstance(behind, Gap) and CUT not in behind.what or isinstance(behind, Packet) and behind.is_by_search
         return self.items
 
 
@@ -176,7 +183,8 @@ def changed_length(packet):
 
 def said_before(packet):
     """Returns the messages on a packet before those on its flaws."""
-    return [f"packet {packet.number} at byte {packet.place}: kept, a guess: it may lie inside another packet"] * packet.is_found + changed_length(packet)
+    guess = f"packet {packet.number} at byte {packet.place}: kept, a guess: "
+    return [f"{guess}it may lie inside another packet"] * packet.is_found + [f"{guess}it has no data"] * packet.is_empty + changed_length(packet)
 
 
 def said_behind(packet):
@@ -219,7 +227,7 @@ def summary(item, outcomes, gaps, others=0, opening=DONE):
 
 def outcome_of(packet):
     """Returns what becomes of a packet, as the status of a repair of it alone."""
-    is_guess = packet.is_found or packet.is_unconfirmed or packet.is_guess and changed_length(packet)
+    is_guess = packet.is_found or packet.is_empty or packet.is_unconfirmed or packet.is_guess and changed_length(packet)
     return GUESSED if is_guess else REPAIRED if packet.flaws or changed_length(packet) else DONE
 
 
@@ -415,7 +423,7 @@ def mended_stored(capture, number, at, found, interfaces):
         return None
     size = min(whole, len(rest)) if is_guess else whole
     struct.pack_into(order + "I", capture, at + 20, size)
-    return Mending(number, at, size, stored, is_guess)
+    return Mending(number, at, size, stored, is_guess or wire > LONGEST)
 
 
 def sound_options(order, number, left):
@@ -483,7 +491,10 @@ def blocks_and_gaps(whole, at):
                 break
         else:
             change = mended_frame(capture, count + 1, at, order)
-        if change:
+        if isinstance(found, tuple) and found[1] == ENHANCED and len(found[2]) > 24 and not any(found[2]):
+            yield Gap(at, len(found[2]) + 12, "no blocks", None)
+            at += len(found[2]) + 12
+        elif change:
             yield change
         elif isinstance(found, tuple):
             order, count = found[0], count + 1

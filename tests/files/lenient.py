@@ -15,6 +15,9 @@ class Head:
     def __init__(self, numbers):
         self.seconds, self.fraction, self.stored, self.wire = numbers
 
+    def is_empty(self):
+        return (self.stored, self.wire) == (0, 0)
+
 
 class Reading:
     """A capture, and how the header in force reads it."""
@@ -111,18 +114,28 @@ class Reading:
         return bool(head) and self.can_be(head, size, time) and self.ends_well(at, size, head.seconds)
 
     def short_run(self, at, longest):
-        """Returns the number of bytes of the run of packets at this offset, or 0 if it is longer than a packet."""
+        """Returns the number of bytes of the run of packets at this offset, or 0 if it is longer than a packet. The last packet of the run
+        counts if it is no longer than one before, although nothing follows it."""
         start, bound = at, min(longest, self.limit)
         while at - start <= bound:
             head = self.head(at)
             behind = at + 16 + head.stored if head else 0
-            is_last = len(self.capture) - 16 < behind <= len(self.capture)
-            if not head or not (is_last or self.ends_well(at, head.stored, head.seconds)):
+            if not head or behind > len(self.capture):
                 return at - start
+            is_last = len(self.capture) - 16 < behind
+            if not (is_last or self.ends_well(at, head.stored, head.seconds)):
+                return (behind if head.stored <= bound else at) - start
             at = behind
         return 0
 
-    def size_at(self, at, time):
+    def hides_packets(self, at, head, time):
+        """Returns whether packets go on inside the data of a doubtful stored length, so that the packet may end before them."""
+        if head.stored <= min(head.wire, self.limit):
+            return False
+        behind = self.first(at + 16, at + 16 + head.stored, time)
+        return behind is not None and self.can_be(head, behind - at - 16, time)
+
+    def size_at(self, at, time, is_behind_a_guess):
         """Returns the size of the packet at this offset, whether something confirms it, and whether it is a guess. The first is None for
         corrupt bytes, and the second is then where packets go on. All are None for a truncated packet."""
         head, before = self.head(at), time or 0
@@ -136,11 +149,12 @@ class Reading:
             return head.wire, True, False
         if weight == STANDS:
             if self.ends_well(at, head.stored, time):
-                return head.stored, True, False
-            whole = self.whole_length(at, time)
-            if whole:
+                is_zero = is_behind_a_guess and not any(vars(head).values())
+                if not is_zero and not self.hides_packets(at, head, time):
+                    return head.stored, True, False
+            elif whole := self.whole_length(at, time):
                 return whole
-            if self.can_be(head, head.stored, time) or self.stand_behind(at):
+            elif self.can_be(head, head.stored, time) or self.stand_behind(at):
                 return head.stored, False, False
         if self.can_be(head, head.stored, time) and self.is_misstated(at + 16 + head.stored, time):
             return head.stored, True, False
