@@ -491,7 +491,7 @@ def blocks_and_gaps(whole, at):
                 break
         else:
             change = mended_frame(capture, count + 1, at, order)
-        if isinstance(found, tuple) and found[1] == ENHANCED and len(found[2]) > 24 and not any(found[2]):
+        if isinstance(found, tuple) and found[1] == ENHANCED and len(found[2]) > 24 and not any(found[2][:24]):
             yield Gap(at, len(found[2]) + 12, "no blocks", None)
             at += len(found[2]) + 12
         elif change:

@@ -207,7 +207,7 @@ pcapfile: in: block 7 at byte 200: its stored length is 12 and not 99, by a gues
     yield "two wrong lengths", broken, kept, """\
 pcapfile: in: block 3 at byte 48: its stored length is 8 and not 1073741824, by a guess
 """, (2, 0, 1, 0, 0)
-    zeros, without_data = block(order, ENHANCED, bytes(28)), block(order, ENHANCED, bytes(20)) + block(order, ENHANCED, bytes(24))
+    zeros, without_data = block(order, ENHANCED, bytes(24) + b"data"), block(order, ENHANCED, bytes(20)) + block(order, ENHANCED, bytes(24))
     yield "a packet of zero bytes", sound + zeros, sound, "pcapfile: in: 40 bytes at byte 200 are no blocks, and are left out\n", (6, 0, 0, 0, 40)
     yield "packets without data at the time 0", sound + without_data, sound + without_data, "", (8, 0, 0, 0, 0)
     yield "garbage before the first section", b"no" * 9 + sound, sound, "pcapfile: in: 18 bytes at byte 0 are no blocks, and are left out by rule 10: SectionHeader missing\n", (6, 0, 0, 0, 18)

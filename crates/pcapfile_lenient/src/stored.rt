@@ -58,16 +58,14 @@ pub(crate) fn mend_stored(
     })
 }
 
-/// Returns whether the block at the front of the window, of this many bytes, is an enhanced packet whose body is zero bytes, and more of
-/// them than its numbers and the end of its options take. Such a block is what zero bytes over a packet leave.
+/// Returns whether the block at the front of the window, of this many bytes, is an enhanced packet whose numbers are 0, without data and
+/// options, and which has more bytes nonetheless. Such a block is what zero bytes over a packet leave.
 pub(crate) fn is_zero_packet(parser: &PcapNgParserAsIs, window: &Window, len: usize) -> bool {
     let bytes = window.shown().get(..len).unwrap_or_default();
-    let body = bytes
-        .get(INTERFACE..len.saturating_sub(TRAILER))
-        .unwrap_or_default();
+    let front = bytes.get(INTERFACE..DATA + OPTION).unwrap_or_default();
     number_at(parser.section().endianness(), bytes, 0) == Some(ENHANCED)
-        && body.len() > DATA - INTERFACE + OPTION
-        && body.iter().all(|byte| *byte == 0)
+        && len > DATA + OPTION + TRAILER
+        && front.iter().all(|byte| *byte == 0)
 }
 
 /// Returns the snapshot length of an interface, or the largest number.
