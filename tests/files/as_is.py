@@ -94,9 +94,9 @@ class Packets:
         self.items, self.time, self.longest = [], None, lenient.USUAL
         # Whether the next packet was found behind corrupt bytes, the end of a short run of packets there, and the last packet's number.
         self.is_found, self.end_of_run, self.count = False, 0, 0
-        # How many bytes behind the last packet its stored length claimed, whether that was reported as found or empty, and whether anything
-        # was changed or left out.
-        self.claimed, self.was_reported, self.is_damaged = 0, False, False
+        # How many bytes behind the last packet its stored length claimed, whether that was reported as found or empty, whether nothing confirms
+        # where it ends, and whether anything was changed or left out.
+        self.claimed, self.was_reported, self.is_open, self.is_damaged = 0, False, False, False
 
     def packet_at(self, at, numbers, size, is_confirmed, is_guess):
         self.count, stored = self.count + 1, numbers[2]
@@ -108,6 +108,7 @@ class Packets:
         packet.is_empty = self.is_damaged and not packet.is_found and lenient.Head(numbers).is_empty()
         packet.is_unconfirmed = is_confirmed is False and not packet.is_found
         packet.is_by_search = self.is_found = is_guess and is_confirmed is None
+        self.is_open = packet.is_unconfirmed
         self.time, self.longest, self.was_reported = numbers[0], max(self.longest, size), packet.is_found or packet.is_empty
         self.claimed = stored - size if self.is_found and stored <= self.reading.limit else 0
         return packet
@@ -118,7 +119,7 @@ class Packets:
         if numbers and self.is_found:
             self.time, self.is_found = numbers[0], False
             self.end_of_run = at + max(self.reading.short_run(at, self.longest), self.claimed)
-        size, way, is_guess = self.reading.size_at(at, self.time, self.was_reported)
+        size, way, is_guess = self.reading.size_at(at, self.time, self.was_reported, self.was_reported or self.is_damaged and self.is_open)
         if size is not None:
             return self.packet_at(at, numbers, size, way, is_guess), at + 16 + size
         if way is None:

@@ -114,17 +114,14 @@ class Reading:
         return bool(head) and self.can_be(head, size, time) and self.ends_well(at, size, head.seconds)
 
     def short_run(self, at, longest):
-        """Returns the number of bytes of the run of packets at this offset, or 0 if it is longer than a packet. The last packet of the run
-        counts if it is no longer than one before, although nothing follows it."""
+        """Returns the number of bytes of the run of packets at this offset, or 0 if it is longer than a packet."""
         start, bound = at, min(longest, self.limit)
         while at - start <= bound:
             head = self.head(at)
             behind = at + 16 + head.stored if head else 0
-            if not head or behind > len(self.capture):
+            is_last = len(self.capture) - 16 < behind <= len(self.capture)
+            if not head or not (is_last or self.ends_well(at, head.stored, head.seconds)):
                 return at - start
-            is_last = len(self.capture) - 16 < behind
-            if not (is_last or self.ends_well(at, head.stored, head.seconds)):
-                return (behind if head.stored <= bound else at) - start
             at = behind
         return 0
 
@@ -135,7 +132,7 @@ class Reading:
         behind = self.first(at + 16, at + 16 + head.stored, time)
         return behind is not None and self.can_be(head, behind - at - 16, time)
 
-    def size_at(self, at, time, is_behind_a_guess):
+    def size_at(self, at, time, is_behind_a_guess, is_doubted):
         """Returns the size of the packet at this offset, whether something confirms it, and whether it is a guess. The first is None for
         corrupt bytes, and the second is then where packets go on. All are None for a truncated packet."""
         head, before = self.head(at), time or 0
@@ -146,10 +143,10 @@ class Reading:
         if weight == SHORT:
             return None, None, None
         if weight == LENGTH:
-            return head.wire, True, False
+            return head.wire, True, is_behind_a_guess
         if weight == STANDS:
             if self.ends_well(at, head.stored, time):
-                is_zero = is_behind_a_guess and not any(vars(head).values())
+                is_zero = is_doubted and not any(vars(head).values())
                 if not is_zero and not self.hides_packets(at, head, time):
                     return head.stored, True, False
             elif whole := self.whole_length(at, time):

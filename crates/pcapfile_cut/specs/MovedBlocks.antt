@@ -71,10 +71,6 @@ MovesIn order write units raw text Unstated =
 MovesIn order write units raw text Malformed = length raw.body < 12
 MovesIn order write units raw text Untimed = ⊥
 
--- The packet's body gets another time.
-abbrev pub GetsTimeIn : Order → Encoder → Option Shift → Raw → Type 0
-GetsTimeIn order write units raw = (text : List ℕ) × MovesIn order write units raw text Changed
-
 -- Blocks of this type are moved if they have the time of a packet, as enhanced and obsolete packets do.
 abbrev pub MovesAs : BlockType → Option Shift → Raw → List ℕ → Moved → Type 0
 MovesAs types.EnhancedPacket units raw text moved = MovesIn (number_in raw.endianness) (number_bytes raw.endianness) units raw text moved
@@ -88,7 +84,3 @@ text_of moving = moving.text.items
 -- The packet of the block is moved, by its type.
 abbrev pub Moves : Option Shift → Raw → List ℕ → Moved → Type 0
 Moves units raw text moved = MovesAs raw.type_ units raw text moved
-
--- The packet of the block gets another time.
-abbrev pub GetsTime : Option Shift → Raw → Type 0
-GetsTime units raw = (text : List ℕ) × Moves units raw text Changed

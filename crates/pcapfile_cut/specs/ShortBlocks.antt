@@ -76,10 +76,6 @@ ShortensIn order write n raw text Changed =
 ShortensIn order write n raw text Stays = (parts : Parted) × PartedText order parts raw.body × (length parts.bytes ≤ n)
 ShortensIn order write n raw text Malformed = HasNoRoom order raw.body
 
--- The packet has more than n bytes, and is shortened.
-abbrev pub GetsShorterIn : Order → Encoder → ℕ → Raw → Type 0
-GetsShorterIn order write n raw = (text : List ℕ) × ShortensIn order write n raw text Changed
-
 -- Blocks of this type are shortened if they state the stored length of a packet, as enhanced and obsolete packets do; others stay.
 abbrev pub ShortensAs : BlockType → ℕ → Raw → List ℕ → Shortened → Type 0
 ShortensAs types.EnhancedPacket n raw text shortened = ShortensIn (number_in raw.endianness) (number_bytes raw.endianness) n raw text shortened
@@ -90,10 +86,6 @@ ShortensAs _ n raw text shortened = shortened ≡ Stays
 abbrev pub Shortens : ℕ → Raw → List ℕ → Shortened → Type 0
 Shortens n raw text shortened = ShortensAs raw.type_ n raw text shortened
 
--- The block's packet has more than n bytes, and is shortened.
-abbrev pub GetsShorter : ℕ → Raw → Type 0
-GetsShorter n raw = (text : List ℕ) × Shortens n raw text Changed
-
 -- The most bytes that are written of each packet.
 abbrev pub most_of : Shortening → ℕ
 most_of shortening = shortening.most
@@ -103,12 +95,11 @@ abbrev pub text_after : List ℕ → List ℕ → Shortened → List ℕ
 text_after text short Changed = short
 text_after text short _ = text
 
--- A block with these bytes was written, shortened if its packet has more than n bytes. Or memory ran out for a shortened
--- one before, or a write failed in it.
+-- A block with these bytes was written, shortened if its packet has more than n bytes. Or memory ran out before, or a write failed in it.
 abbrev pub PutsShortened : ℕ → Raw → List ℕ → Option (List ℕ) → Option (List ℕ) → Result Shortened PcapError → Type 0
 PutsShortened n raw text out out_now (Ok shortened) = (short : List ℕ) × Shortens n raw short shortened × Appends out out_now (text_after text short shortened)
 PutsShortened n raw text out out_now (Err e) =
-    (IsMemory e × GetsShorter n raw × Keeps out out_now)
+    (IsMemory e × Keeps out out_now)
     ⊎ (IsIo e × (short : List ℕ) × (shortened : Shortened) × Shortens n raw short shortened × AppendsPart out out_now (text_after text short shortened))
 
 -- The enhanced packet with the first n of its bytes.

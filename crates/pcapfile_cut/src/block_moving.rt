@@ -1,11 +1,11 @@
 //! Blocks whose packets are written with another time.
 
-ghost use Rattle.std.specs.Prelude.{◌≡◌, ◌^◌, ◌<◌, ◌*◌, [], length, OnOk, MatchOption, MatchResult, SomeIff};
+ghost use Rattle.std.specs.Prelude.{◌≡◌, ◌^◌, ◌<◌, ◌*◌, [], length, IfOk, OnOk, MatchOption, SomeIff};
 ghost use Rattle.pcap_core.specs.Answer.{number_in};
 ghost use Rattle.pcap_core.specs.Codec.{number_bytes};
 ghost use Rattle.pcap_times.specs.Times.{units_in_second};
 ghost use Rattle.pcap_written.specs.Raw.{raw_of};
-ghost use Rattle.pcapfile_cut.specs.MovedBlocks.{AreNanoseconds, AreNoUnits, GetsTime, GetsTimeIn, HasNoUnits, IsInUnits, Moves, MovesIn, TimedText, body_at, timed_parts};
+ghost use Rattle.pcapfile_cut.specs.MovedBlocks.{AreNanoseconds, AreNoUnits, HasNoUnits, IsInUnits, Moves, MovesIn, TimedText, body_at, timed_parts};
 
 use crate::block_shortening::{LONGEST_BODY, put_u32};
 use crate::moving::{SECOND, Shift};
@@ -135,8 +135,7 @@ fn move_in<B: ByteOrder>(
     body: &mut Vec<u8>,
     text: &mut Vec<u8>,
 ) -> Result<Moved, AllocError>
-    ensures { MatchResult result (MovesIn B.number_of B.bytes_of units (raw_of block.entry) text.new.items)
-        (λ e. GetsTimeIn B.number_of B.bytes_of units (raw_of block.entry)) }
+    ensures { IfOk result (MovesIn B.number_of B.bytes_of units (raw_of block.entry) text.new.items) }
 {
     let Some(timed) = split_time::<B>(block.body) else {
         return Ok(Moved::Malformed);
@@ -164,8 +163,7 @@ fn move_timed(
     text: &mut Vec<u8>,
 ) -> Result<Moved, AllocError>
     ensures { let order = block.entry.endianness in
-        MatchResult result (MovesIn (number_in order) (number_bytes order) units (raw_of block.entry) text.new.items)
-        (λ e. GetsTimeIn (number_in order) (number_bytes order) units (raw_of block.entry)) }
+        IfOk result (MovesIn (number_in order) (number_bytes order) units (raw_of block.entry) text.new.items) }
 {
     match block.endianness {
         Endianness::Big => move_in::<BigEndian>(block, units, body, text),
@@ -203,9 +201,9 @@ impl Moving {
     /// Moves the time of a block's packet by a shift in units of its interface's clock, and returns the result. `None` is a shift that is
     /// no whole number of units. Enhanced and obsolete packets have a time.
     ///
-    /// `AllocError` if the packet gets another time, and there is no memory for the block with it, or the block's length doesn't fit 32 bits.
+    /// `AllocError` if there is no memory for the block with its new time.
     pub fn pass(&mut self, block: RawBlock<'_>, units: Option<Shift>) -> Result<Moved, AllocError>
-        ensures { MatchResult result (Moves units (raw_of block.entry) (text_of self.new)) (λ e. GetsTime units (raw_of block.entry)) }
+        ensures { IfOk result (Moves units (raw_of block.entry) (text_of self.new)) }
     {
         match block.type_ {
             BlockType::EnhancedPacket | BlockType::Packet => {

@@ -1,11 +1,11 @@
 //! Blocks whose packets are written with at most a number of their bytes.
 
-ghost use Rattle.std.specs.Prelude.{◌≡◌, ◌++◌, OnOk, MatchOption, MatchResult};
+ghost use Rattle.std.specs.Prelude.{◌≡◌, ◌++◌, IfOk, OnOk, MatchOption};
 ghost use Rattle.pcap_core.specs.Answer.{number_in};
 ghost use Rattle.pcap_core.specs.Codec.{number_bytes};
 ghost use Rattle.pcap_written.specs.Raw.{raw_of};
 ghost use Rattle.pcap_written.specs.Text.{padding};
-ghost use Rattle.pcapfile_cut.specs.ShortBlocks.{GetsShorter, GetsShorterIn, HasNoRoom, PartedText, PutsShortened, Shortens, ShortensIn, parted, short_body};
+ghost use Rattle.pcapfile_cut.specs.ShortBlocks.{HasNoRoom, PartedText, PutsShortened, Shortens, ShortensIn, parted, short_body};
 
 use crate::changing::front_of;
 use byteorder::{BigEndian, ByteOrder, LittleEndian};
@@ -102,8 +102,7 @@ fn shorten_in<B: ByteOrder>(
     body: &mut Vec<u8>,
     text: &mut Vec<u8>,
 ) -> Result<Shortened, AllocError>
-    ensures { MatchResult result (ShortensIn B.number_of B.bytes_of most (raw_of block.entry) text.new.items)
-        (λ e. GetsShorterIn B.number_of B.bytes_of most (raw_of block.entry)) }
+    ensures { IfOk result (ShortensIn B.number_of B.bytes_of most (raw_of block.entry) text.new.items) }
 {
     let Some(parts) = split_parts::<B>(block.body) else {
         return Ok(Shortened::Malformed);
@@ -128,8 +127,7 @@ fn shorten_stated(
     text: &mut Vec<u8>,
 ) -> Result<Shortened, AllocError>
     ensures { let order = block.entry.endianness in
-        MatchResult result (ShortensIn (number_in order) (number_bytes order) most (raw_of block.entry) text.new.items)
-        (λ e. GetsShorterIn (number_in order) (number_bytes order) most (raw_of block.entry)) }
+        IfOk result (ShortensIn (number_in order) (number_bytes order) most (raw_of block.entry) text.new.items) }
 {
     match block.endianness {
         Endianness::Big => shorten_in::<BigEndian>(block, most, body, text),
@@ -145,7 +143,7 @@ fn shorten(
     body: &mut Vec<u8>,
     text: &mut Vec<u8>,
 ) -> Result<Shortened, AllocError>
-    ensures { MatchResult result (Shortens most (raw_of block.entry) text.new.items) (λ e. GetsShorter most (raw_of block.entry)) }
+    ensures { IfOk result (Shortens most (raw_of block.entry) text.new.items) }
 {
     match block.type_ {
         BlockType::EnhancedPacket => shorten_stated(block, most, body, text),

@@ -317,8 +317,7 @@ impl Packets {
             };
             let is_last = behind.len() < HEAD;
             if !is_last && !follows(&self.parser, head.seconds, behind) {
-                let is_usual = head.included as usize <= bound;
-                return Ok(if is_usual { at.saturating_add(end) } else { at });
+                return Ok(at);
             }
             at = at.saturating_add(end);
         }
@@ -349,21 +348,22 @@ impl Packets {
         window.reach(end.min(HEAD + LIMIT as usize).saturating_add(ROW))?;
         match weigh(&self.parser, time, window.shown()) {
             Weight::Stands => self.stand(window, head, time),
-            Weight::Length(length) => Ok(self.change(window, head, length, false)),
+            Weight::Length(length) => Ok(self.change(window, head, length, self.was_reported)),
             Weight::Wrong => self.look_on(window, head, time),
             Weight::Short => Ok(Here::Torn),
         }
     }
 
     // Takes a packet behind which another one follows, unless its stored length is doubtful and packets go on inside its data, or its
-    // head is zero bytes behind a guess.
+    // head is zero bytes behind a guess or, in a damaged capture, behind a packet whose end nothing confirms.
     fn take_confirmed(
         &mut self,
         window: &mut Window,
         head: Numbers,
         time: u32,
     ) -> io::Result<Here> {
-        if self.was_reported && is_zero(head) {
+        let is_doubted = self.was_reported || self.is_damaged && self.unconfirmed.is_some();
+        if is_doubted && is_zero(head) {
             return self.look_on(window, head, time);
         }
         if head.included > head.original || head.included > self.limit() {
