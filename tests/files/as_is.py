@@ -185,7 +185,7 @@ def changed_length(packet):
 def said_before(packet):
     """Returns the messages on a packet before those on its flaws."""
     guess = f"packet {packet.number} at byte {packet.place}: kept, a guess: "
-    return [f"{guess}it may lie inside another packet"] * packet.is_found + [f"{guess}it has no data"] * packet.is_empty + changed_length(packet)
+    return changed_length(packet) + [f"{guess}it may lie inside another packet"] * packet.is_found + [f"{guess}it has no data"] * packet.is_empty
 
 
 def said_behind(packet):

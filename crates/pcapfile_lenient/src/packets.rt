@@ -275,26 +275,20 @@ impl Packets {
             self.is_settled = false;
             return Ok(self.take(window, head));
         }
-        if self.is_in_a_short_run(window, head)? {
-            return Ok(Here::Changed(Change::Found));
+        if self.is_found {
+            self.begin_run(window, head)?;
         }
         let here = self.judge(window, head)?;
         Ok(self.after_doubt(here))
     }
 
-    // Returns whether the next packet must be reported as one of a short run.
-    fn is_in_a_short_run(&mut self, window: &mut Window, head: Numbers) -> io::Result<bool> {
-        if self.is_found {
-            self.is_found = false;
-            self.is_reported = false;
-            self.time = Some(head.seconds);
-            self.run = self.short_run(window)?.max(self.claimed);
-        }
-        if self.run == 0 || self.is_reported {
-            return Ok(false);
-        }
-        self.is_reported = true;
-        Ok(true)
+    // Finds out how long the run of packets is that resynchronization found.
+    fn begin_run(&mut self, window: &mut Window, head: Numbers) -> io::Result<()> {
+        self.is_found = false;
+        self.is_reported = false;
+        self.time = Some(head.seconds);
+        self.run = self.short_run(window)?.max(self.claimed);
+        Ok(())
     }
 
     // Returns the number of bytes in the run of packets at the front of the window, if it may lie inside a packet, and otherwise 0.
@@ -486,13 +480,13 @@ impl Packets {
         }
     }
 
-    // Takes the packet of this head, and puts its head in the form of the first header. A packet without data in a damaged capture is
-    // reported first.
+    // Takes the packet of this head, and puts its head in the form of the first header. A packet of a short run, or without data in a
+    // damaged capture, is reported first.
     fn take(&mut self, window: &mut Window, head: Numbers) -> Here {
-        if self.is_damaged && is_empty(head) && !self.is_reported {
+        if let Some(change) = self.guess(head) {
             self.is_reported = true;
             self.is_settled = true;
-            return Here::Changed(Change::Empty);
+            return Here::Changed(change);
         }
         let end = HEAD.saturating_add(head.included as usize);
         self.time = Some(head.seconds);
@@ -510,6 +504,20 @@ impl Packets {
             window.put(0, &bytes_of(&self.first, numbers));
         }
         Here::Packet(end)
+    }
+
+    // Returns why the packet of this head is a guess, if it is one and was not reported.
+    fn guess(&self, head: Numbers) -> Option<Change> {
+        if self.is_reported {
+            return None;
+        }
+        if self.run > 0 {
+            return Some(Change::Found);
+        }
+        if self.is_damaged && is_empty(head) {
+            return Some(Change::Empty);
+        }
+        None
     }
 
     // Finds out whether packets go on behind a head whose length is wrong, so that the bytes between may be its data.
