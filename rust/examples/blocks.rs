@@ -1,5 +1,5 @@
 //! The lines of `capcopy blocks`, and packets. `blocks FILE`: a line a block. `blocks -p FILE`: a line a packet. `blocks -f
-//! FILE`: of every front of the file, its blocks and then the status.
+//! FILE..`: of every front of each file, its blocks and then the status.
 
 use pcapfile::{Block, BlockPacket, Blocks, Error, Interface, Section};
 use std::process::ExitCode;
@@ -87,18 +87,27 @@ fn status_of(listed: Result<(), Error>) -> u8 {
     }
 }
 
+fn list_fronts(paths: &[String]) -> ExitCode {
+    for path in paths {
+        let Ok(bytes) = std::fs::read(path) else {
+            return ExitCode::from(4);
+        };
+        for end in 0..=bytes.len() {
+            println!("status {}", status_of(list(&bytes[..end])));
+        }
+    }
+    ExitCode::SUCCESS
+}
+
 fn main() -> ExitCode {
     let words: Vec<_> = std::env::args().skip(1).collect();
+    if words.first().is_some_and(|word| word == "-f") {
+        return list_fronts(&words[1..]);
+    }
     let Some(bytes) = words.last().and_then(|path| std::fs::read(path).ok()) else {
         return ExitCode::from(4);
     };
     match words[0].as_str() {
-        "-f" => {
-            for end in 0..=bytes.len() {
-                println!("status {}", status_of(list(&bytes[..end])));
-            }
-            ExitCode::SUCCESS
-        }
         "-p" => ExitCode::from(status_of(list_packets(&bytes))),
         _ => ExitCode::from(status_of(list(&bytes))),
     }

@@ -1,4 +1,4 @@
-//! The lines of `capcopy list`. `list FILE`: a line a packet. `list -f FILE`: of every front of the file, its lines and then
+//! The lines of `capcopy list`. `list FILE`: a line a packet. `list -f FILE..`: of every front of each file, its lines and then
 //! its status.
 
 use pcapfile::{Capture, Error};
@@ -21,16 +21,25 @@ fn status_of(bytes: &[u8]) -> u8 {
     }
 }
 
-fn main() -> ExitCode {
-    let words: Vec<_> = std::env::args().skip(1).collect();
-    let Some(bytes) = words.last().and_then(|path| std::fs::read(path).ok()) else {
-        return ExitCode::from(4);
-    };
-    if words[0] != "-f" {
-        return ExitCode::from(status_of(&bytes));
-    }
-    for end in 0..=bytes.len() {
-        println!("status {}", status_of(&bytes[..end]));
+fn list_fronts(paths: &[String]) -> ExitCode {
+    for path in paths {
+        let Ok(bytes) = std::fs::read(path) else {
+            return ExitCode::from(4);
+        };
+        for end in 0..=bytes.len() {
+            println!("status {}", status_of(&bytes[..end]));
+        }
     }
     ExitCode::SUCCESS
+}
+
+fn main() -> ExitCode {
+    let words: Vec<_> = std::env::args().skip(1).collect();
+    if words.first().is_some_and(|word| word == "-f") {
+        return list_fronts(&words[1..]);
+    }
+    match words.last().map(std::fs::read) {
+        Some(Ok(bytes)) => ExitCode::from(status_of(&bytes)),
+        _ => ExitCode::from(4),
+    }
 }

@@ -3,7 +3,7 @@
  *   blocks FILE          a line for the first section, and one for each block after it
  *   blocks -p FILE       a line for each packet: block, interface, ticks, seconds, link type, stored and original length, bytes
  *   blocks -n FILE       the same by batches, without the blocks' numbers
- *   blocks -f FILE       for every beginning of the file its blocks, and then the status
+ *   blocks -f FILE..     for every beginning of each file its blocks, and then the status
  *   blocks -t FILE       counts, and prints packets and nanoseconds per packet, the best of ten rounds
  *
  * With `-c PIECE ROOM` before these words the program takes the blocks by the calls for a capture in pieces. A piece has at most PIECE
@@ -226,7 +226,7 @@ static int tell(int32_t status, const pcapfile_error *error) {
 }
 
 /* Puts each beginning into a buffer of its own, so that a read past its end is seen. */
-static int list_fronts(pcapfile_bytes all) {
+static int list_fronts_of(pcapfile_bytes all) {
     for (size_t len = 0; len <= all.len; len++) {
         uint8_t *front = malloc(len > 0 ? len : 1);
         if (!front) return NO_FILE;
@@ -237,6 +237,17 @@ static int list_fronts(pcapfile_bytes all) {
         free(front);
     }
     return 0;
+}
+
+/* Does this for each of these files. */
+static int list_fronts(char **files) {
+    int status = 0;
+    for (; *files && status == 0; files++) {
+        pcapfile_bytes all = read_file(*files);
+        status = all.ptr ? list_fronts_of(all) : NO_FILE;
+        free((void *)(uintptr_t)all.ptr);
+    }
+    return status;
 }
 
 static uint64_t packets_in(struct walk *walk, int32_t *status) {
@@ -281,7 +292,9 @@ int main(int argc, char **argv) {
         argv += 2;
     }
     const char *way = argc == 3 ? argv[1] : "-b";
-    if (argc < 2 || argc > 3 || parts > MOST_PARTS) return USAGE;
+    if (parts > MOST_PARTS) return USAGE;
+    if (argc > 2 && !strcmp(argv[1], "-f")) return list_fronts(argv + 2);
+    if (argc < 2 || argc > 3) return USAGE;
     pcapfile_bytes all = read_file(argv[argc - 1]);
     if (!all.ptr) return NO_FILE;
     struct walk walk = walk_of(all);
@@ -289,7 +302,6 @@ int main(int argc, char **argv) {
     if (!strcmp(way, "-b")) status = tell(list_blocks(&walk), &walk.error);
     if (!strcmp(way, "-p")) status = tell(list_packets(&walk), &walk.error);
     if (!strcmp(way, "-n")) status = tell(list_batches(&walk), &walk.error);
-    if (!strcmp(way, "-f")) status = list_fronts(all);
     if (!strcmp(way, "-t")) status = count(all);
     free(walk.pieces.room);
     free((void *)(uintptr_t)all.ptr);

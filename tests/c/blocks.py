@@ -1,7 +1,7 @@
 """Prints the packets of a PcapNg capture by the Python package, as `blocks -p` of blocks.c does, without the blocks' numbers.
 
-blocks.py FILE: a line for each packet. blocks.py -f FILE: for every beginning of the file its lines and then its status. After `-s N` both
-read the capture as a stream of N bytes at once. blocks.py -t FILE: counts, and prints packets per second, the best of five rounds.
+blocks.py FILE: a line for each packet. blocks.py -f FILE..: for every beginning of each file its lines and then its status. After `-s N`
+both read the capture as a stream of N bytes at once. blocks.py -t FILE: counts, and prints packets per second, the best of five rounds.
 """
 
 import sys
@@ -48,9 +48,10 @@ opened, path = opening(sys.argv[1:]), sys.argv[-1]
 if sys.argv[1] == "-t":
     print(rate(path))
 elif "-f" in sys.argv:
-    data = open(path, "rb").read()
-    for end in range(len(data) + 1):
-        print("status", status_of(lambda: opened(data[:end])))
+    for path in sys.argv[sys.argv.index("-f") + 1 :]:
+        data = open(path, "rb").read()
+        for end in range(len(data) + 1):
+            print("status", status_of(lambda: opened(data[:end])))
 elif "-s" in sys.argv:
     sys.exit(status_of(lambda: opened(open(path, "rb").read())))
 else:

@@ -33,16 +33,28 @@ static int tell(int32_t status, const pcapfile_error *error) {
 }
 
 /* Lists every beginning, each in a block of memory of its own, so that a read past its end is seen. */
-static int list_fronts(int32_t (*list)(pcapfile_bytes, pcapfile_error *), pcapfile_bytes all, pcapfile_error *error) {
+static int list_fronts_of(int32_t (*list)(pcapfile_bytes, pcapfile_error *), pcapfile_bytes all) {
+    pcapfile_error error = PCAPFILE_ERROR_INIT;
     for (size_t len = 0; len <= all.len; len++) {
         uint8_t *front = malloc(len > 0 ? len : 1);
         if (!front) return NO_FILE;
         memcpy(front, all.ptr, len);
-        int32_t status = list((pcapfile_bytes){ front, len }, error);
+        int32_t status = list((pcapfile_bytes){ front, len }, &error);
         printf("status %d\n", status_of(status));
         free(front);
     }
     return 0;
+}
+
+/* Does this for each of these files. */
+static int list_fronts(int32_t (*list)(pcapfile_bytes, pcapfile_error *), char **files) {
+    int status = 0;
+    for (; *files && status == 0; files++) {
+        pcapfile_bytes all = read_file(*files);
+        status = all.ptr ? list_fronts_of(list, all) : NO_FILE;
+        free((void *)(uintptr_t)all.ptr);
+    }
+    return status;
 }
 
 #endif

@@ -2,7 +2,7 @@
  *
  *   list FILE            packet by packet
  *   list -b FILE         in batches
- *   list -f FILE         for every beginning of the file its lines, and then its status
+ *   list -f FILE..       for every beginning of each file its lines, and then its status
  *   list -t FILE         counts in batches, and prints packets and nanoseconds per packet, the best of ten rounds
  *
  * With `-k PARTS` before these words the program cuts the capture into this many parts, and lists each by itself, packet by packet.
@@ -94,13 +94,14 @@ int main(int argc, char **argv) {
     }
     const char *way = argc == 3 ? argv[1] : "-p";
     pcapfile_error error = PCAPFILE_ERROR_INIT;
-    if (argc < 2 || argc > 3 || parts > MOST_PARTS) return USAGE;
+    if (parts > MOST_PARTS) return USAGE;
+    if (argc > 2 && !strcmp(argv[1], "-f")) return list_fronts(list_one_by_one, argv + 2);
+    if (argc < 2 || argc > 3) return USAGE;
     pcapfile_bytes all = read_file(argv[argc - 1]);
     if (!all.ptr) return NO_FILE;
     int status = USAGE;
     if (!strcmp(way, "-p")) status = tell(list_one_by_one(all, &error), &error);
     if (!strcmp(way, "-b")) status = tell(list_in_batches(all, &error), &error);
-    if (!strcmp(way, "-f")) status = list_fronts(list_one_by_one, all, &error);
     if (!strcmp(way, "-t")) status = count(all, &error);
     free((void *)(uintptr_t)all.ptr);
     return status;

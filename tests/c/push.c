@@ -2,7 +2,7 @@
  *
  *   push [-b COUNT] PIECE ROOM FILE        the file comes in pieces of at most PIECE bytes, into a buffer that is ROOM bytes long at
  *                                          first, and the program takes its packets one by one, or up to COUNT in a call
- *   push [-b COUNT] PIECE ROOM -f FILE     every beginning of the file in this way: its lines, and then its status
+ *   push [-b COUNT] PIECE ROOM -f FILE..   every beginning of each file in this way: its lines, and then its status
  */
 #include "lines.h"
 #include "pieces.h"
@@ -54,14 +54,14 @@ int main(int argc, char **argv) {
         argc -= 2;
         argv += 2;
     }
-    int of_fronts = argc == 5 && !strcmp(argv[3], "-f");
-    if (argc != 4 && !of_fronts) return USAGE;
+    if (argc < 4) return USAGE;
     piece = strtoul(argv[1], NULL, 10);
     first_room = strtoul(argv[2], NULL, 10);
-    pcapfile_bytes all = read_file(argv[argc - 1]);
     if (piece == 0 || first_room == 0) return USAGE;
+    if (argc > 4) return strcmp(argv[3], "-f") ? USAGE : list_fronts(list_pieces, argv + 4);
+    pcapfile_bytes all = read_file(argv[3]);
     if (!all.ptr) return NO_FILE;
-    int status = of_fronts ? list_fronts(list_pieces, all, &error) : tell(list_pieces(all, &error), &error);
+    int status = tell(list_pieces(all, &error), &error);
     free((void *)(uintptr_t)all.ptr);
     return status;
 }

@@ -144,7 +144,7 @@ def packets_and_gaps(capture, kind):
     return Packets(capture, kind).all()
 
 
-@functools.lru_cache(2)
+@functools.cache
 def stands_in(capture):
     """Returns the format of a capture, and its packets or blocks with the gaps between them. If the capture is refused, it also returns
     the rule, or that the capture is truncated."""

@@ -1,4 +1,5 @@
 """States again which bytes of a damaged classic capture are packets. A packet is compared with what follows it."""
+import re
 import struct
 
 LONGEST, DAY, BILLION = 262144, 86400, 10**9
@@ -7,6 +8,10 @@ USUAL, BEHIND = 1518, 3
 STANDS, LENGTH, WRONG, SHORT = range(4)
 MAGICS = {0xA1B2C3D4: 1000, 0xA1B23C4D: 1}
 HEADERS = [struct.pack(order + "IHH", magic, 2, 4) for magic in MAGICS for order in "<>"]
+# Where packets can go on at all: at a header, or at a head whose stored length is from 1 to a bit more than LONGEST. Python looks at no
+# other offset by itself.
+STORED = {"<": rb"(?!\0\0\0\0)..[\0-\4]\0", ">": rb"(?!\0\0\0\0)\0[\0-\4].."}
+MAY_GO_ON = {order: re.compile(b"(?=" + b"|".join(map(re.escape, HEADERS)) + b"|.{8}" + it + b")", re.S) for order, it in STORED.items()}
 
 
 class Head:
@@ -54,7 +59,8 @@ class Reading:
 
     def first(self, start, end, time):
         """Returns the first offset in this range at which packets go on."""
-        return next((at for at in range(start, min(end, len(self.capture))) if self.goes_on(at, time)), None)
+        places = (it.start() for it in MAY_GO_ON[self.order].finditer(self.capture, start, min(end + 12, len(self.capture))))
+        return next((at for at in places if at < end and self.goes_on(at, time)), None)
 
     def ends_well(self, at, size, time):
         """Returns whether the end, a header or a packet follows if the packet at this offset has this size."""

@@ -3,6 +3,7 @@
 tests/refusals/kept/CRATE has a line `EDIT SUM` for each edit of a crate that was refused at what it names. The sum covers everything that
 the verdict can depend on (`sums`), so a line never goes stale. A line of another form, for example one that a merge left, does not count.
 """
+import collections
 import glob
 import os
 import random
@@ -18,7 +19,10 @@ FOLDER = "tests/refusals/kept"
 LINE = re.compile(r"(\S+) ([0-9a-f]{32})")
 DRAWN = 40
 # A run tries the edits whose lines the change brings for this long, and at least this many of them.
-BROUGHT_SECONDS, BROUGHT_AT_LEAST = 30 * 60, 60
+BROUGHT_SECONDS, BROUGHT_AT_LEAST = 12 * 60, 120
+# The first check of a crate takes 20 to 60 processor seconds before it comes to an edit, and each edit some seconds. So a draw takes up to
+# this many edits of one crate together.
+HANDFUL = 12
 SECONDS_OF_A_DAY = 24 * 3600
 
 
@@ -78,6 +82,18 @@ def older(top=checks.TOP):
     return found.intersection(*(kept_at(it, top) for it in commits)) if commits else set()
 
 
+def shuffled(keys, draw):
+    """Returns the edits in a random order, in which each handful of one crate stays together. Each edit has the same chance to be in front."""
+    of, handfuls = collections.defaultdict(list), []
+    for key in keys:
+        of[key[0]].append(key)
+    for edits in of.values():
+        draw.shuffle(edits)
+        handfuls += [edits[at : at + HANDFUL] for at in range(0, len(edits), HANDFUL)]
+    draw.shuffle(handfuls)
+    return [key for handful in handfuls for key in handful]
+
+
 class Plan:
     """Divides the edits with these sums, by crate and name, into three groups. A run must try the first. It tries the second while there
     is time, in an order that the seed draws. The third is drawn by the seed from the rest."""
@@ -86,10 +102,9 @@ class Plan:
         known = [key for key in sorted(sums) if (*key, sums[key]) in lines]
         rest = [key for key in known if (*key, sums[key]) in old]
         self.without_line = sorted(set(sums).difference(known))
-        self.brought = sorted(set(known).difference(rest))
         draw = random.Random(seed)
-        draw.shuffle(self.brought)
-        self.drawn = sorted(draw.sample(rest, min(drawn, len(rest))))
+        self.brought = shuffled(sorted(set(known).difference(rest)), draw)
+        self.drawn = sorted(shuffled(rest, draw)[:drawn])
 
 
 def older_than_their_sources(crate, top=checks.TOP):

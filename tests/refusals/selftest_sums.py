@@ -202,6 +202,10 @@ def plans():
     yield "of_the_rest_some_are_drawn", len(plan.drawn) == 3 and all((*key, of[key]) in old and key[1] != "a" for key in plan.drawn)
     drawn = {tuple(ledger.Plan(of, all_lines, old, str(seed), 3).drawn) for seed in range(20)}
     yield "another_commit_draws_others", len(drawn) > 1
+    wide = {(crate, f"{name:02}"): 32 * "a" for crate in ("one", "other") for name in range(30)}
+    order = ledger.Plan(wide, {(*key, it) for key, it in wide.items()}, set(), "seed").brought
+    turns = sum(one[0] != other[0] for one, other in zip(order, order[1:]))
+    yield "handfuls_of_a_crate_come_together", sorted(order) == sorted(wide) and 1 <= turns <= 5 and order != sorted(order)
     forged = ledger.Plan(of, all_lines, all_lines, "seed", len(of))
     yield "a_forged_line_is_among_what_can_be_drawn", ("tried", "a") in forged.drawn
 
