@@ -141,7 +141,7 @@ figures_plain tally ms plain = puts_plain (figures tally) ms (
 
 -- The members on a link type, the last one first.
 abbrev link : ℕ → List ℕ → List (List ℕ × Data)
-link number name = (codes "link_name", string name) ∷ (codes "link", number_data number) ∷ []
+link type name = (codes "link_name", string name) ∷ (codes "link", number_data type) ∷ []
 
 -- The members on an interface's device, the last one first.
 abbrev device : Device → List (List ℕ × Data)

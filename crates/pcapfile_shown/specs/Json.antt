@@ -133,7 +133,7 @@ text_or_null (Some text) = text_data text
 
 -- The members on a link type: its number, and this text as its name.
 abbrev pub with_link : ℕ → List ℕ → Members → Members
-with_link number name members = put (codes "link_name") (string name) (put (codes "link") (number_data number) members)
+with_link link name members = put (codes "link_name") (string name) (put (codes "link") (number_data link) members)
 
 -- The members on the texts on a device.
 abbrev pub with_texts : DeviceTexts → Members → Members
