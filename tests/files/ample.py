@@ -88,17 +88,6 @@ def list_rows(help):
     yield Row("list --csv of a million packets", ["list", "--csv", "-"], many, 0, (listing.HEADING + rows).encode(), "")
 
 
-def merge_rows(help):
-    """Yields rows in which `merge --to pcap` reads one capture."""
-    words = ["merge", "--to", "pcap", "-", "-o", "-"]
-    few = [(10**9 * k, 60 + k, b"stored") for k in range(9)]
-    yield Row("merge --to pcap of a classic capture", words, classic(few), 0, classic(few), "")
-    parts = [help.interface(LITTLE, RAW, 96), help.interface(LITTLE, 1), (listing.SIMPLE, struct.pack("<I", 7) + b"no time")]
-    parts += [help.enhanced(LITTLE, k % 2, time // 1000, wire, data) for k, (time, wire, data) in enumerate(few)]
-    said = "pcapfile: -: 5 packets have no place there, and are left out\npcapfile: -: 1 block of interfaces is left out\n"
-    yield Row("merge --to pcap of packets without a place", words, help.blocks(LITTLE, parts)[0], 0, classic(few[::2], 262144), said)
-
-
 def as_is_rows(help):
     """Yields rows in which the program reads captures leniently, and repairs them."""
     section = repairing.section(LITTLE)
@@ -130,7 +119,6 @@ def mends(name, capture):
 def rows(help):
     yield from info_rows(help)
     yield from list_rows(help)
-    yield from merge_rows(help)
     yield from as_is_rows(help)
 
 

@@ -39,7 +39,6 @@ WORDS = (
     (["cut", "in", "--every", "2", "-o", "out"], False, False),
     (["join", "in", "-o", "out"], False, False),
     (["merge", "in", "in", "-o", "out"], False, False),
-    (["merge", "--to", "pcap", "in", "in", "-o", "out"], False, False),
     (["merge", "--repair", "flawed", "in", "-o", "out"], False, True),
     (["sort", "in", "-o", "out"], False, False),
     (["sort", "in", "-o", "-"], True, False),
@@ -98,7 +97,7 @@ def try_unread(tally):
     many = HEADER + packet(1, b"") * 200000
     flaws = HEADER + (struct.pack("<IIII", 1, 0, 4, 1) + b"data") * 20000
     words = [["list", "in"], ["list", "--json", "in"], ["list", "--csv", "in"], ["list", "--as-is", "in"], ["check", "--as-is", "flaws"]]
-    words += [[*it, "-o", "-"] for it in (["convert", "in"], ["convert", "--to", "pcap", "in"], ["cut", "in"], ["join", "in"], ["merge", "in"], ["merge", "--to", "pcap", "in"], ["sort", "in"], ["repair", "in"])]
+    words += [[*it, "-o", "-"] for it in (["convert", "in"], ["convert", "--to", "pcap", "in"], ["cut", "in"], ["join", "in"], ["merge", "in"], ["sort", "in"], ["repair", "in"])]
     with Folder(tally.program, **{"in": many, "flaws": flaws}) as folder:
         for it in words:
             try_gone(tally, f"{' '.join(it)}, unread", [tally.program, *it], folder.path)
