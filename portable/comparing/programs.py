@@ -1,4 +1,5 @@
 """Runs each word of pcapfile and capcopy over each capture: standard output, standard error, status, and the files that remain."""
+import filecmp
 import hashlib
 import os
 import shutil
@@ -10,6 +11,8 @@ from .forms import TOP
 PROVED = {"pcapfile": f"{TOP}/crates/pcapfile/out/pcapfile", "capcopy": f"{TOP}/crates/capcopy/out/capcopy"}
 STEMS = {"pcapfile": "pcapfile_program", "capcopy": "capcopy_program"}
 SECONDS = 300
+# With one of these variables `make` may build in another form.
+MAKES_OTHERWISE = {"CC", "CFLAGS", "CPPFLAGS"}
 BOTH_WAYS = (
     [[word, *flags] for word, lenient in (("check", "--as-is"), ("list", "--as-is"), ("info", "--repair")) for flags in ([], [lenient])]
     + [["list", flag] for flag in ("--csv", "--json", "--utc")]
@@ -83,9 +86,23 @@ def compared(program, command, captures, room, pool, wanted):
     return got, [(run, want, mine) for run, want, mine in zip(all_runs, wanted, got) if want[:4] != mine[:4]]
 
 
+def built_by_make(form, program, source):
+    """Returns the program that `make` built from the same file, if it is in this form and not older than its sources, or None."""
+    made, sources = f"{TOP}/out/{program}", [f"{TOP}/portable/{it}" for it in (f"{STEMS[program]}.c", "os.c")]
+    if form.name != "gcc" or MAKES_OTHERWISE & os.environ.keys() or not os.path.isfile(made):
+        return None
+    is_gcc = os.path.realpath(shutil.which("cc") or "") == os.path.realpath(shutil.which("gcc"))
+    is_new = max(map(os.path.getmtime, sources)) <= os.path.getmtime(made)
+    return made if is_gcc and is_new and filecmp.cmp(source, sources[0], shallow=False) else None
+
+
 def build(form, program, folder, room):
-    """Builds a program in one form. Returns its path, and what went wrong, or None. Each has a name of its own, since its help contains that."""
-    made = f"{room}/{form.name}/{program}"
+    """Builds a program in one form, or copies the one that `make` built so. Returns its path, and what went wrong, or None. Each has a name
+    of its own, since its help contains that."""
+    made, source = f"{room}/{form.name}/{program}", form.source(STEMS[program], folder)
     os.makedirs(f"{room}/{form.name}", exist_ok=True)
-    why = form.build([form.source(STEMS[program], folder), f"{TOP}/portable/os.c"], made, *["-DASSEMBLY"] * bool(form.target))
-    return made, why
+    known = built_by_make(form, program, source)
+    if known:
+        shutil.copy(known, made)
+        return made, None
+    return made, form.build([source, f"{TOP}/portable/os.c"], made, *["-DASSEMBLY"] * bool(form.target))

@@ -3,6 +3,7 @@ the gaps between them with struct alone, and states the rules again."""
 import collections
 import functools
 import random
+import re
 import struct
 import tempfile
 
@@ -151,7 +152,7 @@ def stands_in(capture):
     kind = opened(capture) if len(capture) >= 24 else None
     if kind:
         return "pcap", packets_and_gaps(capture, kind), None
-    at = next((it for it in range(len(capture)) if is_section(capture, it)), None)
+    at = next((it.start() for it in re.finditer(b"(?=%b)" % MAGIC, capture) if is_section(capture, it.start())), None)
     if at is None and capture[:1] != b"\n":
         return "pcap", [], CUT if len(capture) < 24 else 1
     refusal = framed(capture, 0, ">") if capture[:4] == MAGIC[: len(capture)] else 10
@@ -357,9 +358,19 @@ def stand(capture, at, order):
     return True
 
 
+@functools.cache
+def may_stand(order, most):
+    """Returns a pattern of the offsets at which `stand` can find a block: with a section's number, or with a length that is a multiple of 4,
+    not 0, and has at most this number as its highest byte. Python looks at no other offset by itself."""
+    low, high = (b"[%b]" % b"".join(re.escape(bytes([it])) for it in numbers) for numbers in (range(0, 256, 4), range(most + 1)))
+    length = low + b".." + high if order == "<" else high + b".." + low
+    return re.compile(b"(?=%b|.{4}(?!\\0{4})%b)" % (MAGIC, length), re.S)
+
+
 def stands_behind(capture, start, order):
     """Returns the first offset from this one on at which blocks go on, or None."""
-    return next((it for it in range(start, len(capture)) if stand(capture, it, order)), None)
+    places = (it.start() for it in may_stand(order, len(capture) >> 24).finditer(capture, start))
+    return next((it for it in places if stand(capture, it, order)), None)
 
 
 def rows_without_section(capture):

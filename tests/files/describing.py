@@ -10,6 +10,7 @@ import tempfile
 import as_is
 import cutting
 import left_out
+import tshark
 import undescribed
 from as_is import DONE, ENHANCED, GUESSED, INTERFACE, OBSOLETE, REPAIRED, SIMPLE
 from repairing import block, enhanced, option, repaired, section
@@ -107,13 +108,18 @@ def text(said):
     return "".join(f"pcapfile: in: {it if isinstance(it, str) else 'block {} at byte {}: {}'.format(*it)}\n" for it in said)
 
 
+def capinfos(folder, path):
+    return subprocess.run(["capinfos", path], cwd=folder, capture_output=True, timeout=60)
+
+
 def refusals(tally, folder, path):
     """Returns which programs refuse a capture."""
     words = [["check", path], ["merge", path, "-o", "merged"]]
     faults = [f"{it} gave {ended}" for it in words if (ended := cutting.ran(tally, folder, *it))[0] != DONE]
-    for tool in ("capinfos", "tshark"):
+    readers = {"capinfos": capinfos, "tshark": tshark.read}
+    for tool, reads in readers.items():
         if left_out.has(tool, "captures with described interfaces, in tests/files/run"):
-            ended = subprocess.run([tool, *["-r"] * (tool == "tshark"), path], cwd=folder, capture_output=True, timeout=60)
+            ended = reads(folder, path)
             faults += [f"{tool} says {ended.stderr.decode()[-200:]}"] * (ended.returncode != 0)
     return faults
 

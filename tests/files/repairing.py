@@ -11,6 +11,7 @@ import time
 
 import as_is
 import left_out
+import tshark
 import undescribed
 from as_is import DONE, ENHANCED, GUESSED, INTERFACE, MOST, OBSOLETE, REPAIRED, SECTION, SIMPLE, options_flaws, sound_options
 
@@ -372,8 +373,8 @@ def shown_by_tshark(capture):
         with open(f"{folder}/out", "wb") as it:
             it.write(capture)
         fields = [word for field in ("frame.time_epoch", "frame.cap_len", "frame.len") for word in ("-e", field)]
-        ran = subprocess.run(["tshark", "-r", f"{folder}/out", "-T", "fields", *fields], capture_output=True, text=True, timeout=60)
-    return None if ran.returncode else ran.stdout.splitlines()
+        ran = tshark.read(folder, "out", "-T", "fields", *fields)
+    return None if ran.returncode else ran.stdout.decode().splitlines()
 
 
 WORDS = (

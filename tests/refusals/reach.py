@@ -206,7 +206,7 @@ class Reach:
     """Finds the items of a crate and of the libraries below it, given as their texts by path."""
 
     def __init__(self, texts_by_crate):
-        self.items, self.named = collections.defaultdict(list), {}
+        self.items, self.named, self.reached = collections.defaultdict(list), {}, {}
         for crate, texts in sorted(texts_by_crate.items()):
             for path, text in sorted(texts.items()):
                 for item in items_of(path, text):
@@ -220,7 +220,10 @@ class Reach:
 
     def from_words(self, start):
         """Returns the items that these words reach, each with its text, its place and its kind."""
-        return Walk(self).reached(start)
+        start = tuple(word for word in start if word in self.items)
+        if start not in self.reached:
+            self.reached[start] = Walk(self).reached(start)
+        return self.reached[start]
 
 
 class Walk:

@@ -27,6 +27,12 @@ def sum_of(*parts):
     return hashlib.sha256(repr(parts).encode()).hexdigest()[:32]
 
 
+@functools.lru_cache(maxsize=None)
+def sum_of_item(item):
+    """Returns the sum of an item that texts reach; most edits of a crate reach the same ones."""
+    return sum_of(item)
+
+
 def content(path):
     with open(path, "rb") as it:
         return it.read()
@@ -93,7 +99,7 @@ def reached_texts(edit, own, texts, reached_from):
     """Returns everything by which the check judges this edit of one function."""
     written = [(path, reach.proof(it)) for path, it in sorted(texts.items()) if path.startswith(folder_of(edit))]
     named = set().union(*(reach.words(it) for _, it in [*own, *written]), *(reach.words(it.new) for it in edit.changes))
-    items = sorted(map(sum_of, reached_from.from_words(sorted(named))))
+    items = sorted(map(sum_of_item, reached_from.from_words(sorted(named))))
     taken = [imports(texts[path], named) for path, _ in own]
     return [edit, own, written, taken, attributes_of_files(texts, [path for path, _ in own]), items]
 
