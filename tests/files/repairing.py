@@ -204,7 +204,7 @@ pcapfile: in: block 7 at byte 200: its stored length is 8 and not {length}
 pcapfile: in: block 7 at byte 200: its stored length is 12 and not 99, by a guess
 """, (6, 0, 1, 0, 0)
     limited = section(order) + block(order, INTERFACE, struct.pack(order + "HHI", 1, 0, 8))
-    kept, broken = (limited + block(order, ENHANCED, struct.pack(order + "IQII", 0, 5, it, 1 << 31) + b"datadata") for it in (8, 1 << 30))
+    kept, broken = (limited + block(order, ENHANCED, struct.pack(order + "IQII", 0, 5, it, 1 << 20) + b"datadata") for it in (8, 1 << 30))
     yield "two wrong lengths", broken, kept, """\
 pcapfile: in: block 3 at byte 48: its stored length is 8 and not 1073741824, by a guess
 """, (2, 0, 1, 0, 0)
