@@ -103,15 +103,17 @@ class Packets:
         self.count, stored = self.count + 1, numbers[2]
         if size != stored:
             numbers = *numbers[:2], size, size if numbers[3] > LONGEST else max(numbers[3], size)
-        packet = Packet(self.count, at, self.kind[1], numbers, stored, is_guess)
-        packet.is_found = at < self.end_of_run
+        is_doubted = self.was_reported and size != stored
+        packet = Packet(self.count, at, self.kind[1], numbers, stored, is_guess or is_doubted)
+        packet.is_found = at < self.end_of_run and not is_doubted
         self.is_damaged |= packet.is_found or size != stored
         packet.is_empty = self.is_damaged and not packet.is_found and lenient.Head(numbers).is_empty()
         packet.is_unconfirmed = is_confirmed is False and not packet.is_found
-        packet.is_by_search = self.is_found = is_guess and is_confirmed is None
+        packet.is_by_search = is_guess and is_confirmed is None
+        self.is_found = packet.is_by_search or is_doubted
         self.is_open = packet.is_unconfirmed
         self.time, self.longest, self.was_reported = numbers[0], max(self.longest, size), packet.is_found or packet.is_empty
-        self.claimed = stored - size if self.is_found and stored <= self.reading.limit else 0
+        self.claimed = stored - size if packet.is_by_search and stored <= self.reading.limit else 0
         return packet
 
     def item_at(self, at):
@@ -120,7 +122,7 @@ class Packets:
         if numbers and self.is_found:
             self.time, self.is_found = numbers[0], False
             self.end_of_run = at + max(self.reading.short_run(at, self.longest), self.claimed)
-        size, way, is_guess = self.reading.size_at(at, self.time, self.was_reported, self.was_reported or self.is_damaged and self.is_open)
+        size, way, is_guess = self.reading.size_at(at, self.time, self.was_reported or self.is_damaged and self.is_open)
         if size is not None:
             return self.packet_at(at, numbers, size, way, is_guess), at + 16 + size
         if way is None:
@@ -503,7 +505,7 @@ def blocks_and_gaps(whole, at):
                 break
         else:
             change = mended_frame(capture, count + 1, at, order)
-        if isinstance(found, tuple) and found[1] == ENHANCED and len(found[2]) > 24 and not any(found[2][:24]):
+        if isinstance(found, tuple) and found[1] == ENHANCED and len(found[2]) > 24 and not any(found[2][12:24]):
             yield Gap(at, len(found[2]) + 12, "no blocks", None)
             at += len(found[2]) + 12
         elif change:

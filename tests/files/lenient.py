@@ -110,7 +110,7 @@ class Reading:
         if size == head.stored or not self.can_be(head, size, time):
             return None
         if self.ends_well(at, size, time):
-            return size, True, False
+            return size, True, head.wire > LONGEST
         return (size, True, True) if self.is_misstated(at + 16 + size, time) else None
 
     def is_misstated(self, at, time):
@@ -138,7 +138,7 @@ class Reading:
         behind = self.first(at + 16, at + 16 + head.stored, time)
         return behind is not None and self.can_be(head, behind - at - 16, time)
 
-    def size_at(self, at, time, is_behind_a_guess, is_doubted):
+    def size_at(self, at, time, is_doubted):
         """Returns the size of the packet at this offset, whether something confirms it, and whether it is a guess. The first is None for
         corrupt bytes, and the second is then where packets go on. All are None for a truncated packet."""
         head, before = self.head(at), time or 0
@@ -149,7 +149,7 @@ class Reading:
         if weight == SHORT:
             return None, None, None
         if weight == LENGTH:
-            return head.wire, True, is_behind_a_guess
+            return head.wire, True, False
         if weight == STANDS:
             if self.ends_well(at, head.stored, time):
                 is_zero = is_doubted and not any(vars(head).values())

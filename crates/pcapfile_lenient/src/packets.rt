@@ -342,7 +342,7 @@ impl Packets {
         window.reach(end.min(HEAD + LIMIT as usize).saturating_add(ROW))?;
         match weigh(&self.parser, time, window.shown()) {
             Weight::Stands => self.stand(window, head, time),
-            Weight::Length(length) => Ok(self.change(window, head, length, self.was_reported)),
+            Weight::Length(length) => Ok(self.change(window, head, length, false)),
             Weight::Wrong => self.look_on(window, head, time),
             Weight::Short => Ok(Here::Torn),
         }
@@ -445,7 +445,7 @@ impl Packets {
         }
         let behind = bytes.get(HEAD.saturating_add(length as usize)..)?;
         if follows(&self.parser, time, behind) {
-            return Some((length, false));
+            return Some((length, head.original > PACKET_LIMIT));
         }
         if self.is_misstated(time, behind) {
             return Some((length, true));
@@ -550,8 +550,12 @@ impl Packets {
         Ok(Here::Garbage(self.rule(window.shown())))
     }
 
-    // Puts another length into the head at the front of the window.
+    // Puts another length into the head at the front of the window. Behind a guess the length is one too, and so may be what follows.
     fn change(&mut self, window: &mut Window, head: Numbers, length: u32, is_guess: bool) -> Here {
+        let is_guess = is_guess || self.was_reported;
+        if self.was_reported && !self.is_found {
+            self.find();
+        }
         let original = if head.original > PACKET_LIMIT {
             length
         } else {

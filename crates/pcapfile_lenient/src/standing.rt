@@ -10,7 +10,7 @@ use crate::opening::{
     ETHERNET, Found, Opening, bytes_of, guess_in, kind_of, run_of, undo_transfer,
 };
 use crate::packets::{HEADER as HEADER_LEN, LIMIT};
-use crate::rows::{Rows, begins_section};
+use crate::rows::{Rows, SECTION, begins_section};
 use crate::variants::make_plain;
 use crate::window::Window;
 use capcopy_run::Exit;
@@ -228,14 +228,14 @@ impl Standing {
         }
         let sure = window.reach_row()?;
         let (run, guessed) = guess_in(window.shown(), sure, link)?;
-        let is_of_blocks = window.shown().first() == Some(&FIRST_OF_BLOCKS);
+        let has_section = window.shown().starts_with(&SECTION);
         if let Some(lost) = lost_blocks(alloc, window.shown())? {
             if lost.blocks >= run.packets {
                 return Standing::of_lost(alloc, lost, window, describing, found);
             }
         }
         match guessed {
-            Some(guessed) if !is_of_blocks => {
+            Some(guessed) if !has_section => {
                 found.guessed = Some(guessed);
                 Standing::without_header(alloc, guessed.header, window)
             }

@@ -58,11 +58,11 @@ pub(crate) fn mend_stored(
     })
 }
 
-/// Returns whether the block at the front of the window, of this many bytes, is an enhanced packet whose numbers are 0, without data and
-/// options, and which has more bytes nonetheless. Such a block is what zero bytes over a packet leave.
+/// Returns whether the block at the front of the window, of this many bytes, is an enhanced packet whose lengths are 0, without options,
+/// and which has more bytes nonetheless. Such a block is what zero bytes over a packet leave.
 pub(crate) fn is_zero_packet(parser: &PcapNgParserAsIs, window: &Window, len: usize) -> bool {
     let bytes = window.shown().get(..len).unwrap_or_default();
-    let front = bytes.get(INTERFACE..DATA + OPTION).unwrap_or_default();
+    let front = bytes.get(STORED..DATA + OPTION).unwrap_or_default();
     number_at(parser.section().endianness(), bytes, 0) == Some(ENHANCED)
         && len > DATA + OPTION + TRAILER
         && front.iter().all(|byte| *byte == 0)
