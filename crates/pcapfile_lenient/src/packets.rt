@@ -56,7 +56,7 @@ pub(crate) struct Packets {
     run: usize,
     /// Whether the next packet was reported as one of such a run.
     is_reported: bool,
-    /// Whether the last packet was reported as one of such a run.
+    /// Whether the last packet was reported as a guess.
     was_reported: bool,
     /// Whether the length of the next packet was changed, and is right.
     is_settled: bool,
@@ -321,12 +321,16 @@ impl Packets {
     // Reports the last packet before corrupt bytes, if nothing confirms where it ends.
     fn after_doubt(&mut self, here: Here) -> Here {
         match (here, self.unconfirmed) {
-            (Here::Garbage(_), Some(len)) => {
-                self.unconfirmed = None;
-                Here::Changed(Change::Unconfirmed(len))
-            }
+            (Here::Garbage(_), Some(len)) => self.tell_unconfirmed(len),
             _ => here,
         }
+    }
+
+    // Reports the last packet, of this many bytes, as a guess: nothing confirms where it ends.
+    fn tell_unconfirmed(&mut self, len: usize) -> Here {
+        self.unconfirmed = None;
+        self.was_reported = true;
+        Here::Changed(Change::Unconfirmed(len))
     }
 
     // Finds out whether the head at the front of the window is that of a packet.
@@ -534,8 +538,8 @@ impl Packets {
         if let Some(length) = resync(&self.parser, time, behind, bound) {
             let length = length as u32;
             if can_be_this_long(&self.parser, time, window.shown(), length) {
-                if let Some(len) = self.unconfirmed.take() {
-                    return Ok(Here::Changed(Change::Unconfirmed(len)));
+                if let Some(len) = self.unconfirmed {
+                    return Ok(self.tell_unconfirmed(len));
                 }
                 self.find();
                 if head.included <= self.limit() {
