@@ -300,15 +300,17 @@ fn listing<'a>(words: &'a ArgMatches<'_>) -> Listing<'a> {
 
 // Returns the form of the lines of `list`.
 fn form(words: &ArgMatches) -> Option<Form> {
-    let (utc, csv) = (words.get_flag(words::UTC), words.get_flag(words::CSV));
-    let json = words.get_flag(words::JSON);
-    match (utc, csv, json) {
-        (true, true, _) => Some(Form::UtcCsv),
-        (true, false, _) => Some(Form::Utc),
-        (false, true, _) => Some(Form::Csv),
-        (false, false, true) => Some(Form::Json),
-        (false, false, false) => None,
+    let utc = words.get_flag(words::UTC);
+    if words.get_flag(words::HEX) {
+        return Some(if utc { Form::UtcHex } else { Form::Hex });
     }
+    if words.get_flag(words::CSV) {
+        return Some(if utc { Form::UtcCsv } else { Form::Csv });
+    }
+    if words.get_flag(words::JSON) {
+        return Some(Form::Json);
+    }
+    if utc { Some(Form::Utc) } else { None }
 }
 
 // Returns the arguments of the word `merge`.

@@ -100,6 +100,9 @@ pub(crate) const UTC: &str = "utc";
 /// The option to list packets as CSV.
 pub(crate) const CSV: &str = "csv";
 
+/// The option to list the bytes of packets.
+pub(crate) const HEX: &str = "hex";
+
 /// The option for the name of the output.
 pub(crate) const OUT: &str = "output";
 
@@ -164,8 +167,14 @@ the name of each is written before its lines.
 
 With --utc times are in UTC, as 2023-11-14T22:13:20.250000000Z. With --csv each packet is a row of
 index, seconds, nanoseconds, captured, original (the lengths) and interface, below a row of these
-names. Both together write one column, time, in place of seconds and nanoseconds. With --json each packet is an object on a line of its own, with members of these names. Unknown
-values are empty, or null. No names of captures are written, and each capture's index begins at 1.
+names. Both together write one column, time, in place of seconds and nanoseconds. With --json each
+packet is an object on a line of its own, with members of these names. Unknown values are empty, or
+null. No names of captures are written, and each capture's index begins at 1.
+
+With --hex rows of the stored bytes follow each line, and then an empty line. Rows are exactly those of
+'tshark -x': an offset of at least four hexadecimal digits, two blanks, up to 16 bytes of two digits and a
+blank each, filled up to 48 characters, two blanks, and the bytes as ASCII characters. A dot stands for
+every byte that is not from 0x20 to 0x7e. --hex goes with -n and --utc, and with no other form.
 
 With --as-is packets that break rules are listed too, followed by ! and the number of each rule, and
 in PcapNg by !utf8 or !short for a value that is not UTF-8 or too short. A fraction of a second that
@@ -460,6 +469,11 @@ fn list<'a>(alloc: Global, command: Command<'a>) -> Result<Command<'a>, AllocErr
             "A row of comma-separated values for each packet",
         )?)?
         .arg(objects(alloc, JSON, "A JSON object for each packet")?)?
+        .arg(hex(
+            alloc,
+            HEX,
+            "Rows of each packet's bytes after its line, as 'tshark -x' writes them",
+        )?)?
         .arg(as_is(alloc))
 }
 
@@ -481,6 +495,11 @@ fn csv<'a>(alloc: Global, name: &'a str, help: &'a str) -> Result<Arg<'a>, Alloc
 fn objects<'a>(alloc: Global, name: &'a str, help: &'a str) -> Result<Arg<'a>, AllocError> {
     let objects = flag(alloc, name).help(help);
     objects.conflicts_with_all(&[AS_IS])
+}
+
+fn hex<'a>(alloc: Global, name: &'a str, help: &'a str) -> Result<Arg<'a>, AllocError> {
+    let hex = flag(alloc, name).help(help);
+    hex.conflicts_with_all(&[CSV, JSON, AS_IS])
 }
 
 fn convert<'a>(alloc: Global, command: Command<'a>) -> Result<Command<'a>, AllocError> {
