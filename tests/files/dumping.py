@@ -12,7 +12,7 @@ import left_out
 import listing
 from listing import AT_FAULT, BILLION, DONE, ENHANCED, INTERFACE, OLD, SECTION, SIMPLE, USAGE
 
-GONE, FAILED = 141, 3
+FAILED = 3
 EVERY_BYTE = bytes(range(256))
 # A number of a link type that is free for private use, so that tshark shows the bytes and no more.
 USER = 147
@@ -176,29 +176,21 @@ def try_live(dumped):
 
 
 def try_failing(dumped):
-    """Checks a full disk, and a reader that goes away."""
+    """Checks a full disk."""
     lib = dumped.lib
     with tempfile.TemporaryDirectory() as folder:
         lib.put(folder, "in", lib.classic("<", 0xA1B23C4D, 1, lib.RAW, of_lengths(lib, [1500] * 400))[0])
-        words = [dumped.tally.program, "list", "--hex", f"{folder}/in"]
         with open("/dev/full", "wb") as full:
-            ended = subprocess.run(words, stdout=full, stderr=subprocess.PIPE, timeout=lib.SECONDS)
-        ran = subprocess.Popen(words, stdout=subprocess.PIPE, stderr=subprocess.PIPE)
-        ran.stdout.read(1)
-        ran.stdout.close()
-        said, code = ran.stderr.read(), ran.wait(lib.SECONDS)
-        ran.stderr.close()
+            ended = subprocess.run([dumped.tally.program, "list", "--hex", f"{folder}/in"], stdout=full, stderr=subprocess.PIPE, timeout=lib.SECONDS)
     dumped.tally.note("list --hex on a full disk", ended.returncode != FAILED and f"it ended with {ended.returncode}, {ended.stderr!r}")
-    dumped.tally.note("list --hex without a reader", (code, said) != (GONE, b"") and f"it ended with {code}, {said!r}")
 
 
 def try_memory(dumped):
     lib = dumped.lib
     few, _ = lib.classic("<", 0xA1B23C4D, 1, lib.RAW, of_lengths(lib, [1000] * 10))
     many = few + few[24:] * 400
-    for words in ("--hex",):
-        little, much = listing.memory_of(dumped.lists, words, few), listing.memory_of(dumped.lists, words, many)
-        dumped.tally.note(f"list {words}, memory", much > little + 1024 and f"{much} KiB of 4010 packets, and {little} of 10")
+    little, much = listing.memory_of(dumped.lists, "--hex", few), listing.memory_of(dumped.lists, "--hex", many)
+    dumped.tally.note("list --hex, memory", much > little + 1024 and f"{much} KiB of 4010 packets, and {little} of 10")
 
 
 def try_beside(dumped):

@@ -111,7 +111,7 @@ impl<'a> Task<'a> {
     pub(crate) fn misnamed(&self) -> Option<(&'a str, &'static str)> {
         let (out, format) = match self {
             Task::Convert(asked) => (asked.out, asked.to?),
-            Task::Merge(asked) => (asked.out, Format::PcapNg),
+            Task::Merge(asked) => (asked.out, asked.to),
             Task::Sort(asked) => (asked.out, Format::Pcap),
             _ => return None,
         };
@@ -190,16 +190,20 @@ fn format_of_name(name: &str) -> Option<Format> {
 // Returns the arguments of the word `convert`.
 fn conversion<'a>(words: &ArgMatches<'a>) -> Conversion<'a> {
     let out = words.get_str(words::OUT).unwrap_or_default();
-    let to = match words.get_str(words::TO) {
+    Conversion {
+        from: words.get_str(words::IN).unwrap_or_default(),
+        to: format(words, out),
+        out,
+        as_is: is_repaired(words),
+    }
+}
+
+// Returns the format that `--to` names, or the extension of the output's name.
+fn format(words: &ArgMatches, out: &str) -> Option<Format> {
+    match words.get_str(words::TO) {
         Some("pcap") => Some(Format::Pcap),
         Some("pcapng") => Some(Format::PcapNg),
         _ => format_of_name(out),
-    };
-    Conversion {
-        from: words.get_str(words::IN).unwrap_or_default(),
-        to,
-        out,
-        as_is: is_repaired(words),
     }
 }
 
@@ -315,9 +319,11 @@ fn form(words: &ArgMatches) -> Option<Form> {
 
 // Returns the arguments of the word `merge`.
 fn merging<'a>(words: &'a ArgMatches<'_>) -> Merge<'a> {
+    let out = words.get_str(words::OUT).unwrap_or_default();
     Merge {
         names: files(words),
-        out: words.get_str(words::OUT).unwrap_or_default(),
+        to: format(words, out).unwrap_or(Format::PcapNg),
+        out,
         as_is: is_repaired(words),
     }
 }

@@ -271,8 +271,9 @@ const JOIN: &str =
 All parts must have the same header. Parts are read byte for byte, so there is no --repair. The output
 is written as OUT.part, and renamed to OUT when it is complete.";
 
-const MERGE: &str =
-    "Writes the packets of several captures, ordered by time, into one PcapNg capture.
+const MERGE: &str = "Writes the packets of several captures, ordered by time, into one capture.
+
+The format is that of --to, or of the extension of OUT (.pcap, .cap, .dmp, .pcapng or .ntar), or else PcapNg.
 
 The next packet is always the earliest among the next packets of all captures. Of equal times, the
 earlier capture on the command line goes first, and a packet without a time goes before all others.
@@ -280,7 +281,11 @@ Each interface of each capture gets an interface of its own, and each packet kee
 other options. Names, statistics, secrets and other blocks of little-endian captures go before the next
 packet of their capture. Standard error says how many blocks and options of each kind are left out. If
 a capture is malformed, its packets before the error are merged, and standard error gives the reason.
-The output is written as OUT.part, and renamed to OUT when it is complete.";
+The output is written as OUT.part, and renamed to OUT when it is complete.
+
+A classic capture becomes what 'pcapfile convert' makes of that PcapNg capture: little-endian, with times in
+nanoseconds and the link type of the first interface. Packets without a place, other blocks and options are
+left out, and standard error says how many of each.";
 
 const SORT: &str = "Writes the packets of a classic capture in order of time.
 
@@ -378,7 +383,7 @@ impl Word {
             Word::Convert => "Converts a capture to pcap or PcapNg",
             Word::Cut => "Copies the chosen packets of a capture, or splits it into parts",
             Word::Join => "Joins the parts of a capture",
-            Word::Merge => "Merges captures by time into one PcapNg capture",
+            Word::Merge => "Merges captures by time into one capture",
             Word::Sort => "Sorts the packets of a classic capture by time",
             Word::Repair => "Reads a damaged capture and writes a well-formed one",
         }
@@ -506,21 +511,25 @@ fn convert<'a>(alloc: Global, command: Command<'a>) -> Result<Command<'a>, Alloc
     let from = Arg::new(alloc, IN)
         .required(true)
         .help("The capture to read; - is standard input");
-    let to = Arg::new(alloc, TO)
-        .long("to")
-        .value_name("FORMAT")
-        .value_parser(FORMATS)
-        .help(
-            "The format of the output; without it, that of the extension of OUT, or the one that IN doesn't have",
-        );
     let out = output(alloc, OUT_HELP)?;
     command
         .long_about(CONVERT)
         .arg(from)?
-        .arg(to)?
+        .arg(to(
+            alloc,
+            "The format of the output; without it, that of the extension of OUT, or the one that IN doesn't have",
+        ))?
         .arg(repaired(alloc))?
         .arg(once_as_is(alloc))?
         .arg(out)
+}
+
+fn to<'a>(alloc: Global, help: &'a str) -> Arg<'a> {
+    Arg::new(alloc, TO)
+        .long("to")
+        .value_name("FORMAT")
+        .value_parser(FORMATS)
+        .help(help)
 }
 
 fn cut<'a>(alloc: Global, command: Command<'a>) -> Result<Command<'a>, AllocError> {
@@ -671,6 +680,10 @@ fn merge<'a>(alloc: Global, command: Command<'a>) -> Result<Command<'a>, AllocEr
     command
         .long_about(MERGE)
         .arg(files(alloc))?
+        .arg(to(
+            alloc,
+            "The format of the output; without it, that of the extension of OUT, or else pcapng",
+        ))?
         .arg(repaired(alloc))?
         .arg(once_as_is(alloc))?
         .arg(output(alloc, OUT_HELP)?)
