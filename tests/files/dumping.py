@@ -124,7 +124,7 @@ def try_blocks(dumped):
         odd = [(SIMPLE, struct.pack(order + "I", 70) + b"s" * 64), (SIMPLE, struct.pack(order + "I", 3) + b"abc")]
         odd += [(OLD, struct.pack(order + "HHIIII", 1, 0, 1, 2, 5, 40) + b"abcde"), (ENHANCED, struct.pack(order + "IIIII", 0, 0, 1, 9, 9) + b"short")]
         # Rows and lines with this end must not be counted as malformed.
-        odd += [lib.enhanced(order, 0, 5, 99, b"1234567 refused\n"), lib.enhanced(order, 9, 5, 99, b" is refused")]
+        odd += [lib.enhanced(order, 0, 5, 99, b"12345678 refused"), lib.enhanced(order, 9, 5, 99, b" is refused")]
         long = [lib.enhanced(order, 0, 7, 70001, EVERY_BYTE * 273 + b"long"), lib.enhanced(order, 0, 7, 1, b"")]
         capture, _ = lib.blocks(order, [lib.interface(order, 1, 64, True), lib.interface(order, USER, 0), *few, *odd, *long])
         dumped.shows(f"blocks {order}", capture)
