@@ -19,7 +19,7 @@ use std::io::{BufRead, BufWriter, Read, Write};
 const LITTLE_NANOSECONDS: u32 = 0x4D3C_B2A1;
 
 /// The snapshot length of a classic capture whose packets may have any length, in bytes.
-const WHOLE_PACKETS: u32 = 262_144;
+pub(crate) const WHOLE_PACKETS: u32 = 262_144;
 
 /// The arguments of `convert`.
 #[derive(Drop)]
@@ -36,13 +36,13 @@ pub struct Conversion<'a> {
 
 /// The outcome of a conversion.
 #[derive(Drop)]
-struct Ended {
+pub(crate) struct Ended {
     /// What doesn't fit in the other format.
-    left_out: LeftOut,
+    pub(crate) left_out: LeftOut,
     /// Whether bits without a meaning were left out of the field of a link type.
     has_lost_bits: bool,
     /// The error that ended the conversion before the end of the capture.
-    fault: Option<PcapError>,
+    pub(crate) fault: Option<PcapError>,
     /// Whether that error is of a write.
     write_failed: bool,
 }
@@ -175,23 +175,26 @@ fn convert_to_packets<R: BufRead + Drop, W: Write + Drop>(
         let copied = copy_buffered(alloc, &mut input, &mut output, Under::Same, u64::MAX);
         return flushed(output, Ended::whole(copied.fault, copied.write_failed));
     }
-    match place_blocks(alloc, input, output) {
+    match place_blocks(alloc, input, output, None) {
         Ok(ended) => ended,
         Err(error) => Ended::whole(Some(error), false),
     }
 }
 
-// Writes the packets of blocks under the link type and the snapshot length of their first interface.
-fn place_blocks<R: Read + Drop, W: Write + Drop>(
+/// Writes the packets of blocks under the link type of their first interface, and under this snapshot length. `None` is that of the first
+/// interface.
+pub(crate) fn place_blocks<R: Read + Drop, W: Write + Drop>(
     alloc: Global,
     input: R,
     output: W,
+    snaplen: Option<u32>,
 ) -> ResultParsing<Ended> {
     let mut reader = PcapNgReader::new(alloc, input)?;
     let mut ended = Ended::whole(None, false);
     ended.left_out.note_section(&reader);
     pass_to_interface(&mut reader, &mut ended.left_out)?;
-    let header = header_under(reader.interfaces());
+    let mut header = header_under(reader.interfaces());
+    header.snaplen = snaplen.unwrap_or(header.snaplen);
     let mut writer = match PcapWriter::with_header(header, output) {
         Ok(writer) => writer,
         Err(error) => return Ok(Ended::whole(Some(error), true)),

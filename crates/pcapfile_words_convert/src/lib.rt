@@ -4,6 +4,7 @@
 mod convert;
 mod left_out;
 mod merge;
+mod merged_blocks;
 mod opening;
 mod with_fcs;
 

@@ -3,6 +3,9 @@
 ghost use Rattle.std.specs.Prelude.{IfOk};
 ghost use Rattle.pcapfile_merge.specs.Holding.{IsReady};
 
+use crate::convert::{WHOLE_PACKETS, place_blocks};
+use crate::left_out::LeftOut;
+use crate::merged_blocks::MergedBlocks;
 use crate::opening::{Opened, put_opening};
 use capcopy_run::Uninterrupted;
 use pcap_file::{PcapNgReader, PcapReader, ResultParsing};
@@ -25,6 +28,8 @@ type Input = Uninterrupted<Captured>;
 pub struct Merge<'a> {
     /// The names of the captures to merge.
     pub names: &'a [&'a str],
+    /// The format of the merged capture.
+    pub to: Format,
     /// The name of the merged capture.
     pub out: &'a str,
     /// Whether the program merges what `repair` would write of the captures.
@@ -87,15 +92,34 @@ fn merge_to<W: Write + Drop>(console: &Console, asked: &Merge, output: W) -> io:
     }
     let output = BufWriter::with_capacity(console.alloc(), OUTPUT, output)?;
     let mut sources = Vec::new(console.alloc());
-    if let Err(error) = write_merged(console.alloc(), readers, &mut sources, output) {
-        return Ok(Ended::given_up(tell_error(console, asked.out, &error)?));
-    }
+    let written = match asked.to {
+        Format::Pcap => write_placed(console.alloc(), readers, &mut sources, output),
+        Format::PcapNg => write_merged(console.alloc(), readers, &mut sources, output),
+    };
+    let left_out = match written {
+        Ok(left_out) => left_out,
+        Err(error) => return Ok(Ended::given_up(tell_error(console, asked.out, &error)?)),
+    };
     tell_left_out(console, opened.as_slice(), sources.as_slice())?;
+    left_out.tell(console, asked.out)?;
     status = tell_faults(console, opened.as_slice(), sources.as_slice())?.max(status);
     Ok(Ended {
         status,
         is_whole: status <= AT_FAULT,
     })
+}
+
+// Returns the largest snapshot length of the captures. That of a PcapNg capture is not known before all its interfaces are read.
+fn most_stored(readers: &[Opened<Input>]) -> u32 {
+    let mut most = 0;
+    for opened in readers {
+        let snaplen = match &opened.reader {
+            Reader::Packets(packets) => packets.header().snaplen,
+            Reader::Blocks(_) => WHOLE_PACKETS,
+        };
+        most = most.max(if snaplen == 0 { WHOLE_PACKETS } else { snaplen });
+    }
+    most
 }
 
 // Reports how many blocks and options of each kind were left out of each capture.
@@ -182,17 +206,41 @@ fn open_reader(
     }
 }
 
+// Writes the merge as a PcapNg capture, from which nothing is left out.
 fn write_merged<W: Write + Drop>(
     alloc: Global,
     readers: Vec<Opened<Input>>,
     sources: &mut Vec<Source<Input>>,
     output: W,
-) -> ResultParsing<()> {
+) -> ResultParsing<LeftOut> {
     let (mut output, interfaces) = put_opening(alloc, readers, sources, output)?;
     let merged = merge_packets(sources.as_mut_slice(), &mut output, u64::MAX, interfaces);
     if let Some(error) = merged.fault {
         return Err(error);
     }
     output.flush()?;
-    Ok(())
+    Ok(LeftOut::default())
+}
+
+// Writes the merge as a classic capture, and returns what was left out.
+fn write_placed<W: Write + Drop>(
+    alloc: Global,
+    readers: Vec<Opened<Input>>,
+    sources: &mut Vec<Source<Input>>,
+    output: W,
+) -> ResultParsing<LeftOut> {
+    let snaplen = most_stored(readers.as_slice());
+    let mut blocks = MergedBlocks::new(alloc, readers, sources)?;
+    let placed = place_blocks(alloc, &mut blocks, output, Some(snaplen));
+    if let Some(error) = blocks.take_fault() {
+        return Err(error);
+    }
+    let ended = placed?;
+    if let Some(error) = ended.fault {
+        return Err(error);
+    }
+    let mut left_out = ended.left_out;
+    left_out.add_packets(blocks.untimed());
+    left_out.forget_interfaces(blocks.of_headers());
+    Ok(left_out)
 }
