@@ -15,9 +15,6 @@ const BYTES: usize = 16;
 /// sixteen characters and a newline.
 const ROOM: usize = 85;
 
-/// The blanks between the digits and the characters of a row without bytes.
-const BLANKS: [u8; 50] = [b' '; 50];
-
 /// The hexadecimal digits.
 static DIGITS: [u8; 16] = *b"0123456789abcdef";
 
@@ -69,7 +66,8 @@ fn digits_for(length: usize) -> usize
 fn push_offset(row: &mut Row, digits: usize, offset: usize)
     requires few { digits ≤ 16 }
     requires room { array_vec_len row.old + digits ≤ 85 }
-    ensures { row.new.items ≡ row.old.items ++ offset_text digits offset }
+    ensures offset { row.new.items ≡ row.old.items ++ offset_text digits offset }
+    ensures long { array_vec_len row.new ≡ array_vec_len row.old + digits }
 {
     let mut all = [0; 16];
     // Sixteen digits and the row have room, so neither call fails.
@@ -79,12 +77,13 @@ fn push_offset(row: &mut Row, digits: usize, offset: usize)
 
 // Appends blanks.
 fn push_blanks(row: &mut Row, count: usize)
-    requires few { count ≤ 50 }
-    requires room { array_vec_len row.old + count ≤ 85 }
-    ensures { row.new.items ≡ row.old.items ++ replicate count 32 }
+    requires { array_vec_len row.old + count ≤ 85 }
+    ensures blanks { row.new.items ≡ row.old.items ++ replicate count 32 }
+    ensures long { array_vec_len row.new ≡ array_vec_len row.old + count }
 {
-    // The row has room, so the call does not fail.
-    let _ = row.try_extend_from_slice(&BLANKS[..count]);
+    for _blank in 0..count {
+        row.push(b' ');
+    }
 }
 
 // Appends the digits of bytes, each with a blank.
@@ -104,6 +103,7 @@ fn push_digits(row: &mut Row, bytes: &[u8])
 fn push_characters(row: &mut Row, bytes: &[u8])
     requires { array_vec_len row.old + length bytes.now ≤ 85 }
     ensures characters { row.new.items ≡ row.old.items ++ map character_of bytes.now }
+    ensures long { array_vec_len row.new ≡ array_vec_len row.old + length bytes.now }
 {
     for byte in bytes {
         row.push(character(*byte));
