@@ -62,6 +62,10 @@ pub(crate) struct Packets {
     is_settled: bool,
     /// The number of bytes of the last packet, if nothing confirms where it ends.
     unconfirmed: Option<usize>,
+    /// The number of bytes after the next packet that its stored length claimed before it was shortened by a guess.
+    claimed: usize,
+    /// Whether anything was changed or skipped.
+    is_damaged: bool,
 }
 
 /// What is at the front of the window.
@@ -95,6 +99,8 @@ pub enum Change {
     },
     /// The next packet is a guess: it is one of a short run behind corrupt bytes.
     Found,
+    /// The next packet is a guess: it has no data, and the capture is damaged.
+    Empty,
     /// The last packet, of this many bytes, is a guess: nothing confirms where it ends.
     Unconfirmed(usize),
     /// The end of the next block is missing, and is written again: of its bytes so many are there, and so many are written.
@@ -153,7 +159,7 @@ impl Change {
                 ..
             }
             | Change::CutOff { .. } => Some(Outcome::Repaired),
-            Change::Length { .. } | Change::Found | Change::Unconfirmed(_) => Some(
+            Change::Length { .. } | Change::Found | Change::Empty | Change::Unconfirmed(_) => Some(
                 Outcome::Guessed,
             ),
             Change::Undescribed(undescribed) => undescribed.fate.outcome(),
@@ -186,6 +192,7 @@ impl fmt::Display for Change {
                 write!(f, "its stored length is {length} and not {stated}{how}")
             }
             Change::Found => f.write_str("kept, a guess: it may lie inside another packet"),
+            Change::Empty => f.write_str("kept, a guess: it has no data"),
             Change::Unconfirmed(_) => f.write_str("kept, a guess: nothing confirms where it ends"),
             Change::CutOff { .. } => f.write_str(
                 "its end is missing: its packet is kept, without options that are cut off or break rules",
@@ -209,6 +216,8 @@ impl Packets {
             was_reported: false,
             is_settled: false,
             unconfirmed: None,
+            claimed: 0,
+            is_damaged: false,
         })
     }
 
@@ -225,6 +234,7 @@ impl Packets {
     pub(crate) fn find(&mut self) {
         self.is_found = true;
         self.run = 0;
+        self.claimed = 0;
     }
 
     /// Returns whether the packets have the link type of the capture, so that they are kept.
@@ -248,6 +258,12 @@ impl Packets {
 
     /// Finds out what is at the front of the window.
     pub(crate) fn look(&mut self, window: &mut Window) -> io::Result<Here> {
+        let here = self.look_at(window)?;
+        self.is_damaged = self.is_damaged || matches!(here, Here::Changed(_) | Here::Garbage(_));
+        Ok(here)
+    }
+
+    fn look_at(&mut self, window: &mut Window) -> io::Result<Here> {
         window.reach(HEADER)?;
         if begins_capture(window.shown()) {
             return Ok(Here::Header);
@@ -272,7 +288,7 @@ impl Packets {
             self.is_found = false;
             self.is_reported = false;
             self.time = Some(head.seconds);
-            self.run = self.short_run(window)?;
+            self.run = self.short_run(window)?.max(self.claimed);
         }
         if self.run == 0 || self.is_reported {
             return Ok(false);
@@ -470,8 +486,14 @@ impl Packets {
         }
     }
 
-    // Takes the packet of this head, and puts its head in the form of the first header.
+    // Takes the packet of this head, and puts its head in the form of the first header. A packet without data in a damaged capture is
+    // reported first.
     fn take(&mut self, window: &mut Window, head: Numbers) -> Here {
+        if self.is_damaged && is_empty(head) && !self.is_reported {
+            self.is_reported = true;
+            self.is_settled = true;
+            return Here::Changed(Change::Empty);
+        }
         let end = HEAD.saturating_add(head.included as usize);
         self.time = Some(head.seconds);
         self.longest = self.longest.max(head.included);
@@ -508,6 +530,9 @@ impl Packets {
                     return Ok(Here::Changed(Change::Unconfirmed(len)));
                 }
                 self.find();
+                if head.included <= self.limit() {
+                    self.claimed = head.included.saturating_sub(length) as usize;
+                }
                 return Ok(self.change(window, head, length, true));
             }
         }
@@ -553,9 +578,14 @@ impl Packets {
     }
 }
 
+// Returns whether a head is that of a packet without data.
+fn is_empty(head: Numbers) -> bool {
+    (head.included, head.original) == (0, 0)
+}
+
 // Returns whether all numbers of a head are 0.
 fn is_zero(head: Numbers) -> bool {
-    (head.seconds, head.fraction, head.included, head.original) == (0, 0, 0, 0)
+    (head.seconds, head.fraction) == (0, 0) && is_empty(head)
 }
 
 // Returns the bytes of a head of this capture.
