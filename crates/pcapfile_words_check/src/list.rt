@@ -45,7 +45,7 @@ impl Taken {
         if !self.is_within && is_refused(self.form, line) {
             self.refused = self.refused.saturating_add(1);
         }
-        self.is_within = has_rows(self.form) && line != b"\n";
+        self.is_within = has_rows(self.form) && line != b"\n".as_slice();
         if self.is_within {
             return;
         }
