@@ -50,7 +50,7 @@ module _ (bytes : List ℕ) where
       record { gone = []; split = ap (λ (c : ℕ). flat_map (nth_row bytes) (range_with_len 0 c) ++ codes "\n") count; out = Appends-nil a }
 
   module _ (number : ℕ) (less : number < row_count (length bytes)) (a b c : Option (List ℕ)) (so_far : Writes (rows_text bytes) (rows_from bytes number) a b) where
-    row : List ℕ
+    abbrev row : List ℕ
     row = nth_row bytes number
 
     -- One more row was written.

@@ -1,9 +1,8 @@
 -- This file proves that a walk whose sink writes a line for each item lists the items.
-use Rattle.std.proofs.Common.{◌≡◌, ◌<◌, ◌≤◌, ◌+◌, ◌⊎◌, ℕ, suc, List, [], ◌∷◌, ◌++◌, length, Bool, true, false, true≢false, Option, Some, Result, Ok, Err, inl, inr, refl, sym, ap, ◌∙◌, subst, arith, IfSome}
+use Rattle.std.proofs.Common.{◌≡◌, ◌<◌, ◌≤◌, ◌+◌, ℕ, suc, List, [], ◌∷◌, ◌++◌, length, Bool, true, true≢false, Option, Result, Ok, Err, inl, inr, refl, sym, ◌∙◌, subst, arith, IfSome}
 use Rattle.std.specs.Prelude.{⊤}
 use Rattle.std.specs.Io.KnownBytes.{Appends, Keeps}
 use Rattle.std.proofs.KnownBytes.{Appends-kept, Appends-nil, Appends-trans, Keeps-refl}
-use Rattle.pcap_core.specs.declared.errors.PcapError.{PcapError}
 use Rattle.pcap_core.specs.declared.errors.PcapError.TheVariants as errors
 use Rattle.pcap_core.specs.Answer.{Verdict, number_in, whole}
 use Rattle.pcap_items.specs.Format.{Format}
@@ -20,7 +19,7 @@ use Rattle.pcap_classic.proofs.Texts.{packet_length}
 use Rattle.pcap_walk.specs.declared.walking.Ended.{Ended}
 use Rattle.pcap_walk.specs.declared.walking.Ended.TheVariants.{AtEnd, AtMost, Refused, Stopped}
 use Rattle.pcap_walk.specs.MetPackets.{met_packet}
-use Rattle.pcap_walk.specs.Walks.{Does, does_of, EndsWalk, Folds, StopsAt, Walks}
+use Rattle.pcap_walk.specs.Walks.{Does, does_of, EndsWalk, Folds, Walks}
 use Rattle.capcopy_run.specs.declared.exit.Exit.{Exit}
 use Rattle.capcopy_run.specs.declared.exit.Exit.TheVariants as exits
 use Rattle.capcopy_run.specs.Lines.{AreLines, WritesLine}
@@ -153,10 +152,11 @@ module _ (F K : Type 0) (form_of : K → Form) where
       (given.4.0 ∙ same, subst (λ (k : K). WritesLine (IsPacketIn (form_of k) n packet) out out_now r) same line)
 
   -- A capture whose header was read, and whose packets were then listed by a walk.
-  pub packets_walked : (header : PcapHeader) (known before now : Option (List ℕ)) (failed : Bool) (most m : ℕ) (old new : K) (out out_now : Option (List ℕ)) (ended : Ended Exit) (result : Result (Unit {0}) Exit)
-      → (took : Takes HeaderSays known before header) → EndsWalk (reader_format packet_limit header) formed IsFailedWrite (λ index packets. true) tt before now failed most 0 m old new out out_now ended → IsResultOf ended result
+  pub packets_walked : (header under : PcapHeader) → under ≡ header → (known before now : Option (List ℕ)) (failed : Bool) (most m : ℕ) (old new : K) (out out_now : Option (List ℕ)) (ended : Ended Exit) (result : Result (Unit {0}) Exit)
+      → (took : Takes HeaderSays known before header) → EndsWalk (reader_format packet_limit under) formed IsFailedWrite (λ index packets. true) tt before now failed most 0 m old new out out_now ended → IsResultOf ended result
       → IfSome known (λ s. ListsUntil (packets_as (form_of old)) most s now out out_now (exit_of result))
-  packets_walked header known before now failed most m old new out out_now ended result took walk is =
-      let under = under_valid packet_limit header took.1.valid (λ (f : Format (Unit {0}) Captured). EndsWalk f formed IsFailedWrite (λ index packets. true) tt before now failed most 0 m old new out out_now ended) walk in
-      let lists = walk_lists (IsPacketIn (form_of old)) _ formed (λ index packets. true) (λ n k. refl) old (formed_writes old) tt before m old refl out now failed most new out_now ended result under is in
+  packets_walked header under same known before now failed most m old new out out_now ended result took walk is =
+      let walks : Format (Unit {0}) Captured → Type 0 = λ f. EndsWalk f formed IsFailedWrite (λ index packets. true) tt before now failed most 0 m old new out out_now ended in
+      let there = under_valid packet_limit header took.1.valid walks (subst (λ (h : PcapHeader). walks (reader_format packet_limit h)) same walk) in
+      let lists = walk_lists (IsPacketIn (form_of old)) _ formed (λ index packets. true) (λ n k. refl) old (formed_writes old) tt before m old refl out now failed most new out_now ended result there is in
       packets_known ⊤ (IsPacketIn (form_of old)) header (order_of header.magic_number) (resolution_of header.magic_number) known before now out refl refl took most out_now result lists
