@@ -38,11 +38,11 @@ pub struct Conversion<'a> {
 #[derive(Drop)]
 pub(crate) struct Ended {
     /// What doesn't fit in the other format.
-    pub(crate) left_out: LeftOut,
+    left_out: LeftOut,
     /// Whether bits without a meaning were left out of the field of a link type.
     has_lost_bits: bool,
     /// The error that ended the conversion before the end of the capture.
-    pub(crate) fault: Option<PcapError>,
+    fault: Option<PcapError>,
     /// Whether that error is of a write.
     write_failed: bool,
 }
@@ -55,6 +55,14 @@ impl Ended {
             has_lost_bits: false,
             fault,
             write_failed,
+        }
+    }
+
+    /// Returns what doesn't fit in the other format, or the error that ended the conversion.
+    pub(crate) fn left_out(self) -> ResultParsing<LeftOut> {
+        match self.fault {
+            None => Ok(self.left_out),
+            Some(error) => Err(error),
         }
     }
 }
@@ -175,7 +183,11 @@ fn convert_to_packets<R: BufRead + Drop, W: Write + Drop>(
         let copied = copy_buffered(alloc, &mut input, &mut output, Under::Same, u64::MAX);
         return flushed(output, Ended::whole(copied.fault, copied.write_failed));
     }
-    match place_blocks(alloc, input, output, None) {
+    let mut reader = match PcapNgReader::new(alloc, input) {
+        Ok(reader) => reader,
+        Err(error) => return Ended::whole(Some(error), false),
+    };
+    match place_blocks(alloc, &mut reader, output, None) {
         Ok(ended) => ended,
         Err(error) => Ended::whole(Some(error), false),
     }
@@ -185,21 +197,20 @@ fn convert_to_packets<R: BufRead + Drop, W: Write + Drop>(
 /// interface.
 pub(crate) fn place_blocks<R: Read + Drop, W: Write + Drop>(
     alloc: Global,
-    input: R,
+    reader: &mut PcapNgReader<R>,
     output: W,
     snaplen: Option<u32>,
 ) -> ResultParsing<Ended> {
-    let mut reader = PcapNgReader::new(alloc, input)?;
     let mut ended = Ended::whole(None, false);
-    ended.left_out.note_section(&reader);
-    pass_to_interface(&mut reader, &mut ended.left_out)?;
+    ended.left_out.note_section(reader);
+    pass_to_interface(reader, &mut ended.left_out)?;
     let mut header = header_under(reader.interfaces());
     header.snaplen = snaplen.unwrap_or(header.snaplen);
     let mut writer = match PcapWriter::with_header(header, output) {
         Ok(writer) => writer,
         Err(error) => return Ok(Ended::whole(Some(error), true)),
     };
-    ended.fault = place_packets(alloc, &mut reader, &mut writer, &mut ended.left_out);
+    ended.fault = place_packets(alloc, reader, &mut writer, &mut ended.left_out);
     ended.write_failed = writer.failed();
     Ok(flushed(writer.into_writer(), ended))
 }

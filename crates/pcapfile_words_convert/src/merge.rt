@@ -3,7 +3,7 @@
 ghost use Rattle.std.specs.Prelude.{IfOk};
 ghost use Rattle.pcapfile_merge.specs.Holding.{IsReady};
 
-use crate::convert::{WHOLE_PACKETS, place_blocks};
+use crate::convert::{Ended as Placed, WHOLE_PACKETS, place_blocks};
 use crate::left_out::LeftOut;
 use crate::merged_blocks::MergedBlocks;
 use crate::opening::{Opened, put_opening};
@@ -230,16 +230,21 @@ fn write_placed<W: Write + Drop>(
     output: W,
 ) -> ResultParsing<LeftOut> {
     let snaplen = most_stored(readers.as_slice());
-    let mut blocks = MergedBlocks::new(alloc, readers, sources)?;
-    let placed = place_blocks(alloc, &mut blocks, output, Some(snaplen));
+    let mut reader = PcapNgReader::new(alloc, MergedBlocks::new(alloc, readers)?)?;
+    let placed = place_blocks(alloc, &mut reader, output, Some(snaplen));
+    *sources = reader.get_mut().take_sources();
+    left_out_of(reader.get_mut(), placed)
+}
+
+// Returns what was left out, or the error that ended the merge or the conversion.
+fn left_out_of(
+    blocks: &mut MergedBlocks<Input>,
+    placed: ResultParsing<Placed>,
+) -> ResultParsing<LeftOut> {
     if let Some(error) = blocks.take_fault() {
         return Err(error);
     }
-    let ended = placed?;
-    if let Some(error) = ended.fault {
-        return Err(error);
-    }
-    let mut left_out = ended.left_out;
+    let mut left_out = placed?.left_out()?;
     left_out.add_packets(blocks.untimed());
     left_out.forget_interfaces(blocks.of_headers());
     Ok(left_out)

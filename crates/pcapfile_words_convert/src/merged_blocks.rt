@@ -9,15 +9,16 @@ use pcap_file::{Endianness, PcapError, ResultParsing};
 use pcapfile_merge::{Source, merge_packets};
 use pcapfile_run::holds_packet;
 use std::alloc::Global;
-use std::io;
 use std::io::{ErrorKind, Read};
+use std::{io, mem};
 
 /// The PcapNg capture that captures are merged to, without packets that have no time. It is made as it is read, a packet or another block
 /// at a time.
 #[derive(Drop)]
-pub(crate) struct MergedBlocks<'a, R> {
+pub(crate) struct MergedBlocks<R> {
+    alloc: Global,
     openings: Openings<R>,
-    sources: &'a mut Vec<Source<R>>,
+    sources: Vec<Source<R>>,
     /// The writer of the bytes that are made and not all read.
     writer: PcapNgWriter<Vec<u8>>,
     /// How many of these bytes were read.
@@ -28,17 +29,14 @@ pub(crate) struct MergedBlocks<'a, R> {
     fault: Option<PcapError>,
 }
 
-impl<'a, R: Read + Drop> MergedBlocks<'a, R> {
+impl<R: Read + Drop> MergedBlocks<R> {
     /// Returns the capture that these captures are merged to. They become sources.
-    pub(crate) fn new(
-        alloc: Global,
-        readers: Vec<Opened<R>>,
-        sources: &'a mut Vec<Source<R>>,
-    ) -> ResultParsing<MergedBlocks<'a, R>> {
+    pub(crate) fn new(alloc: Global, readers: Vec<Opened<R>>) -> ResultParsing<MergedBlocks<R>> {
         let (openings, writer) = Openings::begin(alloc, readers, Vec::new(alloc))?;
         Ok(MergedBlocks {
+            alloc,
             openings,
-            sources,
+            sources: Vec::new(alloc),
             writer,
             passed: 0,
             untimed: 0,
@@ -56,6 +54,11 @@ impl<'a, R: Read + Drop> MergedBlocks<'a, R> {
         self.untimed
     }
 
+    /// Takes the sources, of which none are left.
+    pub(crate) fn take_sources(&mut self) -> Vec<Source<R>> {
+        mem::replace(&mut self.sources, Vec::new(self.alloc))
+    }
+
     /// Takes the error that ended the merge, if there was one.
     pub(crate) fn take_fault(&mut self) -> Option<PcapError> {
         self.fault.take()
@@ -65,7 +68,7 @@ impl<'a, R: Read + Drop> MergedBlocks<'a, R> {
     fn make_next(&mut self) -> ResultParsing<bool> {
         self.writer.get_mut().clear();
         self.passed = 0;
-        if self.openings.put_next(self.sources, &mut self.writer)? {
+        if self.openings.put_next(&mut self.sources, &mut self.writer)? {
             return Ok(true);
         }
         let merged = merge_packets(
@@ -120,7 +123,7 @@ fn is_packet(text: &[u8]) -> bool {
     }
 }
 
-impl<R: Read + Drop> Read for MergedBlocks<'_, R> {
+impl<R: Read + Drop> Read for MergedBlocks<R> {
     ghost remaining = { λ blocks. None };
 
     fn read(&mut self, buf: &mut [u8]) -> io::Result<usize> {
