@@ -18,7 +18,7 @@ use pcapfile_merge::{BufferedBlocks, BufferedPackets, Reader, Source, merge_pack
 use pcapfile_run::{Format, format_of};
 use std::alloc::Global;
 use std::io;
-use std::io::{BufWriter, Write};
+use std::io::{BufWriter, Read, Write};
 
 /// A capture to merge.
 type Input = Uninterrupted<Captured>;
@@ -110,7 +110,7 @@ fn merge_to<W: Write + Drop>(console: &Console, asked: &Merge, output: W) -> io:
 }
 
 // Returns the largest snapshot length of the captures. That of a PcapNg capture is not known before all its interfaces are read.
-fn most_stored(readers: &[Opened<Input>]) -> u32 {
+fn most_stored<R: Read + Drop>(readers: &[Opened<R>]) -> u32 {
     let mut most = 0;
     for opened in readers {
         let snaplen = match &opened.reader {
@@ -223,10 +223,10 @@ fn write_merged<W: Write + Drop>(
 }
 
 // Writes the merge as a classic capture, and returns what was left out.
-fn write_placed<W: Write + Drop>(
+fn write_placed<R: Read + Drop, W: Write + Drop>(
     alloc: Global,
-    readers: Vec<Opened<Input>>,
-    sources: &mut Vec<Source<Input>>,
+    readers: Vec<Opened<R>>,
+    sources: &mut Vec<Source<R>>,
     output: W,
 ) -> ResultParsing<LeftOut> {
     let snaplen = most_stored(readers.as_slice());
@@ -237,8 +237,8 @@ fn write_placed<W: Write + Drop>(
 }
 
 // Returns what was left out, or the error that ended the merge or the conversion.
-fn left_out_of(
-    blocks: &mut MergedBlocks<Input>,
+fn left_out_of<R: Read + Drop>(
+    blocks: &mut MergedBlocks<R>,
     placed: ResultParsing<Placed>,
 ) -> ResultParsing<LeftOut> {
     if let Some(error) = blocks.take_fault() {
