@@ -1,10 +1,10 @@
 //! Packets of a PcapNg capture whose stored length is wrong, although the lengths of their block are right.
 
 use crate::frames::number_at;
+use crate::in_force::InForce;
 use crate::packets::Change;
 use crate::window::Window;
 use pcap_file::Endianness;
-use pcap_tolerant_captures::PcapNgParserAsIs;
 
 /// The type of an enhanced packet.
 const ENHANCED: u32 = 6;
@@ -31,18 +31,18 @@ const OPTION: usize = 4;
 /// stored length and well-formed options do not fill the block. It is the original length, or the snapshot length, if that does;
 /// and otherwise, if the data would go on past the block, up to the end of the block, by a guess.
 pub(crate) fn mend_stored(
-    parser: &PcapNgParserAsIs,
+    in_force: &InForce,
     window: &mut Window,
     len: usize,
 ) -> Option<Change> {
-    let order = parser.section().endianness();
+    let order = in_force.order();
     let bytes = window.shown().get(..len)?;
     if number_at(order, bytes, 0)? != ENHANCED {
         return None;
     }
     let stated = number_at(order, bytes, STORED)?;
     let original = number_at(order, bytes, ORIGINAL)?;
-    let whole = original.min(limit(parser, number_at(order, bytes, INTERFACE)?));
+    let whole = original.min(limit(in_force, number_at(order, bytes, INTERFACE)?));
     let data = bytes.get(DATA..len.saturating_sub(TRAILER))?;
     let (length, is_guess) = length_in(order, data, stated, whole)?;
     let number = match order {
@@ -58,8 +58,8 @@ pub(crate) fn mend_stored(
 }
 
 /// Returns the snapshot length of an interface, or the largest number.
-pub(crate) fn limit(parser: &PcapNgParserAsIs, interface: u32) -> u32 {
-    match parser.interface(interface) {
+pub(crate) fn limit(in_force: &InForce, interface: u32) -> u32 {
+    match in_force.interface(interface) {
         Some(found) if found.snaplen > 0 => found.snaplen,
         _ => u32::MAX,
     }
