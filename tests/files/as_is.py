@@ -4,13 +4,18 @@ import collections
 import functools
 import random
 import struct
+import subprocess
+import sys
 import tempfile
 
 import lenient
+from sorting import MEASURE
 
 DONE, AT_FAULT, FAILED, REPAIRED, GUESSED = 0, 1, 3, 5, 6
 LONGEST, MOST = 262144, 16777216
 BILLION = 10**9
+# The most bytes of memory that a check takes for each byte of options in a block.
+EACH = 4
 MAGICS = {0xA1B2C3D4: 1000, 0xA1B23C4D: 1}
 MESSAGES = {
     1: "PcapHeader wrong magic number",
@@ -881,6 +886,34 @@ def try_statuses(tally, help):
         tally.note(f"the statuses of {name}", ended != [checks, lists] and f"they are {ended}, and not {[checks, lists]}")
 
 
+def many_options(help):
+    """Yields captures with a block of many options of 4 bytes, their number, and the lines of a check."""
+    head = struct.pack("<IHHq", 0x1A2B3C4D, 1, 0, -1)
+    section, interface = help.block("<", SECTION, head), struct.pack("<HHI", 1, 0, 0)
+    count = 4194304
+    comments = help.block("<", SECTION, head + option_of(1, b"") * count)
+    yield "comments of a section", comments, count, f"in: pcapng, 1 blocks, {len(comments)} bytes; 0 with flaws\n"
+    count = 1048576
+    for code, rule in ((9, 1906), (14, 1910)):
+        capture = section + help.block("<", INTERFACE, interface + option_of(code, b"") * count)
+        line = f"in: block 2 at byte 28 breaks rule {rule} in option {code}: {MESSAGES[rule]}\n"
+        yield f"flawed options of an interface, {code}", capture, count, line * count + f"in: pcapng, 2 blocks, {len(capture)} bytes; 1 with flaws\n"
+
+
+def try_memory(tally, help):
+    """Checks that a check takes at most EACH bytes of memory for each byte of the options of a block, whatever flaws these have."""
+    for name, capture, count, wanted in many_options(help):
+        with tempfile.TemporaryDirectory() as folder:
+            help.put(folder, "in", capture)
+            words = [sys.executable, "-c", MEASURE, tally.program, "check", "--as-is", "in"]
+            ended = subprocess.run(words, cwd=folder, capture_output=True, check=True).stdout.decode()
+        lines, end = ended[: len(wanted)], ended[len(wanted) :]
+        status, most_used = map(int, end.split()[-2:])
+        most = EACH * 4 * count
+        tally.note(f"the lines for {name}", lines != wanted and f"they are {lines[-300:]!r}", status != (AT_FAULT if "flawed" in name else DONE) and f"the status is {status}")
+        tally.note(f"the memory for {name}", most_used * 1024 > most and f"it is {most_used} KiB, and not at most {most} bytes")
+
+
 def try_all(tally, help):
-    for tries in (try_each, try_by_hand, try_repairs, try_sound, try_several, try_statuses):
+    for tries in (try_each, try_by_hand, try_repairs, try_sound, try_several, try_statuses, try_memory):
         tries(tally, help)
