@@ -11,5 +11,5 @@ pub mod StrictNames
 pub mod OneNames
 pub mod OneSound
 mod NextFlaw
-mod Outline
+mod FirstClock
 pub mod BodyFlaws

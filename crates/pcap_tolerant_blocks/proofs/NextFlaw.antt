@@ -1,9 +1,11 @@
 -- The flaws of options, one after another, are those of their list.
-use Rattle.std.proofs.Common.{◌≡◌, ◌≢◌, ℕ, List, [], ◌∷◌, ◌++◌, map, Option, Some, None, refl, sym, ap, subst, ◌∙◌, append_assoc, inr}
+use Rattle.std.proofs.Common.{◌≡◌, ◌≢◌, ◌<◌, ℕ, List, [], ◌∷◌, ◌++◌, length, map, Option, Some, None, refl, sym, ap, subst, ◌∙◌, append_assoc, arith, inr}
 use Rattle.pcap_core.specs.Answer.{Order, Verdict, whole}
 use Rattle.pcap_core.specs.Faults.{Fault}
 use Rattle.pcap_core.specs.Padded.{Chain}
+use Rattle.pcap_core.proofs.OnePadded.{padded_length}
 use Rattle.pcap_options.specs.Values.{Entry, Kind}
+use Rattle.pcap_options.proofs.OneList.{head_length}
 use Rattle.pcap_options.specs.Options.{may_end_with_body, OptionFault}
 use Rattle.pcap_raw_options.specs.UpTo.{StopsAt, no_kind}
 use Rattle.pcap_tolerant_blocks.specs.Flaws.{Said, Flawed}
@@ -53,7 +55,7 @@ module _ (order : Order) (kind : Kind) where
   flaws_in_verdict s (whole x rest) h = (x.flaws, record { options = x.value; rest = rest; are = h })
   flaws_in_verdict s _ h = absurd h
 
-  flaws_there : (s : List ℕ) → (flaws : List Said) × HasFlaws order kind flaws s
+  pub flaws_there : (s : List ℕ) → (flaws : List Said) × HasFlaws order kind flaws s
   flaws_there s = let one = list_one order kind s in flaws_in_verdict s one.value one.holds
 
   -- The flaws of the options that were read, and then those of the options that are left.
@@ -93,10 +95,21 @@ module _ (order : Order) (kind : Kind) where
 
   -- The flaw that ends the list.
   pub last_flaw : (options : List Entry) (s left : List ℕ) (fault : Fault) (said : Said) → ReadSoFar order kind options [] s left → left ≢ [] → OptionFault order no_kind left fault → said ≡ record { code = None; fault = fault }
-      → (flaws : List Said) → HasFlaws order kind flaws s → (after : List ℕ) → after ≡ [] → (others : List Said) × (flaws ≡ said ∷ others) × HasFlaws order kind others after
-  last_flaw options s left fault said so_far some stands is flaws has after none =
+      → (flaws : List Said) → HasFlaws order kind flaws s → (others : List Said) × (flaws ≡ said ∷ others) × HasFlaws order kind others []
+  last_flaw options s left fault said so_far some stands is flaws has =
       let cut = read_ends order kind options [] s left left (Some fault) so_far (λ over. some, stands, refl) in
       let list : HasFlaws order kind ([] ++ cut_by (Some fault)) s = record { options = options; rest = left; are = cut } in
       let ended : HasFlaws order kind [] [] = record { options = []; rest = []; are = record { each = []; cut = None; stop = []; are = refl; stops = inr (refl, tt, refl); options_are = refl; flaws_are = refl } } in
       let same : flaws ≡ said ∷ [] = flaws_same flaws (cut_by (Some fault)) s has list ∙ ap (λ (x : Said). x ∷ []) (sym is) in
-      ([], same, subst (HasFlaws order kind []) (sym none) ended)
+      ([], same, ended)
+
+  -- One more option without a flaw.
+  pub sound_more : (options : List Entry) (s left after : List ℕ) (option : Judged) → ReadSoFar order kind options [] s left → JudgedText order kind option left after → option.flaws ≡ []
+      → ReadSoFar order kind (options ++ option.entry ∷ []) [] s after
+  sound_more options s left after option so_far text none =
+      subst (λ (l : List Said). ReadSoFar order kind (options ++ option.entry ∷ []) l s after) none (read_more order kind options [] s left after option so_far text)
+
+  -- What follows an option is shorter.
+  pub after_option : (option : Judged) (left after : List ℕ) → JudgedText order kind option left after → length after < length left
+  after_option option left after text =
+      omega (arith, head_length order text.code (length text.v) left text.after_head text.head, padded_length text.v text.after_head after text.padded)

@@ -59,7 +59,7 @@ fn find_flaw<'a, O: Unread<'a> + Drop, B: ByteOrder>(
     while !left.is_empty() {
         let (after, option) = match option_as_is::<O, B>(left) {
             Ok(read) => read,
-            Err(rule) => return Some((Flaw::of_body(rule), &left[left.len()..])),
+            Err(rule) => return Some((Flaw::of_body(rule), &[])),
         };
         let Some(read) = option else {
             return None;

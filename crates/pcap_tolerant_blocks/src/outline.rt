@@ -1,6 +1,7 @@
 //! Interfaces read leniently, without a list of their options.
 
 ghost use Rattle.std.specs.Prelude.{◌≡◌, List, ℕ, Option};
+ghost use Rattle.std.specs.Option.{option_or};
 ghost use Rattle.pcap_blocks.specs.InterfaceDescription.{Interface};
 ghost use Rattle.pcap_options.specs.Held.{number_in, under};
 ghost use Rattle.pcap_options.specs.InterfaceOption.{interface_description, interface_entry};
@@ -10,7 +11,7 @@ ghost use Rattle.pcap_tolerant_blocks.specs.InterfaceAsIs.{InterfaceText};
 ghost use Rattle.pcap_tolerant_blocks.specs.OptionsAsIs.{OptionsAsIs};
 ghost use Rattle.pcap_tolerant_blocks.specs.Outline.{IsOutlineOf, IsClockIn};
 
-use crate::list::option_as_is;
+use crate::list::{OptionAsIs, option_as_is};
 use byteorder::ByteOrder;
 use pcap_blocks::InterfaceDescriptionOption;
 use pcap_core::DataLink;
@@ -34,6 +35,19 @@ pub struct InterfaceOutline {
 pub(crate) struct ClockOptions {
     pub(crate) resolution: Option<u8>,
     pub(crate) offset: Option<u64>,
+}
+
+impl ClockOptions {
+    // Returns these options, and those of another clock where there is none.
+    fn and(self, other: ClockOptions) -> ClockOptions
+        ensures resolution { result.resolution ≡ option_or self.resolution other.resolution }
+        ensures offset { result.offset ≡ option_or self.offset other.offset }
+    {
+        ClockOptions {
+            resolution: self.resolution.or(other.resolution),
+            offset: self.offset.or(other.offset),
+        }
+    }
 }
 
 impl InterfaceOutline {
@@ -75,13 +89,21 @@ fn clock_in<B: ByteOrder>(options: &[u8]) -> ClockOptions
         let Some(read) = option else {
             return clock;
         };
-        clock = ClockOptions {
-            resolution: clock.resolution.or(resolution_in(&read.option)),
-            offset: clock.offset.or(offset_in(&read.option)),
-        };
+        clock = clock.and(clock_of(read));
         left = after;
     }
     clock
+}
+
+// Returns the resolution or the offset that an option is.
+fn clock_of(read: OptionAsIs<InterfaceDescriptionOption>) -> ClockOptions
+    ensures resolution { result.resolution ≡ under 9 number_in (interface_entry read.entry.option) }
+    ensures offset { result.offset ≡ under 14 number_in (interface_entry read.entry.option) }
+{
+    ClockOptions {
+        resolution: resolution_in(&read.option),
+        offset: offset_in(&read.option),
+    }
 }
 
 // Returns the byte of an `IfTsResol`.

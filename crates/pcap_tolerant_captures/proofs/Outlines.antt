@@ -1,9 +1,9 @@
 -- Blocks whose bodies are not read, and the byte order of their section.
-use Rattle.std.proofs.Common.{◌≡◌, ◌≤◌, ℕ, List, [], length, Bool, Option, Some, None, Err, refl, sym, ap, subst, ◌∙◌, inl, inr}
-use Rattle.std.specs.Prelude.{Result}
+use Rattle.std.proofs.Common.{◌≡◌, ◌≤◌, ℕ, List, [], length, Bool, true, false, Option, Some, None, Err, refl, sym, ap, subst, ◌∙◌, inl, inr}
+use Rattle.std.specs.Prelude.{is_some}
 use Rattle.pcap_core.specs.declared.common.Endianness.{Endianness}
 use Rattle.pcap_core.specs.declared.errors.PcapError.{PcapError}
-use Rattle.pcap_core.specs.declared.rules.Rule.TheVariants.{SectionTooShort}
+use Rattle.pcap_core.specs.declared.rules.Rule.TheVariants.{SectionMissing, SectionTooShort}
 use Rattle.pcap_core.specs.Answer.{whole, lacks, faulty, Refuses}
 use Rattle.pcap_core.specs.Faults.{Fault, Invalid}
 use Rattle.pcap_items.specs.Headed.{HeadReading, good, bad}
@@ -14,9 +14,11 @@ use Rattle.pcap_blocks.specs.SectionHeader.{Section, magic_order}
 use Rattle.pcap_ng.specs.Frames.{Framed, FrameText, FrameSays}
 use Rattle.pcap_ng.specs.State as strict
 use Rattle.pcap_tolerant_captures.specs.Blocks.{Item, AsIsSays, MayGrow, as_is_format}
+use Rattle.pcap_tolerant_captures.specs.declared.parser.PcapNgParserAsIs.{PcapNgParserAsIs}
+use Rattle.pcap_tolerant_captures.specs.HeldAsIs.{state_in}
 use Rattle.pcap_tolerant_captures.specs.Outlines.{known_order, HoldsOutline}
-use Rattle.pcap_tolerant_captures.specs.State.{State, opening, within, order_at, Role, begins_section, adds_interface, leaves_all, role_of, Led, MeansFor, Means}
-use Rattle.pcap_tolerant_captures.proofs.Refusing.{refuses_more}
+use Rattle.pcap_tolerant_captures.specs.State.{State, opening, within, order_at, Role, begins_section, adds_interface, leaves_all, role_of, Led, MeansFor, Means, section_in_force, interfaces_in_force}
+use Rattle.pcap_tolerant_captures.proofs.Refusing.{first_missing, refuses_more}
 use Rattle.pcap_tolerant_captures.proofs.StandAgain.{led_unless, not_refused, order_known, section_named, section_role}
 
 -- A section of this byte order.
@@ -66,3 +68,27 @@ module _ (q : State) (s : List ℕ) where
 
   pub may_grow : (e : PcapError) → Refuses ⊥ (λ n. AsIsSays q s (lacks n)) (λ f. AsIsSays q s (faulty f)) e → Refuses (MayGrow q s) (λ n. AsIsSays q s (lacks n)) (λ f. AsIsSays q s (faulty f)) e
   may_grow e x = refuses_more ⊥ (MayGrow q s) (λ n. AsIsSays q s (lacks n)) (λ n. AsIsSays q s (lacks n)) (λ f. AsIsSays q s (faulty f)) (λ f. AsIsSays q s (faulty f)) (λ none. absurd none) (λ n h. h) (λ f h. h) e x
+
+-- ---- the parser of the code
+
+-- There is no parser yet.
+none_yet : (parser : Option PcapNgParserAsIs) → is_some parser ≡ false → state_in parser ≡ opening
+none_yet None none = refl
+none_yet (Some p) none = absurd cc
+
+-- A first block of another type is refused.
+pub missing_section : (parser : Option PcapNgParserAsIs) → is_some parser ≡ false → (s rest : List ℕ) (b : Framed) → FrameText (order_at (state_in parser)) b s rest → (b.type_ ≡ types.SectionHeader → ⊥) → AsIsSays (state_in parser) s (faulty (Invalid SectionMissing))
+missing_section parser none s rest b frame differs =
+    let means = subst (λ (q : State). MeansFor (role_of b.type_) q b (bad (Invalid SectionMissing))) (sym (none_yet parser none)) (first_missing b.type_ differs b) in
+    inr (record { block = b; rest = rest; frame = frame; means = means })
+
+-- A later one leaves the byte order.
+pub begun_leads : (parser : Option PcapNgParserAsIs) → is_some parser ≡ true → (s rest : List ℕ) (b : Framed) → FrameText (order_at (state_in parser)) b s rest → (b.type_ ≡ types.SectionHeader → ⊥) → LeadsOn (state_in parser) (state_in parser) b s rest
+begun_leads None some s rest b frame differs = absurd cc
+begun_leads (Some p) some s rest b frame differs = other_leads (section_in_force p) (interfaces_in_force p) s rest b frame differs
+
+-- ---- held bytes
+
+pub err_holds : (q new : State) (before after : Option (List ℕ)) (failed : Bool) (held : List ℕ) (e : PcapError) → new ≡ q → HasCause (as_is_format.says q) before failed e × TakesAsked (as_is_format.says q) before after
+    → HoldsOutline q new before after failed held (Err e)
+err_holds q new before after failed held e same cause = record { led = record { flaws = []; after = q }; leads = same; pulls = cause; text = tt }

@@ -214,18 +214,18 @@ impl<T: Read + Drop> PcapNgReaderAsIs<T> {
         if self.is_done {
             return None;
         }
-        let header = hold_outline(
+        let given = hold_outline(
             self.alloc,
             &mut self.parser,
             &mut self.inner,
             &mut self.has_failed,
             &mut self.held,
         );
-        self.is_done = header.is_err();
+        self.is_done = given.is_err();
         if self.is_done {
             self.held.clear();
         }
-        header.transpose()
+        given.transpose()
     }
 }
 
