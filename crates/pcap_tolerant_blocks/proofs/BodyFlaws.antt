@@ -38,10 +38,20 @@ short_interface order (Some interface) flaws s rest short text =
 same_order : (e f : Endianness) → Some e ≡ Some f → e ≡ f
 same_order e f same = cc
 
+behind_version : (section : Section) (flaws : List Said) (s rest : List ℕ) (text : SectionText section flaws s rest) → Behind 16 s text.after.after_version
+behind_version section flaws s rest text =
+    let version = text.after.version in
+    behind_both (behind_number text.magic_is) (behind_both (behind_number version.major) (behind_both (behind_number version.minor) (behind_number version.length_number)))
+
+-- A section has the sixteen bytes before its options.
+pub section_long : (section : Section) (flaws : List Said) (s rest : List ℕ) → SectionText section flaws s rest → 16 ≤ length s
+section_long section flaws s rest text =
+    let b = behind_version section flaws s rest text in
+    omega (arith, ap length b.text, length-append b.bytes text.after.after_version, b.length_is)
+
 pub section_flaws : (section : Section) (flaws : List Said) (s rest : List ℕ) (e : Endianness) → magic_order section.magic ≡ Some e → SectionText section flaws s rest → HasFlaws (number_in e) section_header flaws (drop 16 s)
 section_flaws section flaws s rest e is text =
-    let version = text.after.version in
-    let behind : Behind 16 s text.after.after_version = behind_both (behind_number text.magic_is) (behind_both (behind_number version.major) (behind_both (behind_number version.minor) (behind_number version.length_number))) in
+    let behind = behind_version section flaws s rest text in
     let own : text.endianness ≡ e = same_order text.endianness e (sym text.names ∙ is) in
     let here = subst (λ (l : List ℕ). OptionsAsIs (number_in text.endianness) section_header section.options flaws l rest) (dropped 16 s text.after.after_version behind) text.after.options_are in
     record { options = section.options; rest = rest; are = subst (λ (f : Endianness). OptionsAsIs (number_in f) section_header section.options flaws (drop 16 s) rest) own here }

@@ -1,17 +1,23 @@
 -- This file proves that blocks are read alike under two states of sections in the same byte order.
-use Rattle.std.proofs.Common.{◌≡◌, ℕ, List, [], ◌∷◌, ◌++◌, Bool, Option, refl, sym, ap, ◌∙◌, subst, inl, inr}
+use Rattle.std.proofs.Common.{◌≡◌, ℕ, List, [], ◌∷◌, ◌++◌, Bool, Option, Some, refl, sym, ap, ◌∙◌, subst, inl, inr}
 use Rattle.pcap_core.specs.declared.common.Endianness.{Endianness}
 use Rattle.pcap_core.specs.declared.errors.PcapError.{PcapError}
-use Rattle.pcap_core.specs.Answer.{whole, lacks, faulty}
+use Rattle.pcap_core.specs.Answer.{whole, lacks, faulty, number_in}
 use Rattle.pcap_core.specs.Faults.{Fault}
 use Rattle.pcap_items.specs.Headed.{good, bad}
 use Rattle.pcap_items.specs.Reading.{HasCause, TakesAsked}
+use Rattle.pcap_blocks.specs.declared.block_type.BlockType.{BlockType}
+use Rattle.pcap_blocks.specs.declared.block_type.BlockType.TheVariants as types
 use Rattle.pcap_blocks.specs.InterfaceDescription.{Interface}
-use Rattle.pcap_blocks.specs.SectionHeader.{Section}
+use Rattle.pcap_blocks.specs.SectionHeader.{Section, magic_order}
 use Rattle.pcap_ng.specs.Frames.{Framed, FrameText, FrameLacks, FrameFault}
+use Rattle.pcap_tolerant_blocks.specs.Flaws.{Said}
+use Rattle.pcap_tolerant_blocks.specs.InterfaceAsIs.{InterfaceText}
+use Rattle.pcap_tolerant_blocks.specs.SectionAsIs.{SectionText}
 use Rattle.pcap_tolerant_captures.specs.Blocks.{Item, AsIsText, AsIsSays, as_is_format}
 use Rattle.pcap_tolerant_captures.specs.Outlines.{known_order}
 use Rattle.pcap_tolerant_captures.specs.State.{State, opening, within, order_at, Role, begins_section, adds_interface, leaves_all, role_of, Led, MeansFor, Means}
+use Rattle.pcap_tolerant_captures.proofs.StandAgain.{section_named}
 use Rattle.pcapfile_run.specs.WiderCauses.{cause_wider, asked_wider}
 
 orders_same : (p q : State) → known_order p ≡ known_order q → order_at p ≡ order_at q
@@ -79,3 +85,42 @@ module _ (p q : State) (e : known_order p ≡ known_order q) where
   pub asked_same : (before after : Option (List ℕ)) → TakesAsked (as_is_format.says p) before after → TakesAsked (as_is_format.says q) before after
   unfolding as_is_format
   asked_same before after h = asked_wider (AsIsSays p) (AsIsSays q) lacks_same fault_same before after h
+
+-- ---- the flaws of a block
+
+role_other : (t : BlockType) → (t ≡ types.SectionHeader → ⊥) → (t ≡ types.InterfaceDescription → ⊥) → role_of t ≡ leaves_all
+role_other types.SectionHeader section interface = absurd (section refl)
+role_other types.InterfaceDescription section interface = absurd (interface refl)
+role_other _ section interface = refl
+
+-- The interface that a block adds.
+record AddedBy (b : Framed) (flaws : List Said) : Type 0 where
+  pub interface : Option Interface
+  pub rest : List ℕ
+  pub text : InterfaceText (number_in b.endianness) interface flaws b.body rest
+
+added_by : (q : State) (b : Framed) (led : Led) → MeansFor adds_interface q b (good led) → AddedBy b led.flaws
+added_by opening b led means = absurd means
+added_by (within section interfaces) b led means = record { interface = means.1.interface; rest = means.1.rest; text = means.1.text }
+
+unread : (q : State) (b : Framed) (led : Led) → MeansFor leaves_all q b (good led) → led.flaws ≡ []
+unread opening b led means = absurd means
+unread (within section interfaces) b led means = means.0
+
+module _ (q : State) (b : Framed) (led : Led) (s : List ℕ) (text : AsIsText q (record { block = b; led = led }) s []) where
+  meant : (role : Role) → role_of b.type_ ≡ role → MeansFor role q b (good led)
+  meant role is = subst (λ (r : Role). MeansFor r q b (good led)) is text.means
+
+  -- The flaws of a section.
+  pub section_of_block : b.type_ ≡ types.SectionHeader → (section : Section) × (rest : List ℕ) × (magic_order section.magic ≡ Some b.endianness) × SectionText section led.flaws b.body rest
+  section_of_block is =
+      let begun = meant begins_section (ap role_of is) in
+      (begun.0, begun.1, section_named (order_at q) b s [] text.frame is begun.0 led.flaws begun.1 begun.2, begun.2)
+
+  -- The flaws of an interface.
+  pub interface_of_block : b.type_ ≡ types.InterfaceDescription → (interface : Option Interface) × (rest : List ℕ) × InterfaceText (number_in b.endianness) interface led.flaws b.body rest
+  interface_of_block is = let added = added_by q b led (meant adds_interface (ap role_of is)) in (added.interface, added.rest, added.text)
+
+  -- Any other block has none.
+  pub none_of_block : (b.type_ ≡ types.SectionHeader → ⊥) → (b.type_ ≡ types.InterfaceDescription → ⊥) → led.flaws ≡ []
+  none_of_block section interface = unread q b led (meant leaves_all (role_other b.type_ section interface))

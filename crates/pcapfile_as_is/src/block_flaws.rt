@@ -102,7 +102,10 @@ fn put_flaw<W: Write>(alloc: Global, output: &mut W, place: &str, flaw: Flaw) ->
 {
     match line_of(alloc, place, flaw) {
         Ok(line) => put_line(output, line.as_bytes()),
-        Err(error) => Err(Exit::from(io::Error::from(error))),
+        Err(error) => {
+            let unwritten = io::Error::from(error);
+            Err(Exit::from(unwritten))
+        }
     }
 }
 
@@ -120,7 +123,8 @@ fn put_flaws<W: Write>(
 {
     let mut has_flaw = false;
     let mut left = options;
-    while let Some((flaw, others)) = next_flaw(of, order, left) {
+    while let Some(next) = next_flaw(of, order, left) {
+        let (flaw, others) = next;
         put_flaw(alloc, output, place, flaw)?;
         has_flaw = true;
         left = others;
@@ -161,8 +165,10 @@ fn put_flaws_of_section<W: Write>(
     ensures { (section : Section) (flaws : List Said) (rest : List ℕ) → magic_order section.magic ≡ Some order → SectionText section flaws body.now rest →
         WritesFlaws place.now flaws (W.contents output.old) (W.contents output.new) result }
 {
-    let options = body.get(16..).unwrap_or_default();
-    put_flaws(alloc, output, place, OptionsOf::Section, order, options)
+    if body.len() < 16 {
+        return Ok(false);
+    }
+    put_flaws(alloc, output, place, OptionsOf::Section, order, &body[16..])
 }
 
 // Writes a line for each flaw of the body of a block at this place, and returns whether there is one. Only a section or an interface has

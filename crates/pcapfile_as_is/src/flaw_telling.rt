@@ -49,10 +49,9 @@ pub fn tell_flaws<T: Read + Drop, W: Write>(
             None => return Ok(None),
             Some(Err(error)) => return Ok(Some(error)),
             Some(Ok(header)) => {
-                let at = Spot {
-                    number: counted.items.saturating_add(1),
-                    place: counted.bytes,
-                };
+                let number = counted.items.saturating_add(1);
+                let place = counted.bytes;
+                let at = Spot { number, place };
                 let told = put_block(alloc, output, prefix, at, header, reader.body())?;
                 counted.add_item(u64::from(header.initial_len), told);
             }
