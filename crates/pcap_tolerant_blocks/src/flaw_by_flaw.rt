@@ -49,9 +49,7 @@ fn next_in<'a, O: Unread<'a> + Drop>(
 }
 
 // Does the same for the options of one kind of block in one byte order.
-fn find_flaw<'a, O: Unread<'a> + Drop, B: ByteOrder>(
-    options: &'a [u8],
-) -> Option<(Flaw, &'a [u8])>
+fn find_flaw<'a, O: Unread<'a> + Drop, B: ByteOrder>(options: &'a [u8]) -> Option<(Flaw, &'a [u8])>
     ensures flaws { (flaws : List Said) → HasFlaws B.number_of O.kind flaws options.now → FlawsBegin B.number_of O.kind flaws result }
     ensures shorter { IfSome result (λ x. length x.1.now < length options.now) }
 {

@@ -62,9 +62,10 @@ impl InterfaceOutline {
         let (linktype, rest) = split_u16::<B>(slice);
         let (_reserved, rest) = split_u16::<B>(rest);
         let (snaplen, rest) = split_u32::<B>(rest);
+        let link = DataLink::from(u32::from(linktype));
         let clock = clock_in::<B>(rest);
         Some(InterfaceOutline {
-            linktype: DataLink::from(u32::from(linktype)),
+            linktype: link,
             snaplen,
             resolution: clock.resolution,
             offset: clock.offset,
@@ -89,7 +90,8 @@ fn clock_in<B: ByteOrder>(options: &[u8]) -> ClockOptions
         let Some(read) = option else {
             return clock;
         };
-        clock = clock.and(clock_of(read));
+        let next = clock.and(clock_of(read));
+        clock = next;
         left = after;
     }
     clock

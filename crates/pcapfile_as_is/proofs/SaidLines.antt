@@ -1,8 +1,9 @@
 -- This file proves which lines are written for flaws, one after another.
 use Rattle.std.proofs.Common.{◌≡◌, ◌<◌, ℕ, List, [], ◌∷◌, ◌++◌, length, Bool, true, false, Option, Ok, Err, refl, sym, ap, ◌∙◌, subst, arith, append_assoc, append-nil, length-append}
-use Rattle.std.specs.Prelude.{codes, Result}
+use Rattle.std.specs.Prelude.{◌==◌, codes, not, Result}
 use Rattle.std.specs.Io.KnownBytes.{Appends}
 use Rattle.std.proofs.KnownBytes.{Appends-nil, Appends-trans}
+use Rattle.std.proofs.lemmas.Bool.{eqb-true}
 use Rattle.std.proofs.lemmas.List.{flat_map_more}
 use Rattle.std.proofs.lemmas.List.Concat.{flat_map-append}
 use Rattle.pcap_core.specs.declared.errors.PcapError.TheVariants.{IoError}
@@ -48,9 +49,14 @@ pub record PutSoFar (order : Order) (kind : Kind) (place : List ℕ) (flaws : Li
   pub some : has_flaw ≡ are_some said
   pub out : Appends before now (said_lines place said)
 
+some_if : (none : Bool) → (none ≡ true → ⊥) → true ≡ not none
+some_if true no = absurd (no refl)
+some_if false no = refl
+
 some_more : (said : List Said) (flaw : Said) → true ≡ are_some (said ++ flaw ∷ [])
-some_more [] flaw = refl
-some_more (first ∷ said) flaw = refl
+some_more said flaw =
+    let all = said ++ flaw ∷ [] in
+    some_if (length all == 0) (λ is. omega (arith, eqb-true (length all) 0 is, length-append said (flaw ∷ [])))
 
 module _ (order : Order) (kind : Kind) (place : List ℕ) (flaws : List Said) where
   -- A flaw of the options that are left, after which others are left.

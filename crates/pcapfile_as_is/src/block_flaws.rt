@@ -151,7 +151,14 @@ fn put_flaws_of_interface<W: Write>(
         put_flaw(alloc, output, place, too_short)?;
         return Ok(true);
     }
-    put_flaws(alloc, output, place, OptionsOf::Interface, order, &body[8..])
+    put_flaws(
+        alloc,
+        output,
+        place,
+        OptionsOf::Interface,
+        order,
+        &body[8..],
+    )
 }
 
 // Writes a line for each flaw of a section's body in its byte order, and returns whether there is one.

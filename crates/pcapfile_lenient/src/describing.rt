@@ -313,11 +313,7 @@ impl Describing {
     }
 
     /// Finds out what to do with the block at the front of these bytes, and describes its interface if that is possible.
-    pub(crate) fn judge(
-        &mut self,
-        in_force: &mut InForce,
-        bytes: &[u8],
-    ) -> io::Result<Next> {
+    pub(crate) fn judge(&mut self, in_force: &mut InForce, bytes: &[u8]) -> io::Result<Next> {
         self.text.clear();
         let Some(undescribed) = self.undescribed(in_force, bytes) else {
             return Ok(Next::Take);

@@ -13,10 +13,7 @@ const SHORTEST: usize = 12;
 const LENGTH: usize = 4;
 
 /// Puts the right length into the block at the front of the window, if one of its two lengths says where the next blocks begin.
-pub(crate) fn mend_frame(
-    order: Endianness,
-    window: &mut Window,
-) -> io::Result<Option<Change>> {
+pub(crate) fn mend_frame(order: Endianness, window: &mut Window) -> io::Result<Option<Change>> {
     let sure = window.reach_row()?;
     let bytes = window.shown();
     let behind = bytes.get(SHORTEST..).unwrap_or_default();

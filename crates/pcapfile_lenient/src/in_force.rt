@@ -40,7 +40,8 @@ impl InForce {
                 self.interfaces.clear();
             }
             BlockType::InterfaceDescription => {
-                self.interfaces.push(outline_of(self.order, block.body.as_slice()))?;
+                self.interfaces
+                    .push(outline_of(self.order, block.body.as_slice()))?;
             }
             _ => {}
         }

@@ -402,7 +402,8 @@ impl Rows {
                 in_force.order(),
                 last.get(1..).unwrap_or_default(),
                 IN_A_ROW,
-            ).is_some(),
+            )
+            .is_some(),
         };
         if goes_on || last.len().saturating_add(missing) > LIMIT as usize {
             return self.pass_blocks(None);

@@ -30,11 +30,7 @@ const OPTION: usize = 4;
 /// Puts another stored length into the enhanced packet at the front of the window, whose block has this many bytes, if data of the
 /// stored length and well-formed options do not fill the block. It is the original length, or the snapshot length, if that does;
 /// and otherwise, if the data would go on past the block, up to the end of the block, by a guess.
-pub(crate) fn mend_stored(
-    in_force: &InForce,
-    window: &mut Window,
-    len: usize,
-) -> Option<Change> {
+pub(crate) fn mend_stored(in_force: &InForce, window: &mut Window, len: usize) -> Option<Change> {
     let order = in_force.order();
     let bytes = window.shown().get(..len)?;
     if number_at(order, bytes, 0)? != ENHANCED {

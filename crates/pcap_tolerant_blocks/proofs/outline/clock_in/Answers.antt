@@ -38,11 +38,11 @@ loop-left-preserved g c =
     let text = rw c.in-Some.is at c.in-Ok.ensures.tells in
     let clock = c.loop-left.clock in
     let one = c.clock_of.ensures in
-    let both = c.and-clock.ensures in (
+    let both = c.and-next.ensures in (
       so_far.0 ++ option.entry ∷ [],
       so_far.1 ++ option.flaws,
       read_more order interface_description so_far.0 so_far.1 c.args.options.now c.loop-left.left.now c.in-Ok.read.0.now option so_far.2 text,
-      clock_more so_far.0 option.entry clock c.and-clock.result so_far.3 (both.resolution ∙ ap (option_or clock.resolution) one.resolution) (both.offset ∙ ap (option_or clock.offset) one.offset),
+      clock_more so_far.0 option.entry clock c.and-next.result so_far.3 (both.resolution ∙ ap (option_or clock.resolution) one.resolution) (both.offset ∙ ap (option_or clock.offset) one.offset),
     )
 
 pub returns : goal.returns

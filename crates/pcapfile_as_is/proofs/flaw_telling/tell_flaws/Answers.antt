@@ -108,8 +108,8 @@ loop-turn-preserved g c =
             alike.0.after,
             alike.2 ∙ sym given.leads,
             telling_more as_is_format q block_size (TellsBy is_flawed (block_lines c.args.prefix.now)) as_is_lawful so_far.0 alike.0.after _ left now _ mid out
-            c.args.counted.now c.loop-turn.counted c.add_item.new.self c.loop-turn.turn number item told so_far.2 refl (next.2.0, moved, next.2.2) (block_long so_far.0 next.2.0 item moved) (omega (arith, c.saturating_add-number.ensures))
-            c.add_item.ensures.items c.add_item.ensures.flawed (omega (arith, c.add_item.ensures.bytes, c.from.ensures)) (c.in_ok-told-in-Some-Ok.ensures so_far.0 alike.0 next.2.0 moved),
+                c.args.counted.now c.loop-turn.counted c.add_item.new.self c.loop-turn.turn number item told so_far.2 refl (next.2.0, moved, next.2.2) (block_long so_far.0 next.2.0 item moved) (omega (arith, c.saturating_add-number.ensures))
+                c.add_item.ensures.items c.add_item.ensures.flawed (omega (arith, c.add_item.ensures.bytes, c.from.ensures)) (c.in_ok-told-in-Some-Ok.ensures so_far.0 alike.0 next.2.0 moved),
           );
       ready = next.0;
       unfailed = next.1;
