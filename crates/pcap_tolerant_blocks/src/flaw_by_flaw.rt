@@ -22,7 +22,8 @@ use pcap_core::Endianness;
 /// The options end at their mark, at the end of the slice, or where no next option can be found. The last is the last flaw of
 /// the options.
 pub fn next_flaw(of: OptionsOf, order: Endianness, options: &[u8]) -> Option<(Flaw, &[u8])>
-    ensures flaws { (flaws : List Said) → HasFlaws (number_in order) (kind_of of) flaws options.now → FlawsBegin (number_in order) (kind_of of) flaws result }
+    ensures flaws { (flaws : List Said) → HasFlaws (number_in order) (kind_of of) flaws options.now →
+        FlawsBegin (number_in order) (kind_of of) flaws result }
     ensures shorter { IfSome result (λ x. length x.1.now < length options.now) }
 {
     match of {
@@ -39,7 +40,8 @@ fn next_in<'a, O: Unread<'a> + Drop>(
     order: Endianness,
     options: &'a [u8],
 ) -> Option<(Flaw, &'a [u8])>
-    ensures flaws { (flaws : List Said) → HasFlaws (number_in order) O.kind flaws options.now → FlawsBegin (number_in order) O.kind flaws result }
+    ensures flaws { (flaws : List Said) → HasFlaws (number_in order) O.kind flaws options.now →
+        FlawsBegin (number_in order) O.kind flaws result }
     ensures shorter { IfSome result (λ x. length x.1.now < length options.now) }
 {
     match order {

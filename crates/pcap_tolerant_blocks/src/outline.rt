@@ -54,7 +54,8 @@ impl InterfaceOutline {
     /// Reads a block's body as an interface leniently, as `InterfaceAsIs::from_slice` does, but needs no memory. Returns None if
     /// the body has no room for the interface's head.
     pub fn from_slice<B: ByteOrder>(slice: &[u8]) -> Option<InterfaceOutline>
-        ensures { (interface : Option Interface) (flaws : List Said) (rest : List ℕ) → InterfaceText B.number_of interface flaws slice.now rest → IsOutlineOf interface result }
+        ensures { (interface : Option Interface) (flaws : List Said) (rest : List ℕ) →
+            InterfaceText B.number_of interface flaws slice.now rest → IsOutlineOf interface result }
     {
         if slice.len() < 8 {
             return None;
@@ -75,7 +76,8 @@ impl InterfaceOutline {
 
 // Returns the first resolution and the first offset among the options of an interface.
 fn clock_in<B: ByteOrder>(options: &[u8]) -> ClockOptions
-    ensures { (all : List Entry) (flaws : List Said) (rest : List ℕ) → OptionsAsIs B.number_of interface_description all flaws options.now rest → IsClockIn all result }
+    ensures { (all : List Entry) (flaws : List Said) (rest : List ℕ) →
+        OptionsAsIs B.number_of interface_description all flaws options.now rest → IsClockIn all result }
 {
     let mut clock = ClockOptions {
         resolution: None,

@@ -97,7 +97,8 @@ fn line_of(alloc: Global, place: &str, flaw: Flaw) -> Result<String, AllocError>
 
 // Writes the line of a flaw. If there is no memory for the line, the error is one of the output, since lines may already be written.
 fn put_flaw<W: Write>(alloc: Global, output: &mut W, place: &str, flaw: Flaw) -> Result<(), Exit>
-    ensures writes { WritesLine (λ line. line ≡ said_line place.now (said_of flaw)) (W.contents output.old) (W.contents output.new) result }
+    ensures writes { WritesLine (λ line. line ≡ said_line place.now (said_of flaw))
+        (W.contents output.old) (W.contents output.new) result }
     ensures no_memory { IfErr result (λ exit. IsMemoryExit exit → ⊥) }
 {
     match line_of(alloc, place, flaw) {
@@ -140,7 +141,8 @@ fn put_flaws_of_interface<W: Write>(
     order: Endianness,
     body: &[u8],
 ) -> Result<bool, Exit>
-    ensures { (interface : Option Interface) (flaws : List Said) (rest : List ℕ) → InterfaceText (number_in order) interface flaws body.now rest →
+    ensures { (interface : Option Interface) (flaws : List Said) (rest : List ℕ) →
+        InterfaceText (number_in order) interface flaws body.now rest →
         WritesFlaws place.now flaws (W.contents output.old) (W.contents output.new) result }
 {
     if body.len() < 8 {
@@ -169,7 +171,8 @@ fn put_flaws_of_section<W: Write>(
     order: Endianness,
     body: &[u8],
 ) -> Result<bool, Exit>
-    ensures { (section : Section) (flaws : List Said) (rest : List ℕ) → magic_order section.magic ≡ Some order → SectionText section flaws body.now rest →
+    ensures { (section : Section) (flaws : List Said) (rest : List ℕ) →
+        magic_order section.magic ≡ Some order → SectionText section flaws body.now rest →
         WritesFlaws place.now flaws (W.contents output.old) (W.contents output.new) result }
 {
     if body.len() < 16 {
@@ -216,8 +219,8 @@ pub(crate) fn put_block<W: Write>(
     body: &[u8],
 ) -> Result<Told, Exit>
     ensures { (q : State) (led : Led) (s : List ℕ) → AsIsText q (record { block = framed_around header body.now; led = led }) s [] →
-        WritesTold (TellsBy is_flawed (block_lines prefix.now) at.number at.place (record { block = framed_around header body.now; led = led }))
-        (W.contents output.old) (W.contents output.new) result }
+        WritesTold (TellsBy is_flawed (block_lines prefix.now) at.number at.place
+        (record { block = framed_around header body.now; led = led })) (W.contents output.old) (W.contents output.new) result }
 {
     let has_flaw = put_flaws_of(alloc, output, prefix, at, header, body)?;
     Ok(Told {
