@@ -1,9 +1,10 @@
 -- This file proves which lines are written for flaws, one after another.
-use Rattle.std.proofs.Common.{◌≡◌, ◌<◌, ℕ, List, [], ◌∷◌, ◌++◌, length, Bool, true, false, Option, Ok, Err, refl, sym, ap, ◌∙◌, subst, arith, append_assoc, append-nil, length-append}
+use Rattle.std.proofs.Common.{◌≡◌, ◌<◌, ◌-◌, take, drop, length-drop, ℕ, List, [], ◌∷◌, ◌++◌, length, Bool, true, false, Option, Ok, Err, refl, sym, ap, ◌∙◌, subst, arith, append_assoc, append-nil, length-append}
 use Rattle.std.specs.Prelude.{◌==◌, codes, not, Result}
 use Rattle.std.specs.Io.KnownBytes.{Appends}
 use Rattle.std.proofs.KnownBytes.{Appends-nil, Appends-trans}
 use Rattle.std.proofs.lemmas.Bool.{eqb-true}
+use Rattle.std.proofs.Math.Seq.{take-length}
 use Rattle.std.proofs.lemmas.List.{flat_map_more}
 use Rattle.std.proofs.lemmas.List.Concat.{flat_map-append}
 use Rattle.pcap_core.specs.declared.errors.PcapError.TheVariants.{IoError}
@@ -49,9 +50,13 @@ pub record PutSoFar (order : Order) (kind : Kind) (place : List ℕ) (flaws : Li
   pub some : has_flaw ≡ are_some said
   pub out : Appends before now (said_lines place said)
 
-some_if : (none : Bool) → (none ≡ true → ⊥) → true ≡ not none
-some_if true no = absurd (no refl)
-some_if false no = refl
+some_if : (empty : Bool) → (empty ≡ true → ⊥) → true ≡ not empty
+some_if true differs = absurd (differs refl)
+some_if false differs = refl
+
+-- All bytes after the first n.
+pub all_behind : (n : ℕ) (s : List ℕ) → take (length s - n) (drop n s) ≡ drop n s
+all_behind n s = ap (λ (k : ℕ). take k (drop n s)) (sym (length-drop n s)) ∙ take-length (drop n s)
 
 some_more : (said : List Said) (flaw : Said) → true ≡ are_some (said ++ flaw ∷ [])
 some_more said flaw =

@@ -6,15 +6,15 @@ use Rattle.pcapfile_as_is.specs.BlockLines.{WritesFlaws, block_place}
 use Rattle.pcapfile_as_is.proofs.Outlined.{interface_of_block, none_of_block, section_of_block}
 use Rattle.pcapfile_as_is.proofs.block_flaws.put_flaws_of.Goals as goal
 
-pub returns-in-SectionHeader : goal.returns-in-SectionHeader
-returns-in-SectionHeader g c = λ q led s text.
+pub returns-in_ok-place-in-SectionHeader : goal.returns-in_ok-place-in-SectionHeader
+returns-in_ok-place-in-SectionHeader g c = λ q led s text.
     let before = g.W.Write.contents c.args.output.now in
     let now = g.W.Write.contents c.put_flaws_of_section.new.output in
     let found = section_of_block q (framed_around c.args.header c.args.body.now) led s text c.in-SectionHeader.is in
-    subst (λ (l : List ℕ). WritesFlaws l led.flaws before now c.put_flaws_of_section.result) (c.as_str.ensures.value ∙ c.in_ok-place.ensures) (c.put_flaws_of_section.ensures found.0 led.flaws found.1 found.2 found.3)
+    subst (λ (l : List ℕ). WritesFlaws l led.flaws before now c.put_flaws_of_section.result) (c.as_str.ensures.value ∙ c.in_ok-place-in-SectionHeader.ensures) (c.put_flaws_of_section.ensures found.0 led.flaws found.1 found.2 found.3)
 
-pub returns-in-InterfaceDescription : goal.returns-in-InterfaceDescription
-returns-in-InterfaceDescription g c = λ q led s text.
+pub returns-in_ok-place-in-InterfaceDescription : goal.returns-in_ok-place-in-InterfaceDescription
+returns-in_ok-place-in-InterfaceDescription g c = λ q led s text.
     let before = g.W.Write.contents c.args.output.now in
     let now = g.W.Write.contents c.put_flaws_of_interface.new.output in
     let found = interface_of_block q (framed_around c.args.header c.args.body.now) led s text c.in-InterfaceDescription.is in

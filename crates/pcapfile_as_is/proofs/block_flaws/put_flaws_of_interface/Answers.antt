@@ -5,9 +5,11 @@ use Rattle.pcap_core.specs.Answer.{number_in}
 use Rattle.pcap_tolerant_blocks.specs.declared.flaws.Broken.TheVariants as broken
 use Rattle.pcap_tolerant_blocks.specs.declared.flaws.Flaw.{Flaw}
 use Rattle.pcap_tolerant_blocks.specs.Flaws.{Said}
+use Rattle.pcap_options.specs.InterfaceOption.{interface_description}
+use Rattle.pcap_tolerant_blocks.specs.NextFlaw.{HasFlaws}
 use Rattle.pcap_tolerant_blocks.proofs.BodyFlaws.{interface_flaws, short_interface}
 use Rattle.pcapfile_as_is.specs.BlockLines.{WritesFlaws}
-use Rattle.pcapfile_as_is.proofs.SaidLines.{alone_put, alone_torn}
+use Rattle.pcapfile_as_is.proofs.SaidLines.{all_behind, alone_put, alone_torn}
 use Rattle.pcapfile_as_is.proofs.block_flaws.put_flaws_of_interface.Goals as goal
 
 too_short : Flaw
@@ -35,4 +37,5 @@ returns-then-body-lt8 g c = λ interface flaws rest text.
 
 pub returns : goal.returns
 returns g c = λ interface flaws rest text.
-    c.put_flaws.ensures flaws (interface_flaws (number_in c.args.order) interface flaws c.args.body.now rest c.if-body-lt8.false text)
+    let has = interface_flaws (number_in c.args.order) interface flaws c.args.body.now rest c.if-body-lt8.false text in
+    c.put_flaws.ensures flaws (subst (HasFlaws (number_in c.args.order) interface_description flaws) (sym (all_behind 8 c.args.body.now)) has)

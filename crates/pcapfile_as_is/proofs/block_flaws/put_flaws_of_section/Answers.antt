@@ -1,4 +1,8 @@
-use Rattle.std.proofs.Common.{arith}
+use Rattle.std.proofs.Common.{arith, subst, sym}
+use Rattle.pcap_core.specs.Answer.{number_in}
+use Rattle.pcap_options.specs.SectionOption.{section_header}
+use Rattle.pcap_tolerant_blocks.specs.NextFlaw.{HasFlaws}
+use Rattle.pcapfile_as_is.proofs.SaidLines.{all_behind}
 use Rattle.pcap_tolerant_blocks.proofs.BodyFlaws.{section_flaws, section_long}
 use Rattle.pcapfile_as_is.proofs.block_flaws.put_flaws_of_section.Goals as goal
 
@@ -8,4 +12,5 @@ returns-then-body-lt16 g c = λ section flaws rest named text.
 
 pub returns : goal.returns
 returns g c = λ section flaws rest named text.
-    c.put_flaws.ensures flaws (section_flaws section flaws c.args.body.now rest c.args.order named text)
+    let has = section_flaws section flaws c.args.body.now rest c.args.order named text in
+    c.put_flaws.ensures flaws (subst (HasFlaws (number_in c.args.order) section_header flaws) (sym (all_behind 16 c.args.body.now)) has)
