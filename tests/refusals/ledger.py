@@ -19,8 +19,8 @@ FOLDER = "tests/refusals/kept"
 LINE = re.compile(r"(\S+) ([0-9a-f]{32})")
 DRAWN = 40
 # A run tries the edits whose lines the change brings for this long, and at least this many of them.
-BROUGHT_SECONDS, BROUGHT_AT_LEAST = 12 * 60, 120
-# The first check of a crate takes 20 to 60 processor seconds before it comes to an edit, and each edit some seconds. So a draw takes up to
+BROUGHT_SECONDS, BROUGHT_AT_LEAST = 12 * 60, 110
+# The first check of a crate takes 20 to 60 processor seconds before it comes to an edit, and each edit one to ten. So a draw takes up to
 # this many edits of one crate together.
 HANDFUL = 12
 SECONDS_OF_A_DAY = 24 * 3600
