@@ -2,16 +2,22 @@
 the gaps between them with struct alone, and states the rules again."""
 import collections
 import functools
+import itertools
 import random
 import re
 import struct
+import subprocess
+import sys
 import tempfile
 
 import lenient
+from sorting import MEASURE
 
 DONE, AT_FAULT, FAILED, REPAIRED, GUESSED = 0, 1, 3, 5, 6
 LONGEST, MOST = 262144, 16777216
 BILLION = 10**9
+# The most bytes of memory that a check takes for each byte of options in a block.
+EACH = 4
 MAGICS = {0xA1B2C3D4: 1000, 0xA1B23C4D: 1}
 MESSAGES = {
     1: "PcapHeader wrong magic number",
@@ -61,7 +67,7 @@ LENGTHS = {
 
 class Packet:
     """A packet as it is: its number, its offset, its time, its lengths, and the rules that it breaks. It may be one of a short run behind
-    corrupt bytes (`is_found`), or have no data in a damaged capture (`is_empty`), or nothing may confirm where it ends."""
+    corrupt bytes (`is_found`), or have no data in a damaged capture or at the time 0 (`is_empty`), or nothing may confirm its end."""
 
     def __init__(self, number, place, unit, numbers, stated=None, is_guess=False):
         self.number, self.place, self.stated, self.is_guess, self.is_found, self.is_unconfirmed = number, place, stated, is_guess, False, False
@@ -83,7 +89,7 @@ def opened(capture):
 
 # Bytes that are left out: their offset, how many they are, what they are, and the rule that they break at their beginning.
 Gap = collections.namedtuple("Gap", "place size what rule")
-# A changed length of the block with this number at this offset.
+# A changed length of the block with this number at this offset; without a stated one its packet is a guess for its original length.
 Mending = collections.namedtuple("Mending", "number place length stated is_guess")
 
 
@@ -107,7 +113,8 @@ class Packets:
         packet = Packet(self.count, at, self.kind[1], numbers, stored, is_guess or is_doubted)
         packet.is_found = at < self.end_of_run and not is_doubted
         self.is_damaged |= packet.is_found or size != stored
-        packet.is_empty = self.is_damaged and not packet.is_found and lenient.Head(numbers).is_empty()
+        is_zero = not any(numbers) and (self.time or 0) > lenient.DAY
+        packet.is_empty = (self.is_damaged or is_zero) and not packet.is_found and lenient.Head(numbers).is_empty()
         packet.is_unconfirmed = is_confirmed is False and not packet.is_found
         packet.is_by_search = is_guess and is_confirmed is None
         self.is_found = packet.is_by_search or is_doubted
@@ -199,6 +206,8 @@ def mending(it):
     """Returns the message on a changed length or a missing end of a block."""
     if it.length is None:
         return f"block {it.number} at byte {it.place}: its end is missing: its packet is kept, without options that are cut off or break rules"
+    if it.stated is None:
+        return f"block {it.number} at byte {it.place}: kept, a guess: its original length is above {MOST}"
     return f"block {it.number} at byte {it.place}: its stored length is {it.length} and not {it.stated}{', by a guess' * it.is_guess}"
 
 
@@ -247,6 +256,11 @@ def flaw_lines(name, item):
     return [flaw_line(name, item.number, item.place, code, flaw) for code, flaw in item.flaws]
 
 
+def is_doubt(item):
+    """Returns whether an item is a guess for its numbers alone, in which nothing was changed."""
+    return isinstance(item, Mending) and item.stated is None and item.length is not None
+
+
 def checked(name, capture):
     """Returns the lines of a check, and its status."""
     kind, items, refused = stands_in(capture)
@@ -254,7 +268,7 @@ def checked(name, capture):
     found = [it for it in items if not isinstance(it, (Gap, Mending))]
     gone = sum(it.size for it in items if isinstance(it, Gap) and not is_torn(it))
     flawed, torn = sum(bool(it.flaws) for it in found), next(filter(is_torn, items), None)
-    flawed += sum(bool(changed_length(it)) for it in found if isinstance(it, Packet)) + sum(isinstance(it, Mending) for it in items)
+    flawed += sum(bool(changed_length(it)) for it in found if isinstance(it, Packet)) + sum(isinstance(it, Mending) and not is_doubt(it) for it in items)
     if refused:
         end = f"{CUT} at byte 0" if refused == CUT else f"refused at byte 0{by_rule(refused)}"
     else:
@@ -440,6 +454,14 @@ def mended_stored(capture, number, at, found, interfaces):
     return Mending(number, at, size, stored, is_guess or wire > LONGEST)
 
 
+def oversized(number, at, found):
+    """Returns a guess if the block at this offset is a packet with an original length that no packet has."""
+    order, type_, body = found
+    if type_ not in (OBSOLETE, ENHANCED) or len(body) < 20 or struct.unpack_from(order + "I", body, 16)[0] <= MOST:
+        return None
+    return Mending(number, at, 0, None, True)
+
+
 def sound_options(order, number, left):
     """Returns the bytes of the options whose values break no rule."""
     kept = b""
@@ -493,11 +515,12 @@ def completed(capture, number, at, order, interfaces):
 
 def blocks_and_gaps(whole, at):
     """Yields the blocks from the section header at this offset on, their changed lengths, and the gaps between them."""
-    capture, order, count, interfaces = bytearray(whole), ">", 0, []
+    capture, order, count, interfaces, reported = bytearray(whole), ">", 0, [], None
     while at < len(capture):
         found = framed(capture, at, order)
         if isinstance(found, tuple):
-            change = mended_stored(capture, count + 1, at, found, interfaces)
+            change = mended_stored(capture, count + 1, at, found, interfaces) or (at != reported and oversized(count + 1, at, found))
+            reported = at if change and change.is_guess else reported
         elif found == CUT and may_be_cut(capture, at, order):
             change = mended_frame(capture, count + 1, at, order) or completed(capture, count + 1, at, order, interfaces)
             if not change and stands_behind(capture, at + 1, order) is None:
@@ -538,9 +561,10 @@ def listed(name, capture):
     if any(isinstance(it, Block) for it in found):
         lines, flawed = block_lines(found)
     said = [line for it in items for line in said_on(it)]
+    flawed |= any(changed_length(it) if isinstance(it, Packet) else said_on(it) and not is_doubt(it) for it in items)
     if refused:
         said.append(refusal(capture, refused))
-    return "".join(lines), "".join(f"pcapfile: {name}: {it}\n" for it in said), AT_FAULT if said or flawed else DONE
+    return "".join(lines), "".join(f"pcapfile: {name}: {it}\n" for it in said), AT_FAULT if refused or flawed else DONE
 
 
 def packet_line(packet):
@@ -644,8 +668,8 @@ def repaired(name, capture):
     return b"".join(out), "".join(f"{prefix}{it}\n" for it in (*said, last)), status
 
 
-def capture_of(order, magic, packets):
-    capture = struct.pack(order + "IHHiIII", magic, 2, 4, 0, 0, 65535, 1)
+def capture_of(order, magic, packets, snaplen=65535):
+    capture = struct.pack(order + "IHHiIII", magic, 2, 4, 0, 0, snaplen, 1)
     for numbers, data in packets:
         capture += struct.pack(order + "IIII", *numbers) + data
     return capture
@@ -819,17 +843,17 @@ def try_by_hand(tally, help):
 
 
 def try_repairs(tally, help):
-    """Repairs each capture into a file and through pipes, and checks that the repaired one is listed and repaired again without a message."""
+    """Repairs each capture into a file and through pipes, and checks that a second repair changes nothing."""
     for name, capture in (*captures(), *gaps()):
         out, said, status = repaired("in", capture)
         wanted = {"in": capture, "out": b"old" if out is None else out}
+        _, said_again, status_again = repaired("out", out or b"")
         with tempfile.TemporaryDirectory() as folder:
             help.put(folder, "in", capture)
             help.put(folder, "out", b"old")
             ended = ran(tally, folder, "repair", "in", "-o", "out")
             left = help.files(folder)
             again = ran(tally, folder, "repair", "out", "-o", "-")
-            packets = counted(ran(tally, folder, "list", "out")[1].count(b"\n"), "packet")
             check = ran(tally, folder, "check", "out")
         with tempfile.TemporaryDirectory() as folder:
             piped = ran(tally, folder, "repair", "-", "-o", "-", given=capture)
@@ -838,20 +862,33 @@ def try_repairs(tally, help):
             ended != (status, b"", said) and f"it gave {str(ended)[-300:]}, and not {str((status, said))[-300:]}",
             left != wanted and f"it left {sorted(left)}, and not the capture of {len(out or b'')} bytes",
             piped != (status, out or b"", said.replace("pcapfile: in: ", "pcapfile: -: ")) and f"through pipes it gave {str(piped)[-300:]}",
-            out is not None and (again != (DONE, out, f"pcapfile: out: no damage found; {packets} kept\n") or check[0] != DONE) and f"again it gave {str(again)[-300:]}, and {check}",
+            out is not None and (again != (status_again, out, said_again) or check[0] != DONE) and f"again it gave {str(again)[-300:]}, and {check}",
         )
 
 
+def sound():
+    """Yields packets that break no rule, with their names and the snapshot length of their capture."""
+    yield "sound packets", 65535, [((1700000000 + k, k % 1000000, k % 90, k % 90 + k % 3), bytes(k % 90)) for k in range(2000)]
+    jumps = {"a jump": lambda k: -k // 20, "a jump before the last": lambda k: k // 39, "a jump before two": lambda k: k // 38, "jumps everywhere": lambda k: k % 7 * 2}
+    for (name, days), size in itertools.product(jumps.items(), (60, 200)):
+        sizes = [size if k < 20 else 200 for k in range(40)]
+        packets = [((1700000000 + 100000 * days(k) + k, k, it, it), bytes([k + 1]) * it) for k, it in enumerate(sizes)]
+        yield f"{name}, and packets of {size} bytes", 96, packets
+
+
 def try_sound(tally, help):
-    """Checks that a lenient list is the strict list if no packet breaks a rule."""
-    packets = [((1700000000 + k, k % 1000000, k % 90, k % 90 + k % 3), bytes(k % 90)) for k in range(2000)]
-    for order in "<>":
-        for magic in MAGICS:
-            with tempfile.TemporaryDirectory() as folder:
-                help.put(folder, "in", capture_of(order, magic, packets))
-                strict, tolerant = ran(tally, folder, "list", "in"), ran(tally, folder, "list", "--as-is", "in")
-            fault = (strict != tolerant or strict[0] != DONE or not strict[1]) and f"it gave {str(tolerant)[-300:]}, and not {str(strict)[-300:]}"
-            tally.note(f"a sound capture, {order}{magic:x}", fault)
+    """Checks that no packet of a sound capture is changed: a lenient list is the strict list, and a repair copies."""
+    for (name, snaplen, packets), order, magic in itertools.product(sound(), "<>", MAGICS):
+        capture = capture_of(order, magic, packets, snaplen)
+        with tempfile.TemporaryDirectory() as folder:
+            help.put(folder, "in", capture)
+            strict, tolerant = ran(tally, folder, "list", "in"), ran(tally, folder, "list", "--as-is", "in")
+            code, copy, said = ran(tally, folder, "repair", "in", "-o", "-")
+        tally.note(
+            f"{name}, {order}{magic:x}",
+            (strict != tolerant or strict[0] != DONE or not strict[1]) and f"it gave {str(tolerant)[-300:]}, and not {str(strict)[-300:]}",
+            (code, copy == capture) != (DONE, True) and f"a repair ended with {code}, {said[-300:]}",
+        )
 
 
 def try_several(tally, help):
@@ -906,6 +943,34 @@ def try_statuses(tally, help):
         tally.note(f"the statuses of {name}", ended != [checks, lists] and f"they are {ended}, and not {[checks, lists]}")
 
 
+def many_options(help):
+    """Yields captures with a block of many options of 4 bytes, their number, and the lines of a check."""
+    head = struct.pack("<IHHq", 0x1A2B3C4D, 1, 0, -1)
+    section, interface = help.block("<", SECTION, head), struct.pack("<HHI", 1, 0, 0)
+    count = 4194304
+    comments = help.block("<", SECTION, head + option_of(1, b"") * count)
+    yield "comments of a section", comments, count, f"in: pcapng, 1 blocks, {len(comments)} bytes; 0 with flaws\n"
+    count = 1048576
+    for code, rule in ((9, 1906), (14, 1910)):
+        capture = section + help.block("<", INTERFACE, interface + option_of(code, b"") * count)
+        line = f"in: block 2 at byte 28 breaks rule {rule} in option {code}: {MESSAGES[rule]}\n"
+        yield f"flawed options of an interface, {code}", capture, count, line * count + f"in: pcapng, 2 blocks, {len(capture)} bytes; 1 with flaws\n"
+
+
+def try_memory(tally, help):
+    """Checks that a check takes at most EACH bytes of memory for each byte of the options of a block, whatever flaws these have."""
+    for name, capture, count, wanted in many_options(help):
+        with tempfile.TemporaryDirectory() as folder:
+            help.put(folder, "in", capture)
+            words = [sys.executable, "-c", MEASURE, tally.program, "check", "--as-is", "in"]
+            ended = subprocess.run(words, cwd=folder, capture_output=True, check=True).stdout.decode()
+        lines, end = ended[: len(wanted)], ended[len(wanted) :]
+        status, most_used = map(int, end.split()[-2:])
+        most = EACH * 4 * count
+        tally.note(f"the lines for {name}", lines != wanted and f"they are {lines[-300:]!r}", status != (AT_FAULT if "flawed" in name else DONE) and f"the status is {status}")
+        tally.note(f"the memory for {name}", most_used * 1024 > most and f"it is {most_used} KiB, and not at most {most} bytes")
+
+
 def try_all(tally, help):
-    for tries in (try_each, try_by_hand, try_repairs, try_sound, try_several, try_statuses):
+    for tries in (try_each, try_by_hand, try_repairs, try_sound, try_several, try_statuses, try_memory):
         tries(tally, help)

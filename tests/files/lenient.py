@@ -27,9 +27,9 @@ class Head:
 class Reading:
     """A capture, and how the header in force reads it."""
 
-    def __init__(self, capture, order, unit):
+    def __init__(self, capture, order, unit, snaplen=None):
         self.capture, self.order, self.unit = capture, order, unit
-        snaplen = struct.unpack_from(order + "I", capture, 16)[0]
+        snaplen = struct.unpack_from(order + "I", capture, 16)[0] if snaplen is None else snaplen
         self.limit = min(snaplen, LONGEST) if snaplen else LONGEST
 
     def head(self, at):
@@ -93,15 +93,28 @@ class Reading:
             return WRONG
         return STANDS if at + 16 + head.stored <= len(self.capture) else SHORT
 
+    def unlimited(self):
+        """Returns the same capture without a snapshot length."""
+        return Reading(self.capture, self.order, self.unit, 0)
+
     def stand_behind(self, at):
-        """Returns whether the packets behind the one at this offset stand too, as far as there are any."""
+        """Returns whether the packets behind the one at this offset stand too, whatever their length, as far as there are any."""
+        unlimited = self.unlimited()
         for _ in range(BEHIND):
             head = self.head(at)
             at += 16 + head.stored
-            weight = self.weight(at, head.seconds)
+            weight = unlimited.weight(at, head.seconds)
             if weight != STANDS:
                 return weight != WRONG or self.begins_capture(at)
         return True
+
+    def exceeding_size(self, at, head):
+        """Returns the size of a packet longer than the snapshot length, and whether what follows confirms it, if nothing else speaks against
+        it, and its next packets stand too."""
+        unlimited = self.unlimited()
+        if unlimited.weight(at, head.seconds) != STANDS or not self.stand_behind(at):
+            return None
+        return head.stored, unlimited.ends_well(at, head.stored, head.seconds)
 
     def whole_length(self, at, time):
         """Returns the length of the whole packet, or of what the capture stores of it, and whether it is a guess, if packets go on there."""
@@ -159,6 +172,10 @@ class Reading:
                 return whole
             elif self.can_be(head, head.stored, time) or self.stand_behind(at):
                 return head.stored, False, False
+        if weight == WRONG and head.stored > self.limit and (exceeding := self.exceeding_size(at, head)):
+            size, is_confirmed = exceeding
+            if not is_confirmed or not self.hides_packets(at, head, time):
+                return size, is_confirmed, False
         if self.can_be(head, head.stored, time) and self.is_misstated(at + 16 + head.stored, time):
             return head.stored, True, False
         return self.whole_length(at, time) or self.size_by_search(at, head, time, before)

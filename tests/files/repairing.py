@@ -1,5 +1,6 @@
 """Checks what `pcapfile repair` makes of captures of blocks, and that other words with `--repair` read what it makes of captures of
 either format. The test states again what becomes of a block, over `as_is`, which takes blocks with struct alone."""
+import itertools
 import json
 import os
 import random
@@ -154,6 +155,7 @@ pcapfile: in: block 3 at byte 56 breaks rule 1911: options that break rules are 
 
 # The last packet of captures by hand that is obsolete, or simple and without a time: what tshark shows of it.
 LAST = {"a block of type 2": "0.000000005\t4\t4", "a block of type 3": "\t4\t4"}
+LAST |= {f"of type 2 that had {it} bytes": f"0.000000005\t4\t{it}" for it in (MOST, MOST + 1)}
 
 
 def by_hand(order):
@@ -210,6 +212,10 @@ pcapfile: in: block 3 at byte 48: its stored length is 8 and not 1073741824, by 
 """, (2, 0, 1, 0, 0)
     zeros, without_data = block(order, ENHANCED, bytes(24) + b"data"), block(order, ENHANCED, bytes(20)) + block(order, ENHANCED, bytes(24))
     yield "a packet of zero bytes", sound + zeros, sound, "pcapfile: in: 40 bytes at byte 200 are no blocks, and are left out\n", (6, 0, 0, 0, 40)
+    for number, length in itertools.product((OBSOLETE, ENHANCED), (MOST, MOST + 1)):
+        long = sound + block(order, number, struct.pack(order + "IIIII", 0, 0, 5, 4, length) + b"data")
+        told = f"pcapfile: in: block 7 at byte 200: kept, a guess: its original length is above {MOST}\n" * (length > MOST)
+        yield f"a packet of type {number} that had {length} bytes", long, long, told, (7 - (length > MOST), 0, int(length > MOST), 0, 0)
     yield "packets without data at the time 0", sound + without_data, sound + without_data, "", (8, 0, 0, 0, 0)
     yield "garbage before the first section", b"no" * 9 + sound, sound, "pcapfile: in: 18 bytes at byte 0 are no blocks, and are left out by rule 10: SectionHeader missing\n", (6, 0, 0, 0, 18)
     yield "garbage at the end", sound + bytes(40), sound, "pcapfile: in: 40 bytes at byte 200 are no blocks, and are left out by rule 8: Block: initial_len < 12\n", (6, 0, 0, 0, 40)

@@ -10,3 +10,6 @@ pub mod RecordsAsIs
 pub mod StrictNames
 pub mod OneNames
 pub mod OneSound
+mod NextFlaw
+mod FirstClock
+pub mod BodyFlaws

@@ -10,3 +10,5 @@ pub mod StatisticsAsIs
 pub mod NamesAsIs
 pub mod InForce
 pub mod SoundOptions
+pub mod NextFlaw
+pub mod Outline

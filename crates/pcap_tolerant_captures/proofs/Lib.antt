@@ -1,10 +1,11 @@
 pub mod Format
 pub mod Strict
 mod FrameRows
-mod StandAgain
+pub mod StandAgain
 pub mod Refusing
 mod HeldBlocks
 mod Copied
 mod StrictRuns
 pub mod FirstFlaw
 mod FedBlocks
+mod Outlines

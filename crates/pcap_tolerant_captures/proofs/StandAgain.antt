@@ -14,7 +14,8 @@ use Rattle.pcap_blocks.specs.InterfaceDescription.{Interface}
 use Rattle.pcap_blocks.specs.SectionHeader.{Section, magic_order}
 use Rattle.pcap_ng.specs.Frames.{Framed, FrameText, own_order}
 use Rattle.pcap_ng.proofs.Refusing.{opening_order}
-use Rattle.pcap_tolerant_blocks.specs.SectionAsIs.{NoSection, short_section, unnamed}
+use Rattle.pcap_tolerant_blocks.specs.Flaws.{Said}
+use Rattle.pcap_tolerant_blocks.specs.SectionAsIs.{NoSection, SectionText, short_section, unnamed}
 use Rattle.pcap_tolerant_captures.specs.State.{State, opening, within, order_at, Role, begins_section, adds_interface, leaves_all, role_of, Led, MeansFor, Means}
 use Rattle.pcap_tolerant_captures.specs.Resync.{frames_in_a_row, HasRoom, HeaderStands, BlocksStand, IsGiven}
 use Rattle.pcap_tolerant_captures.proofs.Format.{means_one}
@@ -38,26 +39,38 @@ module _ (e : Endianness) (b : Framed) (s rest : List ℕ) (frame : FrameText e 
   named : magic_order frame.head.magic ≡ Some b.endianness
   named = named_there e b.endianness frame.number frame.head.magic (header_number frame.number (sym frame.type_is ∙ is)) frame.head.own_is
 
-  order_known : (fault : Fault) → 16 ≤ length b.body → NoSection b.body fault → ⊥
-  order_known fault room (short_section short) = omega (arith, room, short)
-  order_known fault room (unnamed magic after long number none) =
+  magic_names : (magic : ℕ) (after : List ℕ) → Number big_number 4 magic b.body after → magic_order magic ≡ Some b.endianness
+  magic_names magic after number =
       let here : Number big_number 4 magic frame.after (after ++ frame.tail.after_body) =
       subst (λ (t : List ℕ). Number big_number 4 magic t (after ++ frame.tail.after_body)) (sym frame.tail.body_is) (magic_more magic b.body after frame.tail.after_body number)
       in
       let same = number_same big_number 4 magic frame.head.magic frame.after (after ++ frame.tail.after_body) frame.head.more here frame.head.magic_is in
-      some_none b.endianness (magic_order magic) (ap magic_order same.0 ∙ named) none
+      ap magic_order same.0 ∙ named
 
-section_role : (t : BlockType) → role_of t ≡ begins_section → t ≡ types.SectionHeader
+  pub order_known : (fault : Fault) → 16 ≤ length b.body → NoSection b.body fault → ⊥
+  order_known fault room (short_section short) = omega (arith, room, short)
+  order_known fault room (unnamed magic after long number none) = some_none b.endianness (magic_order magic) (magic_names magic after number) none
+
+  -- The section that the block begins has the block's byte order.
+  pub section_named : (section : Section) (flaws : List Said) (rest : List ℕ) → SectionText section flaws b.body rest → magic_order section.magic ≡ Some b.endianness
+  section_named section flaws rest text = magic_names section.magic text.after_magic text.magic_is
+
+pub section_role : (t : BlockType) → role_of t ≡ begins_section → t ≡ types.SectionHeader
 section_role t e = grind arith
+
+module _ (q : State) (b : Framed) where
+  led_in : (r : HeadReading Led) → Means q b r → ((fault : Fault) → Means q b (bad fault) → ⊥) → (led : Led) × Means q b (good led)
+  led_in (good led) means none = (led, means)
+  led_in (bad fault) means none = absurd (none fault means)
+
+  -- A block that nothing refuses leads on.
+  pub led_unless : ((fault : Fault) → Means q b (bad fault) → ⊥) → (led : Led) × Means q b (good led)
+  led_unless none = let one = means_one q b in led_in one.value one.holds none
 
 -- Nothing refuses a section header that has the sixteen bytes before its options.
 module _ (q : State) (s rest : List ℕ) (b : Framed) (frame : FrameText (order_at q) b s rest) where
-  given : (r : HeadReading Led) → Means q b r → ((fault : Fault) → Means q b (bad fault) → ⊥) → IsGiven q s
-  given (good led) means none = (record { block = b; led = led }, rest, record { frame = frame; means = means })
-  given (bad fault) means none = absurd (none fault means)
-
   given_unless : ((fault : Fault) → Means q b (bad fault) → ⊥) → IsGiven q s
-  given_unless none = let one = means_one q b in given one.value one.holds none
+  given_unless none = let led = led_unless q b none in (record { block = b; led = led.0 }, rest, record { frame = frame; means = led.1 })
 
   header_given : b.type_ ≡ types.SectionHeader → 16 ≤ length b.body → IsGiven q s
   header_given is room =
@@ -67,7 +80,7 @@ module _ (section : Section) (interfaces : List (Option Interface)) where
   abbrev q : State
   q = within section interfaces
 
-  not_refused : (role : Role) (b : Framed) (fault : Fault) → ((role ≡ begins_section) → NoSection b.body fault → ⊥) → MeansFor role q b (bad fault) → ⊥
+  pub not_refused : (role : Role) (b : Framed) (fault : Fault) → ((role ≡ begins_section) → NoSection b.body fault → ⊥) → MeansFor role q b (bad fault) → ⊥
   not_refused begins_section b fault none means = none refl means
   not_refused adds_interface b fault none means = means
   not_refused leaves_all b fault none means = means

@@ -8,3 +8,5 @@ pub mod Run
 pub mod Pieces
 pub mod Copies
 pub mod StrictRun
+pub mod Outlines
+pub mod OutlinedReader

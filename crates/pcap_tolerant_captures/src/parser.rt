@@ -39,6 +39,7 @@ impl PcapNgParserAsIs {
     ghost use Rattle.pcap_ng.specs.Frames.{framed_of};
     ghost use Rattle.pcap_tolerant_blocks.specs.InForce.{IsTimeBy, known};
     ghost use Rattle.pcap_tolerant_captures.specs.Blocks.{AsIsSays, MayGrow, item_of, opened_of};
+    ghost use Rattle.pcap_tolerant_captures.specs.Outlines.{known_order};
     ghost use Rattle.pcap_tolerant_captures.specs.State.{FollowTells, opening, order_at, section_in_force, interfaces_in_force, state_of};
 
     /// Reads the section header at the front of a slice, and returns what follows it, the parser behind it, and the block.
@@ -119,6 +120,28 @@ impl PcapNgParserAsIs {
         ensures { IsTimeBy (known number (interfaces_in_force self.now)) units result }
     {
         self.interfaces.timestamp(number, units)
+    }
+
+    // Returns a parser in a section of this byte order that has no options, no length and no interfaces.
+    #[tactic(auto, unfolding(pcap_ng::specs::State::order_at, pcap_blocks::specs::SectionHeader::magic_order))]
+    pub(crate) fn bare(alloc: Global, order: Endianness) -> PcapNgParserAsIs
+        ensures { known_order (state_of result) ≡ Some order }
+    {
+        let section = SectionHeaderBlock {
+            magic: match order {
+                Endianness::Big => 0x1A2B3C4D,
+                Endianness::Little => 0x4D3C2B1A,
+            },
+            major_version: 1,
+            minor_version: 0,
+            section_length: -1,
+            options: Vec::new(alloc),
+        };
+        PcapNgParserAsIs {
+            alloc,
+            section,
+            interfaces: InterfacesAsIs::new(alloc),
+        }
     }
 
     // Returns the byte order of all blocks except section headers.

@@ -8,16 +8,18 @@ ghost use Rattle.pcap_items.specs.Lent.{HoldsText};
 ghost use Rattle.pcap_ng.specs.Lent.{header_of, framed_around};
 ghost use Rattle.pcap_tolerant_captures.specs.Blocks.{as_is_format};
 ghost use Rattle.pcap_tolerant_captures.specs.HeldAsIs.{state_in, held_item, LentTells, StaysUnlessTaken};
+ghost use Rattle.pcap_tolerant_captures.specs.Outlines.{OutlineTells, HoldsOutline};
 
 use crate::block::{
     BlockAsIs, names_in, of_type, packet_block_in, packet_in, simple_in, statistics_in,
 };
 use crate::parser::{OpenedAsIs, PcapNgParserAsIs};
-use crate::stated::BlocksAsIs;
+use crate::stated::{BlocksAsIs, order_in};
 use pcap_blocks::BlockType;
-use pcap_core::ResultParsing;
+use pcap_core::rules::Rule;
+use pcap_core::{PcapError, ResultParsing};
 use pcap_items::stream::{Held, fill_item};
-use pcap_ng::pcapng::BlockHeader;
+use pcap_ng::pcapng::{Block, BlockHeader};
 use pcap_tolerant_blocks::{
     EnhancedAsIs, Flaw, NamesAsIs, PacketBlockAsIs, SimpleAsIs, StatisticsAsIs,
 };
@@ -51,17 +53,24 @@ pub struct PcapNgReaderAsIs<T> {
     ghost unfailed: { is_done ≡ false → has_failed ≡ false },
 }
 
+// Returns the header of a block.
+fn header_in(block: &Block) -> BlockHeader
+    ensures { result ≡ header_of (framed_of block.now) }
+{
+    BlockHeader {
+        type_: block.type_,
+        initial_len: block.initial_len,
+        endianness: block.endianness(),
+    }
+}
+
 // Returns what a reader lends of a block.
 fn lent(read: BlockAsIs) -> LentAsIs
     ensures header { result.header ≡ header_of (framed_of read.entry.block) }
     ensures flaws { result.flaws ≡ read.entry.flaws }
 {
     let BlockAsIs { block, flaws } = read;
-    let header = BlockHeader {
-        type_: block.type_,
-        initial_len: block.initial_len,
-        endianness: block.endianness(),
-    };
+    let header = header_in(&block);
     LentAsIs { header, flaws }
 }
 
@@ -110,8 +119,52 @@ pub(crate) fn hold<T: Read>(
     Ok(Some(block))
 }
 
+// Reads the frame of the block at the front of these bytes. Of what the block puts in force, the parser keeps the byte order.
+fn outline(
+    alloc: Global,
+    parser: &mut Option<PcapNgParserAsIs>,
+    bytes: &[u8],
+) -> ResultParsing<BlockHeader>
+    ensures { OutlineTells (state_in parser.old) (state_in parser.new) bytes.now result }
+{
+    let (_rest, block) = Block::from_slice(order_in(parser), bytes)?;
+    match block.type_ {
+        BlockType::SectionHeader if block.body.as_slice().len() < 16 => {
+            return Err(PcapError::from(Rule::SectionTooShort));
+        }
+        BlockType::SectionHeader => {
+            *parser = Some(PcapNgParserAsIs::bare(alloc, block.endianness()));
+        }
+        _ if parser.is_none() => return Err(PcapError::from(Rule::SectionMissing)),
+        _ => {}
+    }
+    Ok(header_in(&block))
+}
+
+// Holds the text of the next block, as `hold` does, and keeps the byte order of what the block puts in force.
+fn hold_outline<T: Read>(
+    alloc: Global,
+    parser: &mut Option<PcapNgParserAsIs>,
+    stream: &mut T,
+    has_failed: &mut bool,
+    held: &mut Held,
+) -> ResultParsing<Option<BlockHeader>>
+    requires between { held_bytes held.old ≡ [] }
+    requires unfailed { has_failed.old ≡ false }
+    ensures { HoldsOutline (state_in parser.old) (state_in parser.new) (T.remaining stream.old) (T.remaining stream.new) has_failed.new
+        (held_bytes held.new) result }
+{
+    let Some(_head) = fill_item(&BlocksAsIs { parser }, stream, has_failed, held)? else {
+        return Ok(None);
+    };
+    let header = outline(alloc, parser, held.as_slice())?;
+    Ok(Some(header))
+}
+
 impl<T: Read + Drop> PcapNgReaderAsIs<T> {
     ghost use Rattle.pcap_items.specs.Lent.{LendsText};
+    ghost use Rattle.pcap_tolerant_captures.specs.Outlines.{NextOutline};
+    ghost use Rattle.pcap_tolerant_captures.specs.OutlinedReader.{seen_of};
     ghost use Rattle.pcap_tolerant_captures.specs.ReaderAsIs.{state_of, stream_of, has_failed, is_done, text_of, lent_item, StaysUnlessGiven};
 
     /// Reads the next block and returns its header, with all flaws of the body of a section or an interface. The reader lends
@@ -146,6 +199,33 @@ impl<T: Read + Drop> PcapNgReaderAsIs<T> {
             self.held.clear();
         }
         header.transpose()
+    }
+
+    /// Reads the next block as `next_header` does, but makes no list of options, whatever the block contains. It returns the
+    /// block's header, and the reader lends the body until the next call (`body`, `text`).
+    ///
+    /// Of a section, only its byte order stays in force, in a section without options. An interface isn't kept.
+    ///
+    /// The errors are those of `next_header`. Only the block's bytes need memory.
+    pub fn next_outline(&mut self) -> Option<ResultParsing<BlockHeader>>
+        ensures { NextOutline (seen_of T.remaining self.old) (seen_of T.remaining self.new) result }
+    {
+        self.held.clear();
+        if self.is_done {
+            return None;
+        }
+        let given = hold_outline(
+            self.alloc,
+            &mut self.parser,
+            &mut self.inner,
+            &mut self.has_failed,
+            &mut self.held,
+        );
+        self.is_done = given.is_err();
+        if self.is_done {
+            self.held.clear();
+        }
+        given.transpose()
     }
 }
 

@@ -91,7 +91,13 @@ fn stands(order: Endianness, slice: &[u8], k: usize) -> bool
 pub fn resync(parser: &PcapNgParserAsIs, slice: &[u8], k: usize) -> Option<usize>
     ensures { BlocksResync (order_at (state_of parser.now)) k slice.now result }
 {
-    let order = parser.order();
+    resync_in(parser.order(), slice, k)
+}
+
+/// Returns the place that `resync` returns in a section of this byte order.
+pub fn resync_in(order: Endianness, slice: &[u8], k: usize) -> Option<usize>
+    ensures { BlocksResync order k slice.now result }
+{
     let mut at = 0;
     while at < slice.len() {
         if stands(order, &slice[at..], k) {

@@ -16,7 +16,7 @@ pub(crate) struct BlocksAsIs<'a> {
 }
 
 // Returns the byte order of all blocks except section headers.
-fn order_in(parser: &Option<PcapNgParserAsIs>) -> Endianness
+pub(crate) fn order_in(parser: &Option<PcapNgParserAsIs>) -> Endianness
     ensures { result ≡ order_at (state_in parser.now) }
 {
     match parser {

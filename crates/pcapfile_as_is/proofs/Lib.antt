@@ -1,5 +1,6 @@
 mod ListedBlocks
 mod MendedCaptures
+mod Outlined
 mod SaidLines
 mod Tellings
 mod Whole

@@ -1,11 +1,15 @@
 -- This file defines the lines for the flaws of blocks.
-use Rattle.std.specs.Prelude.{ℕ, List, [], ◌++◌, codes, Option, None, Some}
+use Rattle.std.specs.Prelude.{◌≡◌, ℕ, List, [], ◌++◌, codes, Bool, Option, None, Some, Result, Ok, Err}
 use Rattle.std.specs.List.{flat_map}
 use Rattle.std.specs.Fmt.{decimal}
+use Rattle.std.specs.Io.KnownBytes.{Appends}
 use Rattle.pcap_core.specs.Faults.{Fault, Invalid, Io, Utf8, Own, rule_message}
 use Rattle.pcap_core.specs.Rules.{number_of}
 use Rattle.pcap_tolerant_blocks.specs.Flaws.{Said}
 use Rattle.pcap_tolerant_captures.specs.Blocks.{Item}
+use Rattle.capcopy_run.specs.declared.exit.Exit.{Exit}
+use Rattle.capcopy_run.specs.Lines.{WritesLine}
+use Rattle.pcapfile_as_is.specs.Counts.{are_some}
 
 -- The text that says where a block is: its number and the number of bytes before it.
 abbrev pub block_place : List ℕ → ℕ → ℕ → List ℕ
@@ -38,3 +42,8 @@ said_lines place = flat_map (said_line place)
 -- The lines of the block with this number, after this many bytes.
 abbrev pub block_lines : List ℕ → ℕ → ℕ → Item → List ℕ
 block_lines prefix number place item = said_lines (block_place prefix number place) item.led.flaws
+
+-- WritesFlaws: a call wrote the lines of these flaws as a line is written, and returned whether there is a flaw.
+abbrev pub WritesFlaws : List ℕ → List Said → Option (List ℕ) → Option (List ℕ) → Result Bool Exit → Type 0
+WritesFlaws place flaws before after (Ok has_flaw) = (has_flaw ≡ are_some flaws) × Appends before after (said_lines place flaws)
+WritesFlaws place flaws before after (Err exit) = WritesLine (λ lines. lines ≡ said_lines place flaws) before after (Err exit)

@@ -3,6 +3,7 @@ pub mod BlockLists
 pub mod CheckedAsIs
 pub mod Counts
 pub mod FlawLines
+pub mod FlawTelling
 pub mod Gaps
 pub mod Lists
 pub mod MendedBlocks

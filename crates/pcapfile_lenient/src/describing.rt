@@ -1,9 +1,9 @@
 //! Interfaces that their section doesn't describe.
 
 use crate::frames::number_at;
+use crate::in_force::InForce;
 use crate::summary::Outcome;
 use pcap_file::{DataLink, Endianness, PcapError, TsResolution};
-use pcap_tolerant_captures::PcapNgParserAsIs;
 use pcap_written::Unput;
 use pcapfile_mended::{Described, describe};
 use std::alloc::Global;
@@ -291,9 +291,9 @@ impl Describing {
         self.is_guess
     }
 
-    /// Follows the block at the front of these bytes, after the parser has read it.
-    pub(crate) fn follow(&mut self, parser: &PcapNgParserAsIs, bytes: &[u8]) {
-        match number_at(parser.section().endianness(), bytes, 0) {
+    /// Follows the block at the front of these bytes, after it was put in force.
+    pub(crate) fn follow(&mut self, in_force: &InForce, bytes: &[u8]) {
+        match number_at(in_force.order(), bytes, 0) {
             Some(SECTION) => {
                 self.common = Common::Nothing;
                 self.first_written = None;
@@ -302,8 +302,8 @@ impl Describing {
                 self.reported = None;
             }
             Some(DESCRIPTION) => {
-                let last = count_in(parser).saturating_sub(1);
-                let described = parser.interface(last).map(Described::of);
+                let last = count_in(in_force).saturating_sub(1);
+                let described = in_force.interface(last).map(Described::of);
                 self.common = self.common.with(described);
                 let is_different = matches!(self.common, Common::Different);
                 self.is_disputed = self.first_written.is_some() && is_different;
@@ -313,18 +313,14 @@ impl Describing {
     }
 
     /// Finds out what to do with the block at the front of these bytes, and describes its interface if that is possible.
-    pub(crate) fn judge(
-        &mut self,
-        parser: &mut PcapNgParserAsIs,
-        bytes: &[u8],
-    ) -> io::Result<Next> {
+    pub(crate) fn judge(&mut self, in_force: &mut InForce, bytes: &[u8]) -> io::Result<Next> {
         self.text.clear();
-        let Some(undescribed) = self.undescribed(parser, bytes) else {
+        let Some(undescribed) = self.undescribed(in_force, bytes) else {
             return Ok(Next::Take);
         };
         let Undescribed { interface, fate } = undescribed;
         match (fate, self.reported) {
-            (Fate::Described(..), _) => self.describe_up_to(parser, interface)?,
+            (Fate::Described(..), _) => self.describe_up_to(in_force, interface)?,
             (Fate::Kept, Some(_)) => return Ok(Next::Take),
             _ if self.has_left_out(interface) && fate.is_left_out() => return Ok(Next::LeaveOut),
             _ => self.reported = Some(undescribed),
@@ -334,8 +330,8 @@ impl Describing {
     }
 
     /// Returns whether the next block is left out as the last one was. Its first bytes are enough.
-    pub(crate) fn leaves_out(&self, parser: &PcapNgParserAsIs, bytes: &[u8]) -> bool {
-        match self.undescribed(parser, bytes) {
+    pub(crate) fn leaves_out(&self, in_force: &InForce, bytes: &[u8]) -> bool {
+        match self.undescribed(in_force, bytes) {
             Some(next) => next.fate.is_left_out() && self.has_left_out(next.interface),
             None => false,
         }
@@ -347,12 +343,12 @@ impl Describing {
     }
 
     // Returns the interface of the block at the front of these bytes, if it isn't described, and what becomes of the block.
-    fn undescribed(&self, parser: &PcapNgParserAsIs, bytes: &[u8]) -> Option<Undescribed> {
+    fn undescribed(&self, in_force: &InForce, bytes: &[u8]) -> Option<Undescribed> {
         if !self.is_on {
             return None;
         }
-        let interface = interface_in(parser.section().endianness(), bytes)?;
-        let count = parser.interface_count();
+        let interface = interface_in(in_force.order(), bytes)?;
+        let count = in_force.count();
         let fate = if (interface as usize) < count {
             let first = self.first_written.filter(|_| self.is_disputed)?;
             if interface < first {
@@ -378,40 +374,40 @@ impl Describing {
         }
     }
 
-    // Writes descriptions of the interfaces up to this one, and lets the parser read them.
-    fn describe_up_to(&mut self, parser: &mut PcapNgParserAsIs, interface: u32) -> io::Result<()> {
+    // Writes descriptions of the interfaces up to this one, and puts these interfaces in force.
+    fn describe_up_to(&mut self, in_force: &mut InForce, interface: u32) -> io::Result<()> {
         let like = match (self.common, self.supposed) {
             (Common::Alike(like), _) | (Common::Nothing, Some(like)) => like,
             _ => return Ok(()),
         };
         let (mut body, mut text) = (Vec::new(self.alloc), Vec::new(self.alloc));
-        let order = parser.section().endianness();
+        let order = in_force.order();
         match describe(self.alloc, order, like.described, &mut body, &mut text) {
             Ok(()) => {}
             Err(Unput::Memory(error)) => return Err(io::Error::from(error)),
             Err(Unput::Unfit(_)) => return Err(io::Error::from(ErrorKind::InvalidData)),
         }
-        self.first_written = Some(self.first_written.unwrap_or(count_in(parser)));
+        self.first_written = Some(self.first_written.unwrap_or(count_in(in_force)));
         self.common = Common::Alike(like);
         for _ in 0..MOST {
-            if (interface as usize) < parser.interface_count() {
+            if (interface as usize) < in_force.count() {
                 break;
             }
             self.text.extend_from_slice(text.as_slice())?;
-            read_description(parser, text.as_slice())?;
+            read_description(in_force, text.as_slice())?;
         }
         Ok(())
     }
 }
 
 // Returns the number of interfaces that the section in force describes, as far as a packet can name them.
-fn count_in(parser: &PcapNgParserAsIs) -> u32 {
-    u32::try_from(parser.interface_count()).unwrap_or(u32::MAX)
+fn count_in(in_force: &InForce) -> u32 {
+    u32::try_from(in_force.count()).unwrap_or(u32::MAX)
 }
 
-// Lets the parser read a description.
-fn read_description(parser: &mut PcapNgParserAsIs, text: &[u8]) -> io::Result<()> {
-    match parser.next_block_as_is(text) {
+// Puts a description in force.
+fn read_description(in_force: &mut InForce, text: &[u8]) -> io::Result<()> {
+    match in_force.follow(text) {
         Ok(_) => Ok(()),
         Err(PcapError::OutOfMemory(error)) => Err(io::Error::from(error)),
         Err(_) => Err(io::Error::from(ErrorKind::InvalidData)),
@@ -419,9 +415,9 @@ fn read_description(parser: &mut PcapNgParserAsIs, text: &[u8]) -> io::Result<()
 }
 
 /// Returns whether the block at the front of these bytes names no interface that is taken for corrupt.
-pub(crate) fn names_a_near_interface(parser: &PcapNgParserAsIs, bytes: &[u8]) -> bool {
-    let most = parser.interface_count().saturating_add(MOST);
-    match interface_in(parser.section().endianness(), bytes) {
+pub(crate) fn names_a_near_interface(in_force: &InForce, bytes: &[u8]) -> bool {
+    let most = in_force.count().saturating_add(MOST);
+    match interface_in(in_force.order(), bytes) {
         Some(interface) => (interface as usize) < most,
         None => true,
     }

@@ -3,8 +3,7 @@
 use crate::packets::Change;
 use crate::window::{IN_A_ROW, Window};
 use pcap_file::Endianness;
-use pcap_tolerant_captures::PcapNgParserAsIs;
-use pcap_tolerant_captures::resync::resync as first_blocks;
+use pcap_tolerant_captures::resync::resync_in as first_blocks;
 use std::io;
 
 /// The length of the shortest block, in bytes.
@@ -14,21 +13,17 @@ const SHORTEST: usize = 12;
 const LENGTH: usize = 4;
 
 /// Puts the right length into the block at the front of the window, if one of its two lengths says where the next blocks begin.
-pub(crate) fn mend_frame(
-    parser: &PcapNgParserAsIs,
-    window: &mut Window,
-) -> io::Result<Option<Change>> {
+pub(crate) fn mend_frame(order: Endianness, window: &mut Window) -> io::Result<Option<Change>> {
     let sure = window.reach_row()?;
     let bytes = window.shown();
     let behind = bytes.get(SHORTEST..).unwrap_or_default();
-    let len = match first_blocks(parser, behind, IN_A_ROW) {
+    let len = match first_blocks(order, behind, IN_A_ROW) {
         Some(found) => found.saturating_add(SHORTEST),
         None => bytes.len(),
     };
     if len > sure || len % 4 != 0 {
         return Ok(None);
     }
-    let order = parser.section().endianness();
     let last = len.saturating_sub(LENGTH);
     let (Some(before), Some(after)) = (
         number_at(order, bytes, LENGTH),

@@ -7,6 +7,7 @@ mod count;
 mod cut_short;
 mod describing;
 mod frames;
+mod in_force;
 mod lost;
 mod noted;
 mod opening;

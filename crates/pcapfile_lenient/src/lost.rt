@@ -1,11 +1,11 @@
 //! PcapNg captures whose first section header is lost.
 
 use crate::describing::names_a_near_interface;
+use crate::in_force::InForce;
 use crate::rows::SECTION;
 use crate::window::IN_A_ROW;
 use pcap_file::{Endianness, PcapError, PcapNgWriter, ResultParsing};
-use pcap_tolerant_captures::resync::resync as first_blocks;
-use pcap_tolerant_captures::{OpenedAsIs, PcapNgParserAsIs};
+use pcap_tolerant_captures::resync::resync_in as first_blocks;
 use std::alloc::Global;
 
 /// The fewest blocks in a row that are taken for a section without its header.
@@ -71,13 +71,12 @@ pub(crate) fn lost_blocks_in(
     bytes: &[u8],
 ) -> ResultParsing<Option<Lost>> {
     let header = section_text(alloc, order)?;
-    let (_rest, opened) = PcapNgParserAsIs::new(alloc, header.as_slice())?;
-    let OpenedAsIs { mut parser, .. } = opened;
-    let Some(place) = first_blocks(&parser, bytes, IN_A_ROW) else {
+    let (_rest, mut in_force) = InForce::open(alloc, header.as_slice())?;
+    let Some(place) = first_blocks(order, bytes, IN_A_ROW) else {
         return Ok(None);
     };
     let row = bytes.get(place..).unwrap_or_default();
-    let (blocks, is_to_end) = blocks_in_a_row(&mut parser, row)?;
+    let (blocks, is_to_end) = blocks_in_a_row(&mut in_force, row)?;
     if blocks < FEWEST {
         return Ok(None);
     }
@@ -90,18 +89,18 @@ pub(crate) fn lost_blocks_in(
 }
 
 // Returns the number of blocks that follow each other from the front of these bytes, and whether they reach the end or a section header.
-fn blocks_in_a_row(parser: &mut PcapNgParserAsIs, bytes: &[u8]) -> ResultParsing<(u64, bool)> {
+fn blocks_in_a_row(in_force: &mut InForce, bytes: &[u8]) -> ResultParsing<(u64, bool)> {
     let mut left = bytes;
     let mut blocks: u64 = 0;
     for _ in 0..u64::MAX {
         if left.starts_with(&SECTION) {
             return Ok((blocks, true));
         }
-        if !names_a_near_interface(parser, left) {
+        if !names_a_near_interface(in_force, left) {
             break;
         }
-        match parser.next_block_as_is(left) {
-            Ok((rest, _block)) => left = rest,
+        match in_force.follow(left) {
+            Ok(rest) => left = rest,
             Err(PcapError::OutOfMemory(error)) => return Err(PcapError::OutOfMemory(error)),
             Err(_) => break,
         }

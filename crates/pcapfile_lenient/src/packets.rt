@@ -4,7 +4,8 @@ use crate::describing::Undescribed;
 use crate::summary::Outcome;
 use crate::window::Window;
 use pcap_damaged::{
-    Numbers, Weight, begins_capture, begins_near, can_be_this_long, follows, head_at, resync, weigh,
+    NEAR, Numbers, Weight, begins_capture, begins_near, can_be_this_long, follows, head_at, resync,
+    weigh,
 };
 use pcap_file::pcap::PcapHeader;
 use pcap_file::{Endianness, PcapParser, ResultParsing, Rule, TsResolution};
@@ -44,6 +45,8 @@ const BEHIND: usize = 3;
 pub(crate) struct Packets {
     /// The header in force, as a parser of its packets.
     parser: PcapParser,
+    /// The same header without a snapshot length.
+    unlimited: PcapParser,
     /// The first header, under which all packets are given.
     first: PcapParser,
     /// The time of the packet before in seconds, if there is one.
@@ -99,8 +102,10 @@ pub enum Change {
     },
     /// The next packet is a guess: it is one of a short run behind corrupt bytes.
     Found,
-    /// The next packet is a guess: it has no data, and the capture is damaged.
+    /// The next packet is a guess: it has no data, and the capture is damaged, or all numbers of its head are 0.
     Empty,
+    /// The packet in the next block is a guess: no packet has its original length.
+    Oversized,
     /// The last packet, of this many bytes, is a guess: nothing confirms where it ends.
     Unconfirmed(usize),
     /// The end of the next block is missing, and is written again: of its bytes so many are there, and so many are written.
@@ -159,9 +164,11 @@ impl Change {
                 ..
             }
             | Change::CutOff { .. } => Some(Outcome::Repaired),
-            Change::Length { .. } | Change::Found | Change::Empty | Change::Unconfirmed(_) => Some(
-                Outcome::Guessed,
-            ),
+            Change::Length { .. }
+            | Change::Found
+            | Change::Empty
+            | Change::Oversized
+            | Change::Unconfirmed(_) => Some(Outcome::Guessed),
             Change::Undescribed(undescribed) => undescribed.fate.outcome(),
         }
     }
@@ -193,6 +200,7 @@ impl fmt::Display for Change {
             }
             Change::Found => f.write_str("kept, a guess: it may lie inside another packet"),
             Change::Empty => f.write_str("kept, a guess: it has no data"),
+            Change::Oversized => write!(f, "kept, a guess: its original length is above {LIMIT}"),
             Change::Unconfirmed(_) => f.write_str("kept, a guess: nothing confirms where it ends"),
             Change::CutOff { .. } => f.write_str(
                 "its end is missing: its packet is kept, without options that are cut off or break rules",
@@ -207,6 +215,7 @@ impl Packets {
     pub(crate) fn new(header: PcapHeader) -> ResultParsing<Packets> {
         Ok(Packets {
             parser: PcapParser::with_header(header)?,
+            unlimited: PcapParser::with_header(unlimited(&header))?,
             first: PcapParser::with_header(header)?,
             time: None,
             longest: USUAL,
@@ -223,11 +232,15 @@ impl Packets {
 
     /// Puts the header at the front of these bytes in force.
     pub(crate) fn begin(&mut self, bytes: &[u8]) {
-        if let Ok((_rest, parser)) = PcapParser::new(bytes) {
-            self.parser = parser;
-            self.time = None;
-            self.unconfirmed = None;
+        let Ok((_rest, parser)) = PcapParser::new(bytes) else {
+            return;
+        };
+        if let Ok(unlimited) = PcapParser::with_header(unlimited(parser.header())) {
+            self.unlimited = unlimited;
         }
+        self.parser = parser;
+        self.time = None;
+        self.unconfirmed = None;
     }
 
     /// Notes that the next packet was found by resynchronization.
@@ -259,7 +272,7 @@ impl Packets {
     /// Finds out what is at the front of the window.
     pub(crate) fn look(&mut self, window: &mut Window) -> io::Result<Here> {
         let here = self.look_at(window)?;
-        self.is_damaged = self.is_damaged || matches!(here, Here::Changed(_) | Here::Garbage(_));
+        self.is_damaged = self.is_damaged || is_damage(here);
         Ok(here)
     }
 
@@ -347,6 +360,7 @@ impl Packets {
         match weigh(&self.parser, time, window.shown()) {
             Weight::Stands => self.stand(window, head, time),
             Weight::Length(length) => Ok(self.change(window, head, length, false)),
+            Weight::Wrong if head.included > self.limit() => self.exceed(window, head, time),
             Weight::Wrong => self.look_on(window, head, time),
             Weight::Short => Ok(Here::Torn),
         }
@@ -401,15 +415,34 @@ impl Packets {
         {
             return self.look_on(window, head, time);
         }
+        Ok(self.take_unconfirmed(window, head))
+    }
+
+    // Takes a packet that is longer than the snapshot length if nothing else speaks against it, and its next packets stand too.
+    fn exceed(&mut self, window: &mut Window, head: Numbers, time: u32) -> io::Result<Here> {
+        let weight = weigh(&self.unlimited, head.seconds, window.shown());
+        if weight != Weight::Stands || !self.stand_behind(window, head)? {
+            return self.look_on(window, head, time);
+        }
+        let end = HEAD.saturating_add(head.included as usize);
+        let behind = window.shown().get(end..).unwrap_or_default();
+        if follows(&self.unlimited, head.seconds, behind) {
+            return self.take_confirmed(window, head, time);
+        }
+        Ok(self.take_unconfirmed(window, head))
+    }
+
+    // Takes a packet, and notes that nothing confirms where it ends.
+    fn take_unconfirmed(&mut self, window: &mut Window, head: Numbers) -> Here {
         let was_reported = self.is_reported;
         let here = self.take(window, head);
         if !was_reported {
-            self.unconfirmed = Some(end);
+            self.unconfirmed = Some(HEAD.saturating_add(head.included as usize));
         }
-        Ok(here)
+        here
     }
 
-    // Returns whether the next packets behind the one of this head stand too, as far as there are any.
+    // Returns whether the next packets behind the one of this head stand too, whatever their length, as far as there are any.
     fn stand_behind(&self, window: &mut Window, head: Numbers) -> io::Result<bool> {
         let most = (BEHIND + 1) * (HEAD + PACKET_LIMIT as usize);
         window.reach(most.saturating_add(ROW))?;
@@ -418,10 +451,10 @@ impl Packets {
         for _ in 0..BEHIND {
             let end = HEAD.saturating_add(here.included as usize);
             left = left.get(end..).unwrap_or_default();
-            let Some((next, _data)) = head_at(&self.parser, left) else {
+            let Some((next, _data)) = head_at(&self.unlimited, left) else {
                 return Ok(true);
             };
-            match weigh(&self.parser, here.seconds, left) {
+            match weigh(&self.unlimited, here.seconds, left) {
                 Weight::Stands => {}
                 Weight::Wrong => return Ok(begins_capture(left)),
                 _ => return Ok(true),
@@ -484,8 +517,7 @@ impl Packets {
         }
     }
 
-    // Takes the packet of this head, and puts its head in the form of the first header. A packet of a short run, or without data in a
-    // damaged capture, is reported first.
+    // Takes the packet of this head, and puts its head in the form of the first header. A packet that is a guess is reported first.
     fn take(&mut self, window: &mut Window, head: Numbers) -> Here {
         if let Some(change) = self.guess(head) {
             self.is_reported = true;
@@ -518,7 +550,7 @@ impl Packets {
         if self.run > 0 {
             return Some(Change::Found);
         }
-        if self.is_damaged && is_empty(head) {
+        if self.is_damaged && is_empty(head) || is_zero(head) && self.time.unwrap_or(0) > NEAR {
             return Some(Change::Empty);
         }
         None
@@ -591,6 +623,22 @@ impl Packets {
             Ok(_) => None,
             Err(error) => error.rule(),
         }
+    }
+}
+
+// Returns the same header without a snapshot length.
+fn unlimited(header: &PcapHeader) -> PcapHeader {
+    let mut header = *header;
+    header.snaplen = 0;
+    header
+}
+
+// Returns whether this is corrupt, or was changed. A packet without data is neither.
+fn is_damage(here: Here) -> bool {
+    match here {
+        Here::Changed(Change::Empty) => false,
+        Here::Changed(_) | Here::Garbage(_) => true,
+        Here::Header | Here::Packet(_) | Here::OtherLink(_) | Here::Torn => false,
     }
 }
 

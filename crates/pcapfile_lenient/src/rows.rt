@@ -4,15 +4,16 @@ ghost use Rattle.std.specs.Prelude.{None};
 
 use crate::describing::{Describing, Next};
 use crate::frames::mend_frame;
+use crate::in_force::InForce;
 use crate::lost::{Lost, section_text};
 use crate::packets::{Change, HEADER, Here, LIMIT, Packets};
-use crate::stored::{is_zero_packet, mend_stored};
+use crate::stored::{is_oversized, is_zero_packet, mend_stored};
+use crate::summary::Outcome;
 use crate::torn::complete_last;
 use crate::window::{IN_A_ROW, Sought, Window};
 use pcap_file::pcap::PcapHeader;
 use pcap_file::{PcapError, ResultParsing, Rule};
-use pcap_tolerant_captures::resync::resync as first_blocks;
-use pcap_tolerant_captures::{OpenedAsIs, PcapNgParserAsIs};
+use pcap_tolerant_captures::resync::resync_in as first_blocks;
 use pcapfile_as_is::{LeftOut, Scrap};
 use std::alloc::{AllocError, Global};
 use std::io;
@@ -29,8 +30,8 @@ const SHORTEST: usize = 12;
 enum Kind {
     /// Packets.
     Packets(Packets),
-    /// Blocks, read by a parser with the section and interfaces before them.
-    Blocks(PcapNgParserAsIs),
+    /// Blocks, after what is in force before them.
+    Blocks(InForce),
 }
 
 /// What is at the front of blocks.
@@ -71,6 +72,8 @@ pub struct Rows {
     left_out: LeftOut,
     /// The last change, and how many there are so far.
     changed: Changed,
+    /// Whether the next block was reported as a guess.
+    is_reported: bool,
     /// Whether the last packets were left out for their link type, or blocks for their interface.
     is_leaving_out: bool,
     /// The number of packets that were left out for their link type, and of blocks for their interface.
@@ -93,7 +96,7 @@ impl Kind {
     fn sought(&self) -> Sought<'_> {
         match self {
             Kind::Packets(packets) => Sought::Packets(packets.parser(), packets.time_by(None)),
-            Kind::Blocks(parser) => Sought::Blocks(parser),
+            Kind::Blocks(in_force) => Sought::Blocks(in_force.order()),
         }
     }
 
@@ -133,8 +136,8 @@ impl Rows {
         describing: Describing,
     ) -> ResultParsing<Rows> {
         let refusal = match open(alloc, &mut window) {
-            Ok((parser, len)) => {
-                let mut rows = Rows::new(alloc, Kind::Blocks(parser), window, describing);
+            Ok((in_force, len)) => {
+                let mut rows = Rows::new(alloc, Kind::Blocks(in_force), window, describing);
                 rows.ready = len;
                 return Ok(rows);
             }
@@ -147,8 +150,8 @@ impl Rows {
         if !passed.is_found {
             return Err(refusal);
         }
-        let (parser, len) = first_section(alloc, window.shown())?;
-        let mut rows = Rows::new(alloc, Kind::Blocks(parser), window, describing);
+        let (in_force, len) = first_section(alloc, window.shown())?;
+        let mut rows = Rows::new(alloc, Kind::Blocks(in_force), window, describing);
         rows.ready = len;
         rows.leave_out(passed.bytes, Scrap::NoBlocks, refusal.rule());
         Ok(rows)
@@ -162,9 +165,9 @@ impl Rows {
         describing: Describing,
     ) -> ResultParsing<Rows> {
         let text = section_text(alloc, lost.order)?;
-        let (parser, len) = first_section(alloc, text.as_slice())?;
+        let (in_force, len) = first_section(alloc, text.as_slice())?;
         window.pass(lost.place);
-        let mut rows = Rows::new(alloc, Kind::Blocks(parser), window, describing);
+        let mut rows = Rows::new(alloc, Kind::Blocks(in_force), window, describing);
         rows.last = text;
         rows.ready = len;
         rows.leave_out(lost.place as u64, Scrap::NoBlocks, None);
@@ -190,6 +193,7 @@ impl Rows {
                 count: 0,
                 last: None,
             },
+            is_reported: false,
             is_leaving_out: false,
             others: 0,
             is_at_end: false,
@@ -242,8 +246,8 @@ impl Rows {
                     let here = packets.look(&mut self.window)?;
                     self.step_at(here)?
                 }
-                Kind::Blocks(parser) => {
-                    let front = front_of(parser, self.window.shown())?;
+                Kind::Blocks(in_force) => {
+                    let front = front_of(in_force, self.window.shown())?;
                     self.step_before(front)?
                 }
             };
@@ -324,26 +328,35 @@ impl Rows {
         };
     }
 
-    // Takes a block of this many bytes, or leaves it out. First it mends the stored length of its packet, and describes its interface. A
-    // packet whose body is zero bytes counts as corrupt bytes.
+    // Takes a block of this many bytes, or leaves it out. First it mends the stored length of its packet, reports a guess, and describes
+    // its interface. A packet whose body is zero bytes counts as corrupt bytes.
     fn pass_block(&mut self, len: usize) -> io::Result<Step> {
-        let Kind::Blocks(parser) = &mut self.kind else {
+        let Kind::Blocks(in_force) = &mut self.kind else {
             return Ok(Step::Done);
         };
         self.is_leaving_out = false;
-        if is_zero_packet(parser, &self.window, len) {
+        if is_zero_packet(in_force, &self.window, len) {
             self.window.pass(len);
             self.leave_out(len as u64, Scrap::NoBlocks, None);
             return Ok(Step::Done);
         }
-        if let Some(change) = mend_stored(parser, &mut self.window, len) {
+        if let Some(change) = mend_stored(in_force, &mut self.window, len) {
+            self.is_reported = change.outcome() == Some(Outcome::Guessed);
             self.note(change);
             return Ok(Step::Done);
         }
+        if !self.is_reported && is_oversized(in_force, &self.window, len) {
+            self.is_reported = true;
+            self.note(Change::Oversized);
+            return Ok(Step::Done);
+        }
         let bytes = self.window.shown();
-        self.describing.follow(parser, bytes);
-        match self.describing.judge(parser, bytes)? {
-            Next::Take => self.ready = len,
+        self.describing.follow(in_force, bytes);
+        match self.describing.judge(in_force, bytes)? {
+            Next::Take => {
+                self.ready = len;
+                self.is_reported = false;
+            }
             Next::Report(undescribed) => self.note(Change::Undescribed(undescribed)),
             Next::LeaveOut => return self.leave_out_block(len),
         }
@@ -352,13 +365,14 @@ impl Rows {
 
     // Leaves out a block of this many bytes. The row ends here unless the next one is left out too.
     fn leave_out_block(&mut self, len: usize) -> io::Result<Step> {
+        self.is_reported = false;
         self.window.pass(len);
         self.leave_out(len as u64, Scrap::Undescribed, None);
         self.others = self.others.saturating_add(1);
         self.window.reach(SHORTEST)?;
         self.is_leaving_out = match &self.kind {
             Kind::Packets(_) => false,
-            Kind::Blocks(parser) => self.describing.leaves_out(parser, self.window.shown()),
+            Kind::Blocks(in_force) => self.describing.leaves_out(in_force, self.window.shown()),
         };
         if self.is_leaving_out {
             return Ok(Step::Further);
@@ -370,7 +384,7 @@ impl Rows {
     fn pass_blocks(&mut self, rule: Option<Rule>) -> io::Result<()> {
         let change = match &self.kind {
             Kind::Packets(_) => None,
-            Kind::Blocks(parser) => mend_frame(parser, &mut self.window)?,
+            Kind::Blocks(in_force) => mend_frame(in_force.order(), &mut self.window)?,
         };
         match change {
             Some(change) => self.note(change),
@@ -404,11 +418,12 @@ impl Rows {
         let last = self.window.shown();
         let goes_on = match &self.kind {
             Kind::Packets(_) => false,
-            Kind::Blocks(parser) => first_blocks(
-                parser,
+            Kind::Blocks(in_force) => first_blocks(
+                in_force.order(),
                 last.get(1..).unwrap_or_default(),
                 IN_A_ROW,
-            ).is_some(),
+            )
+            .is_some(),
         };
         if goes_on || last.len().saturating_add(missing) > LIMIT as usize {
             return self.pass_blocks(None);
@@ -419,21 +434,21 @@ impl Rows {
 
     // Mends the frame of the last block, or completes it, or describes its interface, and returns whether that was done.
     fn mend_last(&mut self, missing: usize) -> io::Result<bool> {
-        let Kind::Blocks(parser) = &mut self.kind else {
+        let Kind::Blocks(in_force) = &mut self.kind else {
             return Ok(false);
         };
         let len = self.window.shown().len();
         if len == 0 || len.saturating_add(missing) > LIMIT as usize {
             return Ok(false);
         }
-        if let Some(change) = mend_frame(parser, &mut self.window)? {
+        if let Some(change) = mend_frame(in_force.order(), &mut self.window)? {
             self.note(change);
             return Ok(true);
         }
-        let Some(text) = complete_last(self.alloc, parser, &self.window)? else {
+        let Some(text) = complete_last(self.alloc, in_force, &self.window)? else {
             return Ok(false);
         };
-        match self.describing.judge(parser, self.window.shown())? {
+        match self.describing.judge(in_force, self.window.shown())? {
             Next::Take => {}
             Next::Report(undescribed) => {
                 self.note(Change::Undescribed(undescribed));
@@ -493,17 +508,17 @@ impl Read for Rows {
 }
 
 // Returns the block at the front of these bytes. A section or interface there is in force afterwards.
-fn front_of(parser: &mut PcapNgParserAsIs, bytes: &[u8]) -> Result<Front, AllocError> {
-    match parser.next_block_as_is(bytes) {
-        Ok((rest, _block)) => Ok(Front::Block(bytes.len().saturating_sub(rest.len()))),
+fn front_of(in_force: &mut InForce, bytes: &[u8]) -> Result<Front, AllocError> {
+    match in_force.follow(bytes) {
+        Ok(rest) => Ok(Front::Block(bytes.len().saturating_sub(rest.len()))),
         Err(PcapError::IncompleteBuffer(n)) => Ok(Front::Missing(n)),
         Err(PcapError::OutOfMemory(error)) => Err(error),
         Err(error) => Ok(Front::Garbage(error.rule())),
     }
 }
 
-// Returns a parser after the first section header in the window, and the length of this header.
-fn open(alloc: Global, window: &mut Window) -> ResultParsing<(PcapNgParserAsIs, usize)> {
+// Returns what the first section header in the window puts in force, and the length of this header.
+fn open(alloc: Global, window: &mut Window) -> ResultParsing<(InForce, usize)> {
     for _ in 0..u64::MAX {
         match first_section(alloc, window.shown()) {
             Err(PcapError::IncompleteBuffer(n)) => {
@@ -534,13 +549,11 @@ pub(crate) fn begins_section(alloc: Global, window: &mut Window) -> ResultParsin
     Ok(false)
 }
 
-// Returns a parser after the section header at the front of these bytes, and the length of this header.
-fn first_section(alloc: Global, bytes: &[u8]) -> ResultParsing<(PcapNgParserAsIs, usize)> {
+// Returns what the section header at the front of these bytes puts in force, and the length of this header.
+fn first_section(alloc: Global, bytes: &[u8]) -> ResultParsing<(InForce, usize)> {
     if bytes.len() >= SECTION.len() && !bytes.starts_with(&SECTION) {
         return Err(PcapError::from(Rule::SectionMissing));
     }
-    let (rest, opened) = PcapNgParserAsIs::new(alloc, bytes)?;
-    let left = rest.len();
-    let OpenedAsIs { parser, .. } = opened;
-    Ok((parser, bytes.len().saturating_sub(left)))
+    let (rest, in_force) = InForce::open(alloc, bytes)?;
+    Ok((in_force, bytes.len().saturating_sub(rest.len())))
 }

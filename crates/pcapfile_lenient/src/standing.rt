@@ -19,7 +19,7 @@ use pcap_file::{Endianness, PcapError, PcapParser, ResultParsing};
 use pcap_tolerant::ReaderAsIs;
 use pcap_tolerant_captures::PcapNgReaderAsIs;
 use pcap_variants::Variant;
-use pcapfile_as_is::{BlockTeller, Counted, Teller, tell_blocks, tell_packets};
+use pcapfile_as_is::{BlockTeller, Counted, Teller, tell_blocks, tell_flaws, tell_packets};
 use pcapfile_files::{Watched, buffered};
 use pcapfile_run::Format;
 use std::alloc::Global;
@@ -112,6 +112,27 @@ impl BlockRows {
         let BlockRows { mut reader } = self;
         let mut now = counts(counted);
         let told = tell_blocks(alloc, teller, &mut reader, output, most, &mut now);
+        *counted = now;
+        match told {
+            Ok(None) => Ok(BlockRows { reader }),
+            Ok(Some(error)) => Err(Stop::Unread(error)),
+            Err(exit) => Err(Stop::Untold(exit)),
+        }
+    }
+
+    /// Writes a line for each flaw of the blocks up to the end of their row, `most` at most, after the prefix, and counts the blocks.
+    /// Options of blocks that it has read take no memory.
+    pub fn tell_flaws<W: Write>(
+        self,
+        alloc: Global,
+        prefix: &str,
+        output: &mut W,
+        most: u64,
+        counted: &mut Counted,
+    ) -> Result<BlockRows, Stop> {
+        let BlockRows { mut reader } = self;
+        let mut now = counts(counted);
+        let told = tell_flaws(alloc, prefix, &mut reader, output, most, &mut now);
         *counted = now;
         match told {
             Ok(None) => Ok(BlockRows { reader }),

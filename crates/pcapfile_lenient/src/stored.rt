@@ -1,10 +1,13 @@
 //! Packets of a PcapNg capture whose stored length is wrong, although the lengths of their block are right.
 
 use crate::frames::number_at;
-use crate::packets::{Change, PACKET_LIMIT};
+use crate::in_force::InForce;
+use crate::packets::{Change, LIMIT, PACKET_LIMIT};
 use crate::window::Window;
 use pcap_file::Endianness;
-use pcap_tolerant_captures::PcapNgParserAsIs;
+
+/// The type of an obsolete packet, whose numbers have the places of an enhanced one's.
+const OBSOLETE: u32 = 2;
 
 /// The type of an enhanced packet.
 const ENHANCED: u32 = 6;
@@ -31,19 +34,15 @@ const OPTION: usize = 4;
 /// stored length and well-formed options do not fill the block. It is the original length, or the snapshot length, if that does;
 /// and otherwise, if the data would go on past the block, up to the end of the block, by a guess. It is a guess too if the original
 /// length is above the limit, since the numbers beside it may then be as wrong.
-pub(crate) fn mend_stored(
-    parser: &PcapNgParserAsIs,
-    window: &mut Window,
-    len: usize,
-) -> Option<Change> {
-    let order = parser.section().endianness();
+pub(crate) fn mend_stored(in_force: &InForce, window: &mut Window, len: usize) -> Option<Change> {
+    let order = in_force.order();
     let bytes = window.shown().get(..len)?;
     if number_at(order, bytes, 0)? != ENHANCED {
         return None;
     }
     let stated = number_at(order, bytes, STORED)?;
     let original = number_at(order, bytes, ORIGINAL)?;
-    let whole = original.min(limit(parser, number_at(order, bytes, INTERFACE)?));
+    let whole = original.min(limit(in_force, number_at(order, bytes, INTERFACE)?));
     let data = bytes.get(DATA..len.saturating_sub(TRAILER))?;
     let (length, is_guess) = length_in(order, data, stated, whole)?;
     let number = match order {
@@ -60,17 +59,26 @@ pub(crate) fn mend_stored(
 
 /// Returns whether the block at the front of the window, of this many bytes, is an enhanced packet whose lengths are 0, without options,
 /// and which has more bytes nonetheless. Such a block is what zero bytes over a packet leave.
-pub(crate) fn is_zero_packet(parser: &PcapNgParserAsIs, window: &Window, len: usize) -> bool {
+pub(crate) fn is_zero_packet(in_force: &InForce, window: &Window, len: usize) -> bool {
     let bytes = window.shown().get(..len).unwrap_or_default();
     let front = bytes.get(STORED..DATA + OPTION).unwrap_or_default();
-    number_at(parser.section().endianness(), bytes, 0) == Some(ENHANCED)
+    number_at(in_force.order(), bytes, 0) == Some(ENHANCED)
         && len > DATA + OPTION + TRAILER
         && front.iter().all(|byte| *byte == 0)
 }
 
+/// Returns whether the block at the front of the window, of this many bytes, is a packet with an original length that no packet has.
+pub(crate) fn is_oversized(in_force: &InForce, window: &Window, len: usize) -> bool {
+    let order = in_force.order();
+    let bytes = window.shown().get(..len).unwrap_or_default();
+    let holds_packet = matches!(number_at(order, bytes, 0), Some(OBSOLETE | ENHANCED));
+    let original = number_at(order, bytes, ORIGINAL).unwrap_or(0);
+    holds_packet && len >= DATA + TRAILER && original > LIMIT
+}
+
 /// Returns the snapshot length of an interface, or the largest number.
-pub(crate) fn limit(parser: &PcapNgParserAsIs, interface: u32) -> u32 {
-    match parser.interface(interface) {
+pub(crate) fn limit(in_force: &InForce, interface: u32) -> u32 {
+    match in_force.interface(interface) {
         Some(found) if found.snaplen > 0 => found.snaplen,
         _ => u32::MAX,
     }

@@ -1,11 +1,11 @@
 //! The last block of a truncated PcapNg capture, which may have all of its packet.
 
 use crate::frames::number_at;
+use crate::in_force::InForce;
 use crate::stored::{limit, padded};
 use crate::window::{IN_A_ROW, Window};
 use pcap_file::Endianness;
-use pcap_tolerant_captures::PcapNgParserAsIs;
-use pcap_tolerant_captures::resync::resync as first_blocks;
+use pcap_tolerant_captures::resync::resync_in as first_blocks;
 use pcapfile_mended::complete;
 use std::alloc::{AllocError, Global};
 
@@ -34,13 +34,13 @@ const TRAILER: usize = 4;
 /// `None` if the bytes speak against that.
 pub(crate) fn complete_last(
     alloc: Global,
-    parser: &PcapNgParserAsIs,
+    in_force: &InForce,
     window: &Window,
 ) -> Result<Option<Vec<u8>>, AllocError> {
-    let order = parser.section().endianness();
-    let most = limit(parser, 0);
+    let order = in_force.order();
+    let most = limit(in_force, 0);
     let bytes = window.shown();
-    if is_cut_off(parser, most, bytes).is_none() {
+    if is_cut_off(order, most, bytes).is_none() {
         return Ok(None);
     }
     let mut body = Vec::new(alloc);
@@ -53,8 +53,7 @@ pub(crate) fn complete_last(
 
 // Returns a value if nothing speaks against these bytes as the beginning of a packet block whose end is cut off. What follows the data
 // must be padding, options and the beginning of the last length. There must be no blocks in a row behind the data.
-fn is_cut_off(parser: &PcapNgParserAsIs, most: u32, bytes: &[u8]) -> Option<()> {
-    let order = parser.section().endianness();
+fn is_cut_off(order: Endianness, most: u32, bytes: &[u8]) -> Option<()> {
     let type_ = number_at(order, bytes, 0)?;
     let end = data_end(order, type_, most, bytes)?;
     let stated = number_at(order, bytes, LENGTH)? as usize;
@@ -69,7 +68,7 @@ fn is_cut_off(parser: &PcapNgParserAsIs, most: u32, bytes: &[u8]) -> Option<()> 
     if type_ == SIMPLE && room > 0 {
         return None;
     }
-    if first_blocks(parser, behind, IN_A_ROW).is_some() {
+    if first_blocks(order, behind, IN_A_ROW).is_some() {
         return None;
     }
     let options = bytes.get(from..last.min(bytes.len())).unwrap_or_default();

@@ -4,9 +4,8 @@ use crate::packets::ROW;
 use crate::undo::Undo;
 use capcopy_run::Uninterrupted;
 use pcap_damaged::resync as first_packets;
-use pcap_file::PcapParser;
-use pcap_tolerant_captures::PcapNgParserAsIs;
-use pcap_tolerant_captures::resync::{resync as first_blocks, resync_section};
+use pcap_file::{Endianness, PcapParser};
+use pcap_tolerant_captures::resync::{resync_in as first_blocks, resync_section};
 use pcap_variants::Variant;
 use pcapfile_files::Watched;
 use std::alloc::Global;
@@ -27,8 +26,8 @@ type Input = BufReader<Uninterrupted<Watched>>;
 pub(crate) enum Sought<'a> {
     /// Packets, read by a parser with the capture's header, and near this time in seconds.
     Packets(&'a PcapParser, u32),
-    /// Blocks, read by a parser with the section and interfaces before them.
-    Blocks(&'a PcapNgParserAsIs),
+    /// Blocks of a section in this byte order.
+    Blocks(Endianness),
     /// A section header.
     Section,
 }
@@ -74,7 +73,7 @@ impl Sought<'_> {
     fn first(self, bytes: &[u8], bound: usize) -> Option<usize> {
         match self {
             Sought::Packets(parser, time) => first_packets(parser, time, bytes, bound),
-            Sought::Blocks(parser) => first_blocks(parser, bytes, IN_A_ROW),
+            Sought::Blocks(order) => first_blocks(order, bytes, IN_A_ROW),
             Sought::Section => resync_section(bytes),
         }
     }

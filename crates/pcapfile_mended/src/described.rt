@@ -1,14 +1,16 @@
 //! Descriptions of interfaces whose own description is lost.
 
 ghost use Rattle.std.specs.Prelude.{◌≡◌, ◌↔◌, IsTrue, IfOk, map, unwrap_or};
-ghost use Rattle.pcap_blocks.specs.InterfaceDescription.{interface_of};
-ghost use Rattle.pcap_options.specs.Held.{first_under, number_in, under};
+ghost use Rattle.pcap_blocks.specs.InterfaceDescription.{Interface};
+ghost use Rattle.pcap_options.specs.Held.{first_under, number_in};
 ghost use Rattle.pcap_options.specs.InterfaceOption.{interface_entry};
+ghost use Rattle.pcap_tolerant_blocks.specs.Outline.{Outlines};
 ghost use Rattle.pcapfile_mended.specs.Described.{Agree, IsDescribed, WritesDescription};
 
 use pcap_blocks::InterfaceDescriptionBlock;
 use pcap_core::{DataLink, Endianness};
-use pcap_options::{InterfaceDescriptionOption, first_number};
+use pcap_options::InterfaceDescriptionOption;
+use pcap_tolerant_blocks::InterfaceOutline;
 use pcap_written::{Unput, encode};
 use std::alloc::{AllocError, Global};
 
@@ -26,15 +28,15 @@ pub struct Described {
 }
 
 impl Described {
-    /// Returns the part of this description that packets need.
-    pub fn of(interface: &InterfaceDescriptionBlock<'_>) -> Described
-        ensures { IsDescribed result (interface_of interface.now) }
+    /// Returns the part of the description with this outline that packets need.
+    pub fn of(outline: InterfaceOutline) -> Described
+        ensures { (interface : Interface) → Outlines interface outline → IsDescribed result interface }
     {
         Described {
-            link: interface.linktype,
-            snaplen: interface.snaplen,
-            resolution: first_resolution(&interface.options).unwrap_or(6),
-            offset: first_number(&interface.options, 14).unwrap_or(0),
+            link: outline.linktype,
+            snaplen: outline.snaplen,
+            resolution: outline.resolution.unwrap_or(6),
+            offset: outline.offset.unwrap_or(0),
         }
     }
 
@@ -54,29 +56,6 @@ fn has_clock(described: Described, resolution: u8, offset: u64) -> bool
     ensures { IsTrue result ↔ ((described.resolution ≡ resolution) × (described.offset ≡ offset)) }
 {
     described.resolution == resolution && described.offset == offset
-}
-
-// Returns the byte of the first `IfTsResol`.
-#[tactic(auto, using(pcap_options::proofs::Found::found, pcap_options::proofs::Found::missed))]
-fn first_resolution(options: &[InterfaceDescriptionOption]) -> Option<u8>
-    ensures { result ≡ first_under 9 number_in (map interface_entry options.now) }
-{
-    for option in options {
-        if let Some(byte) = resolution_in(option) {
-            return Some(byte);
-        }
-    }
-    None
-}
-
-// Returns the byte of an `IfTsResol`.
-fn resolution_in(option: &InterfaceDescriptionOption) -> Option<u8>
-    ensures { result ≡ under 9 number_in (interface_entry option.now) }
-{
-    match option {
-        InterfaceDescriptionOption::IfTsResol(byte) => Some(*byte),
-        _ => None,
-    }
 }
 
 // Returns the options of a clock: none for microseconds without an offset.

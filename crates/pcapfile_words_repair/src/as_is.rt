@@ -2,7 +2,7 @@
 
 use capcopy_run::Exit;
 use pcap_file::{PcapError, ResultParsing};
-use pcapfile_as_is::{BlockTeller, Counted, Gap, LeftOut, Place, Scrap, Teller};
+use pcapfile_as_is::{BlockPacketLines, Counted, Gap, LeftOut, Place, Scrap, Teller};
 use pcapfile_files::{Console, Shown, open_watched, tell_changed};
 use pcapfile_lenient::{Change, HEADER, LeftOutHeads, Named, Rows, Standing, Stop};
 use pcapfile_run::Format;
@@ -29,6 +29,15 @@ pub(crate) struct Telling {
     pub(crate) completed: Option<(u64, u64)>,
     /// The number of reports on packets or blocks.
     reported: u64,
+}
+
+/// The lines that are written about blocks.
+#[derive(Clone, Copy)]
+pub(crate) enum BlockLines<'a> {
+    /// A line for each flaw, after this prefix.
+    Flaws(&'a str),
+    /// A line for each packet.
+    Packets,
 }
 
 /// What is between two rows.
@@ -81,11 +90,11 @@ impl Telling {
 
     /// Reports the packets or blocks before the next gap or report, and returns that. `None` after the end. It returns
     /// the errors of the teller.
-    pub(crate) fn tell_row<P: Teller, B: BlockTeller, W: Write>(
+    pub(crate) fn tell_row<P: Teller, W: Write>(
         &mut self,
         alloc: Global,
         packets: &mut P,
-        blocks: &mut B,
+        blocks: BlockLines<'_>,
         output: &mut W,
     ) -> Result<Option<Between>, Exit> {
         for _ in 0..u64::MAX {
@@ -146,12 +155,12 @@ impl Telling {
     }
 
     // Reports a row, and returns the next one. `None` if that can't be read.
-    fn tell_on<P: Teller, B: BlockTeller, W: Write>(
+    fn tell_on<P: Teller, W: Write>(
         &mut self,
         alloc: Global,
         standing: Standing,
         packets: &mut P,
-        blocks: &mut B,
+        blocks: BlockLines<'_>,
         output: &mut W,
     ) -> Result<Option<Standing>, Exit> {
         let counted = &mut self.place.counted;
@@ -185,11 +194,11 @@ fn rows_of(standing: &Standing) -> Option<&Rows> {
 }
 
 // Reports the next row.
-fn tell<P: Teller, B: BlockTeller, W: Write>(
+fn tell<P: Teller, W: Write>(
     alloc: Global,
     standing: Standing,
     packets: &mut P,
-    blocks: &mut B,
+    blocks: BlockLines<'_>,
     output: &mut W,
     counted: &mut Counted,
 ) -> Result<Standing, Stop> {
@@ -199,7 +208,14 @@ fn tell<P: Teller, B: BlockTeller, W: Write>(
             Ok(Standing::Packets(opening, rows))
         }
         Standing::Blocks(rows) => {
-            let rows = rows.tell(alloc, blocks, output, MOST, counted)?;
+            let rows = match blocks {
+                BlockLines::Flaws(prefix) => {
+                    rows.tell_flaws(alloc, prefix, output, MOST, counted)?
+                }
+                BlockLines::Packets => {
+                    rows.tell(alloc, &mut BlockPacketLines, output, MOST, counted)?
+                }
+            };
             Ok(Standing::Blocks(rows))
         }
         Standing::Neither(_, error) => Err(Stop::Unread(error)),

@@ -1,9 +1,9 @@
 //! The lenient word `check`.
 
-use crate::as_is::{Between, MOST, Telling};
+use crate::as_is::{Between, BlockLines, MOST, Telling};
 use capcopy_run::{Exit, Uninterrupted, put_line};
 use pcap_file::PcapError;
-use pcapfile_as_is::{BlockFlawLines, CheckedAsIs, FlawLines, put_gap};
+use pcapfile_as_is::{CheckedAsIs, FlawLines, put_gap};
 use pcapfile_files::{Console, OUTPUT, Shown, tell_changed, tell_error, tell_unwritten};
 use pcapfile_lenient::Change;
 use pcapfile_run::{Checked, End, end_of};
@@ -46,9 +46,9 @@ fn tell_flaws<W: Write>(
     output: &mut W,
 ) -> Result<(), Exit> {
     let mut packets = FlawLines { prefix };
-    let mut blocks = BlockFlawLines { prefix };
+    let blocks = BlockLines::Flaws(prefix);
     for _ in 0..u64::MAX {
-        let row = telling.tell_row(alloc, &mut packets, &mut blocks, output)?;
+        let row = telling.tell_row(alloc, &mut packets, blocks, output)?;
         let Some(between) = row else {
             break;
         };

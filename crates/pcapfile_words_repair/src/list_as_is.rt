@@ -1,9 +1,9 @@
 //! The lenient word `list`.
 
-use crate::as_is::{Between, Telling};
+use crate::as_is::{Between, BlockLines, Telling};
 use capcopy_run::{Exit, Uninterrupted};
 use pcap_file::PcapError;
-use pcapfile_as_is::{BlockPacketLines, PacketLines};
+use pcapfile_as_is::PacketLines;
 use pcapfile_files::{AT_FAULT, Console, OUTPUT, Shown, tell_error, tell_exit, tell_unwritten};
 use pcapfile_lenient::tell_cut_short;
 use std::io;
@@ -67,7 +67,7 @@ fn list_packets<W: Write>(
 ) -> Result<(), Exit> {
     let alloc = console.alloc();
     for _ in 0..u64::MAX {
-        let between = telling.tell_row(alloc, &mut PacketLines, &mut BlockPacketLines, output)?;
+        let between = telling.tell_row(alloc, &mut PacketLines, BlockLines::Packets, output)?;
         let Some(between) = between else {
             break;
         };

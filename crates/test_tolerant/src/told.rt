@@ -8,8 +8,8 @@ use pcap_core::Endianness;
 use pcap_tolerant::ReaderAsIs;
 use pcap_tolerant_captures::PcapNgReaderAsIs;
 use pcapfile_as_is::{
-    BlockFlawLines, BlockPacketLines, BlockRepairs, BlockTeller, Counted, FlawLines, PacketLines,
-    Repairs, Teller, tell_blocks, tell_packets,
+    BlockPacketLines, BlockRepairs, BlockTeller, Counted, FlawLines, PacketLines, Repairs, Teller,
+    tell_blocks, tell_flaws, tell_packets,
 };
 use std::alloc::Global;
 use std::test::Fail;
@@ -160,6 +160,31 @@ fn written_of_blocks<P: BlockTeller>(
     }
 }
 
+// Returns whether these lines are written about the flaws of the first capture of a table, and the counts are right.
+fn tells_flaws(alloc: Global, table: &str, lines: &str, wanted: Counted) -> Result<bool, Fail> {
+    let table = rows(alloc, table)?;
+    let (digits, _) = table.first().ok_or("a row")?;
+    let capture = bytes(alloc, digits)?;
+    let stream = Halting::new(alloc, capture.as_slice(), 9)?;
+    let mut reader = PcapNgReaderAsIs::new(alloc, stream);
+    let mut output = Narrow::new(alloc, 4096, true);
+    let mut counted = Counted {
+        items: 0,
+        flawed: 0,
+        bytes: 0,
+    };
+    let told = tell_flaws(
+        alloc,
+        "a: ",
+        &mut reader,
+        &mut output,
+        u64::MAX,
+        &mut counted,
+    );
+    let is_over = matches!(told, Ok(None));
+    Ok(is_over && output.out.as_slice() == lines.as_bytes() && counted == wanted)
+}
+
 // Returns whether these lines are written about the capture in these digits, and the counts are right.
 fn writes<P: BlockTeller>(
     alloc: Global,
@@ -186,20 +211,19 @@ fn tells<P: BlockTeller>(
 }
 
 #[test]
-fn lines_of_blocks(rt: HostRuntime) -> Result<(), Fail> {
-    let mut flaws = BlockFlawLines { prefix: "a: " };
+fn flaws_of_blocks(rt: HostRuntime) -> Result<(), Fail> {
     let counted = Counted {
         items: 4,
         flawed: 2,
         bytes: 216,
     };
-    assert!(rt; tells(rt.alloc(), &mut flaws, OPTIONS, BLOCK_FLAWS, counted)?);
+    assert!(rt; tells_flaws(rt.alloc(), OPTIONS, BLOCK_FLAWS, counted)?);
     let counted = Counted {
         items: 11,
         flawed: 3,
         bytes: 364,
     };
-    assert!(rt; tells(rt.alloc(), &mut flaws, NUMBERS, NUMBER_FLAWS, counted)?);
+    assert!(rt; tells_flaws(rt.alloc(), NUMBERS, NUMBER_FLAWS, counted)?);
     Ok(())
 }
 

@@ -1,6 +1,6 @@
 use Rattle.std.proofs.Common.{length, ◌-◌, ℕ, ◌<◌, ◌≤◌, drop}
 use Rattle.pcap_tolerant_captures.specs.Resync.{BlocksStand}
-use Rattle.pcap_tolerant_captures.proofs.resync.resync.Given as goal
+use Rattle.pcap_tolerant_captures.proofs.resync.resync_in.Given as goal
 
 abbrev pub invariant-loop-at : goal.invariant-loop-at
 invariant-loop-at l = record {
