@@ -105,7 +105,8 @@ def info(file: Name, *, repaired: bool = False) -> Dict[str, Any]:
 
 
 def merge(files: Sequence[Name], out: Name, *, repaired: bool = False) -> List[str]:
-    """Merges captures of either format by time into one PcapNg capture. Every interface keeps a description of its own.
+    """Merges captures of either format by time into one PcapNg capture. Every interface keeps a description of its own. If the
+    name of `out` ends in .pcap, .cap or .dmp, the output is a classic capture, as `convert` makes it.
 
     Like `cut`, `convert` and `repair`, it returns the program's messages about what it left out or changed, which is mostly an
     empty list. It also issues them as a CaptureWarning.

@@ -5,6 +5,7 @@ import json
 import struct
 
 import as_is
+import dumping
 import informing
 import listing
 import repairing
@@ -82,10 +83,24 @@ def list_rows(help):
     capture, _ = help.blocks(LITTLE, [help.interface(LITTLE, RAW), whole, (listing.ENHANCED, short), whole])
     said = "pcapfile: -: 1 packet has a malformed body; 'pcapfile list --as-is' names the rules\n"
     yield Row("list --utc of a refused packet", ["list", "--utc", "-"], capture, 1, "".join(listing.utc(capture)).encode(), said)
+    ending = classic([(5, 60, b"12345678 refused"), (6, 60, b"")])
+    yield Row("list --hex of bytes that end like a line", ["list", "--hex", "-"], ending, 0, "".join(dumping.dumps(ending)).encode(), "")
+    yield Row("list --hex -n 1", ["list", "--hex", "-n", "1", "-"], ending, 0, dumping.dumps(ending)[0].encode(), "")
     count = MILLION + 9
     rows = "".join(f"{k},1,0,0,9,\n" for k in range(1, count + 1))
     many = classic([]) + struct.pack("<IIII", 1, 0, 0, 9) * count
     yield Row("list --csv of a million packets", ["list", "--csv", "-"], many, 0, (listing.HEADING + rows).encode(), "")
+
+
+def merge_rows(help):
+    """Yields rows in which `merge --to pcap` reads one capture."""
+    words = ["merge", "--to", "pcap", "-", "-o", "-"]
+    few = [(10**9 * k, 60 + k, b"stored") for k in range(9)]
+    yield Row("merge --to pcap of a classic capture", words, classic(few), 0, classic(few), "")
+    parts = [help.interface(LITTLE, RAW, 96), help.interface(LITTLE, 1), (listing.SIMPLE, struct.pack("<I", 7) + b"no time")]
+    parts += [help.enhanced(LITTLE, k % 2, time // 1000, wire, data) for k, (time, wire, data) in enumerate(few)]
+    said = "pcapfile: -: 5 packets have no place there, and are left out\npcapfile: -: 1 block of interfaces is left out\n"
+    yield Row("merge --to pcap of packets without a place", words, help.blocks(LITTLE, parts)[0], 0, classic(few[::2], 262144), said)
 
 
 def as_is_rows(help):
@@ -102,6 +117,11 @@ def as_is_rows(help):
     options = repairing.option(LITTLE, 1, b"comment") * 9000
     bad = repairing.option(LITTLE, 2, b"bad")
     yield mends("repair of 200 KiB of options", section + interface + repairing.enhanced(LITTLE, 0, 5, b"data", options + bad + options))
+    beyond = [(10**9 * (1700000000 - k // 20 * 100000) + k, 200, bytes([k + 1]) * (60 if k < 20 else 200)) for k in range(40)]
+    yield mends("repair of packets beyond the snapshot length", classic(beyond, 96))
+    yield mends("repair of a packet of zeros", classic([(10**18 + k, 4, b"data") for k in range(3)]) + bytes(16) + classic([(10**18, 4, b"data")] * 3)[24:])
+    oversized = help.block(LITTLE, as_is.ENHANCED, struct.pack("<IQII", 0, 5, 4, as_is.MOST + 1) + b"data")
+    yield mends("repair of a packet whose original length no packet has", section + interface + oversized)
     size = as_is.LONGEST + 9
     yield mends("repair of a packet that is too long", classic([(5, size, bytes(size))]))
 
@@ -119,6 +139,7 @@ def mends(name, capture):
 def rows(help):
     yield from info_rows(help)
     yield from list_rows(help)
+    yield from merge_rows(help)
     yield from as_is_rows(help)
 
 

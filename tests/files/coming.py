@@ -53,7 +53,9 @@ def outcome(help, command, held, program):
 
 
 def count_of(command, report):
-    """Returns how many packets a report has: lines of packets, or the number that the report states."""
+    """Returns how many packets a report has: lines of packets, empty lines after their bytes, or the number that the report states."""
+    if {"-x", "--hex"} & set(command.split()):
+        return report.splitlines().count("")
     if command.split()[0] in LINES or "list" in command.split():
         return len(report.splitlines())
     if "\t" in report.partition("\n")[0]:

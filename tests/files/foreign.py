@@ -105,11 +105,11 @@ def try_formats(tally, help):
             (made[0] != 10) != is_pcap and f"it begins with {made[:4]}",
             made[0] == held[0] and made != held and "it is no copy",
         )
-    cutting_words = ["merge", "in", "-o", "x.pcap"]
+    cutting_words = ["merge", "--to", "pcapng", "in", "-o", "x.pcap"]
     with tempfile.TemporaryDirectory() as folder:
         help.put(folder, "in", capture)
         ended = cutting.ran(tally, folder, *cutting_words)
-    tally.note("merge into .pcap", ended != (DONE, b"", "pcapfile: x.pcap: the format is PcapNg, but the extension is that of the other format\n") and f"it ended with {ended}")
+    tally.note("merge --to pcapng into .pcap", ended != (DONE, b"", "pcapfile: x.pcap: the format is PcapNg, but the extension is that of the other format\n") and f"it ended with {ended}")
 
 
 def try_all(tally, help):

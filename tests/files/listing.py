@@ -1,4 +1,4 @@
-"""Checks what `pcapfile list` writes with `--utc`, `--csv` and `--json`. The test takes packets with struct alone, and times by datetime."""
+"""Checks what `pcapfile list` writes with `--utc`, `--csv` and `--json`; dumping.py checks `--hex`. The test takes packets with struct alone, and times by datetime."""
 import datetime
 import itertools
 import json
@@ -222,8 +222,8 @@ def try_several(lists):
     code, out, said = lists.run(captures, ["--json"])
     found = [json.loads(it) for it in out.splitlines()]
     tally.note("list --json of two", (code, found, said) != (DONE, objects(one) + objects(two), "") and f"it gives {code}, {found}, {said!r}")
-    for pair in itertools.combinations(("--utc", "--csv", "--json", "--as-is"), 2):
-        if pair == BOTH:
+    for pair in itertools.combinations(("--utc", "--csv", "--json", "--hex", "--as-is"), 2):
+        if pair in (BOTH, ("--utc", "--hex")):
             continue
         code, out, said = lists.run(captures, pair)
         tally.note(f"list {' '.join(pair)}", (code, out, said[:7]) != (USAGE, "", "error: ") and f"it gives {code}, {out!r}, {said!r}")
@@ -259,7 +259,7 @@ def memory_of(lists, form, capture):
 def try_memory(lists):
     few, _ = lists.lib.classic("<", 0xA1B23C4D, 1, lists.lib.RAW, [(k, 9, b"") for k in range(1000)])
     many = few + few[24:] * 199
-    for form in ("--utc", "--csv", "--json", "--as-is"):
+    for form in ("--utc", "--csv", "--json", "--hex", "--as-is"):
         little, much = memory_of(lists, form, few), memory_of(lists, form, many)
         lists.tally.note(f"list {form}, memory", much > little + 1024 and f"{much} KiB of 200000 packets, and {little} of 1000")
 

@@ -317,11 +317,11 @@ def begun(folder):
     run = subprocess.Popen(words, cwd=folder.path, stdin=subprocess.PIPE, stderr=subprocess.PIPE, preexec_fn=heed_signals)
     run.stdin.write(CAPTURE)
     run.stdin.flush()
-    for _ in range(500):
+    for _ in range(6000):
         if "out.part" in folder.names():
-            break
+            return run
         time.sleep(0.01)
-    return run
+    raise TimeoutError("the run made no out.part in a minute")
 
 
 def try_ended_runs(tally):
@@ -369,14 +369,14 @@ def try_merges(tally):
     described = block(1, struct.pack("<HHIHHB3xHHB3xHH", 1, 0, 65535, 9, 1, 9, 13, 1, 32, 0, 0))
     stored = block(6, struct.pack("<IIIII", 0, 0, 10**9, 3, 3) + b"fcs")
     with Folder(tally.program, large=large) as folder:
+        said = "pcapfile: large: reserved bits beside the link type are left out\n"
         ended = folder.run("merge", "large", "-o", "out")
         tally.note(
             "a merge with the length of a check sequence",
-            ended != (DONE, b"", "") and f"it ended with {ended}",
+            ended != (DONE, b"", said) and f"it ended with {ended}",
             folder.get("out") != section + described + stored and f"it has {folder.get('out')}",
         )
         ended = folder.run("convert", "large", "-o", "converted")
-        said = "pcapfile: large: reserved bits beside the link type are left out\n"
         tally.note(
             "a conversion with the length of a check sequence",
             ended != (DONE, b"", said) and f"it ended with {ended}",

@@ -29,6 +29,7 @@ WORDS = (
     (["info", "--repair", "flawed"], True, True),
     (["list", "in"], True, False),
     (["list", "--csv", "in"], True, False),
+    (["list", "--hex", "in"], True, False),
     (["list", "--as-is", "flawed"], True, False),
     (["convert", "in", "-o", "out"], False, False),
     (["convert", "--repair", "flawed", "-o", "out"], False, True),
@@ -39,6 +40,7 @@ WORDS = (
     (["cut", "in", "--every", "2", "-o", "out"], False, False),
     (["join", "in", "-o", "out"], False, False),
     (["merge", "in", "in", "-o", "out"], False, False),
+    (["merge", "--to", "pcap", "in", "in", "-o", "out"], False, False),
     (["merge", "--repair", "flawed", "in", "-o", "out"], False, True),
     (["sort", "in", "-o", "out"], False, False),
     (["sort", "in", "-o", "-"], True, False),
@@ -96,8 +98,8 @@ def try_unread(tally):
     """Checks that a run ends without a message if nobody reads its output any more."""
     many = HEADER + packet(1, b"") * 200000
     flaws = HEADER + (struct.pack("<IIII", 1, 0, 4, 1) + b"data") * 20000
-    words = [["list", "in"], ["list", "--json", "in"], ["list", "--csv", "in"], ["list", "--as-is", "in"], ["check", "--as-is", "flaws"]]
-    words += [[*it, "-o", "-"] for it in (["convert", "in"], ["convert", "--to", "pcap", "in"], ["cut", "in"], ["join", "in"], ["merge", "in"], ["sort", "in"], ["repair", "in"])]
+    words = [["list", "in"], ["list", "--json", "in"], ["list", "--csv", "in"], ["list", "--hex", "in"], ["list", "--as-is", "in"], ["check", "--as-is", "flaws"]]
+    words += [[*it, "-o", "-"] for it in (["convert", "in"], ["convert", "--to", "pcap", "in"], ["cut", "in"], ["join", "in"], ["merge", "in"], ["merge", "--to", "pcap", "in"], ["sort", "in"], ["repair", "in"])]
     with Folder(tally.program, **{"in": many, "flaws": flaws}) as folder:
         for it in words:
             try_gone(tally, f"{' '.join(it)}, unread", [tally.program, *it], folder.path)

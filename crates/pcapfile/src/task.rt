@@ -111,7 +111,7 @@ impl<'a> Task<'a> {
     pub(crate) fn misnamed(&self) -> Option<(&'a str, &'static str)> {
         let (out, format) = match self {
             Task::Convert(asked) => (asked.out, asked.to?),
-            Task::Merge(asked) => (asked.out, Format::PcapNg),
+            Task::Merge(asked) => (asked.out, asked.to),
             Task::Sort(asked) => (asked.out, Format::Pcap),
             _ => return None,
         };
@@ -190,16 +190,20 @@ fn format_of_name(name: &str) -> Option<Format> {
 // Returns the arguments of the word `convert`.
 fn conversion<'a>(words: &ArgMatches<'a>) -> Conversion<'a> {
     let out = words.get_str(words::OUT).unwrap_or_default();
-    let to = match words.get_str(words::TO) {
+    Conversion {
+        from: words.get_str(words::IN).unwrap_or_default(),
+        to: format(words, out),
+        out,
+        as_is: is_repaired(words),
+    }
+}
+
+// Returns the format that `--to` names, or the extension of the output's name.
+fn format(words: &ArgMatches, out: &str) -> Option<Format> {
+    match words.get_str(words::TO) {
         Some("pcap") => Some(Format::Pcap),
         Some("pcapng") => Some(Format::PcapNg),
         _ => format_of_name(out),
-    };
-    Conversion {
-        from: words.get_str(words::IN).unwrap_or_default(),
-        to,
-        out,
-        as_is: is_repaired(words),
     }
 }
 
@@ -300,22 +304,26 @@ fn listing<'a>(words: &'a ArgMatches<'_>) -> Listing<'a> {
 
 // Returns the form of the lines of `list`.
 fn form(words: &ArgMatches) -> Option<Form> {
-    let (utc, csv) = (words.get_flag(words::UTC), words.get_flag(words::CSV));
-    let json = words.get_flag(words::JSON);
-    match (utc, csv, json) {
-        (true, true, _) => Some(Form::UtcCsv),
-        (true, false, _) => Some(Form::Utc),
-        (false, true, _) => Some(Form::Csv),
-        (false, false, true) => Some(Form::Json),
-        (false, false, false) => None,
+    let utc = words.get_flag(words::UTC);
+    if words.get_flag(words::HEX) {
+        return Some(if utc { Form::UtcHex } else { Form::Hex });
     }
+    if words.get_flag(words::CSV) {
+        return Some(if utc { Form::UtcCsv } else { Form::Csv });
+    }
+    if words.get_flag(words::JSON) {
+        return Some(Form::Json);
+    }
+    if utc { Some(Form::Utc) } else { None }
 }
 
 // Returns the arguments of the word `merge`.
 fn merging<'a>(words: &'a ArgMatches<'_>) -> Merge<'a> {
+    let out = words.get_str(words::OUT).unwrap_or_default();
     Merge {
         names: files(words),
-        out: words.get_str(words::OUT).unwrap_or_default(),
+        to: format(words, out).unwrap_or(Format::PcapNg),
+        out,
         as_is: is_repaired(words),
     }
 }

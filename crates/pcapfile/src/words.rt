@@ -100,6 +100,9 @@ pub(crate) const UTC: &str = "utc";
 /// The option to list packets as CSV.
 pub(crate) const CSV: &str = "csv";
 
+/// The option to list the bytes of packets.
+pub(crate) const HEX: &str = "hex";
+
 /// The option for the name of the output.
 pub(crate) const OUT: &str = "output";
 
@@ -168,6 +171,11 @@ index, seconds, nanoseconds, captured, original (the lengths) and interface, bel
 names. Both together write one column, time, in place of seconds and nanoseconds. With --json each
 packet is an object on a line of its own, with members of these names. Unknown values are empty, or
 null. No names of captures are written, and each capture's index begins at 1.
+
+With --hex rows of the stored bytes follow each line, and then an empty line. Rows are exactly those of
+'tshark -x': an offset of at least four hexadecimal digits, two blanks, up to 16 bytes of two digits and a
+blank each, filled up to 48 characters, two blanks, and the bytes as ASCII characters. A dot stands for
+every byte that is not from 0x20 to 0x7e. --hex goes with -n and --utc, and with no other form.
 
 With --as-is packets that break rules are listed too, followed by ! and the number of each rule, and
 in PcapNg by !utf8 or !short for a value that is not UTF-8 or too short. A fraction of a second that
@@ -264,8 +272,9 @@ const JOIN: &str =
 All parts must have the same header. Parts are read byte for byte, so there is no --repair. The output
 is written as OUT.part, and renamed to OUT when it is complete.";
 
-const MERGE: &str =
-    "Writes the packets of several captures, ordered by time, into one PcapNg capture.
+const MERGE: &str = "Writes the packets of several captures, ordered by time, into one capture.
+
+The format is that of --to, or of the extension of OUT (.pcap, .cap, .dmp, .pcapng or .ntar), or else PcapNg.
 
 The next packet is always the earliest among the next packets of all captures. Of equal times, the
 earlier capture on the command line goes first, and a packet without a time goes before all others.
@@ -273,7 +282,11 @@ Each interface of each capture gets an interface of its own, and each packet kee
 other options. Names, statistics, secrets and other blocks of little-endian captures go before the next
 packet of their capture. Standard error says how many blocks and options of each kind are left out. If
 a capture is malformed, its packets before the error are merged, and standard error gives the reason.
-The output is written as OUT.part, and renamed to OUT when it is complete.";
+The output is written as OUT.part, and renamed to OUT when it is complete.
+
+A classic capture becomes what 'pcapfile convert' makes of that PcapNg capture: little-endian, with times in
+nanoseconds and the link type of the first interface. Packets without a place, other blocks and options are
+left out, and standard error says how many of each.";
 
 const SORT: &str = "Writes the packets of a classic capture in order of time.
 
@@ -371,7 +384,7 @@ impl Word {
             Word::Convert => "Converts a capture to pcap or PcapNg",
             Word::Cut => "Copies the chosen packets of a capture, or splits it into parts",
             Word::Join => "Joins the parts of a capture",
-            Word::Merge => "Merges captures by time into one PcapNg capture",
+            Word::Merge => "Merges captures by time into one capture",
             Word::Sort => "Sorts the packets of a classic capture by time",
             Word::Repair => "Reads a damaged capture and writes a well-formed one",
         }
@@ -462,6 +475,11 @@ fn list<'a>(alloc: Global, command: Command<'a>) -> Result<Command<'a>, AllocErr
             "A row of comma-separated values for each packet",
         )?)?
         .arg(objects(alloc, JSON, "A JSON object for each packet")?)?
+        .arg(hex(
+            alloc,
+            HEX,
+            "Rows of each packet's bytes after its line, as 'tshark -x' writes them",
+        )?)?
         .arg(as_is(alloc))
 }
 
@@ -485,25 +503,34 @@ fn objects<'a>(alloc: Global, name: &'a str, help: &'a str) -> Result<Arg<'a>, A
     objects.conflicts_with_all(&[AS_IS])
 }
 
+fn hex<'a>(alloc: Global, name: &'a str, help: &'a str) -> Result<Arg<'a>, AllocError> {
+    let hex = flag(alloc, name).help(help);
+    hex.conflicts_with_all(&[CSV, JSON, AS_IS])
+}
+
 fn convert<'a>(alloc: Global, command: Command<'a>) -> Result<Command<'a>, AllocError> {
     let from = Arg::new(alloc, IN)
         .required(true)
         .help("The capture to read; - is standard input");
-    let to = Arg::new(alloc, TO)
-        .long("to")
-        .value_name("FORMAT")
-        .value_parser(FORMATS)
-        .help(
-            "The format of the output; without it, that of the extension of OUT, or the one that IN doesn't have",
-        );
     let out = output(alloc, OUT_HELP)?;
     command
         .long_about(CONVERT)
         .arg(from)?
-        .arg(to)?
+        .arg(to(
+            alloc,
+            "The format of the output; without it, that of the extension of OUT, or the one that IN doesn't have",
+        ))?
         .arg(repaired(alloc))?
         .arg(once_as_is(alloc))?
         .arg(out)
+}
+
+fn to<'a>(alloc: Global, help: &'a str) -> Arg<'a> {
+    Arg::new(alloc, TO)
+        .long("to")
+        .value_name("FORMAT")
+        .value_parser(FORMATS)
+        .help(help)
 }
 
 fn cut<'a>(alloc: Global, command: Command<'a>) -> Result<Command<'a>, AllocError> {
@@ -654,6 +681,10 @@ fn merge<'a>(alloc: Global, command: Command<'a>) -> Result<Command<'a>, AllocEr
     command
         .long_about(MERGE)
         .arg(files(alloc))?
+        .arg(to(
+            alloc,
+            "The format of the output; without it, that of the extension of OUT, or else pcapng",
+        ))?
         .arg(repaired(alloc))?
         .arg(once_as_is(alloc))?
         .arg(output(alloc, OUT_HELP)?)

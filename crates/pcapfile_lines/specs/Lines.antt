@@ -1,6 +1,6 @@
 -- This file defines the lines of packets in several forms.
-use Rattle.std.specs.Prelude.{◌≡◌, ◌⊎◌, ◌^◌, ◌+ℤ◌, ◌*ℤ◌, ℕ, ℤ, pos, negsuc, List, [], ◌++◌, codes, nat_lt, if◌then◌else◌, false, Option, None, Some, option_map}
-use Rattle.std.specs.Fmt.{decimal}
+use Rattle.std.specs.Prelude.{◌≡◌, ◌⊎◌, ◌^◌, ◌-◌, ◌+ℤ◌, ◌*ℤ◌, ℕ, ℤ, pos, negsuc, List, [], ◌++◌, codes, nat_lt, if◌then◌else◌, false, Option, None, Some, option_map}
+use Rattle.std.specs.Fmt.{decimal, format_spec, padded_integral}
 use Rattle.jiff_core.specs.declared.civil.datetime.DateTime.{DateTime}
 use Rattle.jiff_core.specs.DateTime.{civil_nanos}
 use Rattle.jiff_core.specs.Timestamp.{IsTimestampNanos}
@@ -10,8 +10,9 @@ use Rattle.serde_json.specs.Written.{compact_text}
 use Rattle.pcap_times.specs.declared.clock.Timestamp.{Timestamp}
 use Rattle.pcapfile_lines.specs.declared.columns.Columns.{Columns}
 use Rattle.pcapfile_lines.specs.declared.form.Form.{Form}
-use Rattle.pcapfile_lines.specs.declared.form.Form.TheVariants.{Utc, Csv, UtcCsv, Json}
+use Rattle.pcapfile_lines.specs.declared.form.Form.TheVariants.{Utc, Csv, UtcCsv, Json, Hex, UtcHex}
 use Rattle.pcapfile_lines.specs.declared.seen.Seen.{Seen}
+use Rattle.pcapfile_lines.specs.Rows.{has_rows, with_rows}
 
 -- The seconds since 1970, if they are a natural number of 64 bits, and the nanoseconds after them.
 abbrev pub instant_at : ℤ → ℕ → Option (ℕ × ℕ)
@@ -93,15 +94,33 @@ interface_text (Some n) = codes " " ++ decimal n
 interface_text None = []
 
 -- The line of a packet with this time and this end.
-abbrev pub utc_line : ℕ → List ℕ → ℕ → ℕ → List ℕ → List ℕ
-utc_line index time captured original interface =
+abbrev pub timed_line : ℕ → List ℕ → ℕ → ℕ → List ℕ → List ℕ
+timed_line index time captured original interface =
     decimal index ++ (codes " " ++ (time ++ (codes " " ++ (decimal captured ++ (codes "/" ++ (decimal original ++ (interface ++ codes "\n")))))))
+
+-- The line of a packet with a malformed body.
+abbrev pub refused_text : ℕ → List ℕ
+refused_text index = decimal index ++ codes " refused\n"
 
 -- IsUtcLine: the line of a packet with its time in UTC, or with the word refused if its body is malformed.
 abbrev pub IsUtcLine : ℕ → Option Seen → List ℕ → Type 0
 IsUtcLine index (Some seen) line =
-    (time : List ℕ) × IsUtcText seen.time time × (line ≡ utc_line index time seen.captured seen.original (interface_text seen.interface))
-IsUtcLine index None line = line ≡ decimal index ++ codes " refused\n"
+    (time : List ℕ) × IsUtcText seen.time time × (line ≡ timed_line index time seen.captured seen.original (interface_text seen.interface))
+IsUtcLine index None line = line ≡ refused_text index
+
+-- A number with zeros in front up to nine digits, as `{:09}` writes it.
+abbrev pub nine_digits : ℕ → List ℕ
+nine_digits n = padded_integral (format_spec 32 0 4 9 (2 ^ 64 - 1)) false [] (decimal n)
+
+-- The text of a time in seconds and nanoseconds, or a hyphen if they aren't known.
+abbrev pub plain_text : Option (ℕ × ℕ) → List ℕ
+plain_text (Some instant) = decimal instant.0 ++ (codes "." ++ nine_digits instant.1)
+plain_text None = codes "-"
+
+-- The line of a packet with its time in seconds since 1970, or with the word refused if its body is malformed.
+abbrev pub plain_line : ℕ → Option Seen → List ℕ
+plain_line index (Some seen) = timed_line index (plain_text (instant_in seen.time)) seen.captured seen.original (interface_text seen.interface)
+plain_line index None = refused_text index
 
 -- The line of a packet in a CSV table with this text of its time.
 abbrev pub utc_csv_row : ℕ → List ℕ → Seen → List ℕ
@@ -121,3 +140,9 @@ IsLineIn Utc index packet line = IsUtcLine index packet line
 IsLineIn Csv index packet line = line ≡ csv_line index (columns_of packet)
 IsLineIn UtcCsv index packet line = IsUtcCsvLine index packet line
 IsLineIn Json index packet line = line ≡ json_line index (columns_of packet)
+IsLineIn Hex index packet line = line ≡ plain_line index packet
+IsLineIn UtcHex index packet line = IsUtcLine index packet line
+
+-- IsItemIn form index packet bytes text: `text` is the line of a packet in this form, and the rows of its bytes if they follow the line.
+abbrev pub IsItemIn : Form → ℕ → Option Seen → List ℕ → List ℕ → Type 0
+IsItemIn form index packet bytes text = (line : List ℕ) × IsLineIn form index packet line × (text ≡ with_rows (has_rows form) line bytes)

@@ -41,8 +41,8 @@ impl fmt::Display for Column {
     }
 }
 
-// Returns the seconds and nanoseconds of a time, if its seconds since 1970 fit in 64 bits and aren't negative.
-fn instant_at(time: Option<Timestamp>) -> Option<(u64, u32)>
+/// Returns the seconds and nanoseconds of a time, if its seconds since 1970 fit in 64 bits and aren't negative.
+pub(crate) fn instant_at(time: Option<Timestamp>) -> Option<(u64, u32)>
     ensures { result ≡ instant_in time }
 {
     let time = time?;

@@ -2,7 +2,7 @@
 
 ghost use Rattle.std.specs.Prelude.{◌≡◌, ◌<◌, IfOk, MatchOption, string_bytes};
 ghost use Rattle.jiff_core.specs.Timestamp.{IsTimestampNanos};
-ghost use Rattle.pcapfile_lines.specs.Lines.{IsUtcLine, IsUtcTextOr, ShowsInstant, nanoseconds_of, utc_line, interface_text};
+ghost use Rattle.pcapfile_lines.specs.Lines.{IsUtcLine, IsUtcTextOr, ShowsInstant, interface_text, nanoseconds_of, refused_text, timed_line};
 
 use crate::seen::Seen;
 use jiff_core::Timestamp as Instant;
@@ -70,11 +70,31 @@ fn line_with(
     seen: Seen,
     interface: &str,
 ) -> Result<String, AllocError>
-    ensures { IfOk result (λ line. string_bytes line ≡ utc_line index time.now seen.captured seen.original interface.now) }
+    ensures { IfOk result (λ line. string_bytes line ≡ timed_line index time.now seen.captured seen.original interface.now) }
 {
     let captured = seen.captured;
     let original = seen.original;
     format!(in alloc; "{index} {time} {captured}/{original}{interface}\n")
+}
+
+/// Returns the line of a packet with this text of its time.
+pub(crate) fn line_at(
+    alloc: Global,
+    index: u64,
+    time: &str,
+    seen: Seen,
+) -> Result<String, AllocError>
+    ensures { IfOk result (λ line. string_bytes line ≡ timed_line index time.now seen.captured seen.original (interface_text seen.interface)) }
+{
+    let interface = interface_of(alloc, seen.interface)?;
+    line_with(alloc, index, time, seen, interface.as_str())
+}
+
+/// Returns the line of a packet with a malformed body.
+pub(crate) fn refused_line(alloc: Global, index: u64) -> Result<String, AllocError>
+    ensures { IfOk result (λ line. string_bytes line ≡ refused_text index) }
+{
+    format!(in alloc; "{index} refused\n")
 }
 
 /// Returns the line of a packet. `None` means a packet with a malformed body.
@@ -82,9 +102,8 @@ pub(crate) fn utc(alloc: Global, index: u64, packet: Option<Seen>) -> Result<Str
     ensures { IfOk result (λ line. IsUtcLine index packet (string_bytes line)) }
 {
     let Some(seen) = packet else {
-        return format!(in alloc; "{index} refused\n");
+        return refused_line(alloc, index);
     };
     let time = utc_text(alloc, seen.time, "-")?;
-    let interface = interface_of(alloc, seen.interface)?;
-    line_with(alloc, index, time.as_str(), seen, interface.as_str())
+    line_at(alloc, index, time.as_str(), seen)
 }

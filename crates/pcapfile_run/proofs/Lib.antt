@@ -1,6 +1,8 @@
 pub mod Ends
+mod FormedItems
 mod PacketLines
 pub mod Passing
 mod SoundBlocks
 mod StoredLists
 pub mod Told
+mod WalkedLists

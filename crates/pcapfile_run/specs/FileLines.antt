@@ -23,7 +23,7 @@ use Rattle.pcapfile_run.specs.declared.checked.Format.{Format as CaptureFormat}
 use Rattle.pcapfile_run.specs.declared.checked.Format.TheVariants.{Pcap, PcapNg}
 use Rattle.pcapfile_lines.specs.declared.form.Form.{Form}
 use Rattle.pcapfile_run.specs.BlockPackets.{InBlock, packet_in}
-use Rattle.pcapfile_run.specs.FormedLines.{IsLineOfBlock, packets_as}
+use Rattle.pcapfile_run.specs.FormedLines.{IsTextOfBlock, packets_as}
 use Rattle.pcapfile_run.specs.Numbered.{Numbered, numbered}
 
 -- is_packet_item item: the block holds a packet.
@@ -81,7 +81,7 @@ IsStoredLine interfaces number block line =
 
 -- IsStoredIn: that line, or the line in this form if there is one.
 abbrev pub IsStoredIn : Option Form → List Interface → ℕ → Framed → List ℕ → Type 0
-IsStoredIn (Some form) interfaces number block line = IsLineOfBlock form interfaces number block line
+IsStoredIn (Some form) interfaces number block line = IsTextOfBlock form interfaces number block line
 IsStoredIn None interfaces number block line = IsStoredLine interfaces number block line
 
 -- IsLineIf: the line of a block, empty if it holds no packet.

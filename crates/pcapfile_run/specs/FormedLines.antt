@@ -1,4 +1,4 @@
--- This file defines the lines that the word `list` writes for captures in other forms.
+-- This file defines the text that the word `list` writes for packets in other forms: a line, and rows of the bytes if they follow it.
 use Rattle.std.specs.Prelude.{◌≡◌, ◌+◌, ◌/◌, ◌%◌, ◌⊎◌, ⊤, ℕ, pos, List, [], length, Option, None, Some}
 use Rattle.std.specs.List.{slice_get}
 use Rattle.pcap_core.specs.Answer.{whole, faulty}
@@ -16,7 +16,7 @@ use Rattle.capcopy_run.specs.Listing.{Kind}
 use Rattle.capcopy_run.specs.PacketLines.{packets_in}
 use Rattle.pcapfile_lines.specs.declared.form.Form.{Form}
 use Rattle.pcapfile_lines.specs.declared.seen.Seen.{Seen}
-use Rattle.pcapfile_lines.specs.Lines.{IsLineIn}
+use Rattle.pcapfile_lines.specs.Lines.{IsItemIn}
 use Rattle.pcapfile_run.specs.BlockPackets.{InBlock, packet_in}
 
 -- The properties of the packet with this header. A fraction of a second or more is carried to the seconds.
@@ -28,11 +28,11 @@ seen_header header = record {
   interface = None;
 }
 
--- IsPacketIn form index packet line: `line` is the line of a packet of a classic capture.
+-- IsPacketIn form index packet text: `text` is the text of a packet of a classic capture.
 abbrev pub IsPacketIn : Form → ℕ → Captured → List ℕ → Type 0
-IsPacketIn form index packet line = IsLineIn form index (Some (seen_header packet.header)) line
+IsPacketIn form index packet text = IsItemIn form index (Some (seen_header packet.header)) packet.bytes text
 
--- A classic capture is listed as a line in this form for each packet.
+-- A classic capture is listed as a text in this form for each packet.
 abbrev pub packets_as : Form → Kind PcapHeader (Unit {0}) Captured
 packets_as form = packets_in ⊤ (IsPacketIn form)
 
@@ -54,17 +54,17 @@ pub record IsSeen (interfaces : List Interface) (packet : InBlock) (seen : Seen)
   pub original : seen.original ≡ packet.original_len
   pub interface : seen.interface ≡ Some packet.interface
 
--- IsLineOfPacket: the line of a packet in a block; empty if there is no packet.
-abbrev pub IsLineOfPacket : Form → List Interface → ℕ → Option InBlock → List ℕ → Type 0
-IsLineOfPacket form interfaces number (Some packet) line = (seen : Seen) × IsSeen interfaces packet seen × IsLineIn form number (Some seen) line
-IsLineOfPacket form interfaces number None line = line ≡ []
+-- IsTextOfPacket: the text of a packet in a block; empty if there is no packet.
+abbrev pub IsTextOfPacket : Form → List Interface → ℕ → Option InBlock → List ℕ → Type 0
+IsTextOfPacket form interfaces number (Some packet) text = (seen : Seen) × IsSeen interfaces packet seen × IsItemIn form number (Some seen) packet.bytes text
+IsTextOfPacket form interfaces number None text = text ≡ []
 
--- IsLineOfBody: the line of the packet in a body.
-abbrev pub IsLineOfBody : Form → List Interface → ℕ → Body → List ℕ → Type 0
-IsLineOfBody form interfaces number body line = IsLineOfPacket form interfaces number (packet_in interfaces body) line
+-- IsTextOfBody: the text of the packet in a body.
+abbrev pub IsTextOfBody : Form → List Interface → ℕ → Body → List ℕ → Type 0
+IsTextOfBody form interfaces number body text = IsTextOfPacket form interfaces number (packet_in interfaces body) text
 
--- IsLineOfBlock: the line of the packet in a block, which says so if the body is malformed.
-abbrev pub IsLineOfBlock : Form → List Interface → ℕ → Framed → List ℕ → Type 0
-IsLineOfBlock form interfaces number block line =
-    ((body : Body) × (rest : List ℕ) × SaysOfBody block (whole body rest) × IsLineOfBody form interfaces number body line)
-    ⊎ ((fault : Fault) × SaysOfBody block (faulty fault) × IsLineIn form number None line)
+-- IsTextOfBlock: the text of the packet in a block, whose line says so if the body is malformed. That packet has no bytes.
+abbrev pub IsTextOfBlock : Form → List Interface → ℕ → Framed → List ℕ → Type 0
+IsTextOfBlock form interfaces number block text =
+    ((body : Body) × (rest : List ℕ) × SaysOfBody block (whole body rest) × IsTextOfBody form interfaces number body text)
+    ⊎ ((fault : Fault) × SaysOfBody block (faulty fault) × IsItemIn form number None [] text)

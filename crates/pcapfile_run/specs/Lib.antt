@@ -8,4 +8,5 @@ pub mod NumberedLaws
 pub mod Passing
 pub mod SoundBlocks
 pub mod StoredBlocks
+pub mod WalkedLists
 pub mod WiderCauses

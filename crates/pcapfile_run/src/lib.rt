@@ -5,6 +5,7 @@ mod block_packet;
 mod captures;
 mod checked;
 mod formed;
+mod formed_items;
 mod formed_packets;
 mod lines;
 mod listing;

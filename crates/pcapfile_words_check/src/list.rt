@@ -22,26 +22,32 @@ pub struct Listing<'a> {
     pub most: Option<u64>,
 }
 
-/// The lines that an output takes.
+/// The packets that an output takes.
 #[derive(Clone, Copy)]
 struct Taken {
     form: Option<Form>,
-    /// The number of lines of packets with a malformed body.
+    /// The number of packets with a malformed body.
     refused: u64,
-    /// The number of lines that it still takes; `None` is all of them.
+    /// The number of packets that it still takes; `None` is all of them.
     left: Option<u64>,
+    /// Whether the next write is a row of a packet's bytes, or the empty line after the rows.
+    is_within: bool,
 }
 
 impl Taken {
-    // Returns whether it takes no more lines.
+    // Returns whether it takes no more packets.
     fn is_full(&self) -> bool {
         self.left == Some(0)
     }
 
-    // Counts a line.
+    // Counts what was written: the line of a packet, a row of its bytes, or the empty line after the rows.
     fn count(&mut self, line: &[u8]) {
-        if is_refused(self.form, line) {
+        if !self.is_within && is_refused(self.form, line) {
             self.refused = self.refused.saturating_add(1);
+        }
+        self.is_within = has_rows(self.form) && line != b"\n".as_slice();
+        if self.is_within {
+            return;
         }
         if let Some(left) = self.left {
             self.left = Some(left.saturating_sub(1));
@@ -49,7 +55,8 @@ impl Taken {
     }
 }
 
-/// An output of lines, each of which is one write. After the last line that it takes, a write or a flush fails, which ends the list.
+/// An output of packets. Each line and each row is one write. After the last packet that it takes, a write or a flush fails, which ends
+/// the list.
 #[derive(Drop)]
 struct Lines<'a, W> {
     output: &'a mut W,
@@ -157,7 +164,9 @@ fn tell_refused(console: &Console, name: &str, refused: u64) -> io::Result<u8> {
 // almost every line.
 fn is_refused(form: Option<Form>, line: &[u8]) -> bool {
     match form {
-        None | Some(Form::Utc) => line.ends_with(b"d\n") && line.ends_with(b" refused\n"),
+        None | Some(Form::Utc | Form::Hex | Form::UtcHex) => {
+            line.ends_with(b"d\n") && line.ends_with(b" refused\n")
+        }
         Some(Form::Csv) => line.ends_with(b",,,,,\n"),
         Some(Form::UtcCsv) => line.ends_with(b",,,,\n"),
         Some(Form::Json) => line.starts_with(b"{\"captured\":null,"),
@@ -169,12 +178,20 @@ fn heading(form: Option<Form>) -> &'static str {
     match form {
         Some(Form::Csv) => HEADING,
         Some(Form::UtcCsv) => UTC_HEADING,
-        None | Some(Form::Utc | Form::Json) => "",
+        None | Some(Form::Utc | Form::Json | Form::Hex | Form::UtcHex) => "",
     }
 }
 
 fn is_read_by_people(form: Option<Form>) -> bool {
-    matches!(form, None | Some(Form::Utc))
+    matches!(form, None | Some(Form::Utc | Form::Hex | Form::UtcHex))
+}
+
+// Returns whether the rows of a packet's bytes follow its line in this form.
+fn has_rows(form: Option<Form>) -> bool {
+    match form {
+        None => false,
+        Some(form) => form.has_rows(),
+    }
 }
 
 fn open_and_list<W: Write>(
@@ -194,6 +211,7 @@ fn open_and_list<W: Write>(
         form,
         refused: 0,
         left: most,
+        is_within: false,
     };
     let mut lines = Lines { output, taken };
     let exit = list(console.alloc(), form, &mut input, &mut lines, u64::MAX);

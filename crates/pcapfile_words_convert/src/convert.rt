@@ -19,7 +19,7 @@ use std::io::{BufRead, BufWriter, Read, Write};
 const LITTLE_NANOSECONDS: u32 = 0x4D3C_B2A1;
 
 /// The snapshot length of a classic capture whose packets may have any length, in bytes.
-const WHOLE_PACKETS: u32 = 262_144;
+pub(crate) const WHOLE_PACKETS: u32 = 262_144;
 
 /// The arguments of `convert`.
 #[derive(Drop)]
@@ -74,10 +74,7 @@ fn tell_ended(console: &Console, asked: &Conversion, ended: &io::Result<Ended>) 
     };
     ended.left_out.tell(console, asked.from)?;
     if ended.has_lost_bits {
-        let from = Shown(asked.from);
-        eprintln!(console.for_line();
-            "pcapfile: {from}: reserved bits beside the link type are left out"
-        )?;
+        tell_lost_bits(console, asked.from)?;
     }
     match &ended.fault {
         None => Ok(0),
@@ -87,6 +84,14 @@ fn tell_ended(console: &Console, asked: &Conversion, ended: &io::Result<Ended>) 
         }
         Some(error) => tell_fault(console, asked.from, error),
     }
+}
+
+/// Reports that bits without a meaning were left out of the field of a classic capture's link type.
+pub(crate) fn tell_lost_bits(console: &Console, name: &str) -> io::Result<()> {
+    let shown = Shown(name);
+    eprintln!(console.for_line();
+        "pcapfile: {shown}: reserved bits beside the link type are left out"
+    )
 }
 
 fn open_and_convert<W: Write + Drop>(
@@ -240,8 +245,8 @@ fn place_packets<R: Read + Drop, W: Write + Drop>(
     None
 }
 
-// Returns the header of the classic capture that blocks become. Without an interface its link type is Ethernet.
-fn header_under(interfaces: &[InterfaceDescriptionBlock<'static>]) -> PcapHeader {
+/// Returns the header of the classic capture that blocks become. Without an interface its link type is Ethernet.
+pub(crate) fn header_under(interfaces: &[InterfaceDescriptionBlock<'static>]) -> PcapHeader {
     let mut header = PcapHeader::default();
     header.magic_number = LITTLE_NANOSECONDS;
     header.datalink = DataLink::ETHERNET;

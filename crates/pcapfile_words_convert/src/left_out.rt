@@ -73,6 +73,16 @@ impl LeftOut {
         *count = count.saturating_add(1);
     }
 
+    /// Adds this many packets to what was left out.
+    pub(crate) fn add_packets(&mut self, count: u64) {
+        self.packets = self.packets.saturating_add(count);
+    }
+
+    /// Takes this many interfaces away from what was left out. They are made of the headers of classic captures.
+    pub(crate) fn forget_interfaces(&mut self, count: u64) {
+        self.interfaces = self.interfaces.saturating_sub(count);
+    }
+
     // Returns the numbers of packets and blocks that were left out, by kind.
     fn counts<'a>(&self) -> [Count<'a>; 7] {
         [
@@ -145,8 +155,8 @@ fn is_of_clock(option: &InterfaceDescriptionOption) -> bool {
     )
 }
 
-// Returns the type of the block with these bytes.
-fn type_of(order: Endianness, text: &[u8]) -> Option<BlockType> {
+/// Returns the type of the block with these bytes.
+pub(crate) fn type_of(order: Endianness, text: &[u8]) -> Option<BlockType> {
     if text.len() < 4 {
         return None;
     }

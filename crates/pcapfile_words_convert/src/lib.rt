@@ -5,6 +5,7 @@ mod convert;
 mod left_out;
 mod merge;
 mod opening;
+mod placing;
 mod with_fcs;
 
 pub use convert::{Conversion, convert_file};

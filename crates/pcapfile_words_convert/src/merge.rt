@@ -3,8 +3,13 @@
 ghost use Rattle.std.specs.Prelude.{IfOk};
 ghost use Rattle.pcapfile_merge.specs.Holding.{IsReady};
 
-use crate::opening::{Opened, put_opening};
+use crate::convert::{WHOLE_PACKETS, tell_lost_bits};
+use crate::left_out::LeftOut;
+use crate::opening::{Opened, Openings, have_untimed, put_opening};
+use crate::placing::Placing;
+use crate::with_fcs::has_reserved_bits;
 use capcopy_run::Uninterrupted;
+use pcap_file::pcapng::PcapNgWriter;
 use pcap_file::{PcapNgReader, PcapReader, ResultParsing};
 use pcapfile_files::{
     AT_FAULT, Console, OUTPUT, Shown, Watched, buffered, open_further, tell_error, tell_io,
@@ -15,7 +20,7 @@ use pcapfile_merge::{BufferedBlocks, BufferedPackets, Reader, Source, merge_pack
 use pcapfile_run::{Format, format_of};
 use std::alloc::Global;
 use std::io;
-use std::io::{BufWriter, Write};
+use std::io::{BufWriter, Read, Write};
 
 /// A capture to merge.
 type Input = Uninterrupted<Captured>;
@@ -25,6 +30,8 @@ type Input = Uninterrupted<Captured>;
 pub struct Merge<'a> {
     /// The names of the captures to merge.
     pub names: &'a [&'a str],
+    /// The format of the merged capture.
+    pub to: Format,
     /// The name of the merged capture.
     pub out: &'a str,
     /// Whether the program merges what `repair` would write of the captures.
@@ -87,10 +94,16 @@ fn merge_to<W: Write + Drop>(console: &Console, asked: &Merge, output: W) -> io:
     }
     let output = BufWriter::with_capacity(console.alloc(), OUTPUT, output)?;
     let mut sources = Vec::new(console.alloc());
-    if let Err(error) = write_merged(console.alloc(), readers, &mut sources, output) {
-        return Ok(Ended::given_up(tell_error(console, asked.out, &error)?));
-    }
+    let written = match asked.to {
+        Format::Pcap => write_placed(console.alloc(), readers, &mut sources, output),
+        Format::PcapNg => write_merged(console.alloc(), readers, &mut sources, output),
+    };
+    let left_out = match written {
+        Ok(left_out) => left_out,
+        Err(error) => return Ok(Ended::given_up(tell_error(console, asked.out, &error)?)),
+    };
     tell_left_out(console, opened.as_slice(), sources.as_slice())?;
+    left_out.tell(console, asked.out)?;
     status = tell_faults(console, opened.as_slice(), sources.as_slice())?.max(status);
     Ok(Ended {
         status,
@@ -98,45 +111,67 @@ fn merge_to<W: Write + Drop>(console: &Console, asked: &Merge, output: W) -> io:
     })
 }
 
-// Reports how many blocks and options of each kind were left out of each capture.
+// Returns the largest snapshot length of the captures. That of a PcapNg capture is not known before all its interfaces are read.
+fn most_stored<R: Read + Drop>(readers: &[Opened<R>]) -> u32 {
+    let mut most = 0;
+    for opened in readers {
+        let snaplen = match &opened.reader {
+            Reader::Packets(packets) => packets.header().snaplen,
+            Reader::Blocks(_) => WHOLE_PACKETS,
+        };
+        most = most.max(if snaplen == 0 { WHOLE_PACKETS } else { snaplen });
+    }
+    most
+}
+
+// Reports what was left out of each capture.
 fn tell_left_out(console: &Console, names: &[&str], sources: &[Source<Input>]) -> io::Result<()> {
     for (name, source) in names.iter().zip(sources) {
-        if let Reader::Blocks(blocks) = source.reader() {
-            let left_out = blocks.left_out();
-            let packet_options = source.left_out();
-            for count in [
-                Count(left_out.names, "block of names is", "blocks of names are"),
-                Count(
-                    left_out.statistics,
-                    "block of statistics is",
-                    "blocks of statistics are",
-                ),
-                Count(
-                    left_out.secrets,
-                    "block of secrets is",
-                    "blocks of secrets are",
-                ),
-                Count(
-                    left_out.others,
-                    "block of other types is",
-                    "blocks of other types are",
-                ),
-                Count(
-                    left_out.section_options,
-                    "option of section headers is",
-                    "options of section headers are",
-                ),
-                Count(
-                    packet_options,
-                    "option of obsolete packets is",
-                    "options of obsolete packets are",
-                ),
-            ] {
-                tell_kind(console, name, count)?;
+        match source.reader() {
+            Reader::Packets(packets) if has_reserved_bits(packets.header()) => {
+                tell_lost_bits(console, name)?;
+            }
+            Reader::Packets(_) => {}
+            Reader::Blocks(blocks) => {
+                for count in kinds(blocks.left_out(), source.left_out()) {
+                    tell_kind(console, name, count)?;
+                }
             }
         }
     }
     Ok(())
+}
+
+// Returns how many blocks and options of each kind were left out of a capture.
+fn kinds<'a>(left_out: pcapfile_merge::LeftOut, packet_options: u64) -> [Count<'a>; 6] {
+    [
+        Count(left_out.names, "block of names is", "blocks of names are"),
+        Count(
+            left_out.statistics,
+            "block of statistics is",
+            "blocks of statistics are",
+        ),
+        Count(
+            left_out.secrets,
+            "block of secrets is",
+            "blocks of secrets are",
+        ),
+        Count(
+            left_out.others,
+            "block of other types is",
+            "blocks of other types are",
+        ),
+        Count(
+            left_out.section_options,
+            "option of section headers is",
+            "options of section headers are",
+        ),
+        Count(
+            packet_options,
+            "option of obsolete packets is",
+            "options of obsolete packets are",
+        ),
+    ]
 }
 
 // Reports how many blocks or options of one kind were left out of a capture, if there were any.
@@ -182,17 +217,64 @@ fn open_reader(
     }
 }
 
+// Writes the merge as a PcapNg capture, from which nothing is left out.
 fn write_merged<W: Write + Drop>(
     alloc: Global,
     readers: Vec<Opened<Input>>,
     sources: &mut Vec<Source<Input>>,
     output: W,
-) -> ResultParsing<()> {
+) -> ResultParsing<LeftOut> {
     let (mut output, interfaces) = put_opening(alloc, readers, sources, output)?;
     let merged = merge_packets(sources.as_mut_slice(), &mut output, u64::MAX, interfaces);
     if let Some(error) = merged.fault {
         return Err(error);
     }
     output.flush()?;
-    Ok(())
+    Ok(LeftOut::default())
+}
+
+// Writes the merge as a classic capture, and returns what was left out.
+fn write_placed<R: Read + Drop, W: Write + Drop>(
+    alloc: Global,
+    readers: Vec<Opened<R>>,
+    sources: &mut Vec<Source<R>>,
+    output: W,
+) -> ResultParsing<LeftOut> {
+    let snaplen = most_stored(readers.as_slice());
+    let (mut openings, mut writer) = Openings::begin(alloc, readers, Vec::new(alloc))?;
+    let section = writer.get_ref().as_slice();
+    let mut placing = Placing::after(alloc, section, output, snaplen)?;
+    for _ in 0..u64::MAX {
+        writer.get_mut().clear();
+        // What has no time comes before all else.
+        let have_no_time = have_untimed(sources.as_slice());
+        let goes_on = put_next(&mut openings, sources, &mut writer)?;
+        placing.place(writer.get_ref().as_slice(), have_no_time)?;
+        if !goes_on {
+            break;
+        }
+    }
+    placing.end(openings.of_headers)
+}
+
+// Writes the next block of an opening, or else the blocks up to the next packet. Returns false if no packet is left.
+fn put_next<R: Read + Drop>(
+    openings: &mut Openings<R>,
+    sources: &mut Vec<Source<R>>,
+    writer: &mut PcapNgWriter<Vec<u8>>,
+) -> ResultParsing<bool> {
+    if openings.put_next(sources, writer)? {
+        return Ok(true);
+    }
+    let merged = merge_packets(
+        sources.as_mut_slice(),
+        writer.get_mut(),
+        1,
+        openings.interfaces,
+    );
+    openings.interfaces = merged.interfaces;
+    match merged.fault {
+        None => Ok(merged.packets > 0),
+        Some(error) => Err(error),
+    }
 }

@@ -47,34 +47,112 @@ impl<R: Read + Drop> Opened<R> {
     }
 }
 
-/// Writes a section header, and what each capture gives before its first packet with a time: its interfaces and other blocks. The
-/// captures become sources. Returns the output and the number of its next interface.
+/// The captures whose openings are not written yet. The opening of a capture is what it gives before its first packet with a time: its
+/// interfaces and other blocks.
+#[derive(Drop)]
+pub(crate) struct Openings<R> {
+    alloc: Global,
+    /// The captures, the last one first.
+    waiting: Vec<Opened<R>>,
+    /// Whether the section header has the options of the captures' first section headers.
+    has_options: bool,
+    /// The number of the output's next interface.
+    pub(crate) interfaces: u64,
+    /// How many interfaces after the first one are made of the header of a classic capture.
+    pub(crate) of_headers: u64,
+}
+
+impl<R: Read + Drop> Openings<R> {
+    /// Writes a section header for these captures, and returns their openings and the writer.
+    pub(crate) fn begin<W: Write + Drop>(
+        alloc: Global,
+        readers: Vec<Opened<R>>,
+        output: W,
+    ) -> ResultParsing<(Openings<R>, PcapNgWriter<W>)> {
+        let header = header_of(alloc, readers.as_slice())?;
+        let writer = put_header(alloc, header.as_slice(), output)?;
+        let mut waiting = readers;
+        waiting.reverse();
+        let openings = Openings {
+            alloc,
+            waiting,
+            has_options: !header.is_empty(),
+            interfaces: 0,
+            of_headers: 0,
+        };
+        Ok((openings, writer))
+    }
+
+    /// Writes the next block of an opening, or makes a source of the next capture. Returns false if no opening is left.
+    pub(crate) fn put_next<W: Write + Drop>(
+        &mut self,
+        sources: &mut Vec<Source<R>>,
+        writer: &mut PcapNgWriter<W>,
+    ) -> ResultParsing<bool> {
+        if have_untimed(sources.as_slice()) {
+            let merged = merge_packets(
+                sources.as_mut_slice(),
+                writer.get_mut(),
+                1,
+                self.interfaces,
+            );
+            self.interfaces = merged.interfaces;
+            return match merged.fault {
+                None => Ok(true),
+                Some(error) => Err(error),
+            };
+        }
+        match self.waiting.pop() {
+            None => Ok(false),
+            Some(opened) => {
+                self.begin_source(opened, sources, writer)?;
+                Ok(true)
+            }
+        }
+    }
+
+    // Makes a source of a capture, and writes the interface of a classic one.
+    fn begin_source<W: Write + Drop>(
+        &mut self,
+        opened: Opened<R>,
+        sources: &mut Vec<Source<R>>,
+        writer: &mut PcapNgWriter<W>,
+    ) -> ResultParsing<()> {
+        let mut opened = opened;
+        if self.has_options {
+            opened.keep_options();
+        }
+        let Ok(base) = u32::try_from(self.interfaces) else {
+            return Err(PcapError::InvalidField("Block: too many interfaces"));
+        };
+        if let Reader::Packets(packets) = &opened.reader {
+            let interface = interface_under(self.alloc, packets.header())?;
+            writer.write_pcapng_block(&interface)?;
+            if self.interfaces > 0 {
+                self.of_headers = self.of_headers.saturating_add(1);
+            }
+            self.interfaces = self.interfaces.saturating_add(1);
+        }
+        sources.push(Source::new(self.alloc, opened.reader, base))?;
+        Ok(())
+    }
+}
+
+/// Writes a section header, and the openings of the captures, which become sources. Returns the output and the number of its next
+/// interface.
 pub(crate) fn put_opening<R: Read + Drop, W: Write + Drop>(
     alloc: Global,
     readers: Vec<Opened<R>>,
     sources: &mut Vec<Source<R>>,
     output: W,
 ) -> ResultParsing<(W, u64)> {
-    let header = header_of(alloc, readers.as_slice())?;
-    let mut writer = put_header(alloc, header.as_slice(), output)?;
-    let mut interfaces: u64 = 0;
-    for opened in readers {
-        let mut opened = opened;
-        if !header.is_empty() {
-            opened.keep_options();
+    let (mut openings, mut writer) = Openings::begin(alloc, readers, output)?;
+    for _ in 0..u64::MAX {
+        if !openings.put_next(sources, &mut writer)? {
+            break;
         }
-        let Ok(base) = u32::try_from(interfaces) else {
-            return Err(PcapError::InvalidField("Block: too many interfaces"));
-        };
-        if let Reader::Packets(packets) = &opened.reader {
-            let interface = interface_under(alloc, packets.header())?;
-            writer.write_pcapng_block(&interface)?;
-            interfaces = interfaces.saturating_add(1);
-        }
-        sources.push(Source::new(alloc, opened.reader, base))?;
-        interfaces = put_untimed(sources.as_mut_slice(), writer.get_mut(), interfaces)?;
     }
-    Ok((writer.into_writer(), interfaces))
+    Ok((writer.into_writer(), openings.interfaces))
 }
 
 // Returns the body of a section header with the options that all captures' first section headers with options have. It is empty if two
@@ -113,28 +191,8 @@ fn put_header<W: Write + Drop>(
     PcapNgWriter::with_section_header(alloc, &section, output)
 }
 
-// Writes what the sources give before their first packet with a time. Returns the number of the next interface.
-fn put_untimed<R: Read + Drop, W: Write>(
-    sources: &mut [Source<R>],
-    writer: &mut W,
-    first: u64,
-) -> ResultParsing<u64> {
-    let mut interfaces = first;
-    for _ in 0..u64::MAX {
-        if !have_untimed(sources) {
-            break;
-        }
-        let merged = merge_packets(sources, writer, 1, interfaces);
-        if let Some(error) = merged.fault {
-            return Err(error);
-        }
-        interfaces = merged.interfaces;
-    }
-    Ok(interfaces)
-}
-
-// Returns whether a source gives something without a time next.
-fn have_untimed<R>(sources: &[Source<R>]) -> bool {
+/// Returns whether a source gives something without a time next.
+pub(crate) fn have_untimed<R>(sources: &[Source<R>]) -> bool {
     for source in sources {
         if source.is_untimed() {
             return true;
