@@ -16,7 +16,8 @@ ALONE = [("calls", [])]
 
 
 def build(form, library, room, include=()):
-    """Builds the test programs over a library's file. Returns their folder, and what went wrong, or None."""
+    """Builds the test programs over a library's file. Returns their folder, and what went wrong, or None. Forms with the same words for the
+    compiler share the objects of the programs in the room."""
     folder = f"{room}/library-{form.name}"
     os.makedirs(folder, exist_ok=True)
     made = f"{folder}/library.o"
@@ -28,7 +29,9 @@ def build(form, library, room, include=()):
             return folder, why
     for program in (it for it in PROGRAMS if it not in form.without):
         words = ["-std=c99", f"-I{TOP}/include", f'-DOPEN_C="{TOP}/c/open.c"', *include]
-        why = form.build([f"{TOP}/tests/c/{program}.c", made, *form.more], f"{folder}/{program}", *words)
+        compiled = f"{room}/{program}{''.join(form.words)}.o"
+        why = None if os.path.exists(compiled) else form.build([f"{TOP}/tests/c/{program}.c"], compiled, "-c", *words)
+        why = why or form.build([compiled, made, *form.more], f"{folder}/{program}", *words)
         if why:
             return folder, why
     return folder, None

@@ -15,7 +15,7 @@ SECONDS = 300
 MAKES_OTHERWISE = {"CC", "CFLAGS", "CPPFLAGS"}
 BOTH_WAYS = (
     [[word, *flags] for word, lenient in (("check", "--as-is"), ("list", "--as-is"), ("info", "--repair")) for flags in ([], [lenient])]
-    + [["list", flag] for flag in ("--csv", "--json", "--utc")]
+    + [["list", flag] for flag in ("--csv", "--json", "--utc", "--hex")]
     + [["info", "--json"], ["info", "--json", "--repair"], ["check", "--quiet"], ["list", "--json", "--as-is"]]
 )
 CUTS = (["--packets", "2-4"], ["--every", "3"], ["--from", "1000000000.5"], ["--until", "1400000000"], ["--bytes", "5000"])
@@ -28,7 +28,9 @@ def words_of_pcapfile():
     for cut in CUTS:
         found += [["cut", *cut, "IN", "-o", "OUT.pcap"], ["cut", *cut, "--repair", "IN", "-o", "OUT.pcap"]]
     found += [["cut", "--parts", "3", "IN", "-o", "OUT.pcap"], ["repair", "IN", "-o", "OUT"], ["join", "IN", "IN", "-o", "OUT"]]
-    found += [["merge", "IN", "NEXT", "-o", "OUT"], ["merge", "--repair", "IN", "NEXT", "-o", "OUT"], ["check", "IN", "NEXT", "nothing-here"]]
+    found += [["cut", "--snaplen", "60", "--shift", "1.5", "--dedup", "IN", "-o", "OUT"], ["sort", "IN", "-o", "OUT"]]
+    found += [["merge", "IN", "NEXT", "-o", "OUT"], ["merge", "--repair", "--to", "pcap", "IN", "NEXT", "-o", "OUT"]]
+    found += [["check", "IN", "NEXT", "nothing-here"]]
     return found + [["convert", "-", "-o", "-"], ["repair", "-", "-o", "-"], ["list", "-"], ["info", "-"], ["convert", "IN", "-o", "IN"]]
 
 
@@ -39,7 +41,7 @@ WORDS = {
 # The words that need no capture, tried once.
 ALONE = {
     "pcapfile": [[], ["--help"], ["--version"], ["wrong"], ["list"], ["cut", "IN"], ["convert", "--to", "text", "IN"]]
-    + [[word, "--help"] for word in ("check", "info", "list", "convert", "cut", "join", "merge", "repair")]
+    + [[word, "--help"] for word in ("check", "info", "list", "convert", "cut", "join", "merge", "sort", "repair")]
     + [["cut", "--from", "yesterday", "IN", "-o", "OUT"], ["check", "."], ["help", "cut"]],
     "capcopy": [[], ["--help"], ["--version"], ["copy", "wrong"]],
 }

@@ -15,7 +15,7 @@ LEVELS = {"pcapfile_c": "-O3", "capcopy": "-O3", "pcapfile": "-O2"}
 # A function's head with the path of its name. The first word of the path is the crate. A call for C has only its name.
 DEFINITION = re.compile(r'^(define [^\n]*@"?([\w:]+)[^"\n]*"?\([^\n]*\)) ((?:local_)?unnamed_addr )?(#\d+) \{$', re.M)
 # The functions that handle each packet in pcapfile must be fast.
-FAST = r"pcap_(classic|ng|blocks|core|items|times|file)|pcapfile_(lines|info|shown|run)|pcapfile_words_check::list"
+FAST = r"pcap_(classic|ng|blocks|core|items|times|file)|pcapfile_(lines|info|shown|run|cut|merge)|pcap_filter|pcapfile_words_check::list"
 FAST += r"|capcopy_run|jiff\w*|itoa|core(?!::fmt\b)|std_alloc"
 # The functions that run once for a command line or a file: what reads the command line, and the texts of `check` and `info`.
 RARE = r"(clap|strsim|std_io)\b.*|pcapfile::words::.*|pcapfile_shown::(report|told)::.*|pcapfile_run::checked::.*Display.*"

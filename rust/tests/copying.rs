@@ -119,6 +119,48 @@ fn a_capture_is_copied_block_by_block() {
     assert_eq!(Reader::new(&empty.into_inner()[..]).next().unwrap().unwrap().data, b"abc");
 }
 
+/// A block in one byte order, whose numbers are `to_bytes` of theirs.
+fn block(to_bytes: fn(u32) -> [u8; 4], number: u32, body: &[u8]) -> Vec<u8> {
+    let padding = &[0; 3][..body.len().next_multiple_of(4) - body.len()];
+    let len = to_bytes((12 + body.len() + padding.len()) as u32);
+    [&to_bytes(number), &len, body, padding, &len].concat()
+}
+
+/// A section with a block of every kind of the draft, and of an unknown one.
+fn every_kind(to_bytes: fn(u32) -> [u8; 4]) -> Vec<u8> {
+    let head = |numbers: &[u32]| numbers.iter().flat_map(|it| to_bytes(*it)).collect::<Vec<u8>>();
+    // Two numbers of 16 bits: the version 1.0, or Ethernet and a reserved number.
+    let one_and_zero = if to_bytes(1)[0] == 1 { vec![1, 0, 0, 0] } else { vec![0, 1, 0, 0] };
+    let bodies = [
+        (0x0a0d_0d0a, [head(&[0x1a2b_3c4d]), one_and_zero.clone(), vec![0xff; 8]].concat()),
+        (1, [one_and_zero, head(&[65535])].concat()),
+        (2, [head(&[0, 0, 5, 3, 3]), b"abc".to_vec()].concat()),
+        (3, [head(&[3]), b"abc".to_vec()].concat()),
+        (4, head(&[0])),
+        (5, head(&[0, 0, 5])),
+        (6, [head(&[0, 0, 5, 3, 3]), b"abc".to_vec()].concat()),
+        (9, b"MESSAGE=an entry of a journal\n".to_vec()),
+        (10, [head(&[0x544c_534b, 7]), b"secrets".to_vec()].concat()),
+        (0xbad, [head(&[32473]), b"custom".to_vec()].concat()),
+        (0x4000_0bad, [head(&[32473]), b"not to be copied".to_vec()].concat()),
+        (0x1234, b"of an unknown kind".to_vec()),
+    ];
+    bodies.iter().flat_map(|(number, body)| block(to_bytes, *number, body)).collect()
+}
+
+#[test]
+fn every_kind_of_block_is_copied() {
+    let bytes = [every_kind(u32::to_le_bytes), every_kind(u32::to_be_bytes), every_kind(u32::to_le_bytes)].concat();
+    let mut reader = Reader::new(&bytes[..]);
+    let mut writer = BlockWriter::copying(Vec::new());
+    let mut count = 0;
+    while let Some(block) = reader.next_block().unwrap() {
+        writer.write_block(&block).unwrap();
+        count += 1;
+    }
+    assert_eq!((count, writer.into_inner()), (36, bytes));
+}
+
 #[test]
 fn times_are_exact_or_refused() {
     let packet = |seconds, nanoseconds| OwnedPacket::new(1, Time { seconds, nanoseconds }, *b"abc");

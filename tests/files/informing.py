@@ -1,5 +1,6 @@
 """Checks what `pcapfile info` writes. The test makes captures and counts their figures itself, and compares files with capinfos if that
 is installed."""
+import itertools
 import json
 import os
 import struct
@@ -502,13 +503,13 @@ def peak_of(tally, help, options, capture):
 
 
 def try_memory(tally, help):
-    """Checks that an interface without packets, whose block has 20 bytes, takes at most 300 bytes of memory."""
+    """Checks that an interface without packets, whose block has 20 bytes, takes at most 300 bytes of memory, also with a section of its own."""
     capture, (section, _) = help.blocks("<", [help.interface("<", help.ETHERNET, 0)])
     many = 100_000
-    for options in ([], ["--json"], ["--table"]):
-        few, all_ = (peak_of(tally, help, options, capture[:section] + capture[section:] * count) for count in (1, many))
+    for options, front in itertools.product(([], ["--json"], ["--table"]), (section, 0)):
+        few, all_ = (peak_of(tally, help, options, capture[:front] + capture[front:] * count) for count in (1, many))
         each = (all_ - few) // many
-        tally.note(f"info {options}, memory", each > 300 and f"an interface takes {each} bytes")
+        tally.note(f"info {options}, memory of {'interfaces' if front else 'sections'}", each > 300 and f"one takes {each} bytes")
 
 
 def try_all(tally, help):
