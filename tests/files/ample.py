@@ -92,6 +92,12 @@ def list_rows(help):
     yield Row("list --csv of a million packets", ["list", "--csv", "-"], many, 0, (listing.HEADING + rows).encode(), "")
 
 
+def cut_rows(help):
+    """Yields a row in which `cut` takes packets by their numbers."""
+    few = [(10**9 * k, 60 + k, b"stored") for k in range(9)]
+    yield Row("cut --packets 3-", ["cut", "--packets", "3-", "-", "-o", "-"], classic(few), 0, classic(few[2:]), "")
+
+
 def merge_rows(help):
     """Yields rows in which `merge --to pcap` reads one capture."""
     words = ["merge", "--to", "pcap", "-", "-o", "-"]
@@ -139,6 +145,7 @@ def mends(name, capture):
 def rows(help):
     yield from info_rows(help)
     yield from list_rows(help)
+    yield from cut_rows(help)
     yield from merge_rows(help)
     yield from as_is_rows(help)
 
