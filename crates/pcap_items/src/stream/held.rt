@@ -1,6 +1,6 @@
 //! Bytes that were read from a stream.
 
-ghost use Rattle.std.specs.Prelude.{◌≡◌, ◌≤◌, ◌+◌, max, [], IfOk, IfErr, OnOk, vec_len};
+ghost use Rattle.std.specs.Prelude.{◌≡◌, ◌≤◌, ◌+◌, take, max, [], IfOk, IfErr, OnOk, vec_len};
 ghost use Rattle.pcap_core.specs.Errors.{IsMemory};
 
 use pcap_core::ResultParsing;
@@ -36,7 +36,7 @@ impl Held {
         ensures memory { IfErr result IsMemory }
     {
         let mut room = Vec::with_capacity(alloc, n)?;
-        room.resize(n, 0)?;
+        fill_with_zeros(&mut room, n)?;
         Ok(Held { room, len: 0 })
     }
 
@@ -74,10 +74,23 @@ impl Held {
         ensures held { held_bytes self.new ≡ held_bytes self.old }
         ensures memory { IfErr result IsMemory }
     {
-        let end = self.len + n;
-        if self.room.len() < end {
-            self.room.resize(end, 0)?;
-        }
-        Ok(())
+        fill_with_zeros(&mut self.room, self.len + n)
     }
+}
+
+static ZEROS: [u8; 1024] = [0; 1024];
+
+// Appends zeros to bytes that are fewer than `end`, a block at a time: `resize` stores one byte after the other.
+#[inline(always)]
+fn fill_with_zeros(bytes: &mut Vec<u8>, end: usize) -> ResultParsing<()>
+    ensures front { take (vec_len bytes.old) bytes.new.items ≡ bytes.old.items }
+    ensures len { OnOk result (vec_len bytes.new ≡ max (vec_len bytes.old) end) }
+    ensures most { vec_len bytes.new ≤ max (vec_len bytes.old) end }
+    ensures memory { IfErr result IsMemory }
+{
+    while bytes.len() < end {
+        let step = (end - bytes.len()).min(ZEROS.len());
+        bytes.extend_from_slice(&ZEROS[..step])?;
+    }
+    Ok(())
 }
