@@ -74,7 +74,8 @@ impl Held {
         ensures held { held_bytes self.new ≡ held_bytes self.old }
         ensures memory { IfErr result IsMemory }
     {
-        fill_with_zeros(&mut self.room, self.len + n)
+        let end = self.len + n;
+        fill_with_zeros(&mut self.room, end)
     }
 }
 
