@@ -7,7 +7,7 @@
  * Toolchain: rattle-kit-13f logic dac8208d650f15bf
  * Proof of the crate capcopy: logic=proved functions=6 axioms=12 target=x86_64-unknown-linux-gnu cpu=x86-64-v2
  * sum=dac8208d650f15bf native=nat,char,string
- * Sources: sha256 0a8509201bac94f584da1258289b01ee1f2f4a9f4c3019f072871db618b41b7d
+ * Sources: sha256 a340a672ee7e60e3a19ea9c644479695f06bfdd8fef2dfb4b185d69aaf3fb1db
  * (of src and specs of capcopy, capcopy_run, pcap_blocks, pcap_classic, pcap_core, pcap_file, pcap_items, pcap_ng,
  * pcap_options, pcap_times, pcap_written)
  *
@@ -223,22 +223,22 @@ static const u8 static_76[200] = "0001020304050607080910111213141516171819202122
 "5051525354555657585960616263646566676869707172737475767778798081828384858687888990919293949596979899";
 static const u8 static_78[33] = "failed to write the buffered data";
 static const u8 static_79[43] = "gave up reading or writing after 2^64 tries";
-static const u8 static_83[8] = "section ";
-static const u8 static_84[1] = " ";
-static const u8 static_85[1] = ".";
-static const u8 static_86[2] = "ok";
-static const u8 static_87[7] = "refused";
-static const u8 static_88[7] = "section";
-static const u8 static_89[9] = "interface";
-static const u8 static_90[6] = "packet";
-static const u8 static_91[6] = "simple";
-static const u8 static_92[5] = "names";
-static const u8 static_93[10] = "statistics";
-static const u8 static_94[8] = "enhanced";
-static const u8 static_95[7] = "journal";
-static const u8 static_96[8] = "unknown:";
+static const u8 static_84[8] = "section ";
+static const u8 static_85[1] = " ";
+static const u8 static_86[1] = ".";
+static const u8 static_87[2] = "ok";
+static const u8 static_88[7] = "refused";
+static const u8 static_89[7] = "section";
+static const u8 static_90[9] = "interface";
+static const u8 static_91[6] = "packet";
+static const u8 static_92[6] = "simple";
+static const u8 static_93[5] = "names";
+static const u8 static_94[10] = "statistics";
+static const u8 static_95[8] = "enhanced";
+static const u8 static_96[7] = "journal";
+static const u8 static_97[8] = "unknown:";
 static const u8 switch_table_pcap_options_refusal_PcapErrorFromRefusal_from[40] = "\035(\037\037 (\035\027&\025%+-:#+\027(2311/1/-02'+\037/00/'(\0321!";
-static _Alignas(8) const struct __attribute__((packed)) { ptr f0; ptr f1; ptr f2; ptr f3; ptr f4; ptr f5; ptr f6; ptr f7; ptr f8; ptr f9; ptr f10; ptr f11; ptr f12; ptr f13; ptr f14; ptr f15; ptr f16; ptr f17; ptr f18; ptr f19; ptr f20; ptr f21; ptr f22; ptr f23; ptr f24; ptr f25; ptr f26; ptr f27; ptr f28; ptr f29; ptr f30; ptr f31; ptr f32; ptr f33; ptr f34; ptr f35; ptr f36; ptr f37; ptr f38; ptr f39; } switch_table_pcap_options_refusal_PcapErrorFromRefusal_from_260 = { (ptr)static_35, (ptr)static_36, (ptr)static_37, (ptr)static_38, (ptr)static_39, (ptr)static_40, (ptr)static_41, (ptr)static_42, (ptr)static_43, (ptr)static_44, (ptr)static_45, (ptr)static_46, (ptr)static_47, (ptr)static_48, (ptr)static_49, (ptr)static_50, (ptr)static_51, (ptr)static_52, (ptr)static_53, (ptr)static_54, (ptr)static_55, (ptr)static_56, (ptr)static_57, (ptr)static_58, (ptr)static_59, (ptr)static_60, (ptr)static_61, (ptr)static_62, (ptr)static_63, (ptr)static_64, (ptr)static_65, (ptr)static_66, (ptr)static_67, (ptr)static_68, (ptr)static_69, (ptr)static_70, (ptr)static_71, (ptr)static_72, (ptr)static_73, (ptr)static_74 };
+static _Alignas(8) const struct __attribute__((packed)) { ptr f0; ptr f1; ptr f2; ptr f3; ptr f4; ptr f5; ptr f6; ptr f7; ptr f8; ptr f9; ptr f10; ptr f11; ptr f12; ptr f13; ptr f14; ptr f15; ptr f16; ptr f17; ptr f18; ptr f19; ptr f20; ptr f21; ptr f22; ptr f23; ptr f24; ptr f25; ptr f26; ptr f27; ptr f28; ptr f29; ptr f30; ptr f31; ptr f32; ptr f33; ptr f34; ptr f35; ptr f36; ptr f37; ptr f38; ptr f39; } switch_table_pcap_options_refusal_PcapErrorFromRefusal_from_261 = { (ptr)static_35, (ptr)static_36, (ptr)static_37, (ptr)static_38, (ptr)static_39, (ptr)static_40, (ptr)static_41, (ptr)static_42, (ptr)static_43, (ptr)static_44, (ptr)static_45, (ptr)static_46, (ptr)static_47, (ptr)static_48, (ptr)static_49, (ptr)static_50, (ptr)static_51, (ptr)static_52, (ptr)static_53, (ptr)static_54, (ptr)static_55, (ptr)static_56, (ptr)static_57, (ptr)static_58, (ptr)static_59, (ptr)static_60, (ptr)static_61, (ptr)static_62, (ptr)static_63, (ptr)static_64, (ptr)static_65, (ptr)static_66, (ptr)static_67, (ptr)static_68, (ptr)static_69, (ptr)static_70, (ptr)static_71, (ptr)static_72, (ptr)static_73, (ptr)static_74 };
 
 static APART u64 core_slice_words_skip_far_52f9(ptr v1, u64 v2, u64 v3) {
 	u64 v4, v5;
@@ -3629,7 +3629,7 @@ L0:
 L1:
 	v4 = v11; v5 = v11; v6 = v11 & 0xffffffffffff0000ull; v7 = v12; v8 = (u64)v13 << 8; v3 = 3; goto L3;
 L2:;
-	ptr v15 = ldp(at((ptr)&switch_table_pcap_options_refusal_PcapErrorFromRefusal_from_260, (u64)v10 * 8));
+	ptr v15 = ldp(at((ptr)&switch_table_pcap_options_refusal_PcapErrorFromRefusal_from_261, (u64)v10 * 8));
 	u64 v16 = (u64)v15;
 	v4 = v16; v5 = v16; v6 = v16 & 0xffffffffffff0000ull; v7 = ld8(at((ptr)switch_table_pcap_options_refusal_PcapErrorFromRefusal_from, (u64)v10)); v3 = 2; v8 = 0;
 L3:
@@ -6248,10 +6248,10 @@ static RARE void capcopy_run_blocks_write_section_ce79(ptr v1, ptr v2, ptr v3) {
 	if (!v45) goto L26;
 	u64 v46 = ld64(v39+8), v47 = ld64(v39+16), v48 = v46 + 8;
 	ptr v49 = ldp(v39), v50 = at(v49, v46);
-	if ((u64)v50 - (u64)(ptr)static_83 >= 8) goto L1;
+	if ((u64)v50 - (u64)(ptr)static_84 >= 8) goto L1;
 	v4 = 0;
 L0:
-	st8(at(v50, v4), ld8(at((ptr)static_83, v4)));
+	st8(at(v50, v4), ld8(at((ptr)static_84, v4)));
 	u64 v51 = v4 + 1;
 	if (v51 == 8) goto L2;
 	v4 = v51; goto L0;
@@ -6303,7 +6303,7 @@ L9:
 	st64(v39+16, v9);
 	goto L11;
 L10:;
-	u8 v60 = core_fmt_formatter_Formatter_write_indented_1a69(v39, (ptr)static_84, 1);
+	u8 v60 = core_fmt_formatter_Formatter_write_indented_1a69(v39, (ptr)static_85, 1);
 	if (v60) goto L26;
 L11:;
 	u8 v61 = core_fmt_formatter_Formatter_write_piece_7520(v39, v40);
@@ -6323,7 +6323,7 @@ L12:
 	st64(v39+16, v11);
 	goto L14;
 L13:;
-	u8 v65 = core_fmt_formatter_Formatter_write_indented_1a69(v39, (ptr)static_85, 1);
+	u8 v65 = core_fmt_formatter_Formatter_write_indented_1a69(v39, (ptr)static_86, 1);
 	if (v65) goto L26;
 L14:;
 	u8 v66 = core_fmt_formatter_Formatter_write_piece_7520(v39, v41);
@@ -7231,7 +7231,7 @@ L0:
 	st64(v65+8, v72);
 	st64(v65+16, v74);
 	std_alloc_vec_Vec_drop_0f0e(v65);
-	M0: v18 = (u64)(ptr)static_86; v19 = 2; goto L72;
+	M0: v18 = (u64)(ptr)static_87; v19 = 2; goto L72;
 L1:
 	st64(v66, v71);
 	st64(v66+8, v72);
@@ -7502,10 +7502,10 @@ L70:
 	clear(v1+24, 88);
 	goto L129;
 L71:
-	if (v67 != 1) { M1: v18 = (u64)(ptr)static_87; v19 = 7; goto L72; }
+	if (v67 != 1) { M1: v18 = (u64)(ptr)static_88; v19 = 7; goto L72; }
 	if (v68 != 4 || !ld64(v64+32)) goto M1;
 	deallocate(ldp(v64+16));
-	v18 = (u64)(ptr)static_87; v19 = 7;
+	v18 = (u64)(ptr)static_88; v19 = 7;
 L72:
 	st8(v2+125, 10);
 	ptr v127 = at(v2, 125ull - v19);
@@ -7588,88 +7588,88 @@ L81:;
 L82:;
 	u64 v157 = v25 - 8;
 	ptr v158 = at(v2, v157);
-	if ((u64)v158 - (u64)(ptr)static_88 >= 7) goto L84;
+	if ((u64)v158 - (u64)(ptr)static_89 >= 7) goto L84;
 	v26 = 0;
 L83:
-	st8(at(v158, v26), ld8(at((ptr)static_88, v26)));
+	st8(at(v158, v26), ld8(at((ptr)static_89, v26)));
 	u64 v159 = v26 + 1;
 	if (v159 == 7) { v40 = v157; goto L115; }
 	v26 = v159; goto L83;
 L84:
-	copy(v158, (ptr)static_88, 7);
+	copy(v158, (ptr)static_89, 7);
 	v40 = v157; goto L115;
 L85:;
 	u64 v160 = v25 - 10;
 	ptr v161 = at(v2, v160);
-	if ((u64)v161 - (u64)(ptr)static_89 >= 9) goto L87;
+	if ((u64)v161 - (u64)(ptr)static_90 >= 9) goto L87;
 	v27 = 0;
 L86:
-	st8(at(v161, v27), ld8(at((ptr)static_89, v27)));
+	st8(at(v161, v27), ld8(at((ptr)static_90, v27)));
 	u64 v162 = v27 + 1;
 	if (v162 == 9) { v40 = v160; goto L115; }
 	v27 = v162; goto L86;
 L87:
-	copy(v161, (ptr)static_89, 9);
+	copy(v161, (ptr)static_90, 9);
 	v40 = v160; goto L115;
 L88:;
 	u64 v163 = v25 - 7;
 	ptr v164 = at(v2, v163);
-	if ((u64)v164 - (u64)(ptr)static_90 >= 6) goto L90;
+	if ((u64)v164 - (u64)(ptr)static_91 >= 6) goto L90;
 	v28 = 0;
 L89:
-	st8(at(v164, v28), ld8(at((ptr)static_90, v28)));
+	st8(at(v164, v28), ld8(at((ptr)static_91, v28)));
 	u64 v165 = v28 + 1;
 	if (v165 == 6) { v40 = v163; goto L115; }
 	v28 = v165; goto L89;
 L90:
-	copy(v164, (ptr)static_90, 6);
+	copy(v164, (ptr)static_91, 6);
 	v40 = v163; goto L115;
 L91:;
 	u64 v166 = v25 - 7;
 	ptr v167 = at(v2, v166);
-	if ((u64)v167 - (u64)(ptr)static_91 >= 6) goto L93;
+	if ((u64)v167 - (u64)(ptr)static_92 >= 6) goto L93;
 	v29 = 0;
 L92:
-	st8(at(v167, v29), ld8(at((ptr)static_91, v29)));
+	st8(at(v167, v29), ld8(at((ptr)static_92, v29)));
 	u64 v168 = v29 + 1;
 	if (v168 == 6) { v40 = v166; goto L115; }
 	v29 = v168; goto L92;
 L93:
-	copy(v167, (ptr)static_91, 6);
+	copy(v167, (ptr)static_92, 6);
 	v40 = v166; goto L115;
 L94:;
 	u64 v169 = v25 - 6;
 	ptr v170 = at(v2, v169);
-	if ((u64)v170 - (u64)(ptr)static_92 >= 5) goto L96;
+	if ((u64)v170 - (u64)(ptr)static_93 >= 5) goto L96;
 	v30 = 0;
 L95:
-	st8(at(v170, v30), ld8(at((ptr)static_92, v30)));
+	st8(at(v170, v30), ld8(at((ptr)static_93, v30)));
 	u64 v171 = v30 + 1;
 	if (v171 == 5) { v40 = v169; goto L115; }
 	v30 = v171; goto L95;
 L96:
-	copy(v170, (ptr)static_92, 5);
+	copy(v170, (ptr)static_93, 5);
 	v40 = v169; goto L115;
 L97:;
 	u64 v172 = v25 - 11;
 	ptr v173 = at(v2, v172);
-	if ((u64)v173 - (u64)(ptr)static_93 >= 10) goto L99;
+	if ((u64)v173 - (u64)(ptr)static_94 >= 10) goto L99;
 	v31 = 0;
 L98:
-	st8(at(v173, v31), ld8(at((ptr)static_93, v31)));
+	st8(at(v173, v31), ld8(at((ptr)static_94, v31)));
 	u64 v174 = v31 + 1;
 	if (v174 == 10) { v40 = v172; goto L115; }
 	v31 = v174; goto L98;
 L99:
-	copy(v173, (ptr)static_93, 10);
+	copy(v173, (ptr)static_94, 10);
 	v40 = v172; goto L115;
 L100:;
 	u64 v175 = v25 - 9;
 	ptr v176 = at(v2, v175);
-	if ((u64)v176 - (u64)(ptr)static_94 >= 8) goto L102;
+	if ((u64)v176 - (u64)(ptr)static_95 >= 8) goto L102;
 	v32 = 0;
 L101:
-	st8(at(v176, v32), ld8(at((ptr)static_94, v32)));
+	st8(at(v176, v32), ld8(at((ptr)static_95, v32)));
 	u64 v177 = v32 + 1;
 	if (v177 == 8) { v40 = v175; goto L115; }
 	v32 = v177; goto L101;
@@ -7679,15 +7679,15 @@ L102:
 L103:;
 	u64 v178 = v25 - 8;
 	ptr v179 = at(v2, v178);
-	if ((u64)v179 - (u64)(ptr)static_95 >= 7) goto L105;
+	if ((u64)v179 - (u64)(ptr)static_96 >= 7) goto L105;
 	v33 = 0;
 L104:
-	st8(at(v179, v33), ld8(at((ptr)static_95, v33)));
+	st8(at(v179, v33), ld8(at((ptr)static_96, v33)));
 	u64 v180 = v33 + 1;
 	if (v180 == 7) { v40 = v178; goto L115; }
 	v33 = v180; goto L104;
 L105:
-	copy(v179, (ptr)static_95, 7);
+	copy(v179, (ptr)static_96, 7);
 	v40 = v178; goto L115;
 L106:;
 	u32 v181 = lu32(v5+4);
@@ -7742,10 +7742,10 @@ L111:;
 L112:;
 	u64 v207 = v38 - 8;
 	ptr v208 = at(v2, v207);
-	if ((u64)v208 - (u64)(ptr)static_96 >= 8) goto L114;
+	if ((u64)v208 - (u64)(ptr)static_97 >= 8) goto L114;
 	v39 = 0;
 L113:
-	st8(at(v208, v39), ld8(at((ptr)static_96, v39)));
+	st8(at(v208, v39), ld8(at((ptr)static_97, v39)));
 	u64 v209 = v39 + 1;
 	if (v209 == 8) { v40 = v207; goto L115; }
 	v39 = v209; goto L113;
@@ -8385,1497 +8385,1498 @@ L21:
 	return;
 }
 static void capcopy_run_commands_run_0456(ptr v1, ptr v2, u64 v3, ptr v4, ptr v5) {
-	u64 v6, v7, v8, v9, v11, v13, v14, v15, v16, v17, v18, v19, v20, v21, v22, v23, v24, v25, v26, v27, v28, v29, v30, v31, v33, v34, v35, v36, v38, v40, v41, v42, v43, v44, v45, v46, v47, v48, v49, v50, v51, v52, v53, v54, v55, v56, v58, v59, v60, v61, v62, v63, v65, v67, v68, v69, v70, v71, v72, v73, v74, v75, v76, v77, v78, v79, v80, v81, v82, v83, v84, v85, v86, v87, v88, v89, v90, v92, v93, v94, v95, v96, v97, v98, v99, v100, v101, v102, v103, v104, v105, v106, v107, v108, v109, v110, v111, v112, v113, v114, v115, v116, v117, v120, v122, v124, v125, v126, v127, v128, v130, v131, v132, v133, v134, v135, v136, v137, v138, v139, v140, v141, v142, v143, v144, v146, v147, v148, v149, v150, v151, v152, v153, v154, v155, v156, v157, v158, v159, v160, v161, v162, v163, v164, v165, v166, v167, v168, v169, v170, v171, v172, v177, v178, v179, v180, v181, v182, v183, v184, v185, v186, v187, v188, v194, v195, v196, v197, v198, v199, v200, v201, v202, v203, v208, v209, v210, v211, v212, v213, v214, v215, v216, v217, v218, v219, v220, v221, v222, v223, v224, v225, v226, v227, v232, v233, v234, v235, v236, v237, v238, v239, v240, v242, v245, v246, v247, v248, v249, v251, v252, v253, v254, v255, v256, v264, v266, v267, v269, v270, v272, v273, v274, v282, v284, v285, v287, v288, v290, v291, v292, v294, v295, v297, v298, v300, v309, v310, v311, v312, v313, v314, v315, v317, v320, v324, v326, v327, v328, v329, v330, v331, v332, v333, v334, v335, v338, v339, v341, v342, v343, v344, v345, v346, v348, v351, v352, v353, v354, v355, v356, v357, v362, v364, v365, v366, v367, v373, v374, v375, v378, v379, v380, v381, v382, v384, v385, v386, v387, v388, v391, v392, v393, v394, v395, v396, v399, v402, v403, v404, v407, v408, v409, v410, v411, v413, v414, v415, v416, v417, v420, v421, v422, v423, v424, v425, v428, v434, v435, v436, v438, v439, v440, v441, v442, v445, v450, v451, v452, v456, v457, v458, v459, v460, v463, v465, v466, v467, v471, v472, v473, v474, v481, v482, v483, v486, v487, v493, v494, v495, v496, v497, v498, v499, v500, v501, v502, v507, v508, v509, v510, v511, v512, v513, v514, v515, v516, v517, v522, v523, v524, v525, v526, v527, v528, v529, v530, v531, v532, v533, v535, v536, v537, v538, v539, v540, v541, v542, v544, v547, v549, v550, v551, v553, v554, v555, v556, v557, v558, v561, v562, v563, v565, v566, v571, v572, v573, v577, v578, v579, v581, v582, v584, v585, v586, v589, v596, v597, v598, v600, v601, v603, v604, v605, v611, v612, v613, v614, v615, v616, v617, v618, v619, v620, v626, v627, v628, v629, v630, v631, v632, v633, v634, v635, v637, v638, v639, v640, v641, v642, v643, v644, v645, v646, v652, v653, v654, v656, v657, v658, v659, v660, v662, v663, v664, v666, v667, v668, v669, v670, v671, v672, v673, v674, v675, v676, v677, v678, v680, v682, v685, v687, v688, v689, v691, v692, v693, v694, v695, v696, v699, v700, v701, v704, v705, v706, v707, v708, v709, v710, v711, v712, v713, v714, v715, v716, v717, v718, v719, v723, v726, v730, v731, v732, v733, v734, v735, v736, v737, v738, v739, v740, v741, v743, v744, v746, v749, v750, v751, v752, v753, v754, v755, v757, v758, v759, v760, v761, v762, v763, v764, v768, v769, v770, v771, v773, v774, v775, v776, v777, v778, v781, v782, v783, v784, v785, v786, v787, v788, v789, v790, v791, v792, v795, v796, v797, v798, v799, v800, v801, v802, v805, v806, v807, v808, v810, v816, v817, v818, v819, v826, v827, v828, v829, v831, v833, v834, v835, v836, v837, v843, v844, v845, v846, v847, v850, v851, v852, v853, v854, v855, v856, v857, v858, v866, v867, v868, v869, v870, v874, v875, v876, v877, v880, v881, v882, v883, v884, v886, v887, v898, v899, v900, v901, v902, v903, v904, v905, v906, v911, v912, v913, v914, v915, v916, v917, v918, v919, v920, v921, v922, v923, v924, v925, v928, v929, v930, v931, v932, v933, v934, v935, v936, v937, v938;
-	ptr v10, v32, v37, v57, v66, v91, v123, v129, v145, v228, v241, v250, v268, v271, v286, v289, v296, v308, v316, v325, v340, v347, v358, v361, v406, v455, v521, v534, v543, v546, v548, v552, v560, v564, v576, v580, v599, v602, v625, v647, v651, v655, v665, v681, v686, v690, v720, v724, v727, v742, v747, v748, v794, v804, v811, v812, v813, v814, v815, v821, v822, v823, v824, v825, v832;
-	u32 v12, v39, v64, v121, v193, v231, v244, v262, v280, v305, v319, v322, v323, v350, v360, v363, v369, v370, v371, v372, v376, v390, v397, v400, v401, v419, v426, v429, v430, v431, v432, v433, v443, v446, v447, v448, v449, v453, v461, v464, v468, v470, v477, v478, v479, v480, v484, v492, v567, v568, v569, v570, v574, v583, v587, v595, v610, v661, v683, v684, v722, v725, v728, v729, v745, v838, v839, v841, v848, v849, v859, v861, v864, v865, v871, v873, v878, v879, v888, v891, v892, v893, v895, v896, v897, v907, v909;
-	u8 v118, v119, v173, v174, v175, v176, v189, v190, v191, v192, v204, v205, v206, v207, v229, v230, v243, v257, v258, v259, v260, v261, v263, v265, v275, v276, v277, v278, v279, v281, v283, v293, v299, v301, v302, v303, v304, v306, v307, v318, v321, v336, v337, v349, v359, v368, v377, v383, v389, v398, v405, v412, v418, v427, v437, v444, v454, v462, v469, v475, v476, v485, v488, v489, v490, v491, v503, v504, v505, v506, v518, v519, v520, v545, v559, v575, v588, v590, v591, v592, v593, v594, v606, v607, v608, v609, v621, v622, v623, v624, v636, v648, v649, v650, v679, v697, v698, v702, v703, v721, v756, v765, v766, v767, v772, v779, v780, v793, v803, v809, v820, v830, v840, v842, v860, v862, v863, v872, v885, v894, v908, v910, v926, v927, v939, v940;
-	u16 v889, v890;
-	_Alignas(8) u8 v941[1], v942[24], v943[24], v944[8], v945[104], v946[104], v947[40], v948[40], v949[96], v955[96], v960[56], v961[32], v962[56], v963[112], v964[104], v965[104], v966[40], v967[40], v968[56], v969[56], v970[112], v971[96], v972[96], v974[104], v975[24], v976[104], v977[40], v979[56], v980[96], v981[96], v984[32], v986[64], v988[112], v989[192], v990[192], v991[24], v992[96], v993[56], v997[48], v998[104], v999[96], v1000[56], v1001[24], v1003[24], v1004[24], v1005[56], v1006[56], v1007[96], v1008[56], v1009[56], v1010[56], v1012[104], v1014[48], v1015[96], v1016[56], v1017[56], v1018[96], v1019[56], v1020[56], v1021[56], v1022[56], v1023[56], v1024[56], v1035[96], v1036[96], v1039[12], v1040[104], v1042[16], v1043[32], v1045[96], v1046[96], v1047[12], v1048[12], v1049[96], v1051[96], v1052[96], v1053[12], v1054[12], v1055[96], v1057[96], v1058[96], v1059[96], v1060[96], v1061[104];
-	_Alignas(1) u8 v950[3], v951[3], v952[3], v953[3], v954[3], v956[3], v957[3], v958[3], v959[3], v973[7], v978[7], v982[7], v983[7], v985[7], v987[7], v994[56], v995[56], v996[56], v1002[56], v1011[3], v1013[1], v1025[56], v1026[56], v1027[56], v1028[56], v1029[56], v1030[3], v1031[56], v1032[56], v1033[3], v1034[3], v1044[7], v1062[1], v1063[128];
-	_Alignas(4) u8 v1037[24], v1038[24], v1041[56], v1050[16], v1056[16];
-	u8 v1064 = v3 < 2;
-	if (!v1064) goto L401;
-	ptr v1065 = lup(v2);
+	u64 v6, v7, v8, v9, v11, v13, v14, v15, v16, v17, v18, v19, v20, v21, v22, v23, v24, v25, v26, v27, v28, v29, v30, v31, v33, v34, v35, v36, v38, v40, v41, v42, v43, v44, v45, v46, v47, v48, v49, v50, v51, v52, v53, v54, v55, v56, v58, v59, v60, v61, v62, v63, v65, v67, v68, v69, v70, v71, v72, v73, v74, v75, v76, v77, v78, v79, v80, v81, v82, v83, v84, v85, v86, v87, v88, v89, v90, v92, v93, v94, v95, v96, v97, v98, v99, v100, v101, v102, v103, v104, v105, v106, v107, v108, v109, v110, v111, v112, v113, v114, v115, v116, v117, v120, v122, v124, v125, v126, v127, v128, v130, v131, v132, v133, v134, v135, v136, v137, v138, v139, v140, v141, v142, v143, v144, v146, v147, v148, v149, v150, v151, v152, v153, v154, v155, v156, v157, v158, v159, v160, v161, v162, v163, v164, v165, v166, v167, v168, v169, v170, v171, v172, v177, v178, v179, v180, v181, v182, v183, v184, v185, v186, v187, v188, v194, v195, v196, v197, v198, v199, v200, v201, v202, v203, v208, v209, v210, v211, v212, v213, v214, v215, v216, v217, v218, v219, v220, v221, v222, v223, v224, v225, v230, v231, v232, v233, v234, v235, v236, v240, v241, v242, v243, v244, v246, v247, v248, v249, v250, v251, v259, v261, v262, v264, v265, v267, v268, v269, v277, v279, v280, v282, v283, v285, v286, v287, v289, v290, v292, v293, v295, v304, v305, v306, v307, v308, v309, v310, v312, v315, v319, v321, v322, v323, v324, v325, v326, v327, v328, v329, v330, v333, v334, v336, v337, v338, v340, v341, v343, v344, v345, v347, v350, v351, v352, v353, v354, v355, v356, v357, v359, v363, v365, v366, v367, v368, v374, v375, v376, v379, v380, v381, v382, v383, v385, v386, v387, v388, v389, v392, v393, v394, v395, v396, v397, v400, v403, v404, v405, v408, v409, v410, v411, v412, v414, v415, v416, v417, v418, v421, v422, v423, v424, v425, v426, v429, v435, v436, v437, v439, v440, v441, v442, v443, v446, v451, v452, v453, v457, v458, v459, v460, v461, v464, v466, v467, v468, v472, v473, v474, v475, v482, v483, v484, v487, v488, v494, v495, v496, v497, v498, v499, v500, v501, v502, v503, v508, v509, v510, v511, v512, v513, v514, v515, v516, v517, v518, v523, v524, v525, v526, v527, v528, v529, v530, v531, v532, v533, v534, v536, v537, v538, v539, v540, v541, v542, v543, v545, v548, v550, v551, v552, v554, v555, v556, v557, v558, v559, v562, v563, v564, v566, v567, v572, v573, v574, v578, v579, v580, v582, v583, v585, v586, v587, v596, v597, v598, v600, v601, v603, v604, v605, v611, v612, v613, v614, v615, v616, v617, v618, v619, v620, v626, v627, v628, v629, v630, v631, v632, v633, v634, v635, v637, v638, v639, v640, v641, v642, v643, v644, v645, v646, v652, v653, v654, v656, v657, v658, v659, v660, v661, v662, v664, v665, v666, v667, v668, v669, v670, v671, v672, v673, v674, v675, v676, v678, v680, v683, v685, v686, v687, v689, v690, v691, v692, v693, v694, v697, v698, v699, v702, v703, v704, v705, v706, v707, v708, v709, v710, v711, v712, v713, v714, v715, v716, v718, v721, v724, v728, v729, v730, v731, v732, v733, v734, v735, v736, v737, v738, v740, v741, v742, v744, v745, v746, v747, v748, v749, v750, v752, v753, v754, v755, v756, v757, v758, v759, v763, v764, v765, v766, v768, v769, v770, v771, v772, v773, v776, v777, v778, v779, v780, v781, v782, v783, v784, v785, v786, v787, v790, v791, v792, v793, v794, v795, v796, v797, v800, v801, v802, v803, v805, v811, v812, v813, v814, v821, v822, v823, v824, v826, v828, v829, v830, v831, v832, v838, v839, v840, v841, v842, v845, v846, v847, v848, v849, v850, v851, v852, v853, v861, v862, v863, v864, v865, v869, v870, v871, v872, v875, v876, v877, v878, v879, v881, v882, v893, v894, v895, v896, v897, v898, v899, v900, v901, v906, v907, v908, v909, v910, v911, v912, v913, v914, v915, v916, v917, v918, v919, v920, v923, v924, v925, v926, v927, v928, v929, v930, v931, v932, v933;
+	ptr v10, v32, v37, v57, v66, v91, v123, v129, v145, v226, v237, v245, v263, v266, v281, v284, v291, v303, v311, v320, v335, v339, v342, v346, v358, v362, v407, v456, v522, v535, v544, v547, v549, v553, v561, v565, v577, v581, v599, v602, v625, v647, v651, v655, v663, v679, v684, v688, v717, v722, v725, v739, v743, v789, v799, v806, v807, v808, v809, v810, v816, v817, v818, v819, v820, v827;
+	u32 v12, v39, v64, v121, v193, v229, v239, v257, v275, v300, v314, v317, v318, v349, v361, v364, v370, v371, v372, v373, v377, v391, v398, v401, v402, v420, v427, v430, v431, v432, v433, v434, v444, v447, v448, v449, v450, v454, v462, v465, v469, v471, v478, v479, v480, v481, v485, v493, v568, v569, v570, v571, v575, v584, v588, v595, v610, v681, v682, v720, v723, v726, v727, v833, v834, v836, v843, v844, v854, v856, v859, v860, v866, v868, v873, v874, v883, v886, v887, v888, v890, v891, v892, v902, v904;
+	u8 v118, v119, v173, v174, v175, v176, v189, v190, v191, v192, v204, v205, v206, v207, v227, v228, v238, v252, v253, v254, v255, v256, v258, v260, v270, v271, v272, v273, v274, v276, v278, v288, v294, v296, v297, v298, v299, v301, v302, v313, v316, v331, v332, v348, v360, v369, v378, v384, v390, v399, v406, v413, v419, v428, v438, v445, v455, v463, v470, v476, v477, v486, v489, v490, v491, v492, v504, v505, v506, v507, v519, v520, v521, v546, v560, v576, v589, v590, v591, v592, v593, v594, v606, v607, v608, v609, v621, v622, v623, v624, v636, v648, v649, v650, v677, v695, v696, v700, v701, v719, v751, v760, v761, v762, v767, v774, v775, v788, v798, v804, v815, v825, v835, v837, v855, v857, v858, v867, v880, v889, v903, v905, v921, v922, v934, v935;
+	u16 v884, v885;
+	_Alignas(8) u8 v936[1], v937[24], v938[24], v939[8], v940[104], v941[104], v942[40], v943[40], v944[96], v950[96], v956[56], v957[32], v958[56], v959[112], v960[104], v961[104], v962[40], v963[40], v964[56], v965[56], v966[112], v967[96], v968[96], v970[104], v971[24], v972[104], v973[40], v975[56], v976[96], v977[96], v980[32], v982[64], v984[112], v985[192], v986[192], v987[24], v988[96], v989[56], v993[48], v994[104], v995[96], v996[56], v997[24], v999[24], v1000[24], v1001[56], v1002[56], v1003[96], v1004[56], v1005[56], v1006[56], v1008[104], v1010[48], v1011[96], v1012[56], v1013[96], v1014[56], v1015[56], v1016[56], v1017[56], v1028[96], v1029[96], v1032[12], v1033[104], v1035[16], v1036[32], v1038[96], v1039[96], v1040[12], v1041[12], v1042[96], v1044[96], v1045[96], v1046[12], v1047[12], v1048[96], v1050[96], v1051[96], v1052[96], v1053[96], v1054[104];
+	_Alignas(1) u8 v945[3], v946[3], v947[3], v948[3], v949[3], v951[3], v952[3], v953[3], v954[3], v955[3], v969[7], v974[7], v978[7], v979[7], v981[7], v983[7], v990[56], v991[56], v992[56], v998[56], v1007[3], v1009[1], v1018[56], v1019[56], v1020[56], v1021[56], v1022[56], v1023[3], v1024[56], v1025[56], v1026[3], v1027[3], v1037[7], v1055[1], v1056[128];
+	_Alignas(4) u8 v1030[24], v1031[24], v1034[56], v1043[16], v1049[16];
+	u8 v1057 = v3 < 2;
+	if (!v1057) goto L401;
+	ptr v1058 = lup(v2);
 	switch (lu64(v2+8)) {
 	case 4: goto L0;
 	case 6: goto L172;
-	default: M0: v928 = v929 = v930 = v931 = v932 = v933 = v934 = v935 = v936 = v937 = v938 = v940 = 0; v939 = 3; goto L518;
+	default: M0: v923 = v924 = v925 = v926 = v927 = v928 = v929 = v930 = v931 = v932 = v933 = v935 = 0; v934 = 3; goto L518;
 	}
 L0:;
-	u64 v1066 = (u64)lu32(v1065);
-	switch ((v1066 << 32) | v1066) {
+	u64 v1059 = (u64)lu32(v1058);
+	switch ((v1059 << 32) | v1059) {
 	case 8391166445252471148u: goto L1;
 	case 8750616549010730851u: v649 = v650 = 1; goto L407;
 	default: goto M0;
 	}
 L1:
-	clear(v1063, 128);
-	clear(v1061, 104);
-	pcap_classic_pcap_header_read_header_67f8(v1061, v4, v1062);
-	u32 v1067 = ld32(v1061+4);
-	u8 v1068 = ld8(v1061+8), v1069 = ld8(v1061+16), v1070 = ld8(v1061+17), v1071 = ld8(v1061+18);
-	u8 v1072 = ld8(v1061+19);
-	u32 v1073 = ld32(v1061+20);
-	u64 v1074 = ld64(v1061+24), v1075 = ld64(v1061+32), v1076 = ld64(v1061+40), v1077 = ld64(v1061+48);
-	u64 v1078 = ld64(v1061+56), v1079 = ld64(v1061+64), v1080 = ld64(v1061+72), v1081 = ld64(v1061+80);
-	u64 v1082 = ld64(v1061+88), v1083 = ld64(v1061+96);
-	if (ld8(v1061)) goto L165;
-	u8 v1084 = v1067 != 2712847316u;
-	clear(v1063, 126);
-	st8(v1063+126, (v1067 != 2712812621u) & v1084);
-	st8(v1063+127, v1084 & (v1067 != 3569595041u));
+	clear(v1056, 128);
+	clear(v1054, 104);
+	pcap_classic_pcap_header_read_header_67f8(v1054, v4, v1055);
+	u32 v1060 = ld32(v1054+4);
+	u8 v1061 = ld8(v1054+8), v1062 = ld8(v1054+16), v1063 = ld8(v1054+17), v1064 = ld8(v1054+18);
+	u8 v1065 = ld8(v1054+19);
+	u32 v1066 = ld32(v1054+20);
+	u64 v1067 = ld64(v1054+24), v1068 = ld64(v1054+32), v1069 = ld64(v1054+40), v1070 = ld64(v1054+48);
+	u64 v1071 = ld64(v1054+56), v1072 = ld64(v1054+64), v1073 = ld64(v1054+72), v1074 = ld64(v1054+80);
+	u64 v1075 = ld64(v1054+88), v1076 = ld64(v1054+96);
+	if (ld8(v1054)) goto L165;
+	u8 v1077 = v1060 != 2712847316u;
+	clear(v1056, 126);
+	st8(v1056+126, (v1060 != 2712812621u) & v1077);
+	st8(v1056+127, v1077 & (v1060 != 3569595041u));
 	v6 = 0;
 L2:
-	clear(v1060, 96);
-	std_io_buffered_BufWriter_flush_buf_9d90(v1060, v5);
-	if (ld8(v1060)) goto L164;
-	u64 v1085 = ld64(v4+24), v1086 = ld64(v4+32);
-	if (v1085 < v1086) { v7 = v1086; v8 = v1085; goto L3; }
+	clear(v1053, 96);
+	std_io_buffered_BufWriter_flush_buf_9d90(v1053, v5);
+	if (ld8(v1053)) goto L164;
+	u64 v1078 = ld64(v4+24), v1079 = ld64(v4+32);
+	if (v1078 < v1079) { v7 = v1079; v8 = v1078; goto L3; }
 	clear(v4+24, 16);
-	ptr v1087 = ldp(v4);
-	u64 v1088 = ld64(v4+8);
-	clear(v1059, 96);
-	capcopy_run_uninterrupted_UninterruptedRead_read_f128(v1059, v1087, v1088);
-	u64 v1089 = ld64(v1059+8);
-	if (ld8(v1059)) { v208 = v1089; v209 = ld64(v1059+16); v210 = ld64(v1059+24); v211 = ld64(v1059+32); v212 = ld64(v1059+40); v213 = ld64(v1059+48); v214 = ld64(v1059+56); v215 = ld64(v1059+64); v216 = ld64(v1059+72); v217 = ld64(v1059+80); v218 = ld64(v1059+88); v206 = 4; v207 = 1; goto L170; }
-	st64(v4+32, v1089);
-	v7 = v1089; v8 = ld64(v4+24);
+	ptr v1080 = ldp(v4);
+	u64 v1081 = ld64(v4+8);
+	clear(v1052, 96);
+	capcopy_run_uninterrupted_UninterruptedRead_read_f128(v1052, v1080, v1081);
+	u64 v1082 = ld64(v1052+8);
+	if (ld8(v1052)) { v208 = v1082; v209 = ld64(v1052+16); v210 = ld64(v1052+24); v211 = ld64(v1052+32); v212 = ld64(v1052+40); v213 = ld64(v1052+48); v214 = ld64(v1052+56); v215 = ld64(v1052+64); v216 = ld64(v1052+72); v217 = ld64(v1052+80); v218 = ld64(v1052+88); v206 = 4; v207 = 1; goto L170; }
+	st64(v4+32, v1082);
+	v7 = v1082; v8 = ld64(v4+24);
 L3:;
-	ptr v1090 = at(ldp(v4), v8);
-	u64 v1091 = v7 - v8;
-	if (v1091) goto L4;
-	v928 = v929 = v930 = v931 = v932 = v933 = v934 = v935 = v936 = v937 = v938 = v939 = v940 = 0; goto L518;
+	ptr v1083 = at(ldp(v4), v8);
+	u64 v1084 = v7 - v8;
+	if (v1084) goto L4;
+	v923 = v924 = v925 = v926 = v927 = v928 = v929 = v930 = v931 = v932 = v933 = v934 = v935 = 0; goto L518;
 L4:;
-	u8 v1092 = ld8(v1063+127), v1093 = v1091 < 16;
-	if (ld8(v1063+126)) goto L41;
-	if (v1093) { M3: v61 = v6; v62 = v1091; goto L78; }
-	u8 v1094 = v1092 == 1;
-	v9 = v6; v10 = v1090; v11 = v1091;
+	u8 v1085 = ld8(v1056+127), v1086 = v1084 < 16;
+	if (ld8(v1056+126)) goto L41;
+	if (v1086) { M3: v61 = v6; v62 = v1084; goto L78; }
+	u8 v1087 = v1085 == 1;
+	v9 = v6; v10 = v1083; v11 = v1084;
 L5:;
-	u32 v1095 = (u32)__builtin_bswap32(lu32(v10)), v1096 = (u32)__builtin_bswap32(lu32(v10+4));
-	u32 v1097 = lu32(v10+8), v1098 = (u32)__builtin_bswap32(v1097);
-	u64 v1099 = v11 - 16;
-	u32 v1100 = lu32(v10+12), v1101 = (u32)__builtin_bswap32(v1100);
-	if (v1094) { v12 = v1096; goto L6; }
-	if (v1096 > 4294967) { M4: v61 = v9; v62 = v11; goto L78; }
-	v12 = v1096 * 1000;
+	u32 v1088 = (u32)__builtin_bswap32(lu32(v10)), v1089 = (u32)__builtin_bswap32(lu32(v10+4));
+	u32 v1090 = lu32(v10+8), v1091 = (u32)__builtin_bswap32(v1090);
+	u64 v1092 = v11 - 16;
+	u32 v1093 = lu32(v10+12), v1094 = (u32)__builtin_bswap32(v1093);
+	if (v1087) { v12 = v1089; goto L6; }
+	if (v1089 > 4294967) { M4: v61 = v9; v62 = v11; goto L78; }
+	v12 = v1089 * 1000;
 L6:
-	if ((v1098 > 262144) | (v1101 > 262144) || v1101 < v1098) goto M4;
-	u64 v1102 = (u64)__builtin_bswap64(((u64)v1097 << 32) | (u64)v1100), v1103 = v1102 & 4294967295u;
-	if (v1099 < v1103) goto M4;
-	ptr v1104 = at(v10+16, v1103);
-	u64 v1105 = v1099 - v1103, v1106 = v9 + 1, v1107 = v1102 >> 32;
-	st8(v1063+125, 10);
-	if (v1102 <= 0x270fffffffffull) { v15 = 125; v16 = v1107; goto L8; }
-	v13 = v1107; v14 = 125;
+	if ((v1091 > 262144) | (v1094 > 262144) || v1094 < v1091) goto M4;
+	u64 v1095 = (u64)__builtin_bswap64(((u64)v1090 << 32) | (u64)v1093), v1096 = v1095 & 4294967295u;
+	if (v1092 < v1096) goto M4;
+	ptr v1097 = at(v10+16, v1096);
+	u64 v1098 = v1092 - v1096, v1099 = v9 + 1, v1100 = v1095 >> 32;
+	st8(v1056+125, 10);
+	if (v1095 <= 0x270fffffffffull) { v15 = 125; v16 = v1100; goto L8; }
+	v13 = v1100; v14 = 125;
 L7:;
-	u64 v1108 = v13 / 10000;
-	u16 v1109 = (u16)(v13 % 10000);
-	ptr v1110 = at((ptr)static_76, (u64)(u16)((u32)(v1109 % 100) << 1)), v1111 = at(v1063, v14);
-	u8 v1112 = ld8(v1110+1);
-	st8(v1111-2, ld8(v1110));
-	st8(v1111-1, v1112);
-	u64 v1113 = v14 - 4;
-	ptr v1114 = at((ptr)static_76, (u64)(u16)((u32)(v1109 / 100) << 1)), v1115 = at(v1063, v1113);
-	u8 v1116 = ld8(v1114+1);
-	st8(v1115, ld8(v1114));
-	st8(v1115+1, v1116);
-	if (v13 > 99999999) { v13 = v1108; v14 = v1113; goto L7; }
-	v15 = v1113; v16 = v1108;
+	u64 v1101 = v13 / 10000;
+	u16 v1102 = (u16)(v13 % 10000);
+	ptr v1103 = at((ptr)static_76, (u64)(u16)((u32)(v1102 % 100) << 1)), v1104 = at(v1056, v14);
+	u8 v1105 = ld8(v1103+1);
+	st8(v1104-2, ld8(v1103));
+	st8(v1104-1, v1105);
+	u64 v1106 = v14 - 4;
+	ptr v1107 = at((ptr)static_76, (u64)(u16)((u32)(v1102 / 100) << 1)), v1108 = at(v1056, v1106);
+	u8 v1109 = ld8(v1107+1);
+	st8(v1108, ld8(v1107));
+	st8(v1108+1, v1109);
+	if (v13 > 99999999) { v13 = v1101; v14 = v1106; goto L7; }
+	v15 = v1106; v16 = v1101;
 L8:
 	if (v16 >= 100) goto L10;
 	if (v16 >= 10) goto L9;
-	u64 v1117 = v15 - 1;
-	st8(at(v1063, v1117), (u8)v16 | 48);
-	v17 = v1117; goto L12;
+	u64 v1110 = v15 - 1;
+	st8(at(v1056, v1110), (u8)v16 | 48);
+	v17 = v1110; goto L12;
 L9:;
-	u64 v1118 = v15 - 2;
-	ptr v1119 = at((ptr)static_76, v16 << 1), v1120 = at(v1063, v1118);
-	u8 v1121 = ld8(v1119+1);
-	st8(v1120, ld8(v1119));
-	st8(v1120+1, v1121);
-	v17 = v1118; goto L12;
+	u64 v1111 = v15 - 2;
+	ptr v1112 = at((ptr)static_76, v16 << 1), v1113 = at(v1056, v1111);
+	u8 v1114 = ld8(v1112+1);
+	st8(v1113, ld8(v1112));
+	st8(v1113+1, v1114);
+	v17 = v1111; goto L12;
 L10:;
-	u16 v1122 = (u16)v16;
-	ptr v1123 = at((ptr)static_76, (u64)(u16)((u32)(v1122 % 100) << 1)), v1124 = at(v1063, v15);
-	u8 v1125 = ld8(v1123+1);
-	st8(v1124-2, ld8(v1123));
-	st8(v1124-1, v1125);
-	u16 v1126 = v1122 / 100;
+	u16 v1115 = (u16)v16;
+	ptr v1116 = at((ptr)static_76, (u64)(u16)((u32)(v1115 % 100) << 1)), v1117 = at(v1056, v15);
+	u8 v1118 = ld8(v1116+1);
+	st8(v1117-2, ld8(v1116));
+	st8(v1117-1, v1118);
+	u16 v1119 = v1115 / 100;
 	if (v16 >= 1000) goto L11;
-	u64 v1127 = v15 - 3;
-	st8(at(v1063, v1127), (u8)v1126 | 48);
-	v17 = v1127; goto L12;
+	u64 v1120 = v15 - 3;
+	st8(at(v1056, v1120), (u8)v1119 | 48);
+	v17 = v1120; goto L12;
 L11:;
-	u64 v1128 = v15 - 4;
-	ptr v1129 = at((ptr)static_76, (u64)(u16)((u32)v1126 << 1)), v1130 = at(v1063, v1128);
-	u8 v1131 = ld8(v1129+1);
-	st8(v1130, ld8(v1129));
-	st8(v1130+1, v1131);
-	v17 = v1128;
+	u64 v1121 = v15 - 4;
+	ptr v1122 = at((ptr)static_76, (u64)(u16)((u32)v1119 << 1)), v1123 = at(v1056, v1121);
+	u8 v1124 = ld8(v1122+1);
+	st8(v1123, ld8(v1122));
+	st8(v1123+1, v1124);
+	v17 = v1121;
 L12:;
-	u64 v1132 = v17 - 1;
-	st8(at(v1063, v1132), 47);
-	if (v1103 <= 9999) { v20 = v1132; v21 = v1103; goto L14; }
-	v18 = v1103; v19 = v1132;
+	u64 v1125 = v17 - 1;
+	st8(at(v1056, v1125), 47);
+	if (v1096 <= 9999) { v20 = v1125; v21 = v1096; goto L14; }
+	v18 = v1096; v19 = v1125;
 L13:;
-	u64 v1133 = v18 / 10000;
-	u16 v1134 = (u16)(v18 % 10000);
-	ptr v1135 = at((ptr)static_76, (u64)(u16)((u32)(v1134 % 100) << 1)), v1136 = at(v1063, v19);
-	u8 v1137 = ld8(v1135+1);
-	st8(v1136-2, ld8(v1135));
-	st8(v1136-1, v1137);
-	u64 v1138 = v19 - 4;
-	ptr v1139 = at((ptr)static_76, (u64)(u16)((u32)(v1134 / 100) << 1)), v1140 = at(v1063, v1138);
-	u8 v1141 = ld8(v1139+1);
-	st8(v1140, ld8(v1139));
-	st8(v1140+1, v1141);
-	if (v18 > 99999999) { v18 = v1133; v19 = v1138; goto L13; }
-	v20 = v1138; v21 = v1133;
+	u64 v1126 = v18 / 10000;
+	u16 v1127 = (u16)(v18 % 10000);
+	ptr v1128 = at((ptr)static_76, (u64)(u16)((u32)(v1127 % 100) << 1)), v1129 = at(v1056, v19);
+	u8 v1130 = ld8(v1128+1);
+	st8(v1129-2, ld8(v1128));
+	st8(v1129-1, v1130);
+	u64 v1131 = v19 - 4;
+	ptr v1132 = at((ptr)static_76, (u64)(u16)((u32)(v1127 / 100) << 1)), v1133 = at(v1056, v1131);
+	u8 v1134 = ld8(v1132+1);
+	st8(v1133, ld8(v1132));
+	st8(v1133+1, v1134);
+	if (v18 > 99999999) { v18 = v1126; v19 = v1131; goto L13; }
+	v20 = v1131; v21 = v1126;
 L14:
 	if (v21 >= 100) goto L16;
 	if (v21 >= 10) goto L15;
-	u64 v1142 = v20 - 1;
-	st8(at(v1063, v1142), (u8)v21 | 48);
-	v22 = v1142; goto L18;
+	u64 v1135 = v20 - 1;
+	st8(at(v1056, v1135), (u8)v21 | 48);
+	v22 = v1135; goto L18;
 L15:;
-	u64 v1143 = v20 - 2;
-	ptr v1144 = at((ptr)static_76, v21 << 1), v1145 = at(v1063, v1143);
-	u8 v1146 = ld8(v1144+1);
-	st8(v1145, ld8(v1144));
-	st8(v1145+1, v1146);
-	v22 = v1143; goto L18;
+	u64 v1136 = v20 - 2;
+	ptr v1137 = at((ptr)static_76, v21 << 1), v1138 = at(v1056, v1136);
+	u8 v1139 = ld8(v1137+1);
+	st8(v1138, ld8(v1137));
+	st8(v1138+1, v1139);
+	v22 = v1136; goto L18;
 L16:;
-	u16 v1147 = (u16)v21;
-	ptr v1148 = at((ptr)static_76, (u64)(u16)((u32)(v1147 % 100) << 1)), v1149 = at(v1063, v20);
-	u8 v1150 = ld8(v1148+1);
-	st8(v1149-2, ld8(v1148));
-	st8(v1149-1, v1150);
-	u16 v1151 = v1147 / 100;
+	u16 v1140 = (u16)v21;
+	ptr v1141 = at((ptr)static_76, (u64)(u16)((u32)(v1140 % 100) << 1)), v1142 = at(v1056, v20);
+	u8 v1143 = ld8(v1141+1);
+	st8(v1142-2, ld8(v1141));
+	st8(v1142-1, v1143);
+	u16 v1144 = v1140 / 100;
 	if (v21 >= 1000) goto L17;
-	u64 v1152 = v20 - 3;
-	st8(at(v1063, v1152), (u8)v1151 | 48);
-	v22 = v1152; goto L18;
+	u64 v1145 = v20 - 3;
+	st8(at(v1056, v1145), (u8)v1144 | 48);
+	v22 = v1145; goto L18;
 L17:;
-	u64 v1153 = v20 - 4;
-	ptr v1154 = at((ptr)static_76, (u64)(u16)((u32)v1151 << 1)), v1155 = at(v1063, v1153);
-	u8 v1156 = ld8(v1154+1);
-	st8(v1155, ld8(v1154));
-	st8(v1155+1, v1156);
-	v22 = v1153;
+	u64 v1146 = v20 - 4;
+	ptr v1147 = at((ptr)static_76, (u64)(u16)((u32)v1144 << 1)), v1148 = at(v1056, v1146);
+	u8 v1149 = ld8(v1147+1);
+	st8(v1148, ld8(v1147));
+	st8(v1148+1, v1149);
+	v22 = v1146;
 L18:;
-	ptr v1157 = at(v1063, v22);
-	st8(v1157-1, 32);
-	u64 v1158 = (u64)v12 * 1441151881, v1159 = (v1158 & 0x1ffffffffffffffull) * 100;
-	u64 v1160 = (v1159 & 0x1fffffffffffffcull) * 100, v1161 = (v1160 & 0x1fffffffffffff0ull) * 100;
-	ptr v1162 = at((ptr)static_76, (((v1161 & 0x1ffffffffffffc0ull) * 100) >> 56) & 254);
-	st8(v1157-3, ld8(v1162));
-	st8(v1157-2, ld8(v1162+1));
-	ptr v1163 = at((ptr)static_76, (v1161 >> 56) & 254);
-	st8(v1157-5, ld8(v1163));
-	st8(v1157-4, ld8(v1163+1));
-	ptr v1164 = at((ptr)static_76, (v1160 >> 56) & 254);
-	st8(v1157-7, ld8(v1164));
-	st8(v1157-6, ld8(v1164+1));
-	ptr v1165 = at((ptr)static_76, (v1159 >> 56) & 254);
-	st8(v1157-9, ld8(v1165));
-	st8(v1157-8, ld8(v1165+1));
-	u64 v1166 = v1158 >> 57;
+	ptr v1150 = at(v1056, v22);
+	st8(v1150-1, 32);
+	u64 v1151 = (u64)v12 * 1441151881, v1152 = (v1151 & 0x1ffffffffffffffull) * 100;
+	u64 v1153 = (v1152 & 0x1fffffffffffffcull) * 100, v1154 = (v1153 & 0x1fffffffffffff0ull) * 100;
+	ptr v1155 = at((ptr)static_76, (((v1154 & 0x1ffffffffffffc0ull) * 100) >> 56) & 254);
+	st8(v1150-3, ld8(v1155));
+	st8(v1150-2, ld8(v1155+1));
+	ptr v1156 = at((ptr)static_76, (v1154 >> 56) & 254);
+	st8(v1150-5, ld8(v1156));
+	st8(v1150-4, ld8(v1156+1));
+	ptr v1157 = at((ptr)static_76, (v1153 >> 56) & 254);
+	st8(v1150-7, ld8(v1157));
+	st8(v1150-6, ld8(v1157+1));
+	ptr v1158 = at((ptr)static_76, (v1152 >> 56) & 254);
+	st8(v1150-9, ld8(v1158));
+	st8(v1150-8, ld8(v1158+1));
+	u64 v1159 = v1151 >> 57;
 	if (v12 >= 1000000000) goto L19;
-	u64 v1167 = v22 - 10;
-	st8(at(v1063, v1167), (u8)v1166 | 48);
-	v23 = v1167; goto L20;
+	u64 v1160 = v22 - 10;
+	st8(at(v1056, v1160), (u8)v1159 | 48);
+	v23 = v1160; goto L20;
 L19:;
-	u64 v1168 = v22 - 11;
-	ptr v1169 = at((ptr)static_76, v1166 << 1), v1170 = at(v1063, v1168);
-	u8 v1171 = ld8(v1169+1);
-	st8(v1170, ld8(v1169));
-	st8(v1170+1, v1171);
-	v23 = v1168;
+	u64 v1161 = v22 - 11;
+	ptr v1162 = at((ptr)static_76, v1159 << 1), v1163 = at(v1056, v1161);
+	u8 v1164 = ld8(v1162+1);
+	st8(v1163, ld8(v1162));
+	st8(v1163+1, v1164);
+	v23 = v1161;
 L20:;
-	u64 v1172 = v23 - 1;
-	ptr v1173 = at(v1063, v1172);
-	st8(v1173, 46);
-	u64 v1174 = (u64)v1095;
-	if (v1095 >= 100000000) goto L25;
-	if (v1095 <= 9999) { v24 = v1172; v25 = v1174; goto L21; }
-	u16 v1175 = (u16)(v1095 % 10000);
-	ptr v1176 = at((ptr)static_76, (u64)(u16)((u32)(v1175 % 100) << 1));
-	u8 v1177 = ld8(v1176+1);
-	st8(v1173-2, ld8(v1176));
-	st8(v1173-1, v1177);
-	u64 v1178 = v23 - 5;
-	ptr v1179 = at((ptr)static_76, (u64)(u16)((u32)(v1175 / 100) << 1)), v1180 = at(v1063, v1178);
-	u8 v1181 = ld8(v1179+1);
-	st8(v1180, ld8(v1179));
-	st8(v1180+1, v1181);
-	v24 = v1178; v25 = (u64)(v1095 / 10000);
+	u64 v1165 = v23 - 1;
+	ptr v1166 = at(v1056, v1165);
+	st8(v1166, 46);
+	u64 v1167 = (u64)v1088;
+	if (v1088 >= 100000000) goto L25;
+	if (v1088 <= 9999) { v24 = v1165; v25 = v1167; goto L21; }
+	u16 v1168 = (u16)(v1088 % 10000);
+	ptr v1169 = at((ptr)static_76, (u64)(u16)((u32)(v1168 % 100) << 1));
+	u8 v1170 = ld8(v1169+1);
+	st8(v1166-2, ld8(v1169));
+	st8(v1166-1, v1170);
+	u64 v1171 = v23 - 5;
+	ptr v1172 = at((ptr)static_76, (u64)(u16)((u32)(v1168 / 100) << 1)), v1173 = at(v1056, v1171);
+	u8 v1174 = ld8(v1172+1);
+	st8(v1173, ld8(v1172));
+	st8(v1173+1, v1174);
+	v24 = v1171; v25 = (u64)(v1088 / 10000);
 L21:
 	if (v25 >= 100) goto L23;
 	if (v25 >= 10) goto L22;
-	u64 v1182 = v24 - 1;
-	st8(at(v1063, v1182), (u8)v25 | 48);
-	v26 = v1182; goto L27;
+	u64 v1175 = v24 - 1;
+	st8(at(v1056, v1175), (u8)v25 | 48);
+	v26 = v1175; goto L27;
 L22:;
-	u64 v1183 = v24 - 2;
-	ptr v1184 = at((ptr)static_76, v25 << 1), v1185 = at(v1063, v1183);
-	u8 v1186 = ld8(v1184+1);
-	st8(v1185, ld8(v1184));
-	st8(v1185+1, v1186);
-	v26 = v1183; goto L27;
+	u64 v1176 = v24 - 2;
+	ptr v1177 = at((ptr)static_76, v25 << 1), v1178 = at(v1056, v1176);
+	u8 v1179 = ld8(v1177+1);
+	st8(v1178, ld8(v1177));
+	st8(v1178+1, v1179);
+	v26 = v1176; goto L27;
 L23:;
-	u16 v1187 = (u16)v25;
-	ptr v1188 = at((ptr)static_76, (u64)(u16)((u32)(v1187 % 100) << 1)), v1189 = at(v1063, v24);
-	u8 v1190 = ld8(v1188+1);
-	st8(v1189-2, ld8(v1188));
-	st8(v1189-1, v1190);
-	u16 v1191 = v1187 / 100;
+	u16 v1180 = (u16)v25;
+	ptr v1181 = at((ptr)static_76, (u64)(u16)((u32)(v1180 % 100) << 1)), v1182 = at(v1056, v24);
+	u8 v1183 = ld8(v1181+1);
+	st8(v1182-2, ld8(v1181));
+	st8(v1182-1, v1183);
+	u16 v1184 = v1180 / 100;
 	if (v25 >= 1000) goto L24;
-	u64 v1192 = v24 - 3;
-	st8(at(v1063, v1192), (u8)v1191 | 48);
-	v26 = v1192; goto L27;
+	u64 v1185 = v24 - 3;
+	st8(at(v1056, v1185), (u8)v1184 | 48);
+	v26 = v1185; goto L27;
 L24:;
-	u64 v1193 = v24 - 4;
-	ptr v1194 = at((ptr)static_76, (u64)(u16)((u32)v1191 << 1)), v1195 = at(v1063, v1193);
-	u8 v1196 = ld8(v1194+1);
-	st8(v1195, ld8(v1194));
-	st8(v1195+1, v1196);
-	v26 = v1193; goto L27;
+	u64 v1186 = v24 - 4;
+	ptr v1187 = at((ptr)static_76, (u64)(u16)((u32)v1184 << 1)), v1188 = at(v1056, v1186);
+	u8 v1189 = ld8(v1187+1);
+	st8(v1188, ld8(v1187));
+	st8(v1188+1, v1189);
+	v26 = v1186; goto L27;
 L25:;
-	u64 v1197 = v1174 * 1441151881, v1198 = (v1197 & 0x1ffffffffffffffull) * 100;
-	u64 v1199 = (v1198 & 0x1fffffffffffffcull) * 100, v1200 = (v1199 & 0x1fffffffffffff0ull) * 100;
-	ptr v1201 = at((ptr)static_76, (((v1200 & 0x1ffffffffffffc0ull) * 100) >> 56) & 254);
-	st8(v1173-2, ld8(v1201));
-	st8(v1173-1, ld8(v1201+1));
-	ptr v1202 = at((ptr)static_76, (v1200 >> 56) & 254);
-	st8(v1173-4, ld8(v1202));
-	st8(v1173-3, ld8(v1202+1));
-	ptr v1203 = at((ptr)static_76, (v1199 >> 56) & 254);
-	st8(v1173-6, ld8(v1203));
-	st8(v1173-5, ld8(v1203+1));
-	ptr v1204 = at((ptr)static_76, (v1198 >> 56) & 254);
-	st8(v1173-8, ld8(v1204));
-	st8(v1173-7, ld8(v1204+1));
-	u64 v1205 = v1197 >> 57;
-	if (v1095 >= 1000000000) goto L26;
-	u64 v1206 = v23 - 10;
-	st8(at(v1063, v1206), (u8)v1205 | 48);
-	v26 = v1206; goto L27;
+	u64 v1190 = v1167 * 1441151881, v1191 = (v1190 & 0x1ffffffffffffffull) * 100;
+	u64 v1192 = (v1191 & 0x1fffffffffffffcull) * 100, v1193 = (v1192 & 0x1fffffffffffff0ull) * 100;
+	ptr v1194 = at((ptr)static_76, (((v1193 & 0x1ffffffffffffc0ull) * 100) >> 56) & 254);
+	st8(v1166-2, ld8(v1194));
+	st8(v1166-1, ld8(v1194+1));
+	ptr v1195 = at((ptr)static_76, (v1193 >> 56) & 254);
+	st8(v1166-4, ld8(v1195));
+	st8(v1166-3, ld8(v1195+1));
+	ptr v1196 = at((ptr)static_76, (v1192 >> 56) & 254);
+	st8(v1166-6, ld8(v1196));
+	st8(v1166-5, ld8(v1196+1));
+	ptr v1197 = at((ptr)static_76, (v1191 >> 56) & 254);
+	st8(v1166-8, ld8(v1197));
+	st8(v1166-7, ld8(v1197+1));
+	u64 v1198 = v1190 >> 57;
+	if (v1088 >= 1000000000) goto L26;
+	u64 v1199 = v23 - 10;
+	st8(at(v1056, v1199), (u8)v1198 | 48);
+	v26 = v1199; goto L27;
 L26:;
-	u64 v1207 = v23 - 11;
-	ptr v1208 = at((ptr)static_76, v1205 << 1), v1209 = at(v1063, v1207);
-	u8 v1210 = ld8(v1208+1);
-	st8(v1209, ld8(v1208));
-	st8(v1209+1, v1210);
-	v26 = v1207;
+	u64 v1200 = v23 - 11;
+	ptr v1201 = at((ptr)static_76, v1198 << 1), v1202 = at(v1056, v1200);
+	u8 v1203 = ld8(v1201+1);
+	st8(v1202, ld8(v1201));
+	st8(v1202+1, v1203);
+	v26 = v1200;
 L27:;
-	u64 v1211 = v26 - 1;
-	st8(at(v1063, v1211), 32);
-	if (v9 <= 9998) { v29 = v1211; v30 = v1106; goto L29; }
-	v27 = v1106; v28 = v1211;
+	u64 v1204 = v26 - 1;
+	st8(at(v1056, v1204), 32);
+	if (v9 <= 9998) { v29 = v1204; v30 = v1099; goto L29; }
+	v27 = v1099; v28 = v1204;
 L28:;
-	u64 v1212 = v27 / 10000;
-	u16 v1213 = (u16)(v27 % 10000);
-	ptr v1214 = at((ptr)static_76, (u64)(u16)((u32)(v1213 % 100) << 1)), v1215 = at(v1063, v28);
-	u8 v1216 = ld8(v1214+1);
-	st8(v1215-2, ld8(v1214));
-	st8(v1215-1, v1216);
-	u64 v1217 = v28 - 4;
-	ptr v1218 = at((ptr)static_76, (u64)(u16)((u32)(v1213 / 100) << 1)), v1219 = at(v1063, v1217);
-	u8 v1220 = ld8(v1218+1);
-	st8(v1219, ld8(v1218));
-	st8(v1219+1, v1220);
-	if (v27 > 99999999) { v27 = v1212; v28 = v1217; goto L28; }
-	v29 = v1217; v30 = v1212;
+	u64 v1205 = v27 / 10000;
+	u16 v1206 = (u16)(v27 % 10000);
+	ptr v1207 = at((ptr)static_76, (u64)(u16)((u32)(v1206 % 100) << 1)), v1208 = at(v1056, v28);
+	u8 v1209 = ld8(v1207+1);
+	st8(v1208-2, ld8(v1207));
+	st8(v1208-1, v1209);
+	u64 v1210 = v28 - 4;
+	ptr v1211 = at((ptr)static_76, (u64)(u16)((u32)(v1206 / 100) << 1)), v1212 = at(v1056, v1210);
+	u8 v1213 = ld8(v1211+1);
+	st8(v1212, ld8(v1211));
+	st8(v1212+1, v1213);
+	if (v27 > 99999999) { v27 = v1205; v28 = v1210; goto L28; }
+	v29 = v1210; v30 = v1205;
 L29:
 	if (v30 >= 100) goto L31;
 	if (v30 >= 10) goto L30;
-	u64 v1221 = v29 - 1;
-	st8(at(v1063, v1221), (u8)v30 | 48);
-	v31 = v1221; goto L33;
+	u64 v1214 = v29 - 1;
+	st8(at(v1056, v1214), (u8)v30 | 48);
+	v31 = v1214; goto L33;
 L30:;
-	u64 v1222 = v29 - 2;
-	ptr v1223 = at((ptr)static_76, v30 << 1), v1224 = at(v1063, v1222);
-	u8 v1225 = ld8(v1223+1);
-	st8(v1224, ld8(v1223));
-	st8(v1224+1, v1225);
-	v31 = v1222; goto L33;
+	u64 v1215 = v29 - 2;
+	ptr v1216 = at((ptr)static_76, v30 << 1), v1217 = at(v1056, v1215);
+	u8 v1218 = ld8(v1216+1);
+	st8(v1217, ld8(v1216));
+	st8(v1217+1, v1218);
+	v31 = v1215; goto L33;
 L31:;
-	u16 v1226 = (u16)v30;
-	ptr v1227 = at((ptr)static_76, (u64)(u16)((u32)(v1226 % 100) << 1)), v1228 = at(v1063, v29);
-	u8 v1229 = ld8(v1227+1);
-	st8(v1228-2, ld8(v1227));
-	st8(v1228-1, v1229);
-	u16 v1230 = v1226 / 100;
+	u16 v1219 = (u16)v30;
+	ptr v1220 = at((ptr)static_76, (u64)(u16)((u32)(v1219 % 100) << 1)), v1221 = at(v1056, v29);
+	u8 v1222 = ld8(v1220+1);
+	st8(v1221-2, ld8(v1220));
+	st8(v1221-1, v1222);
+	u16 v1223 = v1219 / 100;
 	if (v30 >= 1000) goto L32;
-	u64 v1231 = v29 - 3;
-	st8(at(v1063, v1231), (u8)v1230 | 48);
-	v31 = v1231; goto L33;
+	u64 v1224 = v29 - 3;
+	st8(at(v1056, v1224), (u8)v1223 | 48);
+	v31 = v1224; goto L33;
 L32:;
-	u64 v1232 = v29 - 4;
-	ptr v1233 = at((ptr)static_76, (u64)(u16)((u32)v1230 << 1)), v1234 = at(v1063, v1232);
-	u8 v1235 = ld8(v1233+1);
-	st8(v1234, ld8(v1233));
-	st8(v1234+1, v1235);
-	v31 = v1232;
+	u64 v1225 = v29 - 4;
+	ptr v1226 = at((ptr)static_76, (u64)(u16)((u32)v1223 << 1)), v1227 = at(v1056, v1225);
+	u8 v1228 = ld8(v1226+1);
+	st8(v1227, ld8(v1226));
+	st8(v1227+1, v1228);
+	v31 = v1225;
 L33:
 	if (v31 == 126) goto L40;
-	v32 = at(v1063, v31); v33 = 126ull - v31;
+	v32 = at(v1056, v31); v33 = 126ull - v31;
 L34:
-	clear(v1058, 96);
-	u64 v1236 = ld64(v5+16), v1237 = ld64(v5+8);
-	if (v33 >= v1236 - v1237) goto L38;
-	u64 v1238 = v1237 + v33;
-	ptr v1239 = ldp(v5), v1240 = at(v1239, v1237);
-	if ((u64)v1240 - (u64)v32 >= v33) goto L36;
+	clear(v1051, 96);
+	u64 v1229 = ld64(v5+16), v1230 = ld64(v5+8);
+	if (v33 >= v1229 - v1230) goto L38;
+	u64 v1231 = v1230 + v33;
+	ptr v1232 = ldp(v5), v1233 = at(v1232, v1230);
+	if ((u64)v1233 - (u64)v32 >= v33) goto L36;
 	v34 = 0;
 L35:
-	st8(at(v1240, v34), ld8(at(v32, v34)));
-	u64 v1241 = v34 + 1;
-	if (v1241 == v33) goto L37;
-	v34 = v1241; goto L35;
+	st8(at(v1233, v34), ld8(at(v32, v34)));
+	u64 v1234 = v34 + 1;
+	if (v1234 == v33) goto L37;
+	v34 = v1234; goto L35;
 L36:
-	move(v1240, v32, v33);
+	move(v1233, v32, v33);
 L37:
-	stp(v5, v1239);
-	st64(v5+8, v1238);
-	st64(v5+16, v1236);
+	stp(v5, v1232);
+	st64(v5+8, v1231);
+	st64(v5+16, v1229);
 	v35 = v33; goto L39;
 L38:
-	std_io_buffered_BufWriter_write_cold_9d90(v1058, v5, v32, v33);
-	u64 v1242 = ld64(v1058+8);
-	if (ld8(v1058)) { v208 = v1242; v209 = ld64(v1058+16); v210 = ld64(v1058+24); v211 = ld64(v1058+32); v212 = ld64(v1058+40); v213 = ld64(v1058+48); v214 = ld64(v1058+56); v215 = ld64(v1058+64); v216 = ld64(v1058+72); v217 = ld64(v1058+80); v218 = ld64(v1058+88); v206 = 4; v207 = 1; goto L170; }
-	if (!v1242) { M13: v208 = 1513219; v209 = 0x7074756f20656874ull; v210 = 0x206b6f6f74207475ull; v211 = 0x2e676e6968746f6eull; v212 = 0x2e2e2e2e2e2e2e2eull; v213 = 0x2e2e2e2e2e2e2e2eull; v214 = 0x2e2e2e2e2e2e2e2eull; v215 = 0x2e2e2e2e2e2e2e2eull; v216 = 0x2e2e2e2e2e2e2e2eull; v217 = 0x2e2e2e2e2e2e2e2eull; v218 = 0x2e2e2e2e2e2e2e2eull; v206 = 4; v207 = 1; goto L170; }
-	v35 = v1242;
+	std_io_buffered_BufWriter_write_cold_9d90(v1051, v5, v32, v33);
+	u64 v1235 = ld64(v1051+8);
+	if (ld8(v1051)) { v208 = v1235; v209 = ld64(v1051+16); v210 = ld64(v1051+24); v211 = ld64(v1051+32); v212 = ld64(v1051+40); v213 = ld64(v1051+48); v214 = ld64(v1051+56); v215 = ld64(v1051+64); v216 = ld64(v1051+72); v217 = ld64(v1051+80); v218 = ld64(v1051+88); v206 = 4; v207 = 1; goto L170; }
+	if (!v1235) { M13: v208 = 1513219; v209 = 0x7074756f20656874ull; v210 = 0x206b6f6f74207475ull; v211 = 0x2e676e6968746f6eull; v212 = 0x2e2e2e2e2e2e2e2eull; v213 = 0x2e2e2e2e2e2e2e2eull; v214 = 0x2e2e2e2e2e2e2e2eull; v215 = 0x2e2e2e2e2e2e2e2eull; v216 = 0x2e2e2e2e2e2e2e2eull; v217 = 0x2e2e2e2e2e2e2e2eull; v218 = 0x2e2e2e2e2e2e2e2eull; v206 = 4; v207 = 1; goto L170; }
+	v35 = v1235;
 L39:;
-	u64 v1243 = v33 - v35;
-	if (v1243) { v32 = at(v32, v35); v33 = v1243; goto L34; }
+	u64 v1236 = v33 - v35;
+	if (v1236) { v32 = at(v32, v35); v33 = v1236; goto L34; }
 L40:
-	if (v9 > 4294967293u || v1105 < 16) { v61 = v1106; v62 = v1105; goto L78; }
-	v9 = v1106; v10 = v1104; v11 = v1105; goto L5;
+	if (v9 > 4294967293u || v1098 < 16) { v61 = v1099; v62 = v1098; goto L78; }
+	v9 = v1099; v10 = v1097; v11 = v1098; goto L5;
 L41:
-	if (v1093) goto M3;
-	u8 v1244 = v1092 == 1;
-	v36 = v6; v37 = v1090; v38 = v1091;
+	if (v1086) goto M3;
+	u8 v1237 = v1085 == 1;
+	v36 = v6; v37 = v1083; v38 = v1084;
 L42:;
-	u32 v1245 = lu32(v37), v1246 = lu32(v37+4);
-	u64 v1247 = lu64(v37+8);
-	u32 v1248 = (u32)v1247;
-	u64 v1249 = v38 - 16, v1250 = v1247 >> 32;
-	u32 v1251 = (u32)v1250;
-	if (v1244) { v39 = v1246; goto L43; }
-	if (v1246 > 4294967) { M17: v61 = v36; v62 = v38; goto L78; }
-	v39 = v1246 * 1000;
+	u32 v1238 = lu32(v37), v1239 = lu32(v37+4);
+	u64 v1240 = lu64(v37+8);
+	u32 v1241 = (u32)v1240;
+	u64 v1242 = v38 - 16, v1243 = v1240 >> 32;
+	u32 v1244 = (u32)v1243;
+	if (v1237) { v39 = v1239; goto L43; }
+	if (v1239 > 4294967) { M17: v61 = v36; v62 = v38; goto L78; }
+	v39 = v1239 * 1000;
 L43:
-	if ((v1247 > 0x40000ffffffffull) | (v1248 > 262144) || v1251 < v1248) goto M17;
-	u64 v1252 = v1247 & 524287;
-	if (v1249 < v1252) goto M17;
-	ptr v1253 = at(v37+16, v1252);
-	u64 v1254 = v1249 - v1252, v1255 = v36 + 1;
-	st8(v1063+125, 10);
-	if (v1247 <= 0x270fffffffffull) { v42 = 125; v43 = v1250; goto L45; }
-	v40 = v1250; v41 = 125;
+	if ((v1240 > 0x40000ffffffffull) | (v1241 > 262144) || v1244 < v1241) goto M17;
+	u64 v1245 = v1240 & 524287;
+	if (v1242 < v1245) goto M17;
+	ptr v1246 = at(v37+16, v1245);
+	u64 v1247 = v1242 - v1245, v1248 = v36 + 1;
+	st8(v1056+125, 10);
+	if (v1240 <= 0x270fffffffffull) { v42 = 125; v43 = v1243; goto L45; }
+	v40 = v1243; v41 = 125;
 L44:;
-	u64 v1256 = v40 / 10000;
-	u16 v1257 = (u16)(v40 % 10000);
-	ptr v1258 = at((ptr)static_76, (u64)(u16)((u32)(v1257 % 100) << 1)), v1259 = at(v1063, v41);
-	u8 v1260 = ld8(v1258+1);
-	st8(v1259-2, ld8(v1258));
-	st8(v1259-1, v1260);
-	u64 v1261 = v41 - 4;
-	ptr v1262 = at((ptr)static_76, (u64)(u16)((u32)(v1257 / 100) << 1)), v1263 = at(v1063, v1261);
-	u8 v1264 = ld8(v1262+1);
-	st8(v1263, ld8(v1262));
-	st8(v1263+1, v1264);
-	if (v40 > 99999999) { v40 = v1256; v41 = v1261; goto L44; }
-	v42 = v1261; v43 = v1256;
+	u64 v1249 = v40 / 10000;
+	u16 v1250 = (u16)(v40 % 10000);
+	ptr v1251 = at((ptr)static_76, (u64)(u16)((u32)(v1250 % 100) << 1)), v1252 = at(v1056, v41);
+	u8 v1253 = ld8(v1251+1);
+	st8(v1252-2, ld8(v1251));
+	st8(v1252-1, v1253);
+	u64 v1254 = v41 - 4;
+	ptr v1255 = at((ptr)static_76, (u64)(u16)((u32)(v1250 / 100) << 1)), v1256 = at(v1056, v1254);
+	u8 v1257 = ld8(v1255+1);
+	st8(v1256, ld8(v1255));
+	st8(v1256+1, v1257);
+	if (v40 > 99999999) { v40 = v1249; v41 = v1254; goto L44; }
+	v42 = v1254; v43 = v1249;
 L45:
 	if (v43 >= 100) goto L47;
 	if (v43 >= 10) goto L46;
-	u64 v1265 = v42 - 1;
-	st8(at(v1063, v1265), (u8)v43 | 48);
-	v44 = v1265; goto L49;
+	u64 v1258 = v42 - 1;
+	st8(at(v1056, v1258), (u8)v43 | 48);
+	v44 = v1258; goto L49;
 L46:;
-	u64 v1266 = v42 - 2;
-	ptr v1267 = at((ptr)static_76, v43 << 1), v1268 = at(v1063, v1266);
-	u8 v1269 = ld8(v1267+1);
-	st8(v1268, ld8(v1267));
-	st8(v1268+1, v1269);
-	v44 = v1266; goto L49;
+	u64 v1259 = v42 - 2;
+	ptr v1260 = at((ptr)static_76, v43 << 1), v1261 = at(v1056, v1259);
+	u8 v1262 = ld8(v1260+1);
+	st8(v1261, ld8(v1260));
+	st8(v1261+1, v1262);
+	v44 = v1259; goto L49;
 L47:;
-	u16 v1270 = (u16)v43;
-	ptr v1271 = at((ptr)static_76, (u64)(u16)((u32)(v1270 % 100) << 1)), v1272 = at(v1063, v42);
-	u8 v1273 = ld8(v1271+1);
-	st8(v1272-2, ld8(v1271));
-	st8(v1272-1, v1273);
-	u16 v1274 = v1270 / 100;
+	u16 v1263 = (u16)v43;
+	ptr v1264 = at((ptr)static_76, (u64)(u16)((u32)(v1263 % 100) << 1)), v1265 = at(v1056, v42);
+	u8 v1266 = ld8(v1264+1);
+	st8(v1265-2, ld8(v1264));
+	st8(v1265-1, v1266);
+	u16 v1267 = v1263 / 100;
 	if (v43 >= 1000) goto L48;
-	u64 v1275 = v42 - 3;
-	st8(at(v1063, v1275), (u8)v1274 | 48);
-	v44 = v1275; goto L49;
+	u64 v1268 = v42 - 3;
+	st8(at(v1056, v1268), (u8)v1267 | 48);
+	v44 = v1268; goto L49;
 L48:;
-	u64 v1276 = v42 - 4;
-	ptr v1277 = at((ptr)static_76, (u64)(u16)((u32)v1274 << 1)), v1278 = at(v1063, v1276);
-	u8 v1279 = ld8(v1277+1);
-	st8(v1278, ld8(v1277));
-	st8(v1278+1, v1279);
-	v44 = v1276;
+	u64 v1269 = v42 - 4;
+	ptr v1270 = at((ptr)static_76, (u64)(u16)((u32)v1267 << 1)), v1271 = at(v1056, v1269);
+	u8 v1272 = ld8(v1270+1);
+	st8(v1271, ld8(v1270));
+	st8(v1271+1, v1272);
+	v44 = v1269;
 L49:;
-	u64 v1280 = v44 - 1;
-	ptr v1281 = at(v1063, v1280);
-	st8(v1281, 47);
-	if (v1252 <= 9999) goto L50;
-	u16 v1282 = (u16)(v1248 % 10000);
-	ptr v1283 = at((ptr)static_76, (u64)(u16)((u32)(v1282 % 100) << 1));
-	u8 v1284 = ld8(v1283+1);
-	st8(v1281-2, ld8(v1283));
-	st8(v1281-1, v1284);
-	u64 v1285 = v44 - 5;
-	ptr v1286 = at((ptr)static_76, (u64)(u16)((u32)(v1282 / 100) << 1)), v1287 = at(v1063, v1285);
-	u8 v1288 = ld8(v1286+1);
-	st8(v1287, ld8(v1286));
-	st8(v1287+1, v1288);
-	v45 = (u64)(v1248 / 10000); v46 = v1285; goto L51;
+	u64 v1273 = v44 - 1;
+	ptr v1274 = at(v1056, v1273);
+	st8(v1274, 47);
+	if (v1245 <= 9999) goto L50;
+	u16 v1275 = (u16)(v1241 % 10000);
+	ptr v1276 = at((ptr)static_76, (u64)(u16)((u32)(v1275 % 100) << 1));
+	u8 v1277 = ld8(v1276+1);
+	st8(v1274-2, ld8(v1276));
+	st8(v1274-1, v1277);
+	u64 v1278 = v44 - 5;
+	ptr v1279 = at((ptr)static_76, (u64)(u16)((u32)(v1275 / 100) << 1)), v1280 = at(v1056, v1278);
+	u8 v1281 = ld8(v1279+1);
+	st8(v1280, ld8(v1279));
+	st8(v1280+1, v1281);
+	v45 = (u64)(v1241 / 10000); v46 = v1278; goto L51;
 L50:
-	if (v1252 >= 100) goto L53;
-	v45 = v1252; v46 = v1280;
+	if (v1245 >= 100) goto L53;
+	v45 = v1245; v46 = v1273;
 L51:
 	if (v45 >= 10) goto L52;
-	u64 v1289 = v46 - 1;
-	st8(at(v1063, v1289), (u8)v45 | 48);
-	v47 = v1289; goto L55;
+	u64 v1282 = v46 - 1;
+	st8(at(v1056, v1282), (u8)v45 | 48);
+	v47 = v1282; goto L55;
 L52:;
-	u64 v1290 = v46 - 2;
-	ptr v1291 = at((ptr)static_76, v45 << 1), v1292 = at(v1063, v1290);
-	u8 v1293 = ld8(v1291+1);
-	st8(v1292, ld8(v1291));
-	st8(v1292+1, v1293);
-	v47 = v1290; goto L55;
+	u64 v1283 = v46 - 2;
+	ptr v1284 = at((ptr)static_76, v45 << 1), v1285 = at(v1056, v1283);
+	u8 v1286 = ld8(v1284+1);
+	st8(v1285, ld8(v1284));
+	st8(v1285+1, v1286);
+	v47 = v1283; goto L55;
 L53:;
-	u16 v1294 = (u16)v1247;
-	ptr v1295 = at((ptr)static_76, (u64)(u16)((u32)(v1294 % 100) << 1));
-	u8 v1296 = ld8(v1295+1);
-	st8(v1281-2, ld8(v1295));
-	st8(v1281-1, v1296);
-	u16 v1297 = v1294 / 100;
-	if (v1252 >= 1000) goto L54;
-	u64 v1298 = v44 - 4;
-	st8(at(v1063, v1298), (u8)v1297 | 48);
-	v47 = v1298; goto L55;
+	u16 v1287 = (u16)v1240;
+	ptr v1288 = at((ptr)static_76, (u64)(u16)((u32)(v1287 % 100) << 1));
+	u8 v1289 = ld8(v1288+1);
+	st8(v1274-2, ld8(v1288));
+	st8(v1274-1, v1289);
+	u16 v1290 = v1287 / 100;
+	if (v1245 >= 1000) goto L54;
+	u64 v1291 = v44 - 4;
+	st8(at(v1056, v1291), (u8)v1290 | 48);
+	v47 = v1291; goto L55;
 L54:;
-	u64 v1299 = v44 - 5;
-	ptr v1300 = at((ptr)static_76, (u64)(u16)((u32)v1297 << 1)), v1301 = at(v1063, v1299);
-	u8 v1302 = ld8(v1300+1);
-	st8(v1301, ld8(v1300));
-	st8(v1301+1, v1302);
-	v47 = v1299;
+	u64 v1292 = v44 - 5;
+	ptr v1293 = at((ptr)static_76, (u64)(u16)((u32)v1290 << 1)), v1294 = at(v1056, v1292);
+	u8 v1295 = ld8(v1293+1);
+	st8(v1294, ld8(v1293));
+	st8(v1294+1, v1295);
+	v47 = v1292;
 L55:;
-	ptr v1303 = at(v1063, v47);
-	st8(v1303-1, 32);
-	u64 v1304 = (u64)v39 * 1441151881, v1305 = (v1304 & 0x1ffffffffffffffull) * 100;
-	u64 v1306 = (v1305 & 0x1fffffffffffffcull) * 100, v1307 = (v1306 & 0x1fffffffffffff0ull) * 100;
-	ptr v1308 = at((ptr)static_76, (((v1307 & 0x1ffffffffffffc0ull) * 100) >> 56) & 254);
-	st8(v1303-3, ld8(v1308));
-	st8(v1303-2, ld8(v1308+1));
-	ptr v1309 = at((ptr)static_76, (v1307 >> 56) & 254);
-	st8(v1303-5, ld8(v1309));
-	st8(v1303-4, ld8(v1309+1));
-	ptr v1310 = at((ptr)static_76, (v1306 >> 56) & 254);
-	st8(v1303-7, ld8(v1310));
-	st8(v1303-6, ld8(v1310+1));
-	ptr v1311 = at((ptr)static_76, (v1305 >> 56) & 254);
-	st8(v1303-9, ld8(v1311));
-	st8(v1303-8, ld8(v1311+1));
-	u64 v1312 = v1304 >> 57;
+	ptr v1296 = at(v1056, v47);
+	st8(v1296-1, 32);
+	u64 v1297 = (u64)v39 * 1441151881, v1298 = (v1297 & 0x1ffffffffffffffull) * 100;
+	u64 v1299 = (v1298 & 0x1fffffffffffffcull) * 100, v1300 = (v1299 & 0x1fffffffffffff0ull) * 100;
+	ptr v1301 = at((ptr)static_76, (((v1300 & 0x1ffffffffffffc0ull) * 100) >> 56) & 254);
+	st8(v1296-3, ld8(v1301));
+	st8(v1296-2, ld8(v1301+1));
+	ptr v1302 = at((ptr)static_76, (v1300 >> 56) & 254);
+	st8(v1296-5, ld8(v1302));
+	st8(v1296-4, ld8(v1302+1));
+	ptr v1303 = at((ptr)static_76, (v1299 >> 56) & 254);
+	st8(v1296-7, ld8(v1303));
+	st8(v1296-6, ld8(v1303+1));
+	ptr v1304 = at((ptr)static_76, (v1298 >> 56) & 254);
+	st8(v1296-9, ld8(v1304));
+	st8(v1296-8, ld8(v1304+1));
+	u64 v1305 = v1297 >> 57;
 	if (v39 >= 1000000000) goto L56;
-	u64 v1313 = v47 - 10;
-	st8(at(v1063, v1313), (u8)v1312 | 48);
-	v48 = v1313; goto L57;
+	u64 v1306 = v47 - 10;
+	st8(at(v1056, v1306), (u8)v1305 | 48);
+	v48 = v1306; goto L57;
 L56:;
-	u64 v1314 = v47 - 11;
-	ptr v1315 = at((ptr)static_76, v1312 << 1), v1316 = at(v1063, v1314);
-	u8 v1317 = ld8(v1315+1);
-	st8(v1316, ld8(v1315));
-	st8(v1316+1, v1317);
-	v48 = v1314;
+	u64 v1307 = v47 - 11;
+	ptr v1308 = at((ptr)static_76, v1305 << 1), v1309 = at(v1056, v1307);
+	u8 v1310 = ld8(v1308+1);
+	st8(v1309, ld8(v1308));
+	st8(v1309+1, v1310);
+	v48 = v1307;
 L57:;
-	u64 v1318 = v48 - 1;
-	ptr v1319 = at(v1063, v1318);
-	st8(v1319, 46);
-	u64 v1320 = (u64)v1245;
-	if (v1245 >= 100000000) goto L62;
-	if (v1245 <= 9999) { v49 = v1318; v50 = v1320; goto L58; }
-	u16 v1321 = (u16)(v1245 % 10000);
-	ptr v1322 = at((ptr)static_76, (u64)(u16)((u32)(v1321 % 100) << 1));
-	u8 v1323 = ld8(v1322+1);
-	st8(v1319-2, ld8(v1322));
-	st8(v1319-1, v1323);
-	u64 v1324 = v48 - 5;
-	ptr v1325 = at((ptr)static_76, (u64)(u16)((u32)(v1321 / 100) << 1)), v1326 = at(v1063, v1324);
-	u8 v1327 = ld8(v1325+1);
-	st8(v1326, ld8(v1325));
-	st8(v1326+1, v1327);
-	v49 = v1324; v50 = (u64)(v1245 / 10000);
+	u64 v1311 = v48 - 1;
+	ptr v1312 = at(v1056, v1311);
+	st8(v1312, 46);
+	u64 v1313 = (u64)v1238;
+	if (v1238 >= 100000000) goto L62;
+	if (v1238 <= 9999) { v49 = v1311; v50 = v1313; goto L58; }
+	u16 v1314 = (u16)(v1238 % 10000);
+	ptr v1315 = at((ptr)static_76, (u64)(u16)((u32)(v1314 % 100) << 1));
+	u8 v1316 = ld8(v1315+1);
+	st8(v1312-2, ld8(v1315));
+	st8(v1312-1, v1316);
+	u64 v1317 = v48 - 5;
+	ptr v1318 = at((ptr)static_76, (u64)(u16)((u32)(v1314 / 100) << 1)), v1319 = at(v1056, v1317);
+	u8 v1320 = ld8(v1318+1);
+	st8(v1319, ld8(v1318));
+	st8(v1319+1, v1320);
+	v49 = v1317; v50 = (u64)(v1238 / 10000);
 L58:
 	if (v50 >= 100) goto L60;
 	if (v50 >= 10) goto L59;
-	u64 v1328 = v49 - 1;
-	st8(at(v1063, v1328), (u8)v50 | 48);
-	v51 = v1328; goto L64;
+	u64 v1321 = v49 - 1;
+	st8(at(v1056, v1321), (u8)v50 | 48);
+	v51 = v1321; goto L64;
 L59:;
-	u64 v1329 = v49 - 2;
-	ptr v1330 = at((ptr)static_76, v50 << 1), v1331 = at(v1063, v1329);
-	u8 v1332 = ld8(v1330+1);
-	st8(v1331, ld8(v1330));
-	st8(v1331+1, v1332);
-	v51 = v1329; goto L64;
+	u64 v1322 = v49 - 2;
+	ptr v1323 = at((ptr)static_76, v50 << 1), v1324 = at(v1056, v1322);
+	u8 v1325 = ld8(v1323+1);
+	st8(v1324, ld8(v1323));
+	st8(v1324+1, v1325);
+	v51 = v1322; goto L64;
 L60:;
-	u16 v1333 = (u16)v50;
-	ptr v1334 = at((ptr)static_76, (u64)(u16)((u32)(v1333 % 100) << 1)), v1335 = at(v1063, v49);
-	u8 v1336 = ld8(v1334+1);
-	st8(v1335-2, ld8(v1334));
-	st8(v1335-1, v1336);
-	u16 v1337 = v1333 / 100;
+	u16 v1326 = (u16)v50;
+	ptr v1327 = at((ptr)static_76, (u64)(u16)((u32)(v1326 % 100) << 1)), v1328 = at(v1056, v49);
+	u8 v1329 = ld8(v1327+1);
+	st8(v1328-2, ld8(v1327));
+	st8(v1328-1, v1329);
+	u16 v1330 = v1326 / 100;
 	if (v50 >= 1000) goto L61;
-	u64 v1338 = v49 - 3;
-	st8(at(v1063, v1338), (u8)v1337 | 48);
-	v51 = v1338; goto L64;
+	u64 v1331 = v49 - 3;
+	st8(at(v1056, v1331), (u8)v1330 | 48);
+	v51 = v1331; goto L64;
 L61:;
-	u64 v1339 = v49 - 4;
-	ptr v1340 = at((ptr)static_76, (u64)(u16)((u32)v1337 << 1)), v1341 = at(v1063, v1339);
-	u8 v1342 = ld8(v1340+1);
-	st8(v1341, ld8(v1340));
-	st8(v1341+1, v1342);
-	v51 = v1339; goto L64;
+	u64 v1332 = v49 - 4;
+	ptr v1333 = at((ptr)static_76, (u64)(u16)((u32)v1330 << 1)), v1334 = at(v1056, v1332);
+	u8 v1335 = ld8(v1333+1);
+	st8(v1334, ld8(v1333));
+	st8(v1334+1, v1335);
+	v51 = v1332; goto L64;
 L62:;
-	u64 v1343 = v1320 * 1441151881, v1344 = (v1343 & 0x1ffffffffffffffull) * 100;
-	u64 v1345 = (v1344 & 0x1fffffffffffffcull) * 100, v1346 = (v1345 & 0x1fffffffffffff0ull) * 100;
-	ptr v1347 = at((ptr)static_76, (((v1346 & 0x1ffffffffffffc0ull) * 100) >> 56) & 254);
-	st8(v1319-2, ld8(v1347));
-	st8(v1319-1, ld8(v1347+1));
-	ptr v1348 = at((ptr)static_76, (v1346 >> 56) & 254);
-	st8(v1319-4, ld8(v1348));
-	st8(v1319-3, ld8(v1348+1));
-	ptr v1349 = at((ptr)static_76, (v1345 >> 56) & 254);
-	st8(v1319-6, ld8(v1349));
-	st8(v1319-5, ld8(v1349+1));
-	ptr v1350 = at((ptr)static_76, (v1344 >> 56) & 254);
-	st8(v1319-8, ld8(v1350));
-	st8(v1319-7, ld8(v1350+1));
-	u64 v1351 = v1343 >> 57;
-	if (v1245 >= 1000000000) goto L63;
-	u64 v1352 = v48 - 10;
-	st8(at(v1063, v1352), (u8)v1351 | 48);
-	v51 = v1352; goto L64;
+	u64 v1336 = v1313 * 1441151881, v1337 = (v1336 & 0x1ffffffffffffffull) * 100;
+	u64 v1338 = (v1337 & 0x1fffffffffffffcull) * 100, v1339 = (v1338 & 0x1fffffffffffff0ull) * 100;
+	ptr v1340 = at((ptr)static_76, (((v1339 & 0x1ffffffffffffc0ull) * 100) >> 56) & 254);
+	st8(v1312-2, ld8(v1340));
+	st8(v1312-1, ld8(v1340+1));
+	ptr v1341 = at((ptr)static_76, (v1339 >> 56) & 254);
+	st8(v1312-4, ld8(v1341));
+	st8(v1312-3, ld8(v1341+1));
+	ptr v1342 = at((ptr)static_76, (v1338 >> 56) & 254);
+	st8(v1312-6, ld8(v1342));
+	st8(v1312-5, ld8(v1342+1));
+	ptr v1343 = at((ptr)static_76, (v1337 >> 56) & 254);
+	st8(v1312-8, ld8(v1343));
+	st8(v1312-7, ld8(v1343+1));
+	u64 v1344 = v1336 >> 57;
+	if (v1238 >= 1000000000) goto L63;
+	u64 v1345 = v48 - 10;
+	st8(at(v1056, v1345), (u8)v1344 | 48);
+	v51 = v1345; goto L64;
 L63:;
-	u64 v1353 = v48 - 11;
-	ptr v1354 = at((ptr)static_76, v1351 << 1), v1355 = at(v1063, v1353);
-	u8 v1356 = ld8(v1354+1);
-	st8(v1355, ld8(v1354));
-	st8(v1355+1, v1356);
-	v51 = v1353;
+	u64 v1346 = v48 - 11;
+	ptr v1347 = at((ptr)static_76, v1344 << 1), v1348 = at(v1056, v1346);
+	u8 v1349 = ld8(v1347+1);
+	st8(v1348, ld8(v1347));
+	st8(v1348+1, v1349);
+	v51 = v1346;
 L64:;
-	u64 v1357 = v51 - 1;
-	st8(at(v1063, v1357), 32);
-	if (v36 <= 9998) { v54 = v1357; v55 = v1255; goto L66; }
-	v52 = v1255; v53 = v1357;
+	u64 v1350 = v51 - 1;
+	st8(at(v1056, v1350), 32);
+	if (v36 <= 9998) { v54 = v1350; v55 = v1248; goto L66; }
+	v52 = v1248; v53 = v1350;
 L65:;
-	u64 v1358 = v52 / 10000;
-	u16 v1359 = (u16)(v52 % 10000);
-	ptr v1360 = at((ptr)static_76, (u64)(u16)((u32)(v1359 % 100) << 1)), v1361 = at(v1063, v53);
-	u8 v1362 = ld8(v1360+1);
-	st8(v1361-2, ld8(v1360));
-	st8(v1361-1, v1362);
-	u64 v1363 = v53 - 4;
-	ptr v1364 = at((ptr)static_76, (u64)(u16)((u32)(v1359 / 100) << 1)), v1365 = at(v1063, v1363);
-	u8 v1366 = ld8(v1364+1);
-	st8(v1365, ld8(v1364));
-	st8(v1365+1, v1366);
-	if (v52 > 99999999) { v52 = v1358; v53 = v1363; goto L65; }
-	v54 = v1363; v55 = v1358;
+	u64 v1351 = v52 / 10000;
+	u16 v1352 = (u16)(v52 % 10000);
+	ptr v1353 = at((ptr)static_76, (u64)(u16)((u32)(v1352 % 100) << 1)), v1354 = at(v1056, v53);
+	u8 v1355 = ld8(v1353+1);
+	st8(v1354-2, ld8(v1353));
+	st8(v1354-1, v1355);
+	u64 v1356 = v53 - 4;
+	ptr v1357 = at((ptr)static_76, (u64)(u16)((u32)(v1352 / 100) << 1)), v1358 = at(v1056, v1356);
+	u8 v1359 = ld8(v1357+1);
+	st8(v1358, ld8(v1357));
+	st8(v1358+1, v1359);
+	if (v52 > 99999999) { v52 = v1351; v53 = v1356; goto L65; }
+	v54 = v1356; v55 = v1351;
 L66:
 	if (v55 >= 100) goto L68;
 	if (v55 >= 10) goto L67;
-	u64 v1367 = v54 - 1;
-	st8(at(v1063, v1367), (u8)v55 | 48);
-	v56 = v1367; goto L70;
+	u64 v1360 = v54 - 1;
+	st8(at(v1056, v1360), (u8)v55 | 48);
+	v56 = v1360; goto L70;
 L67:;
-	u64 v1368 = v54 - 2;
-	ptr v1369 = at((ptr)static_76, v55 << 1), v1370 = at(v1063, v1368);
-	u8 v1371 = ld8(v1369+1);
-	st8(v1370, ld8(v1369));
-	st8(v1370+1, v1371);
-	v56 = v1368; goto L70;
+	u64 v1361 = v54 - 2;
+	ptr v1362 = at((ptr)static_76, v55 << 1), v1363 = at(v1056, v1361);
+	u8 v1364 = ld8(v1362+1);
+	st8(v1363, ld8(v1362));
+	st8(v1363+1, v1364);
+	v56 = v1361; goto L70;
 L68:;
-	u16 v1372 = (u16)v55;
-	ptr v1373 = at((ptr)static_76, (u64)(u16)((u32)(v1372 % 100) << 1)), v1374 = at(v1063, v54);
-	u8 v1375 = ld8(v1373+1);
-	st8(v1374-2, ld8(v1373));
-	st8(v1374-1, v1375);
-	u16 v1376 = v1372 / 100;
+	u16 v1365 = (u16)v55;
+	ptr v1366 = at((ptr)static_76, (u64)(u16)((u32)(v1365 % 100) << 1)), v1367 = at(v1056, v54);
+	u8 v1368 = ld8(v1366+1);
+	st8(v1367-2, ld8(v1366));
+	st8(v1367-1, v1368);
+	u16 v1369 = v1365 / 100;
 	if (v55 >= 1000) goto L69;
-	u64 v1377 = v54 - 3;
-	st8(at(v1063, v1377), (u8)v1376 | 48);
-	v56 = v1377; goto L70;
+	u64 v1370 = v54 - 3;
+	st8(at(v1056, v1370), (u8)v1369 | 48);
+	v56 = v1370; goto L70;
 L69:;
-	u64 v1378 = v54 - 4;
-	ptr v1379 = at((ptr)static_76, (u64)(u16)((u32)v1376 << 1)), v1380 = at(v1063, v1378);
-	u8 v1381 = ld8(v1379+1);
-	st8(v1380, ld8(v1379));
-	st8(v1380+1, v1381);
-	v56 = v1378;
+	u64 v1371 = v54 - 4;
+	ptr v1372 = at((ptr)static_76, (u64)(u16)((u32)v1369 << 1)), v1373 = at(v1056, v1371);
+	u8 v1374 = ld8(v1372+1);
+	st8(v1373, ld8(v1372));
+	st8(v1373+1, v1374);
+	v56 = v1371;
 L70:
 	if (v56 == 126) goto L77;
-	v57 = at(v1063, v56); v58 = 126ull - v56;
+	v57 = at(v1056, v56); v58 = 126ull - v56;
 L71:
-	clear(v1057, 96);
-	u64 v1382 = ld64(v5+16), v1383 = ld64(v5+8);
-	if (v58 >= v1382 - v1383) goto L75;
-	u64 v1384 = v1383 + v58;
-	ptr v1385 = ldp(v5), v1386 = at(v1385, v1383);
-	if ((u64)v1386 - (u64)v57 >= v58) goto L73;
+	clear(v1050, 96);
+	u64 v1375 = ld64(v5+16), v1376 = ld64(v5+8);
+	if (v58 >= v1375 - v1376) goto L75;
+	u64 v1377 = v1376 + v58;
+	ptr v1378 = ldp(v5), v1379 = at(v1378, v1376);
+	if ((u64)v1379 - (u64)v57 >= v58) goto L73;
 	v59 = 0;
 L72:
-	st8(at(v1386, v59), ld8(at(v57, v59)));
-	u64 v1387 = v59 + 1;
-	if (v1387 == v58) goto L74;
-	v59 = v1387; goto L72;
+	st8(at(v1379, v59), ld8(at(v57, v59)));
+	u64 v1380 = v59 + 1;
+	if (v1380 == v58) goto L74;
+	v59 = v1380; goto L72;
 L73:
-	move(v1386, v57, v58);
+	move(v1379, v57, v58);
 L74:
-	stp(v5, v1385);
-	st64(v5+8, v1384);
-	st64(v5+16, v1382);
+	stp(v5, v1378);
+	st64(v5+8, v1377);
+	st64(v5+16, v1375);
 	v60 = v58; goto L76;
 L75:
-	std_io_buffered_BufWriter_write_cold_9d90(v1057, v5, v57, v58);
-	u64 v1388 = ld64(v1057+8);
-	if (ld8(v1057)) { v208 = v1388; v209 = ld64(v1057+16); v210 = ld64(v1057+24); v211 = ld64(v1057+32); v212 = ld64(v1057+40); v213 = ld64(v1057+48); v214 = ld64(v1057+56); v215 = ld64(v1057+64); v216 = ld64(v1057+72); v217 = ld64(v1057+80); v218 = ld64(v1057+88); v206 = 4; v207 = 1; goto L170; }
-	if (!v1388) goto M13;
-	v60 = v1388;
+	std_io_buffered_BufWriter_write_cold_9d90(v1050, v5, v57, v58);
+	u64 v1381 = ld64(v1050+8);
+	if (ld8(v1050)) { v208 = v1381; v209 = ld64(v1050+16); v210 = ld64(v1050+24); v211 = ld64(v1050+32); v212 = ld64(v1050+40); v213 = ld64(v1050+48); v214 = ld64(v1050+56); v215 = ld64(v1050+64); v216 = ld64(v1050+72); v217 = ld64(v1050+80); v218 = ld64(v1050+88); v206 = 4; v207 = 1; goto L170; }
+	if (!v1381) goto M13;
+	v60 = v1381;
 L76:;
-	u64 v1389 = v58 - v60;
-	if (v1389) { v57 = at(v57, v60); v58 = v1389; goto L71; }
+	u64 v1382 = v58 - v60;
+	if (v1382) { v57 = at(v57, v60); v58 = v1382; goto L71; }
 L77:
-	if (!(v36 > 4294967293u || v1254 < 16)) { v36 = v1255; v37 = v1253; v38 = v1254; goto L42; }
-	v61 = v1255; v62 = v1254;
+	if (!(v36 > 4294967293u || v1247 < 16)) { v36 = v1248; v37 = v1246; v38 = v1247; goto L42; }
+	v61 = v1248; v62 = v1247;
 L78:;
-	u64 v1390 = ld64(v4+24), v1391 = v1091 - v62, v1392 = ld64(v4+32) - v1390;
-	st64(v4+24, (v1391 < v1392 ? v1391 : v1392) + v1390);
+	u64 v1383 = ld64(v4+24), v1384 = v1084 - v62, v1385 = ld64(v4+32) - v1383;
+	st64(v4+24, (v1384 < v1385 ? v1384 : v1385) + v1383);
 	if (v6 < v61) { v149 = v61; goto L160; }
-	u8 v1393 = ld8(v1063+127);
-	if (ld8(v1063+126)) goto L121;
-	clear(v1056, 16);
+	u8 v1386 = ld8(v1056+127);
+	if (ld8(v1056+126)) goto L121;
+	clear(v1049, 16);
 	v63 = 0;
 L79:
-	clear(v1055, 96);
-	std_io_buffered_BufReaderRead_read_e988(v1055, v4, at(v1056, v63), 16ull - v63);
-	u64 v1394 = ld64(v1055+8);
-	if (ld8(v1055)) { v95 = ld64(v1055+40); v96 = ld64(v1055+48); v97 = ld64(v1055+56); v98 = ld64(v1055+64); v99 = ld64(v1055+72); v100 = ld64(v1055+80); v101 = ld64(v1055+88); v102 = v1394; v103 = ld64(v1055+16); v104 = ld64(v1055+24); v105 = ld64(v1055+32); goto L119; }
-	if (!v1394) { v95 = 0x2e2e2e2e2e2e2e2eull; v96 = 0x2e2e2e2e2e2e2e2eull; v97 = 0x2e2e2e2e2e2e2e2eull; v98 = 0x2e2e2e2e2e2e2e2eull; v99 = 0x2e2e2e2e2e2e2e2eull; v100 = 0x2e2e2e2e2e2e2e2eull; v101 = 0x2e2e2e2e2e2e2e2eull; v102 = 1451267; v103 = 0x6572747320656874ull; v104 = 0x6465646e65206d61ull; v105 = 0x2e2e796c72616520ull; goto L119; }
-	u64 v1395 = v1394 + v63;
-	if (v1395 < 16) { v63 = v1395; goto L79; }
-	u32 v1396 = (u32)__builtin_bswap32(ld32(v1056)), v1397 = (u32)__builtin_bswap32(ld32(v1056+4));
-	u32 v1398 = ld32(v1056+8), v1399 = (u32)__builtin_bswap32(v1398), v1400 = ld32(v1056+12);
-	u32 v1401 = (u32)__builtin_bswap32(v1400);
-	if (v1393 == 1) { v64 = v1397; goto L80; }
-	if (v1397 > 4294967) { v66 = (ptr)static_36; v65 = 40; goto L81; }
-	v64 = v1397 * 1000;
+	clear(v1048, 96);
+	std_io_buffered_BufReaderRead_read_e988(v1048, v4, at(v1049, v63), 16ull - v63);
+	u64 v1387 = ld64(v1048+8);
+	if (ld8(v1048)) { v95 = ld64(v1048+40); v96 = ld64(v1048+48); v97 = ld64(v1048+56); v98 = ld64(v1048+64); v99 = ld64(v1048+72); v100 = ld64(v1048+80); v101 = ld64(v1048+88); v102 = v1387; v103 = ld64(v1048+16); v104 = ld64(v1048+24); v105 = ld64(v1048+32); goto L119; }
+	if (!v1387) { v95 = 0x2e2e2e2e2e2e2e2eull; v96 = 0x2e2e2e2e2e2e2e2eull; v97 = 0x2e2e2e2e2e2e2e2eull; v98 = 0x2e2e2e2e2e2e2e2eull; v99 = 0x2e2e2e2e2e2e2e2eull; v100 = 0x2e2e2e2e2e2e2e2eull; v101 = 0x2e2e2e2e2e2e2e2eull; v102 = 1451267; v103 = 0x6572747320656874ull; v104 = 0x6465646e65206d61ull; v105 = 0x2e2e796c72616520ull; goto L119; }
+	u64 v1388 = v1387 + v63;
+	if (v1388 < 16) { v63 = v1388; goto L79; }
+	u32 v1389 = (u32)__builtin_bswap32(ld32(v1049)), v1390 = (u32)__builtin_bswap32(ld32(v1049+4));
+	u32 v1391 = ld32(v1049+8), v1392 = (u32)__builtin_bswap32(v1391), v1393 = ld32(v1049+12);
+	u32 v1394 = (u32)__builtin_bswap32(v1393);
+	if (v1386 == 1) { v64 = v1390; goto L80; }
+	if (v1390 > 4294967) { v66 = (ptr)static_36; v65 = 40; goto L81; }
+	v64 = v1390 * 1000;
 L80:
-	if (v1399 > 262144) { v66 = (ptr)static_37; v65 = 31; goto L81; }
-	if (v1401 > 262144) { v66 = (ptr)static_38; v65 = 31; goto L81; }
-	if (v1401 >= v1399) goto L82;
+	if (v1392 > 262144) { v66 = (ptr)static_37; v65 = 31; goto L81; }
+	if (v1394 > 262144) { v66 = (ptr)static_38; v65 = 31; goto L81; }
+	if (v1394 >= v1392) goto L82;
 	v66 = (ptr)static_39; v65 = 32;
 L81:;
-	u64 v1402 = (u64)v66;
-	st32(v1053, 0);
-	su64(v1053+4, v1402);
-	v106 = ld64(v1053); v107 = v1402; v108 = v65; v109 = v110 = v111 = v112 = v113 = v114 = v115 = v116 = v117 = 0; v118 = 1; v119 = 2; goto L120;
+	u64 v1395 = (u64)v66;
+	st32(v1046, 0);
+	su64(v1046+4, v1395);
+	v106 = ld64(v1046); v107 = v1395; v108 = v65; v109 = v110 = v111 = v112 = v113 = v114 = v115 = v116 = v117 = 0; v118 = 1; v119 = 2; goto L120;
 L82:;
-	u64 v1403 = (u64)__builtin_bswap64(((u64)v1398 << 32) | (u64)v1400), v1404 = v1403 >> 32;
-	u64 v1405 = v1403 & 4294967295u;
-	if (!v1405) goto L85;
-	v67 = ld64(v4+32); v68 = ld64(v4+24); v69 = v1405;
+	u64 v1396 = (u64)__builtin_bswap64(((u64)v1391 << 32) | (u64)v1393), v1397 = v1396 >> 32;
+	u64 v1398 = v1396 & 4294967295u;
+	if (!v1398) goto L85;
+	v67 = ld64(v4+32); v68 = ld64(v4+24); v69 = v1398;
 L83:
 	if (v68 < v67) { v70 = v67; v71 = v68; goto L84; }
 	clear(v4+24, 16);
-	ptr v1406 = ldp(v4);
-	u64 v1407 = ld64(v4+8);
-	clear(v1052, 96);
-	capcopy_run_uninterrupted_UninterruptedRead_read_f128(v1052, v1406, v1407);
-	u64 v1408 = ld64(v1052+8);
-	if (ld8(v1052)) { v177 = v1408; v178 = v1408; v179 = ld64(v1052+16); v180 = ld64(v1052+24); v181 = ld64(v1052+32); v182 = ld64(v1052+40); v183 = ld64(v1052+48); v184 = ld64(v1052+56); v185 = ld64(v1052+64); v186 = ld64(v1052+72); v187 = ld64(v1052+80); v188 = ld64(v1052+88); v175 = 4; v176 = 1; goto L163; }
-	st64(v4+32, v1408);
-	v70 = v1408; v71 = ld64(v4+24);
+	ptr v1399 = ldp(v4);
+	u64 v1400 = ld64(v4+8);
+	clear(v1045, 96);
+	capcopy_run_uninterrupted_UninterruptedRead_read_f128(v1045, v1399, v1400);
+	u64 v1401 = ld64(v1045+8);
+	if (ld8(v1045)) { v177 = v1401; v178 = v1401; v179 = ld64(v1045+16); v180 = ld64(v1045+24); v181 = ld64(v1045+32); v182 = ld64(v1045+40); v183 = ld64(v1045+48); v184 = ld64(v1045+56); v185 = ld64(v1045+64); v186 = ld64(v1045+72); v187 = ld64(v1045+80); v188 = ld64(v1045+88); v175 = 4; v176 = 1; goto L163; }
+	st64(v4+32, v1401);
+	v70 = v1401; v71 = ld64(v4+24);
 L84:
 	if (v70 == v71) { M35: v177 = 1385731; v178 = 1385731; v179 = 0x75706e6920656874ull; v180 = 0x206465646e652074ull; v181 = 0x2e2e2e796c726165ull; v182 = 0x2e2e2e2e2e2e2e2eull; v183 = 0x2e2e2e2e2e2e2e2eull; v184 = 0x2e2e2e2e2e2e2e2eull; v185 = 0x2e2e2e2e2e2e2e2eull; v186 = 0x2e2e2e2e2e2e2e2eull; v187 = 0x2e2e2e2e2e2e2e2eull; v188 = 0x2e2e2e2e2e2e2e2eull; v175 = 4; v176 = 1; goto L163; }
-	u64 v1409 = v70 - v71, v1410 = v69 < v1409 ? v69 : v1409, v1411 = v1410 + v71;
-	st64(v4+24, v1411);
-	u64 v1412 = v69 - v1410;
-	if (v1412) { v67 = v70; v68 = v1411; v69 = v1412; goto L83; }
+	u64 v1402 = v70 - v71, v1403 = v69 < v1402 ? v69 : v1402, v1404 = v1403 + v71;
+	st64(v4+24, v1404);
+	u64 v1405 = v69 - v1403;
+	if (v1405) { v67 = v70; v68 = v1404; v69 = v1405; goto L83; }
 L85:;
-	u64 v1413 = v61 + 1;
-	st8(v1063+125, 10);
-	if (v1403 <= 0x270fffffffffull) { v74 = 125; v75 = v1404; goto L87; }
-	v72 = v1404; v73 = 125;
+	u64 v1406 = v61 + 1;
+	st8(v1056+125, 10);
+	if (v1396 <= 0x270fffffffffull) { v74 = 125; v75 = v1397; goto L87; }
+	v72 = v1397; v73 = 125;
 L86:;
-	u64 v1414 = v72 / 10000;
-	u16 v1415 = (u16)(v72 % 10000);
-	ptr v1416 = at((ptr)static_76, (u64)(u16)((u32)(v1415 % 100) << 1)), v1417 = at(v1063, v73);
-	u8 v1418 = ld8(v1416+1);
-	st8(v1417-2, ld8(v1416));
-	st8(v1417-1, v1418);
-	u64 v1419 = v73 - 4;
-	ptr v1420 = at((ptr)static_76, (u64)(u16)((u32)(v1415 / 100) << 1)), v1421 = at(v1063, v1419);
-	u8 v1422 = ld8(v1420+1);
-	st8(v1421, ld8(v1420));
-	st8(v1421+1, v1422);
-	if (v72 > 99999999) { v72 = v1414; v73 = v1419; goto L86; }
-	v74 = v1419; v75 = v1414;
+	u64 v1407 = v72 / 10000;
+	u16 v1408 = (u16)(v72 % 10000);
+	ptr v1409 = at((ptr)static_76, (u64)(u16)((u32)(v1408 % 100) << 1)), v1410 = at(v1056, v73);
+	u8 v1411 = ld8(v1409+1);
+	st8(v1410-2, ld8(v1409));
+	st8(v1410-1, v1411);
+	u64 v1412 = v73 - 4;
+	ptr v1413 = at((ptr)static_76, (u64)(u16)((u32)(v1408 / 100) << 1)), v1414 = at(v1056, v1412);
+	u8 v1415 = ld8(v1413+1);
+	st8(v1414, ld8(v1413));
+	st8(v1414+1, v1415);
+	if (v72 > 99999999) { v72 = v1407; v73 = v1412; goto L86; }
+	v74 = v1412; v75 = v1407;
 L87:
 	if (v75 >= 100) goto L89;
 	if (v75 >= 10) goto L88;
-	u64 v1423 = v74 - 1;
-	st8(at(v1063, v1423), (u8)v75 | 48);
-	v76 = v1423; goto L91;
+	u64 v1416 = v74 - 1;
+	st8(at(v1056, v1416), (u8)v75 | 48);
+	v76 = v1416; goto L91;
 L88:;
-	u64 v1424 = v74 - 2;
-	ptr v1425 = at((ptr)static_76, v75 << 1), v1426 = at(v1063, v1424);
-	u8 v1427 = ld8(v1425+1);
-	st8(v1426, ld8(v1425));
-	st8(v1426+1, v1427);
-	v76 = v1424; goto L91;
+	u64 v1417 = v74 - 2;
+	ptr v1418 = at((ptr)static_76, v75 << 1), v1419 = at(v1056, v1417);
+	u8 v1420 = ld8(v1418+1);
+	st8(v1419, ld8(v1418));
+	st8(v1419+1, v1420);
+	v76 = v1417; goto L91;
 L89:;
-	u16 v1428 = (u16)v75;
-	ptr v1429 = at((ptr)static_76, (u64)(u16)((u32)(v1428 % 100) << 1)), v1430 = at(v1063, v74);
-	u8 v1431 = ld8(v1429+1);
-	st8(v1430-2, ld8(v1429));
-	st8(v1430-1, v1431);
-	u16 v1432 = v1428 / 100;
+	u16 v1421 = (u16)v75;
+	ptr v1422 = at((ptr)static_76, (u64)(u16)((u32)(v1421 % 100) << 1)), v1423 = at(v1056, v74);
+	u8 v1424 = ld8(v1422+1);
+	st8(v1423-2, ld8(v1422));
+	st8(v1423-1, v1424);
+	u16 v1425 = v1421 / 100;
 	if (v75 >= 1000) goto L90;
-	u64 v1433 = v74 - 3;
-	st8(at(v1063, v1433), (u8)v1432 | 48);
-	v76 = v1433; goto L91;
+	u64 v1426 = v74 - 3;
+	st8(at(v1056, v1426), (u8)v1425 | 48);
+	v76 = v1426; goto L91;
 L90:;
-	u64 v1434 = v74 - 4;
-	ptr v1435 = at((ptr)static_76, (u64)(u16)((u32)v1432 << 1)), v1436 = at(v1063, v1434);
-	u8 v1437 = ld8(v1435+1);
-	st8(v1436, ld8(v1435));
-	st8(v1436+1, v1437);
-	v76 = v1434;
+	u64 v1427 = v74 - 4;
+	ptr v1428 = at((ptr)static_76, (u64)(u16)((u32)v1425 << 1)), v1429 = at(v1056, v1427);
+	u8 v1430 = ld8(v1428+1);
+	st8(v1429, ld8(v1428));
+	st8(v1429+1, v1430);
+	v76 = v1427;
 L91:;
-	u64 v1438 = v76 - 1;
-	st8(at(v1063, v1438), 47);
-	if (v1405 <= 9999) { v79 = v1438; v80 = v1405; goto L93; }
-	v77 = v1405; v78 = v1438;
+	u64 v1431 = v76 - 1;
+	st8(at(v1056, v1431), 47);
+	if (v1398 <= 9999) { v79 = v1431; v80 = v1398; goto L93; }
+	v77 = v1398; v78 = v1431;
 L92:;
-	u64 v1439 = v77 / 10000;
-	u16 v1440 = (u16)(v77 % 10000);
-	ptr v1441 = at((ptr)static_76, (u64)(u16)((u32)(v1440 % 100) << 1)), v1442 = at(v1063, v78);
-	u8 v1443 = ld8(v1441+1);
-	st8(v1442-2, ld8(v1441));
-	st8(v1442-1, v1443);
-	u64 v1444 = v78 - 4;
-	ptr v1445 = at((ptr)static_76, (u64)(u16)((u32)(v1440 / 100) << 1)), v1446 = at(v1063, v1444);
-	u8 v1447 = ld8(v1445+1);
-	st8(v1446, ld8(v1445));
-	st8(v1446+1, v1447);
-	if (v77 > 99999999) { v77 = v1439; v78 = v1444; goto L92; }
-	v79 = v1444; v80 = v1439;
+	u64 v1432 = v77 / 10000;
+	u16 v1433 = (u16)(v77 % 10000);
+	ptr v1434 = at((ptr)static_76, (u64)(u16)((u32)(v1433 % 100) << 1)), v1435 = at(v1056, v78);
+	u8 v1436 = ld8(v1434+1);
+	st8(v1435-2, ld8(v1434));
+	st8(v1435-1, v1436);
+	u64 v1437 = v78 - 4;
+	ptr v1438 = at((ptr)static_76, (u64)(u16)((u32)(v1433 / 100) << 1)), v1439 = at(v1056, v1437);
+	u8 v1440 = ld8(v1438+1);
+	st8(v1439, ld8(v1438));
+	st8(v1439+1, v1440);
+	if (v77 > 99999999) { v77 = v1432; v78 = v1437; goto L92; }
+	v79 = v1437; v80 = v1432;
 L93:
 	if (v80 >= 100) goto L95;
 	if (v80 >= 10) goto L94;
-	u64 v1448 = v79 - 1;
-	st8(at(v1063, v1448), (u8)v80 | 48);
-	v81 = v1448; goto L97;
+	u64 v1441 = v79 - 1;
+	st8(at(v1056, v1441), (u8)v80 | 48);
+	v81 = v1441; goto L97;
 L94:;
-	u64 v1449 = v79 - 2;
-	ptr v1450 = at((ptr)static_76, v80 << 1), v1451 = at(v1063, v1449);
-	u8 v1452 = ld8(v1450+1);
-	st8(v1451, ld8(v1450));
-	st8(v1451+1, v1452);
-	v81 = v1449; goto L97;
+	u64 v1442 = v79 - 2;
+	ptr v1443 = at((ptr)static_76, v80 << 1), v1444 = at(v1056, v1442);
+	u8 v1445 = ld8(v1443+1);
+	st8(v1444, ld8(v1443));
+	st8(v1444+1, v1445);
+	v81 = v1442; goto L97;
 L95:;
-	u16 v1453 = (u16)v80;
-	ptr v1454 = at((ptr)static_76, (u64)(u16)((u32)(v1453 % 100) << 1)), v1455 = at(v1063, v79);
-	u8 v1456 = ld8(v1454+1);
-	st8(v1455-2, ld8(v1454));
-	st8(v1455-1, v1456);
-	u16 v1457 = v1453 / 100;
+	u16 v1446 = (u16)v80;
+	ptr v1447 = at((ptr)static_76, (u64)(u16)((u32)(v1446 % 100) << 1)), v1448 = at(v1056, v79);
+	u8 v1449 = ld8(v1447+1);
+	st8(v1448-2, ld8(v1447));
+	st8(v1448-1, v1449);
+	u16 v1450 = v1446 / 100;
 	if (v80 >= 1000) goto L96;
-	u64 v1458 = v79 - 3;
-	st8(at(v1063, v1458), (u8)v1457 | 48);
-	v81 = v1458; goto L97;
+	u64 v1451 = v79 - 3;
+	st8(at(v1056, v1451), (u8)v1450 | 48);
+	v81 = v1451; goto L97;
 L96:;
-	u64 v1459 = v79 - 4;
-	ptr v1460 = at((ptr)static_76, (u64)(u16)((u32)v1457 << 1)), v1461 = at(v1063, v1459);
-	u8 v1462 = ld8(v1460+1);
-	st8(v1461, ld8(v1460));
-	st8(v1461+1, v1462);
-	v81 = v1459;
+	u64 v1452 = v79 - 4;
+	ptr v1453 = at((ptr)static_76, (u64)(u16)((u32)v1450 << 1)), v1454 = at(v1056, v1452);
+	u8 v1455 = ld8(v1453+1);
+	st8(v1454, ld8(v1453));
+	st8(v1454+1, v1455);
+	v81 = v1452;
 L97:;
-	ptr v1463 = at(v1063, v81);
-	st8(v1463-1, 32);
-	u64 v1464 = (u64)v64 * 1441151881, v1465 = (v1464 & 0x1ffffffffffffffull) * 100;
-	u64 v1466 = (v1465 & 0x1fffffffffffffcull) * 100, v1467 = (v1466 & 0x1fffffffffffff0ull) * 100;
-	ptr v1468 = at((ptr)static_76, (((v1467 & 0x1ffffffffffffc0ull) * 100) >> 56) & 254);
-	st8(v1463-3, ld8(v1468));
-	st8(v1463-2, ld8(v1468+1));
-	ptr v1469 = at((ptr)static_76, (v1467 >> 56) & 254);
-	st8(v1463-5, ld8(v1469));
-	st8(v1463-4, ld8(v1469+1));
-	ptr v1470 = at((ptr)static_76, (v1466 >> 56) & 254);
-	st8(v1463-7, ld8(v1470));
-	st8(v1463-6, ld8(v1470+1));
-	ptr v1471 = at((ptr)static_76, (v1465 >> 56) & 254);
-	st8(v1463-9, ld8(v1471));
-	st8(v1463-8, ld8(v1471+1));
-	u64 v1472 = v1464 >> 57;
+	ptr v1456 = at(v1056, v81);
+	st8(v1456-1, 32);
+	u64 v1457 = (u64)v64 * 1441151881, v1458 = (v1457 & 0x1ffffffffffffffull) * 100;
+	u64 v1459 = (v1458 & 0x1fffffffffffffcull) * 100, v1460 = (v1459 & 0x1fffffffffffff0ull) * 100;
+	ptr v1461 = at((ptr)static_76, (((v1460 & 0x1ffffffffffffc0ull) * 100) >> 56) & 254);
+	st8(v1456-3, ld8(v1461));
+	st8(v1456-2, ld8(v1461+1));
+	ptr v1462 = at((ptr)static_76, (v1460 >> 56) & 254);
+	st8(v1456-5, ld8(v1462));
+	st8(v1456-4, ld8(v1462+1));
+	ptr v1463 = at((ptr)static_76, (v1459 >> 56) & 254);
+	st8(v1456-7, ld8(v1463));
+	st8(v1456-6, ld8(v1463+1));
+	ptr v1464 = at((ptr)static_76, (v1458 >> 56) & 254);
+	st8(v1456-9, ld8(v1464));
+	st8(v1456-8, ld8(v1464+1));
+	u64 v1465 = v1457 >> 57;
 	if (v64 >= 1000000000) goto L98;
-	u64 v1473 = v81 - 10;
-	st8(at(v1063, v1473), (u8)v1472 | 48);
-	v82 = v1473; goto L99;
+	u64 v1466 = v81 - 10;
+	st8(at(v1056, v1466), (u8)v1465 | 48);
+	v82 = v1466; goto L99;
 L98:;
-	u64 v1474 = v81 - 11;
-	ptr v1475 = at((ptr)static_76, v1472 << 1), v1476 = at(v1063, v1474);
-	u8 v1477 = ld8(v1475+1);
-	st8(v1476, ld8(v1475));
-	st8(v1476+1, v1477);
-	v82 = v1474;
+	u64 v1467 = v81 - 11;
+	ptr v1468 = at((ptr)static_76, v1465 << 1), v1469 = at(v1056, v1467);
+	u8 v1470 = ld8(v1468+1);
+	st8(v1469, ld8(v1468));
+	st8(v1469+1, v1470);
+	v82 = v1467;
 L99:;
-	u64 v1478 = v82 - 1;
-	ptr v1479 = at(v1063, v1478);
-	st8(v1479, 46);
-	u64 v1480 = (u64)v1396;
-	if (v1396 >= 100000000) goto L104;
-	if (v1396 <= 9999) { v83 = v1478; v84 = v1480; goto L100; }
-	u16 v1481 = (u16)(v1396 % 10000);
-	ptr v1482 = at((ptr)static_76, (u64)(u16)((u32)(v1481 % 100) << 1));
-	u8 v1483 = ld8(v1482+1);
-	st8(v1479-2, ld8(v1482));
-	st8(v1479-1, v1483);
-	u64 v1484 = v82 - 5;
-	ptr v1485 = at((ptr)static_76, (u64)(u16)((u32)(v1481 / 100) << 1)), v1486 = at(v1063, v1484);
-	u8 v1487 = ld8(v1485+1);
-	st8(v1486, ld8(v1485));
-	st8(v1486+1, v1487);
-	v83 = v1484; v84 = (u64)(v1396 / 10000);
+	u64 v1471 = v82 - 1;
+	ptr v1472 = at(v1056, v1471);
+	st8(v1472, 46);
+	u64 v1473 = (u64)v1389;
+	if (v1389 >= 100000000) goto L104;
+	if (v1389 <= 9999) { v83 = v1471; v84 = v1473; goto L100; }
+	u16 v1474 = (u16)(v1389 % 10000);
+	ptr v1475 = at((ptr)static_76, (u64)(u16)((u32)(v1474 % 100) << 1));
+	u8 v1476 = ld8(v1475+1);
+	st8(v1472-2, ld8(v1475));
+	st8(v1472-1, v1476);
+	u64 v1477 = v82 - 5;
+	ptr v1478 = at((ptr)static_76, (u64)(u16)((u32)(v1474 / 100) << 1)), v1479 = at(v1056, v1477);
+	u8 v1480 = ld8(v1478+1);
+	st8(v1479, ld8(v1478));
+	st8(v1479+1, v1480);
+	v83 = v1477; v84 = (u64)(v1389 / 10000);
 L100:
 	if (v84 >= 100) goto L102;
 	if (v84 >= 10) goto L101;
-	u64 v1488 = v83 - 1;
-	st8(at(v1063, v1488), (u8)v84 | 48);
-	v85 = v1488; goto L106;
+	u64 v1481 = v83 - 1;
+	st8(at(v1056, v1481), (u8)v84 | 48);
+	v85 = v1481; goto L106;
 L101:;
-	u64 v1489 = v83 - 2;
-	ptr v1490 = at((ptr)static_76, v84 << 1), v1491 = at(v1063, v1489);
-	u8 v1492 = ld8(v1490+1);
-	st8(v1491, ld8(v1490));
-	st8(v1491+1, v1492);
-	v85 = v1489; goto L106;
+	u64 v1482 = v83 - 2;
+	ptr v1483 = at((ptr)static_76, v84 << 1), v1484 = at(v1056, v1482);
+	u8 v1485 = ld8(v1483+1);
+	st8(v1484, ld8(v1483));
+	st8(v1484+1, v1485);
+	v85 = v1482; goto L106;
 L102:;
-	u16 v1493 = (u16)v84;
-	ptr v1494 = at((ptr)static_76, (u64)(u16)((u32)(v1493 % 100) << 1)), v1495 = at(v1063, v83);
-	u8 v1496 = ld8(v1494+1);
-	st8(v1495-2, ld8(v1494));
-	st8(v1495-1, v1496);
-	u16 v1497 = v1493 / 100;
+	u16 v1486 = (u16)v84;
+	ptr v1487 = at((ptr)static_76, (u64)(u16)((u32)(v1486 % 100) << 1)), v1488 = at(v1056, v83);
+	u8 v1489 = ld8(v1487+1);
+	st8(v1488-2, ld8(v1487));
+	st8(v1488-1, v1489);
+	u16 v1490 = v1486 / 100;
 	if (v84 >= 1000) goto L103;
-	u64 v1498 = v83 - 3;
-	st8(at(v1063, v1498), (u8)v1497 | 48);
-	v85 = v1498; goto L106;
+	u64 v1491 = v83 - 3;
+	st8(at(v1056, v1491), (u8)v1490 | 48);
+	v85 = v1491; goto L106;
 L103:;
-	u64 v1499 = v83 - 4;
-	ptr v1500 = at((ptr)static_76, (u64)(u16)((u32)v1497 << 1)), v1501 = at(v1063, v1499);
-	u8 v1502 = ld8(v1500+1);
-	st8(v1501, ld8(v1500));
-	st8(v1501+1, v1502);
-	v85 = v1499; goto L106;
+	u64 v1492 = v83 - 4;
+	ptr v1493 = at((ptr)static_76, (u64)(u16)((u32)v1490 << 1)), v1494 = at(v1056, v1492);
+	u8 v1495 = ld8(v1493+1);
+	st8(v1494, ld8(v1493));
+	st8(v1494+1, v1495);
+	v85 = v1492; goto L106;
 L104:;
-	u64 v1503 = v1480 * 1441151881, v1504 = (v1503 & 0x1ffffffffffffffull) * 100;
-	u64 v1505 = (v1504 & 0x1fffffffffffffcull) * 100, v1506 = (v1505 & 0x1fffffffffffff0ull) * 100;
-	ptr v1507 = at((ptr)static_76, (((v1506 & 0x1ffffffffffffc0ull) * 100) >> 56) & 254);
-	st8(v1479-2, ld8(v1507));
-	st8(v1479-1, ld8(v1507+1));
-	ptr v1508 = at((ptr)static_76, (v1506 >> 56) & 254);
-	st8(v1479-4, ld8(v1508));
-	st8(v1479-3, ld8(v1508+1));
-	ptr v1509 = at((ptr)static_76, (v1505 >> 56) & 254);
-	st8(v1479-6, ld8(v1509));
-	st8(v1479-5, ld8(v1509+1));
-	ptr v1510 = at((ptr)static_76, (v1504 >> 56) & 254);
-	st8(v1479-8, ld8(v1510));
-	st8(v1479-7, ld8(v1510+1));
-	u64 v1511 = v1503 >> 57;
-	if (v1396 >= 1000000000) goto L105;
-	u64 v1512 = v82 - 10;
-	st8(at(v1063, v1512), (u8)v1511 | 48);
-	v85 = v1512; goto L106;
+	u64 v1496 = v1473 * 1441151881, v1497 = (v1496 & 0x1ffffffffffffffull) * 100;
+	u64 v1498 = (v1497 & 0x1fffffffffffffcull) * 100, v1499 = (v1498 & 0x1fffffffffffff0ull) * 100;
+	ptr v1500 = at((ptr)static_76, (((v1499 & 0x1ffffffffffffc0ull) * 100) >> 56) & 254);
+	st8(v1472-2, ld8(v1500));
+	st8(v1472-1, ld8(v1500+1));
+	ptr v1501 = at((ptr)static_76, (v1499 >> 56) & 254);
+	st8(v1472-4, ld8(v1501));
+	st8(v1472-3, ld8(v1501+1));
+	ptr v1502 = at((ptr)static_76, (v1498 >> 56) & 254);
+	st8(v1472-6, ld8(v1502));
+	st8(v1472-5, ld8(v1502+1));
+	ptr v1503 = at((ptr)static_76, (v1497 >> 56) & 254);
+	st8(v1472-8, ld8(v1503));
+	st8(v1472-7, ld8(v1503+1));
+	u64 v1504 = v1496 >> 57;
+	if (v1389 >= 1000000000) goto L105;
+	u64 v1505 = v82 - 10;
+	st8(at(v1056, v1505), (u8)v1504 | 48);
+	v85 = v1505; goto L106;
 L105:;
-	u64 v1513 = v82 - 11;
-	ptr v1514 = at((ptr)static_76, v1511 << 1), v1515 = at(v1063, v1513);
-	u8 v1516 = ld8(v1514+1);
-	st8(v1515, ld8(v1514));
-	st8(v1515+1, v1516);
-	v85 = v1513;
+	u64 v1506 = v82 - 11;
+	ptr v1507 = at((ptr)static_76, v1504 << 1), v1508 = at(v1056, v1506);
+	u8 v1509 = ld8(v1507+1);
+	st8(v1508, ld8(v1507));
+	st8(v1508+1, v1509);
+	v85 = v1506;
 L106:;
-	u64 v1517 = v85 - 1;
-	st8(at(v1063, v1517), 32);
-	if (v61 <= 9998) { v88 = v1517; v89 = v1413; goto L108; }
-	v86 = v1413; v87 = v1517;
+	u64 v1510 = v85 - 1;
+	st8(at(v1056, v1510), 32);
+	if (v61 <= 9998) { v88 = v1510; v89 = v1406; goto L108; }
+	v86 = v1406; v87 = v1510;
 L107:;
-	u64 v1518 = v86 / 10000;
-	u16 v1519 = (u16)(v86 % 10000);
-	ptr v1520 = at((ptr)static_76, (u64)(u16)((u32)(v1519 % 100) << 1)), v1521 = at(v1063, v87);
-	u8 v1522 = ld8(v1520+1);
-	st8(v1521-2, ld8(v1520));
-	st8(v1521-1, v1522);
-	u64 v1523 = v87 - 4;
-	ptr v1524 = at((ptr)static_76, (u64)(u16)((u32)(v1519 / 100) << 1)), v1525 = at(v1063, v1523);
-	u8 v1526 = ld8(v1524+1);
-	st8(v1525, ld8(v1524));
-	st8(v1525+1, v1526);
-	if (v86 > 99999999) { v86 = v1518; v87 = v1523; goto L107; }
-	v88 = v1523; v89 = v1518;
+	u64 v1511 = v86 / 10000;
+	u16 v1512 = (u16)(v86 % 10000);
+	ptr v1513 = at((ptr)static_76, (u64)(u16)((u32)(v1512 % 100) << 1)), v1514 = at(v1056, v87);
+	u8 v1515 = ld8(v1513+1);
+	st8(v1514-2, ld8(v1513));
+	st8(v1514-1, v1515);
+	u64 v1516 = v87 - 4;
+	ptr v1517 = at((ptr)static_76, (u64)(u16)((u32)(v1512 / 100) << 1)), v1518 = at(v1056, v1516);
+	u8 v1519 = ld8(v1517+1);
+	st8(v1518, ld8(v1517));
+	st8(v1518+1, v1519);
+	if (v86 > 99999999) { v86 = v1511; v87 = v1516; goto L107; }
+	v88 = v1516; v89 = v1511;
 L108:
 	if (v89 >= 100) goto L110;
 	if (v89 >= 10) goto L109;
-	u64 v1527 = v88 - 1;
-	st8(at(v1063, v1527), (u8)v89 | 48);
-	v90 = v1527; goto L112;
+	u64 v1520 = v88 - 1;
+	st8(at(v1056, v1520), (u8)v89 | 48);
+	v90 = v1520; goto L112;
 L109:;
-	u64 v1528 = v88 - 2;
-	ptr v1529 = at((ptr)static_76, v89 << 1), v1530 = at(v1063, v1528);
-	u8 v1531 = ld8(v1529+1);
-	st8(v1530, ld8(v1529));
-	st8(v1530+1, v1531);
-	v90 = v1528; goto L112;
+	u64 v1521 = v88 - 2;
+	ptr v1522 = at((ptr)static_76, v89 << 1), v1523 = at(v1056, v1521);
+	u8 v1524 = ld8(v1522+1);
+	st8(v1523, ld8(v1522));
+	st8(v1523+1, v1524);
+	v90 = v1521; goto L112;
 L110:;
-	u16 v1532 = (u16)v89;
-	ptr v1533 = at((ptr)static_76, (u64)(u16)((u32)(v1532 % 100) << 1)), v1534 = at(v1063, v88);
-	u8 v1535 = ld8(v1533+1);
-	st8(v1534-2, ld8(v1533));
-	st8(v1534-1, v1535);
-	u16 v1536 = v1532 / 100;
+	u16 v1525 = (u16)v89;
+	ptr v1526 = at((ptr)static_76, (u64)(u16)((u32)(v1525 % 100) << 1)), v1527 = at(v1056, v88);
+	u8 v1528 = ld8(v1526+1);
+	st8(v1527-2, ld8(v1526));
+	st8(v1527-1, v1528);
+	u16 v1529 = v1525 / 100;
 	if (v89 >= 1000) goto L111;
-	u64 v1537 = v88 - 3;
-	st8(at(v1063, v1537), (u8)v1536 | 48);
-	v90 = v1537; goto L112;
+	u64 v1530 = v88 - 3;
+	st8(at(v1056, v1530), (u8)v1529 | 48);
+	v90 = v1530; goto L112;
 L111:;
-	u64 v1538 = v88 - 4;
-	ptr v1539 = at((ptr)static_76, (u64)(u16)((u32)v1536 << 1)), v1540 = at(v1063, v1538);
-	u8 v1541 = ld8(v1539+1);
-	st8(v1540, ld8(v1539));
-	st8(v1540+1, v1541);
-	v90 = v1538;
+	u64 v1531 = v88 - 4;
+	ptr v1532 = at((ptr)static_76, (u64)(u16)((u32)v1529 << 1)), v1533 = at(v1056, v1531);
+	u8 v1534 = ld8(v1532+1);
+	st8(v1533, ld8(v1532));
+	st8(v1533+1, v1534);
+	v90 = v1531;
 L112:
-	if (v90 == 126) { v149 = v1413; goto L160; }
-	v91 = at(v1063, v90); v92 = 126ull - v90;
+	if (v90 == 126) { v149 = v1406; goto L160; }
+	v91 = at(v1056, v90); v92 = 126ull - v90;
 L113:
-	clear(v1051, 96);
-	u64 v1542 = ld64(v5+16), v1543 = ld64(v5+8);
-	if (v92 >= v1542 - v1543) goto L117;
-	u64 v1544 = v1543 + v92;
-	ptr v1545 = ldp(v5), v1546 = at(v1545, v1543);
-	if ((u64)v1546 - (u64)v91 >= v92) goto L115;
+	clear(v1044, 96);
+	u64 v1535 = ld64(v5+16), v1536 = ld64(v5+8);
+	if (v92 >= v1535 - v1536) goto L117;
+	u64 v1537 = v1536 + v92;
+	ptr v1538 = ldp(v5), v1539 = at(v1538, v1536);
+	if ((u64)v1539 - (u64)v91 >= v92) goto L115;
 	v93 = 0;
 L114:
-	st8(at(v1546, v93), ld8(at(v91, v93)));
-	u64 v1547 = v93 + 1;
-	if (v1547 == v92) goto L116;
-	v93 = v1547; goto L114;
+	st8(at(v1539, v93), ld8(at(v91, v93)));
+	u64 v1540 = v93 + 1;
+	if (v1540 == v92) goto L116;
+	v93 = v1540; goto L114;
 L115:
-	move(v1546, v91, v92);
+	move(v1539, v91, v92);
 L116:
-	stp(v5, v1545);
-	st64(v5+8, v1544);
-	st64(v5+16, v1542);
+	stp(v5, v1538);
+	st64(v5+8, v1537);
+	st64(v5+16, v1535);
 	v94 = v92; goto L118;
 L117:
-	std_io_buffered_BufWriter_write_cold_9d90(v1051, v5, v91, v92);
-	u64 v1548 = ld64(v1051+8);
-	if (ld8(v1051)) { v177 = v1548; v178 = v1548; v179 = ld64(v1051+16); v180 = ld64(v1051+24); v181 = ld64(v1051+32); v182 = ld64(v1051+40); v183 = ld64(v1051+48); v184 = ld64(v1051+56); v185 = ld64(v1051+64); v186 = ld64(v1051+72); v187 = ld64(v1051+80); v188 = ld64(v1051+88); v175 = 4; v176 = 1; goto L163; }
-	if (!v1548) { M45: v177 = 1513219; v178 = 1513219; v179 = 0x7074756f20656874ull; v180 = 0x206b6f6f74207475ull; v181 = 0x2e676e6968746f6eull; v182 = 0x2e2e2e2e2e2e2e2eull; v183 = 0x2e2e2e2e2e2e2e2eull; v184 = 0x2e2e2e2e2e2e2e2eull; v185 = 0x2e2e2e2e2e2e2e2eull; v186 = 0x2e2e2e2e2e2e2e2eull; v187 = 0x2e2e2e2e2e2e2e2eull; v188 = 0x2e2e2e2e2e2e2e2eull; v175 = 4; v176 = 1; goto L163; }
-	v94 = v1548;
+	std_io_buffered_BufWriter_write_cold_9d90(v1044, v5, v91, v92);
+	u64 v1541 = ld64(v1044+8);
+	if (ld8(v1044)) { v177 = v1541; v178 = v1541; v179 = ld64(v1044+16); v180 = ld64(v1044+24); v181 = ld64(v1044+32); v182 = ld64(v1044+40); v183 = ld64(v1044+48); v184 = ld64(v1044+56); v185 = ld64(v1044+64); v186 = ld64(v1044+72); v187 = ld64(v1044+80); v188 = ld64(v1044+88); v175 = 4; v176 = 1; goto L163; }
+	if (!v1541) { M45: v177 = 1513219; v178 = 1513219; v179 = 0x7074756f20656874ull; v180 = 0x206b6f6f74207475ull; v181 = 0x2e676e6968746f6eull; v182 = 0x2e2e2e2e2e2e2e2eull; v183 = 0x2e2e2e2e2e2e2e2eull; v184 = 0x2e2e2e2e2e2e2e2eull; v185 = 0x2e2e2e2e2e2e2e2eull; v186 = 0x2e2e2e2e2e2e2e2eull; v187 = 0x2e2e2e2e2e2e2e2eull; v188 = 0x2e2e2e2e2e2e2e2eull; v175 = 4; v176 = 1; goto L163; }
+	v94 = v1541;
 L118:;
-	u64 v1549 = v92 - v94;
-	if (!v1549) { v149 = v1413; goto L160; }
-	v91 = at(v91, v94); v92 = v1549; goto L113;
+	u64 v1542 = v92 - v94;
+	if (!v1542) { v149 = v1406; goto L160; }
+	v91 = at(v91, v94); v92 = v1542; goto L113;
 L119:
-	st32(v1054, 0);
-	su64(v1054+4, v102);
-	v106 = ld64(v1054); v107 = v102; v108 = v103; v109 = v104; v110 = v105; v111 = v95; v112 = v96; v113 = v97; v114 = v98; v115 = v99; v116 = v100; v117 = v101; v118 = 4; v119 = 1;
+	st32(v1047, 0);
+	su64(v1047+4, v102);
+	v106 = ld64(v1047); v107 = v102; v108 = v103; v109 = v104; v110 = v105; v111 = v95; v112 = v96; v113 = v97; v114 = v98; v115 = v99; v116 = v100; v117 = v101; v118 = 4; v119 = 1;
 L120:
 	v175 = v118; v176 = v119; v177 = v106 >> 32; v178 = v107; v179 = v108; v180 = v109; v181 = v110; v182 = v111; v183 = v112; v184 = v113; v185 = v114; v186 = v115; v187 = v116; v188 = v117; goto L163;
 L121:
-	clear(v1050, 16);
+	clear(v1043, 16);
 	v120 = 0;
 L122:
-	clear(v1049, 96);
-	std_io_buffered_BufReaderRead_read_e988(v1049, v4, at(v1050, v120), 16ull - v120);
-	u64 v1550 = ld64(v1049+8);
-	if (ld8(v1049)) { v150 = ld64(v1049+40); v151 = ld64(v1049+48); v152 = ld64(v1049+56); v153 = ld64(v1049+64); v154 = ld64(v1049+72); v155 = ld64(v1049+80); v156 = ld64(v1049+88); v157 = v1550; v158 = ld64(v1049+16); v159 = ld64(v1049+24); v160 = ld64(v1049+32); goto L161; }
-	if (!v1550) { v150 = 0x2e2e2e2e2e2e2e2eull; v151 = 0x2e2e2e2e2e2e2e2eull; v152 = 0x2e2e2e2e2e2e2e2eull; v153 = 0x2e2e2e2e2e2e2e2eull; v154 = 0x2e2e2e2e2e2e2e2eull; v155 = 0x2e2e2e2e2e2e2e2eull; v156 = 0x2e2e2e2e2e2e2e2eull; v157 = 1451267; v158 = 0x6572747320656874ull; v159 = 0x6465646e65206d61ull; v160 = 0x2e2e796c72616520ull; goto L161; }
-	u64 v1551 = v1550 + v120;
-	if (v1551 < 16) { v120 = v1551; goto L122; }
-	u32 v1552 = ld32(v1050), v1553 = ld32(v1050+4);
-	u64 v1554 = lu64(v1050+8);
-	u32 v1555 = (u32)v1554;
-	u64 v1556 = v1554 >> 32;
-	u32 v1557 = (u32)v1556;
-	if (v1393 == 1) { v121 = v1553; goto L123; }
-	if (v1553 > 4294967) { v123 = (ptr)static_36; v122 = 40; goto L124; }
-	v121 = v1553 * 1000;
+	clear(v1042, 96);
+	std_io_buffered_BufReaderRead_read_e988(v1042, v4, at(v1043, v120), 16ull - v120);
+	u64 v1543 = ld64(v1042+8);
+	if (ld8(v1042)) { v150 = ld64(v1042+40); v151 = ld64(v1042+48); v152 = ld64(v1042+56); v153 = ld64(v1042+64); v154 = ld64(v1042+72); v155 = ld64(v1042+80); v156 = ld64(v1042+88); v157 = v1543; v158 = ld64(v1042+16); v159 = ld64(v1042+24); v160 = ld64(v1042+32); goto L161; }
+	if (!v1543) { v150 = 0x2e2e2e2e2e2e2e2eull; v151 = 0x2e2e2e2e2e2e2e2eull; v152 = 0x2e2e2e2e2e2e2e2eull; v153 = 0x2e2e2e2e2e2e2e2eull; v154 = 0x2e2e2e2e2e2e2e2eull; v155 = 0x2e2e2e2e2e2e2e2eull; v156 = 0x2e2e2e2e2e2e2e2eull; v157 = 1451267; v158 = 0x6572747320656874ull; v159 = 0x6465646e65206d61ull; v160 = 0x2e2e796c72616520ull; goto L161; }
+	u64 v1544 = v1543 + v120;
+	if (v1544 < 16) { v120 = v1544; goto L122; }
+	u32 v1545 = ld32(v1043), v1546 = ld32(v1043+4);
+	u64 v1547 = lu64(v1043+8);
+	u32 v1548 = (u32)v1547;
+	u64 v1549 = v1547 >> 32;
+	u32 v1550 = (u32)v1549;
+	if (v1386 == 1) { v121 = v1546; goto L123; }
+	if (v1546 > 4294967) { v123 = (ptr)static_36; v122 = 40; goto L124; }
+	v121 = v1546 * 1000;
 L123:
-	if (v1555 > 262144) { v123 = (ptr)static_37; v122 = 31; goto L124; }
-	if (v1554 > 0x40000ffffffffull) { v123 = (ptr)static_38; v122 = 31; goto L124; }
-	if (v1557 >= v1555) goto L125;
+	if (v1548 > 262144) { v123 = (ptr)static_37; v122 = 31; goto L124; }
+	if (v1547 > 0x40000ffffffffull) { v123 = (ptr)static_38; v122 = 31; goto L124; }
+	if (v1550 >= v1548) goto L125;
 	v123 = (ptr)static_39; v122 = 32;
 L124:;
-	u64 v1558 = (u64)v123;
-	st32(v1047, 0);
-	su64(v1047+4, v1558);
-	v161 = ld64(v1047); v162 = v1558; v163 = v122; v164 = v165 = v166 = v167 = v168 = v169 = v170 = v171 = v172 = 0; v173 = 1; v174 = 2; goto L162;
+	u64 v1551 = (u64)v123;
+	st32(v1040, 0);
+	su64(v1040+4, v1551);
+	v161 = ld64(v1040); v162 = v1551; v163 = v122; v164 = v165 = v166 = v167 = v168 = v169 = v170 = v171 = v172 = 0; v173 = 1; v174 = 2; goto L162;
 L125:;
-	u64 v1559 = v1554 & 524287;
-	if (!v1559) goto L128;
-	v124 = ld64(v4+32); v125 = ld64(v4+24); v126 = v1559;
+	u64 v1552 = v1547 & 524287;
+	if (!v1552) goto L128;
+	v124 = ld64(v4+32); v125 = ld64(v4+24); v126 = v1552;
 L126:
 	if (v125 < v124) { v127 = v124; v128 = v125; goto L127; }
 	clear(v4+24, 16);
-	ptr v1560 = ldp(v4);
-	u64 v1561 = ld64(v4+8);
-	clear(v1046, 96);
-	capcopy_run_uninterrupted_UninterruptedRead_read_f128(v1046, v1560, v1561);
-	u64 v1562 = ld64(v1046+8);
-	if (ld8(v1046)) { v177 = v1562; v178 = v1562; v179 = ld64(v1046+16); v180 = ld64(v1046+24); v181 = ld64(v1046+32); v182 = ld64(v1046+40); v183 = ld64(v1046+48); v184 = ld64(v1046+56); v185 = ld64(v1046+64); v186 = ld64(v1046+72); v187 = ld64(v1046+80); v188 = ld64(v1046+88); v175 = 4; v176 = 1; goto L163; }
-	st64(v4+32, v1562);
-	v127 = v1562; v128 = ld64(v4+24);
+	ptr v1553 = ldp(v4);
+	u64 v1554 = ld64(v4+8);
+	clear(v1039, 96);
+	capcopy_run_uninterrupted_UninterruptedRead_read_f128(v1039, v1553, v1554);
+	u64 v1555 = ld64(v1039+8);
+	if (ld8(v1039)) { v177 = v1555; v178 = v1555; v179 = ld64(v1039+16); v180 = ld64(v1039+24); v181 = ld64(v1039+32); v182 = ld64(v1039+40); v183 = ld64(v1039+48); v184 = ld64(v1039+56); v185 = ld64(v1039+64); v186 = ld64(v1039+72); v187 = ld64(v1039+80); v188 = ld64(v1039+88); v175 = 4; v176 = 1; goto L163; }
+	st64(v4+32, v1555);
+	v127 = v1555; v128 = ld64(v4+24);
 L127:
 	if (v127 == v128) goto M35;
-	u64 v1563 = v127 - v128, v1564 = v126 < v1563 ? v126 : v1563, v1565 = v1564 + v128;
-	st64(v4+24, v1565);
-	u64 v1566 = v126 - v1564;
-	if (v1566) { v124 = v127; v125 = v1565; v126 = v1566; goto L126; }
+	u64 v1556 = v127 - v128, v1557 = v126 < v1556 ? v126 : v1556, v1558 = v1557 + v128;
+	st64(v4+24, v1558);
+	u64 v1559 = v126 - v1557;
+	if (v1559) { v124 = v127; v125 = v1558; v126 = v1559; goto L126; }
 L128:;
-	u64 v1567 = v61 + 1;
-	st8(v1063+125, 10);
-	if (v1554 <= 0x270fffffffffull) { v129 = v1063+125; v130 = 125; v131 = v1556; goto L129; }
-	u16 v1568 = (u16)(v1556 % 10000);
-	ptr v1569 = at((ptr)static_76, (u64)(u16)((u32)(v1568 % 100) << 1));
-	u8 v1570 = ld8(v1569+1);
-	st8(v1063+123, ld8(v1569));
-	st8(v1063+124, v1570);
-	ptr v1571 = at((ptr)static_76, (u64)(u16)((u32)(v1568 / 100) << 1));
-	u8 v1572 = ld8(v1571+1);
-	st8(v1063+121, ld8(v1571));
-	st8(v1063+122, v1572);
-	v129 = v1063+121; v130 = 121; v131 = v1554 / 0x271000000000ull;
+	u64 v1560 = v61 + 1;
+	st8(v1056+125, 10);
+	if (v1547 <= 0x270fffffffffull) { v129 = v1056+125; v130 = 125; v131 = v1549; goto L129; }
+	u16 v1561 = (u16)(v1549 % 10000);
+	ptr v1562 = at((ptr)static_76, (u64)(u16)((u32)(v1561 % 100) << 1));
+	u8 v1563 = ld8(v1562+1);
+	st8(v1056+123, ld8(v1562));
+	st8(v1056+124, v1563);
+	ptr v1564 = at((ptr)static_76, (u64)(u16)((u32)(v1561 / 100) << 1));
+	u8 v1565 = ld8(v1564+1);
+	st8(v1056+121, ld8(v1564));
+	st8(v1056+122, v1565);
+	v129 = v1056+121; v130 = 121; v131 = v1547 / 0x271000000000ull;
 L129:
 	if (v131 >= 100) goto L131;
 	if (v131 >= 10) goto L130;
-	u64 v1573 = v130 - 1;
-	st8(at(v1063, v1573), (u8)v131 | 48);
-	v132 = v1573; goto L133;
+	u64 v1566 = v130 - 1;
+	st8(at(v1056, v1566), (u8)v131 | 48);
+	v132 = v1566; goto L133;
 L130:;
-	u64 v1574 = v130 - 2;
-	ptr v1575 = at((ptr)static_76, v131 << 1), v1576 = at(v1063, v1574);
-	u8 v1577 = ld8(v1575+1);
-	st8(v1576, ld8(v1575));
-	st8(v1576+1, v1577);
-	v132 = v1574; goto L133;
+	u64 v1567 = v130 - 2;
+	ptr v1568 = at((ptr)static_76, v131 << 1), v1569 = at(v1056, v1567);
+	u8 v1570 = ld8(v1568+1);
+	st8(v1569, ld8(v1568));
+	st8(v1569+1, v1570);
+	v132 = v1567; goto L133;
 L131:;
-	u16 v1578 = (u16)v131;
-	ptr v1579 = at((ptr)static_76, (u64)(u16)((u32)(v1578 % 100) << 1));
-	u8 v1580 = ld8(v1579+1);
-	st8(v129-2, ld8(v1579));
-	st8(v129-1, v1580);
-	u16 v1581 = v1578 / 100;
+	u16 v1571 = (u16)v131;
+	ptr v1572 = at((ptr)static_76, (u64)(u16)((u32)(v1571 % 100) << 1));
+	u8 v1573 = ld8(v1572+1);
+	st8(v129-2, ld8(v1572));
+	st8(v129-1, v1573);
+	u16 v1574 = v1571 / 100;
 	if (v131 >= 1000) goto L132;
-	u64 v1582 = v130 - 3;
-	st8(at(v1063, v1582), (u8)v1581 | 48);
-	v132 = v1582; goto L133;
+	u64 v1575 = v130 - 3;
+	st8(at(v1056, v1575), (u8)v1574 | 48);
+	v132 = v1575; goto L133;
 L132:;
-	u64 v1583 = v130 - 4;
-	ptr v1584 = at((ptr)static_76, (u64)(u16)((u32)v1581 << 1)), v1585 = at(v1063, v1583);
-	u8 v1586 = ld8(v1584+1);
-	st8(v1585, ld8(v1584));
-	st8(v1585+1, v1586);
-	v132 = v1583;
+	u64 v1576 = v130 - 4;
+	ptr v1577 = at((ptr)static_76, (u64)(u16)((u32)v1574 << 1)), v1578 = at(v1056, v1576);
+	u8 v1579 = ld8(v1577+1);
+	st8(v1578, ld8(v1577));
+	st8(v1578+1, v1579);
+	v132 = v1576;
 L133:;
-	u64 v1587 = v132 - 1;
-	ptr v1588 = at(v1063, v1587);
-	st8(v1588, 47);
-	if (v1559 <= 9999) { v133 = v1587; v134 = v1559; goto L134; }
-	u16 v1589 = (u16)(v1559 % 10000);
-	ptr v1590 = at((ptr)static_76, (u64)(u16)((u32)(v1589 % 100) << 1));
-	u8 v1591 = ld8(v1590+1);
-	st8(v1588-2, ld8(v1590));
-	st8(v1588-1, v1591);
-	u64 v1592 = v132 - 5;
-	ptr v1593 = at((ptr)static_76, (u64)(u16)((u32)(v1589 / 100) << 1)), v1594 = at(v1063, v1592);
-	u8 v1595 = ld8(v1593+1);
-	st8(v1594, ld8(v1593));
-	st8(v1594+1, v1595);
-	v133 = v1592; v134 = v1559 / 10000;
+	u64 v1580 = v132 - 1;
+	ptr v1581 = at(v1056, v1580);
+	st8(v1581, 47);
+	if (v1552 <= 9999) { v133 = v1580; v134 = v1552; goto L134; }
+	u16 v1582 = (u16)(v1552 % 10000);
+	ptr v1583 = at((ptr)static_76, (u64)(u16)((u32)(v1582 % 100) << 1));
+	u8 v1584 = ld8(v1583+1);
+	st8(v1581-2, ld8(v1583));
+	st8(v1581-1, v1584);
+	u64 v1585 = v132 - 5;
+	ptr v1586 = at((ptr)static_76, (u64)(u16)((u32)(v1582 / 100) << 1)), v1587 = at(v1056, v1585);
+	u8 v1588 = ld8(v1586+1);
+	st8(v1587, ld8(v1586));
+	st8(v1587+1, v1588);
+	v133 = v1585; v134 = v1552 / 10000;
 L134:
 	if (v134 >= 100) goto L136;
 	if (v134 >= 10) goto L135;
-	u64 v1596 = v133 - 1;
-	st8(at(v1063, v1596), (u8)v134 | 48);
-	v135 = v1596; goto L138;
+	u64 v1589 = v133 - 1;
+	st8(at(v1056, v1589), (u8)v134 | 48);
+	v135 = v1589; goto L138;
 L135:;
-	u64 v1597 = v133 - 2;
-	ptr v1598 = at((ptr)static_76, v134 << 1), v1599 = at(v1063, v1597);
-	u8 v1600 = ld8(v1598+1);
-	st8(v1599, ld8(v1598));
-	st8(v1599+1, v1600);
-	v135 = v1597; goto L138;
+	u64 v1590 = v133 - 2;
+	ptr v1591 = at((ptr)static_76, v134 << 1), v1592 = at(v1056, v1590);
+	u8 v1593 = ld8(v1591+1);
+	st8(v1592, ld8(v1591));
+	st8(v1592+1, v1593);
+	v135 = v1590; goto L138;
 L136:;
-	u16 v1601 = (u16)v134;
-	ptr v1602 = at((ptr)static_76, (u64)(u16)((u32)(v1601 % 100) << 1)), v1603 = at(v1063, v133);
-	u8 v1604 = ld8(v1602+1);
-	st8(v1603-2, ld8(v1602));
-	st8(v1603-1, v1604);
-	u16 v1605 = v1601 / 100;
+	u16 v1594 = (u16)v134;
+	ptr v1595 = at((ptr)static_76, (u64)(u16)((u32)(v1594 % 100) << 1)), v1596 = at(v1056, v133);
+	u8 v1597 = ld8(v1595+1);
+	st8(v1596-2, ld8(v1595));
+	st8(v1596-1, v1597);
+	u16 v1598 = v1594 / 100;
 	if (v134 >= 1000) goto L137;
-	u64 v1606 = v133 - 3;
-	st8(at(v1063, v1606), (u8)v1605 | 48);
-	v135 = v1606; goto L138;
+	u64 v1599 = v133 - 3;
+	st8(at(v1056, v1599), (u8)v1598 | 48);
+	v135 = v1599; goto L138;
 L137:;
-	u64 v1607 = v133 - 4;
-	ptr v1608 = at((ptr)static_76, (u64)(u16)((u32)v1605 << 1)), v1609 = at(v1063, v1607);
-	u8 v1610 = ld8(v1608+1);
-	st8(v1609, ld8(v1608));
-	st8(v1609+1, v1610);
-	v135 = v1607;
+	u64 v1600 = v133 - 4;
+	ptr v1601 = at((ptr)static_76, (u64)(u16)((u32)v1598 << 1)), v1602 = at(v1056, v1600);
+	u8 v1603 = ld8(v1601+1);
+	st8(v1602, ld8(v1601));
+	st8(v1602+1, v1603);
+	v135 = v1600;
 L138:;
-	ptr v1611 = at(v1063, v135);
-	st8(v1611-1, 32);
-	u64 v1612 = (u64)v121 * 1441151881, v1613 = (v1612 & 0x1ffffffffffffffull) * 100;
-	u64 v1614 = (v1613 & 0x1fffffffffffffcull) * 100, v1615 = (v1614 & 0x1fffffffffffff0ull) * 100;
-	ptr v1616 = at((ptr)static_76, (((v1615 & 0x1ffffffffffffc0ull) * 100) >> 56) & 254);
-	st8(v1611-3, ld8(v1616));
-	st8(v1611-2, ld8(v1616+1));
-	ptr v1617 = at((ptr)static_76, (v1615 >> 56) & 254);
-	st8(v1611-5, ld8(v1617));
-	st8(v1611-4, ld8(v1617+1));
-	ptr v1618 = at((ptr)static_76, (v1614 >> 56) & 254);
-	st8(v1611-7, ld8(v1618));
-	st8(v1611-6, ld8(v1618+1));
-	ptr v1619 = at((ptr)static_76, (v1613 >> 56) & 254);
-	st8(v1611-9, ld8(v1619));
-	st8(v1611-8, ld8(v1619+1));
-	u64 v1620 = v1612 >> 57;
+	ptr v1604 = at(v1056, v135);
+	st8(v1604-1, 32);
+	u64 v1605 = (u64)v121 * 1441151881, v1606 = (v1605 & 0x1ffffffffffffffull) * 100;
+	u64 v1607 = (v1606 & 0x1fffffffffffffcull) * 100, v1608 = (v1607 & 0x1fffffffffffff0ull) * 100;
+	ptr v1609 = at((ptr)static_76, (((v1608 & 0x1ffffffffffffc0ull) * 100) >> 56) & 254);
+	st8(v1604-3, ld8(v1609));
+	st8(v1604-2, ld8(v1609+1));
+	ptr v1610 = at((ptr)static_76, (v1608 >> 56) & 254);
+	st8(v1604-5, ld8(v1610));
+	st8(v1604-4, ld8(v1610+1));
+	ptr v1611 = at((ptr)static_76, (v1607 >> 56) & 254);
+	st8(v1604-7, ld8(v1611));
+	st8(v1604-6, ld8(v1611+1));
+	ptr v1612 = at((ptr)static_76, (v1606 >> 56) & 254);
+	st8(v1604-9, ld8(v1612));
+	st8(v1604-8, ld8(v1612+1));
+	u64 v1613 = v1605 >> 57;
 	if (v121 >= 1000000000) goto L139;
-	u64 v1621 = v135 - 10;
-	st8(at(v1063, v1621), (u8)v1620 | 48);
-	v136 = v1621; goto L140;
+	u64 v1614 = v135 - 10;
+	st8(at(v1056, v1614), (u8)v1613 | 48);
+	v136 = v1614; goto L140;
 L139:;
-	u64 v1622 = v135 - 11;
-	ptr v1623 = at((ptr)static_76, v1620 << 1), v1624 = at(v1063, v1622);
-	u8 v1625 = ld8(v1623+1);
-	st8(v1624, ld8(v1623));
-	st8(v1624+1, v1625);
-	v136 = v1622;
+	u64 v1615 = v135 - 11;
+	ptr v1616 = at((ptr)static_76, v1613 << 1), v1617 = at(v1056, v1615);
+	u8 v1618 = ld8(v1616+1);
+	st8(v1617, ld8(v1616));
+	st8(v1617+1, v1618);
+	v136 = v1615;
 L140:;
-	u64 v1626 = v136 - 1;
-	ptr v1627 = at(v1063, v1626);
-	st8(v1627, 46);
-	u64 v1628 = (u64)v1552;
-	if (v1552 >= 100000000) goto L145;
-	if (v1552 <= 9999) { v137 = v1626; v138 = v1628; goto L141; }
-	u16 v1629 = (u16)(v1552 % 10000);
-	ptr v1630 = at((ptr)static_76, (u64)(u16)((u32)(v1629 % 100) << 1));
-	u8 v1631 = ld8(v1630+1);
-	st8(v1627-2, ld8(v1630));
-	st8(v1627-1, v1631);
-	u64 v1632 = v136 - 5;
-	ptr v1633 = at((ptr)static_76, (u64)(u16)((u32)(v1629 / 100) << 1)), v1634 = at(v1063, v1632);
-	u8 v1635 = ld8(v1633+1);
-	st8(v1634, ld8(v1633));
-	st8(v1634+1, v1635);
-	v137 = v1632; v138 = (u64)(v1552 / 10000);
+	u64 v1619 = v136 - 1;
+	ptr v1620 = at(v1056, v1619);
+	st8(v1620, 46);
+	u64 v1621 = (u64)v1545;
+	if (v1545 >= 100000000) goto L145;
+	if (v1545 <= 9999) { v137 = v1619; v138 = v1621; goto L141; }
+	u16 v1622 = (u16)(v1545 % 10000);
+	ptr v1623 = at((ptr)static_76, (u64)(u16)((u32)(v1622 % 100) << 1));
+	u8 v1624 = ld8(v1623+1);
+	st8(v1620-2, ld8(v1623));
+	st8(v1620-1, v1624);
+	u64 v1625 = v136 - 5;
+	ptr v1626 = at((ptr)static_76, (u64)(u16)((u32)(v1622 / 100) << 1)), v1627 = at(v1056, v1625);
+	u8 v1628 = ld8(v1626+1);
+	st8(v1627, ld8(v1626));
+	st8(v1627+1, v1628);
+	v137 = v1625; v138 = (u64)(v1545 / 10000);
 L141:
 	if (v138 >= 100) goto L143;
 	if (v138 >= 10) goto L142;
-	u64 v1636 = v137 - 1;
-	st8(at(v1063, v1636), (u8)v138 | 48);
-	v139 = v1636; goto L147;
+	u64 v1629 = v137 - 1;
+	st8(at(v1056, v1629), (u8)v138 | 48);
+	v139 = v1629; goto L147;
 L142:;
-	u64 v1637 = v137 - 2;
-	ptr v1638 = at((ptr)static_76, v138 << 1), v1639 = at(v1063, v1637);
-	u8 v1640 = ld8(v1638+1);
-	st8(v1639, ld8(v1638));
-	st8(v1639+1, v1640);
-	v139 = v1637; goto L147;
+	u64 v1630 = v137 - 2;
+	ptr v1631 = at((ptr)static_76, v138 << 1), v1632 = at(v1056, v1630);
+	u8 v1633 = ld8(v1631+1);
+	st8(v1632, ld8(v1631));
+	st8(v1632+1, v1633);
+	v139 = v1630; goto L147;
 L143:;
-	u16 v1641 = (u16)v138;
-	ptr v1642 = at((ptr)static_76, (u64)(u16)((u32)(v1641 % 100) << 1)), v1643 = at(v1063, v137);
-	u8 v1644 = ld8(v1642+1);
-	st8(v1643-2, ld8(v1642));
-	st8(v1643-1, v1644);
-	u16 v1645 = v1641 / 100;
+	u16 v1634 = (u16)v138;
+	ptr v1635 = at((ptr)static_76, (u64)(u16)((u32)(v1634 % 100) << 1)), v1636 = at(v1056, v137);
+	u8 v1637 = ld8(v1635+1);
+	st8(v1636-2, ld8(v1635));
+	st8(v1636-1, v1637);
+	u16 v1638 = v1634 / 100;
 	if (v138 >= 1000) goto L144;
-	u64 v1646 = v137 - 3;
-	st8(at(v1063, v1646), (u8)v1645 | 48);
-	v139 = v1646; goto L147;
+	u64 v1639 = v137 - 3;
+	st8(at(v1056, v1639), (u8)v1638 | 48);
+	v139 = v1639; goto L147;
 L144:;
-	u64 v1647 = v137 - 4;
-	ptr v1648 = at((ptr)static_76, (u64)(u16)((u32)v1645 << 1)), v1649 = at(v1063, v1647);
-	u8 v1650 = ld8(v1648+1);
-	st8(v1649, ld8(v1648));
-	st8(v1649+1, v1650);
-	v139 = v1647; goto L147;
+	u64 v1640 = v137 - 4;
+	ptr v1641 = at((ptr)static_76, (u64)(u16)((u32)v1638 << 1)), v1642 = at(v1056, v1640);
+	u8 v1643 = ld8(v1641+1);
+	st8(v1642, ld8(v1641));
+	st8(v1642+1, v1643);
+	v139 = v1640; goto L147;
 L145:;
-	u64 v1651 = v1628 * 1441151881, v1652 = (v1651 & 0x1ffffffffffffffull) * 100;
-	u64 v1653 = (v1652 & 0x1fffffffffffffcull) * 100, v1654 = (v1653 & 0x1fffffffffffff0ull) * 100;
-	ptr v1655 = at((ptr)static_76, (((v1654 & 0x1ffffffffffffc0ull) * 100) >> 56) & 254);
-	st8(v1627-2, ld8(v1655));
-	st8(v1627-1, ld8(v1655+1));
-	ptr v1656 = at((ptr)static_76, (v1654 >> 56) & 254);
-	st8(v1627-4, ld8(v1656));
-	st8(v1627-3, ld8(v1656+1));
-	ptr v1657 = at((ptr)static_76, (v1653 >> 56) & 254);
-	st8(v1627-6, ld8(v1657));
-	st8(v1627-5, ld8(v1657+1));
-	ptr v1658 = at((ptr)static_76, (v1652 >> 56) & 254);
-	st8(v1627-8, ld8(v1658));
-	st8(v1627-7, ld8(v1658+1));
-	u64 v1659 = v1651 >> 57;
-	if (v1552 >= 1000000000) goto L146;
-	u64 v1660 = v136 - 10;
-	st8(at(v1063, v1660), (u8)v1659 | 48);
-	v139 = v1660; goto L147;
+	u64 v1644 = v1621 * 1441151881, v1645 = (v1644 & 0x1ffffffffffffffull) * 100;
+	u64 v1646 = (v1645 & 0x1fffffffffffffcull) * 100, v1647 = (v1646 & 0x1fffffffffffff0ull) * 100;
+	ptr v1648 = at((ptr)static_76, (((v1647 & 0x1ffffffffffffc0ull) * 100) >> 56) & 254);
+	st8(v1620-2, ld8(v1648));
+	st8(v1620-1, ld8(v1648+1));
+	ptr v1649 = at((ptr)static_76, (v1647 >> 56) & 254);
+	st8(v1620-4, ld8(v1649));
+	st8(v1620-3, ld8(v1649+1));
+	ptr v1650 = at((ptr)static_76, (v1646 >> 56) & 254);
+	st8(v1620-6, ld8(v1650));
+	st8(v1620-5, ld8(v1650+1));
+	ptr v1651 = at((ptr)static_76, (v1645 >> 56) & 254);
+	st8(v1620-8, ld8(v1651));
+	st8(v1620-7, ld8(v1651+1));
+	u64 v1652 = v1644 >> 57;
+	if (v1545 >= 1000000000) goto L146;
+	u64 v1653 = v136 - 10;
+	st8(at(v1056, v1653), (u8)v1652 | 48);
+	v139 = v1653; goto L147;
 L146:;
-	u64 v1661 = v136 - 11;
-	ptr v1662 = at((ptr)static_76, v1659 << 1), v1663 = at(v1063, v1661);
-	u8 v1664 = ld8(v1662+1);
-	st8(v1663, ld8(v1662));
-	st8(v1663+1, v1664);
-	v139 = v1661;
+	u64 v1654 = v136 - 11;
+	ptr v1655 = at((ptr)static_76, v1652 << 1), v1656 = at(v1056, v1654);
+	u8 v1657 = ld8(v1655+1);
+	st8(v1656, ld8(v1655));
+	st8(v1656+1, v1657);
+	v139 = v1654;
 L147:;
-	u64 v1665 = v139 - 1;
-	st8(at(v1063, v1665), 32);
-	if (v61 <= 9998) { v142 = v1665; v143 = v1567; goto L149; }
-	v140 = v1567; v141 = v1665;
+	u64 v1658 = v139 - 1;
+	st8(at(v1056, v1658), 32);
+	if (v61 <= 9998) { v142 = v1658; v143 = v1560; goto L149; }
+	v140 = v1560; v141 = v1658;
 L148:;
-	u64 v1666 = v140 / 10000;
-	u16 v1667 = (u16)(v140 % 10000);
-	ptr v1668 = at((ptr)static_76, (u64)(u16)((u32)(v1667 % 100) << 1)), v1669 = at(v1063, v141);
-	u8 v1670 = ld8(v1668+1);
-	st8(v1669-2, ld8(v1668));
-	st8(v1669-1, v1670);
-	u64 v1671 = v141 - 4;
-	ptr v1672 = at((ptr)static_76, (u64)(u16)((u32)(v1667 / 100) << 1)), v1673 = at(v1063, v1671);
-	u8 v1674 = ld8(v1672+1);
-	st8(v1673, ld8(v1672));
-	st8(v1673+1, v1674);
-	if (v140 > 99999999) { v140 = v1666; v141 = v1671; goto L148; }
-	v142 = v1671; v143 = v1666;
+	u64 v1659 = v140 / 10000;
+	u16 v1660 = (u16)(v140 % 10000);
+	ptr v1661 = at((ptr)static_76, (u64)(u16)((u32)(v1660 % 100) << 1)), v1662 = at(v1056, v141);
+	u8 v1663 = ld8(v1661+1);
+	st8(v1662-2, ld8(v1661));
+	st8(v1662-1, v1663);
+	u64 v1664 = v141 - 4;
+	ptr v1665 = at((ptr)static_76, (u64)(u16)((u32)(v1660 / 100) << 1)), v1666 = at(v1056, v1664);
+	u8 v1667 = ld8(v1665+1);
+	st8(v1666, ld8(v1665));
+	st8(v1666+1, v1667);
+	if (v140 > 99999999) { v140 = v1659; v141 = v1664; goto L148; }
+	v142 = v1664; v143 = v1659;
 L149:
 	if (v143 >= 100) goto L151;
 	if (v143 >= 10) goto L150;
-	u64 v1675 = v142 - 1;
-	st8(at(v1063, v1675), (u8)v143 | 48);
-	v144 = v1675; goto L153;
+	u64 v1668 = v142 - 1;
+	st8(at(v1056, v1668), (u8)v143 | 48);
+	v144 = v1668; goto L153;
 L150:;
-	u64 v1676 = v142 - 2;
-	ptr v1677 = at((ptr)static_76, v143 << 1), v1678 = at(v1063, v1676);
-	u8 v1679 = ld8(v1677+1);
-	st8(v1678, ld8(v1677));
-	st8(v1678+1, v1679);
-	v144 = v1676; goto L153;
+	u64 v1669 = v142 - 2;
+	ptr v1670 = at((ptr)static_76, v143 << 1), v1671 = at(v1056, v1669);
+	u8 v1672 = ld8(v1670+1);
+	st8(v1671, ld8(v1670));
+	st8(v1671+1, v1672);
+	v144 = v1669; goto L153;
 L151:;
-	u16 v1680 = (u16)v143;
-	ptr v1681 = at((ptr)static_76, (u64)(u16)((u32)(v1680 % 100) << 1)), v1682 = at(v1063, v142);
-	u8 v1683 = ld8(v1681+1);
-	st8(v1682-2, ld8(v1681));
-	st8(v1682-1, v1683);
-	u16 v1684 = v1680 / 100;
+	u16 v1673 = (u16)v143;
+	ptr v1674 = at((ptr)static_76, (u64)(u16)((u32)(v1673 % 100) << 1)), v1675 = at(v1056, v142);
+	u8 v1676 = ld8(v1674+1);
+	st8(v1675-2, ld8(v1674));
+	st8(v1675-1, v1676);
+	u16 v1677 = v1673 / 100;
 	if (v143 >= 1000) goto L152;
-	u64 v1685 = v142 - 3;
-	st8(at(v1063, v1685), (u8)v1684 | 48);
-	v144 = v1685; goto L153;
+	u64 v1678 = v142 - 3;
+	st8(at(v1056, v1678), (u8)v1677 | 48);
+	v144 = v1678; goto L153;
 L152:;
-	u64 v1686 = v142 - 4;
-	ptr v1687 = at((ptr)static_76, (u64)(u16)((u32)v1684 << 1)), v1688 = at(v1063, v1686);
-	u8 v1689 = ld8(v1687+1);
-	st8(v1688, ld8(v1687));
-	st8(v1688+1, v1689);
-	v144 = v1686;
+	u64 v1679 = v142 - 4;
+	ptr v1680 = at((ptr)static_76, (u64)(u16)((u32)v1677 << 1)), v1681 = at(v1056, v1679);
+	u8 v1682 = ld8(v1680+1);
+	st8(v1681, ld8(v1680));
+	st8(v1681+1, v1682);
+	v144 = v1679;
 L153:
-	if (v144 == 126) { v149 = v1567; goto L160; }
-	v145 = at(v1063, v144); v146 = 126ull - v144;
+	if (v144 == 126) { v149 = v1560; goto L160; }
+	v145 = at(v1056, v144); v146 = 126ull - v144;
 L154:
-	clear(v1045, 96);
-	u64 v1690 = ld64(v5+16), v1691 = ld64(v5+8);
-	if (v146 >= v1690 - v1691) goto L158;
-	u64 v1692 = v1691 + v146;
-	ptr v1693 = ldp(v5), v1694 = at(v1693, v1691);
-	if ((u64)v1694 - (u64)v145 >= v146) goto L156;
+	clear(v1038, 96);
+	u64 v1683 = ld64(v5+16), v1684 = ld64(v5+8);
+	if (v146 >= v1683 - v1684) goto L158;
+	u64 v1685 = v1684 + v146;
+	ptr v1686 = ldp(v5), v1687 = at(v1686, v1684);
+	if ((u64)v1687 - (u64)v145 >= v146) goto L156;
 	v147 = 0;
 L155:
-	st8(at(v1694, v147), ld8(at(v145, v147)));
-	u64 v1695 = v147 + 1;
-	if (v1695 == v146) goto L157;
-	v147 = v1695; goto L155;
+	st8(at(v1687, v147), ld8(at(v145, v147)));
+	u64 v1688 = v147 + 1;
+	if (v1688 == v146) goto L157;
+	v147 = v1688; goto L155;
 L156:
-	move(v1694, v145, v146);
+	move(v1687, v145, v146);
 L157:
-	stp(v5, v1693);
-	st64(v5+8, v1692);
-	st64(v5+16, v1690);
+	stp(v5, v1686);
+	st64(v5+8, v1685);
+	st64(v5+16, v1683);
 	v148 = v146; goto L159;
 L158:
-	std_io_buffered_BufWriter_write_cold_9d90(v1045, v5, v145, v146);
-	u64 v1696 = ld64(v1045+8);
-	if (ld8(v1045)) { v177 = v1696; v178 = v1696; v179 = ld64(v1045+16); v180 = ld64(v1045+24); v181 = ld64(v1045+32); v182 = ld64(v1045+40); v183 = ld64(v1045+48); v184 = ld64(v1045+56); v185 = ld64(v1045+64); v186 = ld64(v1045+72); v187 = ld64(v1045+80); v188 = ld64(v1045+88); v175 = 4; v176 = 1; goto L163; }
-	if (!v1696) goto M45;
-	v148 = v1696;
+	std_io_buffered_BufWriter_write_cold_9d90(v1038, v5, v145, v146);
+	u64 v1689 = ld64(v1038+8);
+	if (ld8(v1038)) { v177 = v1689; v178 = v1689; v179 = ld64(v1038+16); v180 = ld64(v1038+24); v181 = ld64(v1038+32); v182 = ld64(v1038+40); v183 = ld64(v1038+48); v184 = ld64(v1038+56); v185 = ld64(v1038+64); v186 = ld64(v1038+72); v187 = ld64(v1038+80); v188 = ld64(v1038+88); v175 = 4; v176 = 1; goto L163; }
+	if (!v1689) goto M45;
+	v148 = v1689;
 L159:;
-	u64 v1697 = v146 - v148;
-	if (v1697) { v145 = at(v145, v148); v146 = v1697; goto L154; }
-	v149 = v1567;
+	u64 v1690 = v146 - v148;
+	if (v1690) { v145 = at(v145, v148); v146 = v1690; goto L154; }
+	v149 = v1560;
 L160:
 	if (v149 < 4294967295u) { v6 = v149; goto L2; }
 	v206 = 2; v207 = v208 = v209 = v210 = v211 = v212 = v213 = v214 = v215 = v216 = v217 = v218 = 0; goto L170;
 L161:
-	st32(v1048, 0);
-	su64(v1048+4, v157);
-	v161 = ld64(v1048); v162 = v157; v163 = v158; v164 = v159; v165 = v160; v166 = v150; v167 = v151; v168 = v152; v169 = v153; v170 = v154; v171 = v155; v172 = v156; v173 = 4; v174 = 1;
+	st32(v1041, 0);
+	su64(v1041+4, v157);
+	v161 = ld64(v1041); v162 = v157; v163 = v158; v164 = v159; v165 = v160; v166 = v150; v167 = v151; v168 = v152; v169 = v153; v170 = v154; v171 = v155; v172 = v156; v173 = 4; v174 = 1;
 L162:
 	v175 = v173; v176 = v174; v177 = v161 >> 32; v178 = v162; v179 = v163; v180 = v164; v181 = v165; v182 = v166; v183 = v167; v184 = v168; v185 = v169; v186 = v170; v187 = v171; v188 = v172;
 L163:
 	v206 = v175; v207 = v176; v208 = (v178 & 0xffffffff00000000ull) | (v177 & 4294967295u); v209 = v179; v210 = v180; v211 = v181; v212 = v182; v213 = v183; v214 = v184; v215 = v185; v216 = v186; v217 = v187; v218 = v188; goto L170;
 L164:
-	v208 = ld64(v1060+8); v209 = ld64(v1060+16); v210 = ld64(v1060+24); v211 = ld64(v1060+32); v212 = ld64(v1060+40); v213 = ld64(v1060+48); v214 = ld64(v1060+56); v215 = ld64(v1060+64); v216 = ld64(v1060+72); v217 = ld64(v1060+80); v218 = ld64(v1060+88); v206 = 4; v207 = 1; goto L170;
+	v208 = ld64(v1053+8); v209 = ld64(v1053+16); v210 = ld64(v1053+24); v211 = ld64(v1053+32); v212 = ld64(v1053+40); v213 = ld64(v1053+48); v214 = ld64(v1053+56); v215 = ld64(v1053+64); v216 = ld64(v1053+72); v217 = ld64(v1053+80); v218 = ld64(v1053+88); v206 = 4; v207 = 1; goto L170;
 L165:
-	switch (v1068) {
+	switch (v1061) {
 	case 0: goto L166;
 	case 1: goto L167;
-	case 5: v204 = v1068; v189 = v190 = v191 = v192 = v193 = v194 = v195 = v196 = v197 = v198 = v199 = v200 = v201 = v202 = v203 = v205 = 0; goto L169;
+	case 5: v204 = v1061; v189 = v190 = v191 = v192 = v193 = v194 = v195 = v196 = v197 = v198 = v199 = v200 = v201 = v202 = v203 = v205 = 0; goto L169;
 	case 2: case 3: case 4: case 6: goto L168;
 	default: goto L171;
 	}
 L166:
 	v194 = 0x7470616320656874ull; v195 = 0x65646e6520657275ull; v196 = 0x2e796c7261652064ull; v197 = 0x2e2e2e2e2e2e2e2eull; v198 = 0x2e2e2e2e2e2e2e2eull; v199 = 0x2e2e2e2e2e2e2e2eull; v200 = 0x2e2e2e2e2e2e2e2eull; v201 = 0x2e2e2e2e2e2e2e2eull; v202 = 0x2e2e2e2e2e2e2e2eull; v203 = 0x2e2e2e2e2e2e2e2eull; v189 = 3; v190 = 37; v191 = 23; v192 = v193 = 0; v204 = 4; v205 = 1; goto L169;
 L167:
-	v189 = v1069; v190 = v1070; v191 = v1071; v192 = v1072; v193 = v1073; v194 = v1074; v195 = v1075; v196 = v1076; v197 = v1077; v198 = v1078; v199 = v1079; v200 = v1080; v201 = v1081; v202 = v1082; v203 = v1083; v205 = v1068; v204 = 4; goto L169;
+	v189 = v1062; v190 = v1063; v191 = v1064; v192 = v1065; v193 = v1066; v194 = v1067; v195 = v1068; v196 = v1069; v197 = v1070; v198 = v1071; v199 = v1072; v200 = v1073; v201 = v1074; v202 = v1075; v203 = v1076; v205 = v1061; v204 = 4; goto L169;
 L168:
-	v189 = v1069; v190 = v1070; v191 = v1071; v192 = v1072; v193 = v1073; v194 = v1074; v195 = v1075; v196 = v1076; v197 = v1077; v198 = v1078; v199 = v1079; v200 = v1080; v201 = v1081; v202 = v1082; v203 = v1083; v205 = v1068; v204 = 1;
+	v189 = v1062; v190 = v1063; v191 = v1064; v192 = v1065; v193 = v1066; v194 = v1067; v195 = v1068; v196 = v1069; v197 = v1070; v198 = v1071; v199 = v1072; v200 = v1073; v201 = v1074; v202 = v1075; v203 = v1076; v205 = v1061; v204 = 1;
 L169:
 	v206 = v204; v207 = v205; v208 = ((u64)v193 << 32) | ((u64)v192 << 24) | ((u64)v191 << 16) | ((u64)v190 << 8) | (u64)v189; v209 = v194; v210 = v195; v211 = v196; v212 = v197; v213 = v198; v214 = v199; v215 = v200; v216 = v201; v217 = v202; v218 = v203;
 L170:
-	v928 = v208; v929 = v209; v930 = v210; v931 = v211; v932 = v212; v933 = v213; v934 = v214; v935 = v215; v936 = v216; v937 = v217; v938 = v218; v939 = v206; v940 = v207; goto L518;
+	v923 = v208; v924 = v209; v925 = v210; v926 = v211; v927 = v212; v928 = v213; v929 = v214; v930 = v215; v931 = v216; v932 = v217; v933 = v218; v934 = v206; v935 = v207; goto L518;
 L171:
 	__builtin_trap();
 L172:
-	if ((((u64)lu32(v1065+2) << 32) | (u64)lu32(v1065)) != 0x736b636f636f6c62ull) goto M0;
-	clear(v986, 64);
-	clear(v987, 7);
-	clear(v988, 112);
-	clear(v989, 192);
-	clear(v990, 192);
-	clear(v991, 24);
-	clear(v985, 7);
-	stp(v984, v941);
-	clear(v984+8, 24);
-	clear(v982, 7);
+	if ((((u64)lu32(v1058+2) << 32) | (u64)lu32(v1058)) != 0x736b636f636f6c62ull) goto M0;
+	clear(v982, 64);
 	clear(v983, 7);
-	v219 = v220 = v221 = 0; v222 = 12;
+	clear(v984, 112);
+	clear(v985, 192);
+	clear(v986, 192);
+	clear(v987, 24);
+	clear(v981, 7);
+	stp(v980, v936);
+	clear(v980+8, 24);
+	clear(v978, 7);
+	clear(v979, 7);
+	v219 = 0; v220 = 12;
 L173:;
-	u64 v1698 = v222 < 65536 ? v222 : 65536, v1699 = v1698 + v221;
-	if (v220 >= v1699) goto L176;
-	u64 v1700 = v1699 - v220;
-	if (v1700 <= v219 - v220) { v223 = v219; v224 = v220; goto L174; }
-	u8 v1701 = std_alloc_vec_Vec_grow_amortized_56a3(v984, v1700);
-	if (!v1701) { v548 = (ptr)0; v552 = (ptr)0; v549 = v550 = v551 = v553 = v554 = v555 = v556 = v557 = v558 = 0; v559 = 5; goto L389; }
-	v223 = ld64(v984+16); v224 = ld64(v984+8);
+	u64 v1691 = v220 < 65536 ? v220 : 65536, v1692 = v1691 + v219, v1693 = ld64(v980+8);
+	if (v1693 >= v1692) goto L176;
+	v221 = ld64(v980+16); v222 = v1693;
 L174:;
-	u64 v1702 = v224 + v1700;
-	ptr v1703 = ldp(v984);
-	if (v224 >= v1702) goto L175;
-	clear(at(v1703, v224), v1700);
-L175:
-	st64(v984+8, v1702);
-	st64(v984+16, v223);
-	v225 = v223; v226 = v1702; v227 = ld64(v984+24); v228 = v1703; goto L177;
+	u64 v1694 = v1692 - v222, v1695 = v1694 < 1024 ? v1694 : 1024;
+	if (v1695 <= v221 - v222) { v223 = v221; v224 = v222; goto L175; }
+	u8 v1696 = std_alloc_vec_Vec_grow_amortized_56a3(v980, v1695);
+	if (!v1696) { v549 = (ptr)0; v553 = (ptr)0; v550 = v551 = v552 = v554 = v555 = v556 = v557 = v558 = v559 = 0; v560 = 5; goto L389; }
+	v223 = ld64(v980+16); v224 = ld64(v980+8);
+L175:;
+	u64 v1697 = v224 + v1695;
+	ptr v1698 = ldp(v980);
+	clear(at(v1698, v224), v1695);
+	st64(v980+8, v1697);
+	st64(v980+16, v223);
+	if (v1697 < v1692) { v221 = v223; v222 = v1697; goto L174; }
+	v225 = ld64(v980+24); v226 = v1698; goto L177;
 L176:
-	v225 = v219; v226 = v220; v227 = v221; v228 = ldp(v984);
+	v225 = v219; v226 = ldp(v980);
 L177:
-	clear(v980, 96);
-	std_io_buffered_BufReaderRead_read_e988(v980, v4, at(v228, v227), v1698);
-	u64 v1704 = ld64(v980+8);
-	if (ld8(v980)) { v548 = ldp(v980+64); v549 = ld64(v980+72); v550 = ld64(v980+80); v551 = ld64(v980+88); v552 = ldp(v980+40); v553 = ld64(v980+48); v554 = ld64(v980+56); v555 = ld64(v980+16); v556 = ld64(v980+24); v557 = ld64(v980+32); v558 = v1704; v559 = 1; goto L389; }
-	u64 v1705 = v1704 + v227;
-	st64(v984+24, v1705);
-	if (v1704) goto L178;
-	if (!v1705) { v589 = v225; v596 = 0x6572747320656874ull; v597 = 0x6465646e65206d61ull; v598 = 0x2e2e796c72616520ull; v599 = (ptr)0x2e2e2e2e2e2e2e2eull; v600 = 0x2e2e2e2e2e2e2e2eull; v601 = 0x2e2e2e2e2e2e2e2eull; v602 = (ptr)0x2e2e2e2e2e2e2e2eull; v603 = 0x2e2e2e2e2e2e2e2eull; v604 = 0x2e2e2e2e2e2e2e2eull; v605 = 0x2e2e2e2e2e2e2e2eull; v590 = 1; v591 = 3; v592 = 37; v593 = 22; v594 = v595 = 0; goto L392; }
-	v560 = (ptr)0x2e2e2e2e2e2e2e2eull; v561 = 0x2e2e2e2e2e2e2e2eull; v562 = 0x2e2e2e2e2e2e2e2eull; v563 = 0x2e2e2e2e2e2e2e2eull; v564 = (ptr)0x2e2e2e2e2e2e2e2eull; v565 = 0x2e2e2e2e2e2e2e2eull; v566 = 0x2e2e2e2e2e2e2e2eull; v571 = 0x6572747320656874ull; v572 = 0x6465646e65206d61ull; v573 = 0x2e2e796c72616520ull; v567 = 37; v568 = 22; v569 = v570 = 0; v574 = 3; v575 = 1; goto L390;
+	clear(v976, 96);
+	std_io_buffered_BufReaderRead_read_e988(v976, v4, at(v226, v225), v1691);
+	u64 v1699 = ld64(v976+8);
+	if (ld8(v976)) { v549 = ldp(v976+64); v550 = ld64(v976+72); v551 = ld64(v976+80); v552 = ld64(v976+88); v553 = ldp(v976+40); v554 = ld64(v976+48); v555 = ld64(v976+56); v556 = ld64(v976+16); v557 = ld64(v976+24); v558 = ld64(v976+32); v559 = v1699; v560 = 1; goto L389; }
+	u64 v1700 = v1699 + v225;
+	st64(v980+24, v1700);
+	if (v1699) goto L178;
+	if (!v1700) { v596 = 0x6572747320656874ull; v597 = 0x6465646e65206d61ull; v598 = 0x2e2e796c72616520ull; v599 = (ptr)0x2e2e2e2e2e2e2e2eull; v600 = 0x2e2e2e2e2e2e2e2eull; v601 = 0x2e2e2e2e2e2e2e2eull; v602 = (ptr)0x2e2e2e2e2e2e2e2eull; v603 = 0x2e2e2e2e2e2e2e2eull; v604 = 0x2e2e2e2e2e2e2e2eull; v605 = 0x2e2e2e2e2e2e2e2eull; v590 = 1; v591 = 3; v592 = 37; v593 = 22; v594 = v595 = 0; goto L392; }
+	v561 = (ptr)0x2e2e2e2e2e2e2e2eull; v562 = 0x2e2e2e2e2e2e2e2eull; v563 = 0x2e2e2e2e2e2e2e2eull; v564 = 0x2e2e2e2e2e2e2e2eull; v565 = (ptr)0x2e2e2e2e2e2e2e2eull; v566 = 0x2e2e2e2e2e2e2e2eull; v567 = 0x2e2e2e2e2e2e2e2eull; v572 = 0x6572747320656874ull; v573 = 0x6465646e65206d61ull; v574 = 0x2e2e796c72616520ull; v568 = 37; v569 = 22; v570 = v571 = 0; v575 = 3; v576 = 1; goto L390;
 L178:;
-	u64 v1706 = v222 - v1704;
-	if (v1706) { v219 = v225; v220 = v226; v221 = v1705; v222 = v1706; goto L173; }
-	ptr v1707 = ldp(v984);
-	u32 v1708 = lu32(v1707), v1709 = (u32)__builtin_bswap32(v1708);
-	if (v1708 != 168627466) goto L181;
-	switch ((u32)__builtin_bswap32(lu32(v1707+8))) {
+	u64 v1701 = v220 - v1699;
+	if (v1701) { v219 = v1700; v220 = v1701; goto L173; }
+	ptr v1702 = ldp(v980);
+	u32 v1703 = lu32(v1702), v1704 = (u32)__builtin_bswap32(v1703);
+	if (v1703 != 168627466) goto L181;
+	switch ((u32)__builtin_bswap32(lu32(v1702+8))) {
 	case 439041101: goto L179;
 	case 1295788826: goto L180;
-	default: v546 = (ptr)static_40; v547 = 40; goto L388;
+	default: v547 = (ptr)static_40; v548 = 40; goto L388;
 	}
 L179:
-	v231 = (u32)__builtin_bswap32(lu32(v1707+4)); v229 = 1; v230 = 0; goto L182;
+	v229 = (u32)__builtin_bswap32(lu32(v1702+4)); v227 = 1; v228 = 0; goto L182;
 L180:
-	v231 = lu32(v1707+4); v229 = 0; v230 = 1; goto L182;
+	v229 = lu32(v1702+4); v227 = 0; v228 = 1; goto L182;
 L181:
-	v231 = (u32)__builtin_bswap32(lu32(v1707+4)); v229 = 1; v230 = 0;
+	v229 = (u32)__builtin_bswap32(lu32(v1702+4)); v227 = 1; v228 = 0;
 L182:
-	if (v231 & 3) { v546 = (ptr)static_41; v547 = 29; goto L388; }
-	if (v231 < 12) { v546 = (ptr)static_42; v547 = 23; goto L388; }
-	u64 v1710 = (u64)v231, v1711 = v1710 - 12;
-	if (!v1711) { v242 = v225; goto L189; }
-	v232 = v225; v233 = v226; v234 = v1705; v235 = v1711;
+	if (v229 & 3) { v547 = (ptr)static_41; v548 = 29; goto L388; }
+	if (v229 < 12) { v547 = (ptr)static_42; v548 = 23; goto L388; }
+	u64 v1705 = (u64)v229, v1706 = v1705 - 12;
+	if (!v1706) goto L189;
+	v230 = v1700; v231 = v1706;
 L183:;
-	u64 v1712 = v235 < 65536 ? v235 : 65536, v1713 = v1712 + v234;
-	if (v233 >= v1713) goto L186;
-	u64 v1714 = v1713 - v233;
-	if (v1714 <= v232 - v233) { v236 = v232; v237 = v233; goto L184; }
-	u8 v1715 = std_alloc_vec_Vec_grow_amortized_56a3(v984, v1714);
-	if (!v1715) { v534 = (ptr)0; v543 = (ptr)0; v535 = v536 = v537 = v538 = v539 = v540 = v541 = v542 = v544 = 0; v545 = 5; goto L387; }
-	v236 = ld64(v984+16); v237 = ld64(v984+8);
+	u64 v1707 = v231 < 65536 ? v231 : 65536, v1708 = v1707 + v230, v1709 = ld64(v980+8);
+	if (v1709 >= v1708) goto L186;
+	v232 = ld64(v980+16); v233 = v1709;
 L184:;
-	u64 v1716 = v237 + v1714;
-	ptr v1717 = ldp(v984);
-	if (v237 >= v1716) goto L185;
-	clear(at(v1717, v237), v1714);
-L185:
-	st64(v984+8, v1716);
-	st64(v984+16, v236);
-	v238 = v236; v239 = v1716; v240 = ld64(v984+24); v241 = v1717; goto L187;
+	u64 v1710 = v1708 - v233, v1711 = v1710 < 1024 ? v1710 : 1024;
+	if (v1711 <= v232 - v233) { v234 = v232; v235 = v233; goto L185; }
+	u8 v1712 = std_alloc_vec_Vec_grow_amortized_56a3(v980, v1711);
+	if (!v1712) { v535 = (ptr)0; v544 = (ptr)0; v536 = v537 = v538 = v539 = v540 = v541 = v542 = v543 = v545 = 0; v546 = 5; goto L387; }
+	v234 = ld64(v980+16); v235 = ld64(v980+8);
+L185:;
+	u64 v1713 = v235 + v1711;
+	ptr v1714 = ldp(v980);
+	clear(at(v1714, v235), v1711);
+	st64(v980+8, v1713);
+	st64(v980+16, v234);
+	if (v1713 < v1708) { v232 = v234; v233 = v1713; goto L184; }
+	v236 = ld64(v980+24); v237 = v1714; goto L187;
 L186:
-	v238 = v232; v239 = v233; v240 = v234; v241 = ldp(v984);
+	v236 = v230; v237 = ldp(v980);
 L187:
-	clear(v981, 96);
-	std_io_buffered_BufReaderRead_read_e988(v981, v4, at(v241, v240), v1712);
-	u64 v1718 = ld64(v981+8);
-	if (ld8(v981)) { v534 = ldp(v981+40); v535 = ld64(v981+48); v536 = ld64(v981+56); v537 = ld64(v981+16); v538 = ld64(v981+24); v539 = ld64(v981+32); v540 = ld64(v981+88); v541 = ld64(v981+80); v542 = ld64(v981+72); v543 = ldp(v981+64); v544 = v1718; v545 = 1; goto L387; }
-	u64 v1719 = v1718 + v240;
-	st64(v984+24, v1719);
-	if (v1718) goto L188;
-	if (!v1719) { v242 = v238; goto L189; }
-	v576 = (ptr)0x2e2e2e2e2e2e2e2eull; v577 = 0x2e2e2e2e2e2e2e2eull; v578 = 0x2e2e2e2e2e2e2e2eull; v579 = 0x2e2e2e2e2e2e2e2eull; v580 = (ptr)0x2e2e2e2e2e2e2e2eull; v581 = 0x2e2e2e2e2e2e2e2eull; v582 = 0x2e2e2e2e2e2e2e2eull; v584 = 0x6572747320656874ull; v585 = 0x6465646e65206d61ull; v586 = 0x2e2e796c72616520ull; v587 = 1451267; v583 = 0; v588 = 1; goto L391;
+	clear(v977, 96);
+	std_io_buffered_BufReaderRead_read_e988(v977, v4, at(v237, v236), v1707);
+	u64 v1715 = ld64(v977+8);
+	if (ld8(v977)) { v535 = ldp(v977+40); v536 = ld64(v977+48); v537 = ld64(v977+56); v538 = ld64(v977+16); v539 = ld64(v977+24); v540 = ld64(v977+32); v541 = ld64(v977+88); v542 = ld64(v977+80); v543 = ld64(v977+72); v544 = ldp(v977+64); v545 = v1715; v546 = 1; goto L387; }
+	u64 v1716 = v1715 + v236;
+	st64(v980+24, v1716);
+	if (v1715) goto L188;
+	if (!v1716) goto L189;
+	v577 = (ptr)0x2e2e2e2e2e2e2e2eull; v578 = 0x2e2e2e2e2e2e2e2eull; v579 = 0x2e2e2e2e2e2e2e2eull; v580 = 0x2e2e2e2e2e2e2e2eull; v581 = (ptr)0x2e2e2e2e2e2e2e2eull; v582 = 0x2e2e2e2e2e2e2e2eull; v583 = 0x2e2e2e2e2e2e2e2eull; v585 = 0x6572747320656874ull; v586 = 0x6465646e65206d61ull; v587 = 0x2e2e796c72616520ull; v588 = 1451267; v584 = 0; v589 = 1; goto L391;
 L188:;
-	u64 v1720 = v235 - v1718;
-	if (v1720) { v232 = v238; v233 = v239; v234 = v1719; v235 = v1720; goto L183; }
-	v242 = v238;
+	u64 v1717 = v231 - v1715;
+	if (v1717) { v230 = v1716; v231 = v1717; goto L183; }
 L189:;
-	ptr v1721 = ldp(v984);
-	clear(v978, 7);
-	u32 v1722 = lu32(at(v1721+8, v1711));
-	if ((v229 ? (u32)__builtin_bswap32(v1722) : v1722) != v231) goto L273;
-	switch (v1709) {
-	case 168627466: v243 = v244 = 0; goto L198;
+	ptr v1718 = ldp(v980);
+	clear(v974, 7);
+	u32 v1719 = lu32(at(v1718+8, v1706));
+	if ((v227 ? (u32)__builtin_bswap32(v1719) : v1719) != v229) goto L273;
+	switch (v1704) {
+	case 168627466: v238 = v239 = 0; goto L198;
 	case 1: goto L190;
 	case 2: goto L191;
 	case 3: goto L192;
@@ -9886,67 +9887,67 @@ L189:;
 	default: goto L197;
 	}
 L190:
-	v243 = 1; v244 = 0; goto L198;
+	v238 = 1; v239 = 0; goto L198;
 L191:
-	v243 = 2; v244 = 0; goto L198;
+	v238 = 2; v239 = 0; goto L198;
 L192:
-	v243 = 3; v244 = 0; goto L198;
+	v238 = 3; v239 = 0; goto L198;
 L193:
-	v243 = 4; v244 = 0; goto L198;
+	v238 = 4; v239 = 0; goto L198;
 L194:
-	v243 = 5; v244 = 0; goto L198;
+	v238 = 5; v239 = 0; goto L198;
 L195:
-	v243 = 6; v244 = 0; goto L198;
+	v238 = 6; v239 = 0; goto L198;
 L196:
-	v243 = 7; v244 = 0; goto L198;
+	v238 = 7; v239 = 0; goto L198;
 L197:
-	v244 = v1709; v243 = 8;
+	v239 = v1704; v238 = 8;
 L198:
-	st8(v979, v243);
-	st_bytes(v979+1, 0, 3);
-	st32(v979+4, v244);
-	stp(v979+8, (ptr)v1710);
-	st64(v979+16, 0);
-	stp(v979+24, v1721+8);
-	st64(v979+32, v1711);
-	st64(v979+40, 0);
-	st32(v979+48, v231);
-	st8(v979+52, v230);
-	st_bytes(v979+53, 0, 3);
-	clear(v976, 104);
-	clear(v974, 104);
-	pcap_ng_pcapng_block_Block_parsed(v974, v979);
-	u8 v1723 = ld8(v974+8);
-	u64 v1724 = ld64(v974+48), v1725 = ld64(v974+56), v1726 = ld64(v974+64);
-	ptr v1727 = ldp(v974+72);
-	u64 v1728 = ld64(v974+80), v1729 = ld64(v974+88);
-	if (ld8(v974)) goto L270;
-	u64 v1730 = ld64(v974+16), v1731 = ld64(v974+24), v1732 = ld64(v974+32), v1733 = ld64(v974+40);
-	u8 v1734 = (u8)v1733;
-	if (v1723) goto L200;
-	st64(v977, v1730);
-	st64(v977+8, v1731);
-	st64(v977+16, v1732);
-	st64(v977+24, v1733);
-	st64(v977+32, v1724);
-	pcap_blocks_section_header_SectionHeaderBlock_into_owned(v976, v977);
-	u8 v1735 = ld8(v976+8);
-	if (ld8(v976)) goto L199;
-	u64 v1736 = (u64)ld_bytes(v976+17, 7) & 0xffffffffffffffull;
-	u8 v1737 = ld8(v976+16), v1738 = ld8(v976+24);
-	u64 v1739 = (u64)ld_bytes(v976+25, 7) & 0xffffffffffffffull;
-	u8 v1740 = ld8(v976+32);
-	u64 v1741 = (u64)ld_bytes(v976+33, 7) & 0xffffffffffffffull, v1742 = ld64(v976+40);
-	copy(v978, v976+9, 7);
-	copy(v983, v978, 7);
-	copy(v973, v983, 7);
-	v296 = v941; v297 = v1742; v298 = v1741; v299 = v1740; v300 = v1739; v301 = v1738; v302 = (u8)v1736; v303 = (u8)(v1736 >> 8); v304 = (u8)(v1736 >> 16); v305 = (u32)(v1736 >> 24); v306 = v1737; v307 = v1735; v308 = (ptr)0; v293 = 1; v294 = v295 = v309 = v310 = v311 = 0; goto L274;
+	st8(v975, v238);
+	st_bytes(v975+1, 0, 3);
+	st32(v975+4, v239);
+	stp(v975+8, (ptr)v1705);
+	st64(v975+16, 0);
+	stp(v975+24, v1718+8);
+	st64(v975+32, v1706);
+	st64(v975+40, 0);
+	st32(v975+48, v229);
+	st8(v975+52, v228);
+	st_bytes(v975+53, 0, 3);
+	clear(v972, 104);
+	clear(v970, 104);
+	pcap_ng_pcapng_block_Block_parsed(v970, v975);
+	u8 v1720 = ld8(v970+8);
+	u64 v1721 = ld64(v970+48), v1722 = ld64(v970+56), v1723 = ld64(v970+64);
+	ptr v1724 = ldp(v970+72);
+	u64 v1725 = ld64(v970+80), v1726 = ld64(v970+88);
+	if (ld8(v970)) goto L270;
+	u64 v1727 = ld64(v970+16), v1728 = ld64(v970+24), v1729 = ld64(v970+32), v1730 = ld64(v970+40);
+	u8 v1731 = (u8)v1730;
+	if (v1720) goto L200;
+	st64(v973, v1727);
+	st64(v973+8, v1728);
+	st64(v973+16, v1729);
+	st64(v973+24, v1730);
+	st64(v973+32, v1721);
+	pcap_blocks_section_header_SectionHeaderBlock_into_owned(v972, v973);
+	u8 v1732 = ld8(v972+8);
+	if (ld8(v972)) goto L199;
+	u64 v1733 = (u64)ld_bytes(v972+17, 7) & 0xffffffffffffffull;
+	u8 v1734 = ld8(v972+16), v1735 = ld8(v972+24);
+	u64 v1736 = (u64)ld_bytes(v972+25, 7) & 0xffffffffffffffull;
+	u8 v1737 = ld8(v972+32);
+	u64 v1738 = (u64)ld_bytes(v972+33, 7) & 0xffffffffffffffull, v1739 = ld64(v972+40);
+	copy(v974, v972+9, 7);
+	copy(v979, v974, 7);
+	copy(v969, v979, 7);
+	v291 = v936; v292 = v1739; v293 = v1738; v294 = v1737; v295 = v1736; v296 = v1735; v297 = (u8)v1733; v298 = (u8)(v1733 >> 8); v299 = (u8)(v1733 >> 16); v300 = (u32)(v1733 >> 24); v301 = v1734; v302 = v1732; v303 = (ptr)0; v288 = 1; v289 = v290 = v304 = v305 = v306 = 0; goto L274;
 L199:;
-	u64 v1743 = (u64)ld_bytes(v976+17, 7) & 0xffffffffffffffull;
-	v275 = v1735; v276 = ld8(v976+16); v277 = (u8)v1743; v278 = (u8)(v1743 >> 8); v279 = (u8)(v1743 >> 16); v280 = (u32)(v1743 >> 24); v281 = ld8(v976+24); v282 = (u64)ld_bytes(v976+25, 7) & 0xffffffffffffffull; v283 = ld8(v976+32); v284 = (u64)ld_bytes(v976+33, 7) & 0xffffffffffffffull; v285 = ld64(v976+40); v286 = ldp(v976+48); v287 = ld64(v976+56); v288 = ld64(v976+64); v289 = ldp(v976+72); v290 = ld64(v976+80); v291 = ld64(v976+88); v292 = ld64(v976+96); goto L272;
+	u64 v1740 = (u64)ld_bytes(v972+17, 7) & 0xffffffffffffffull;
+	v270 = v1732; v271 = ld8(v972+16); v272 = (u8)v1740; v273 = (u8)(v1740 >> 8); v274 = (u8)(v1740 >> 16); v275 = (u32)(v1740 >> 24); v276 = ld8(v972+24); v277 = (u64)ld_bytes(v972+25, 7) & 0xffffffffffffffull; v278 = ld8(v972+32); v279 = (u64)ld_bytes(v972+33, 7) & 0xffffffffffffffull; v280 = ld64(v972+40); v281 = ldp(v972+48); v282 = ld64(v972+56); v283 = ld64(v972+64); v284 = ldp(v972+72); v285 = ld64(v972+80); v286 = ld64(v972+88); v287 = ld64(v972+96); goto L272;
 L200:;
-	u64 v1744 = (u64)(ptr)static_44 >> 8;
-	switch (v1723) {
+	u64 v1741 = (u64)(ptr)static_44 >> 8;
+	switch (v1720) {
 	case 1: goto L201;
 	case 2: goto L202;
 	case 3: goto L214;
@@ -9958,22 +9959,22 @@ L200:;
 	default: goto L269;
 	}
 L201:
-	st64(v975, v1732);
-	st64(v975+8, v1733);
-	st64(v975+16, v1724);
-	std_alloc_vec_Vec_drop_37c7(v975);
-	v258 = (u64)(ptr)static_44; v259 = (u8)v1744; v260 = (u8)((u64)(ptr)static_44 >> 16); v261 = (u8)((u64)(ptr)static_44 >> 24); v262 = (u32)((u64)(ptr)static_44 >> 32); v268 = (ptr)0; v271 = (ptr)0; v257 = 2; v263 = 21; v264 = v265 = v266 = v267 = v269 = v270 = v272 = v273 = v274 = 0; goto L271;
+	st64(v971, v1729);
+	st64(v971+8, v1730);
+	st64(v971+16, v1721);
+	std_alloc_vec_Vec_drop_37c7(v971);
+	v253 = (u64)(ptr)static_44; v254 = (u8)v1741; v255 = (u8)((u64)(ptr)static_44 >> 16); v256 = (u8)((u64)(ptr)static_44 >> 24); v257 = (u32)((u64)(ptr)static_44 >> 32); v263 = (ptr)0; v266 = (ptr)0; v252 = 2; v258 = 21; v259 = v260 = v261 = v262 = v264 = v265 = v267 = v268 = v269 = 0; goto L271;
 L202:
-	if (v1734 != 1 || !v1726) goto L203;
-	deallocate((ptr)v1724);
+	if (v1731 != 1 || !v1723) goto L203;
+	deallocate((ptr)v1721);
 L203:
-	if (!v1728) goto L212;
-	v245 = 0;
+	if (!v1725) goto L212;
+	v240 = 0;
 L204:;
-	ptr v1745 = at(v1727, v245 * 48);
-	u64 v1746 = lu64(v1745+16), v1747 = lu64(v1745+24), v1748 = lu64(v1745+32), v1749 = lu64(v1745+40);
-	u8 v1750 = (u8)lu16(v1745+8), v1751 = (u8)v1746;
-	switch (ld8(v1745)) {
+	ptr v1742 = at(v1724, v240 * 48);
+	u64 v1743 = lu64(v1742+16), v1744 = lu64(v1742+24), v1745 = lu64(v1742+32), v1746 = lu64(v1742+40);
+	u8 v1747 = (u8)lu16(v1742+8), v1748 = (u8)v1743;
+	switch (ld8(v1742)) {
 	case 0: goto L205;
 	case 1: goto L211;
 	case 2: goto L206;
@@ -9983,50 +9984,50 @@ L204:;
 	default: goto L213;
 	}
 L205:
-	if (!v1750 || !v1748) goto L211;
-	v246 = v1746; goto L210;
+	if (!v1747 || !v1745) goto L211;
+	v241 = v1743; goto L210;
 L206:
-	if (!v1750 || !v1748) goto L211;
-	v246 = v1746; goto L210;
+	if (!v1747 || !v1745) goto L211;
+	v241 = v1743; goto L210;
 L207:
-	if (!v1751 || !v1749) goto L211;
-	v246 = v1747; goto L210;
+	if (!v1748 || !v1746) goto L211;
+	v241 = v1744; goto L210;
 L208:
-	if (!v1751 || !v1749) goto L211;
-	v246 = v1747; goto L210;
+	if (!v1748 || !v1746) goto L211;
+	v241 = v1744; goto L210;
 L209:
-	if (!v1751 || !v1749) goto L211;
-	v246 = v1747;
+	if (!v1748 || !v1746) goto L211;
+	v241 = v1744;
 L210:
-	deallocate((ptr)v246);
+	deallocate((ptr)v241);
 L211:;
-	u64 v1752 = v245 + 1;
-	if (v1752 != v1728) { v245 = v1752; goto L204; }
+	u64 v1749 = v240 + 1;
+	if (v1749 != v1725) { v240 = v1749; goto L204; }
 L212:;
-	u8 v1753 = (u8)v1744, v1754 = (u8)((u64)(ptr)static_44 >> 16);
-	u8 v1755 = (u8)((u64)(ptr)static_44 >> 24);
-	u32 v1756 = (u32)((u64)(ptr)static_44 >> 32);
-	if (!v1729) { M99: v258 = (u64)(ptr)static_44; v259 = v1753; v260 = v1754; v261 = v1755; v262 = v1756; v268 = (ptr)0; v271 = (ptr)0; v257 = 2; v263 = 21; v264 = v265 = v266 = v267 = v269 = v270 = v272 = v273 = v274 = 0; goto L271; }
-	deallocate(v1727);
-	goto M99;
+	u8 v1750 = (u8)v1741, v1751 = (u8)((u64)(ptr)static_44 >> 16);
+	u8 v1752 = (u8)((u64)(ptr)static_44 >> 24);
+	u32 v1753 = (u32)((u64)(ptr)static_44 >> 32);
+	if (!v1726) { M101: v253 = (u64)(ptr)static_44; v254 = v1750; v255 = v1751; v256 = v1752; v257 = v1753; v263 = (ptr)0; v266 = (ptr)0; v252 = 2; v258 = 21; v259 = v260 = v261 = v262 = v264 = v265 = v267 = v268 = v269 = 0; goto L271; }
+	deallocate(v1724);
+	goto M101;
 L213:
 	__builtin_trap();
 L214:;
-	u8 v1757 = (u8)v1744, v1758 = (u8)((u64)(ptr)static_44 >> 16);
-	u8 v1759 = (u8)((u64)(ptr)static_44 >> 24);
-	u32 v1760 = (u32)((u64)(ptr)static_44 >> 32);
-	if ((v1731 & 255) != 1 || !v1724) { M100: v258 = (u64)(ptr)static_44; v259 = v1757; v260 = v1758; v261 = v1759; v262 = v1760; v268 = (ptr)0; v271 = (ptr)0; v257 = 2; v263 = 21; v264 = v265 = v266 = v267 = v269 = v270 = v272 = v273 = v274 = 0; goto L271; }
-	deallocate((ptr)v1732);
-	goto M100;
+	u8 v1754 = (u8)v1741, v1755 = (u8)((u64)(ptr)static_44 >> 16);
+	u8 v1756 = (u8)((u64)(ptr)static_44 >> 24);
+	u32 v1757 = (u32)((u64)(ptr)static_44 >> 32);
+	if ((v1728 & 255) != 1 || !v1721) { M102: v253 = (u64)(ptr)static_44; v254 = v1754; v255 = v1755; v256 = v1756; v257 = v1757; v263 = (ptr)0; v266 = (ptr)0; v252 = 2; v258 = 21; v259 = v260 = v261 = v262 = v264 = v265 = v267 = v268 = v269 = 0; goto L271; }
+	deallocate((ptr)v1729);
+	goto M102;
 L215:
-	if (!v1731) goto L230;
-	v247 = 0;
+	if (!v1728) goto L230;
+	v242 = 0;
 L216:;
-	ptr v1761 = at((ptr)v1730, v247 << 6);
-	u64 v1762 = lu64(v1761+16), v1763 = lu64(v1761+24), v1764 = lu64(v1761+32), v1765 = lu64(v1761+40);
-	u64 v1766 = lu64(v1761+48), v1767 = lu64(v1761+56);
-	u8 v1768 = (u8)lu16(v1761+8);
-	switch (ld8(v1761)) {
+	ptr v1758 = at((ptr)v1727, v242 << 6);
+	u64 v1759 = lu64(v1758+16), v1760 = lu64(v1758+24), v1761 = lu64(v1758+32), v1762 = lu64(v1758+40);
+	u64 v1763 = lu64(v1758+48), v1764 = lu64(v1758+56);
+	u8 v1765 = (u8)lu16(v1758+8);
+	switch (ld8(v1758)) {
 	case 0: goto L229;
 	case 1: goto L217;
 	case 2: goto L222;
@@ -10034,56 +10035,56 @@ L216:;
 	default: goto L244;
 	}
 L217:
-	if (!v1768 || !v1764) goto L218;
-	deallocate((ptr)v1762);
+	if (!v1765 || !v1761) goto L218;
+	deallocate((ptr)v1759);
 L218:
-	if (!v1766) goto L221;
-	v248 = 0;
+	if (!v1763) goto L221;
+	v243 = 0;
 L219:;
-	ptr v1769 = at((ptr)v1765, v248 << 5);
-	if (!ld8(v1769) || !lu64(v1769+24)) goto L220;
-	deallocate(lup(v1769+8));
+	ptr v1766 = at((ptr)v1762, v243 << 5);
+	if (!ld8(v1766) || !lu64(v1766+24)) goto L220;
+	deallocate(lup(v1766+8));
 L220:;
-	u64 v1770 = v248 + 1;
-	if (v1770 != v1766) { v248 = v1770; goto L219; }
+	u64 v1767 = v243 + 1;
+	if (v1767 != v1763) { v243 = v1767; goto L219; }
 L221:
-	if (!v1767) goto L229;
-	v250 = (ptr)v1765; goto L228;
+	if (!v1764) goto L229;
+	v245 = (ptr)v1762; goto L228;
 L222:
-	if (!v1768 || !v1764) goto L223;
-	deallocate((ptr)v1762);
+	if (!v1765 || !v1761) goto L223;
+	deallocate((ptr)v1759);
 L223:
-	if (!v1766) goto L226;
-	v249 = 0;
+	if (!v1763) goto L226;
+	v244 = 0;
 L224:;
-	ptr v1771 = at((ptr)v1765, v249 << 5);
-	if (!ld8(v1771) || !lu64(v1771+24)) goto L225;
-	deallocate(lup(v1771+8));
+	ptr v1768 = at((ptr)v1762, v244 << 5);
+	if (!ld8(v1768) || !lu64(v1768+24)) goto L225;
+	deallocate(lup(v1768+8));
 L225:;
-	u64 v1772 = v249 + 1;
-	if (v1772 != v1766) { v249 = v1772; goto L224; }
+	u64 v1769 = v244 + 1;
+	if (v1769 != v1763) { v244 = v1769; goto L224; }
 L226:
-	if (!v1767) goto L229;
-	v250 = (ptr)v1765; goto L228;
+	if (!v1764) goto L229;
+	v245 = (ptr)v1762; goto L228;
 L227:
-	if (!(v1762 & 255) || !v1765) goto L229;
-	v250 = (ptr)v1763;
+	if (!(v1759 & 255) || !v1762) goto L229;
+	v245 = (ptr)v1760;
 L228:
-	deallocate(v250);
+	deallocate(v245);
 L229:;
-	u64 v1773 = v247 + 1;
-	if (v1773 != v1731) { v247 = v1773; goto L216; }
+	u64 v1770 = v242 + 1;
+	if (v1770 != v1728) { v242 = v1770; goto L216; }
 L230:
-	if (!v1732) goto L231;
-	deallocate((ptr)v1730);
+	if (!v1729) goto L231;
+	deallocate((ptr)v1727);
 L231:
-	if (!v1724) goto L242;
-	v251 = 0;
+	if (!v1721) goto L242;
+	v246 = 0;
 L232:;
-	ptr v1774 = at((ptr)v1733, v251 * 48);
-	u64 v1775 = lu64(v1774+16), v1776 = lu64(v1774+24), v1777 = lu64(v1774+32), v1778 = lu64(v1774+40);
-	u8 v1779 = (u8)lu16(v1774+8), v1780 = (u8)v1775;
-	switch (ld8(v1774)) {
+	ptr v1771 = at((ptr)v1730, v246 * 48);
+	u64 v1772 = lu64(v1771+16), v1773 = lu64(v1771+24), v1774 = lu64(v1771+32), v1775 = lu64(v1771+40);
+	u8 v1776 = (u8)lu16(v1771+8), v1777 = (u8)v1772;
+	switch (ld8(v1771)) {
 	case 0: goto L233;
 	case 1: goto L234;
 	case 2: goto L235;
@@ -10094,50 +10095,50 @@ L232:;
 	default: goto L243;
 	}
 L233:
-	if (!v1779 || !v1777) goto L241;
-	v252 = v1775; goto L240;
+	if (!v1776 || !v1774) goto L241;
+	v247 = v1772; goto L240;
 L234:
-	if (!v1779 || !v1777) goto L241;
-	v252 = v1775; goto L240;
+	if (!v1776 || !v1774) goto L241;
+	v247 = v1772; goto L240;
 L235:
-	if (!v1779 || !v1777) goto L241;
-	v252 = v1775; goto L240;
+	if (!v1776 || !v1774) goto L241;
+	v247 = v1772; goto L240;
 L236:
-	if (!v1779 || !v1777) goto L241;
-	v252 = v1775; goto L240;
+	if (!v1776 || !v1774) goto L241;
+	v247 = v1772; goto L240;
 L237:
-	if (!v1780 || !v1778) goto L241;
-	v252 = v1776; goto L240;
+	if (!v1777 || !v1775) goto L241;
+	v247 = v1773; goto L240;
 L238:
-	if (!v1780 || !v1778) goto L241;
-	v252 = v1776; goto L240;
+	if (!v1777 || !v1775) goto L241;
+	v247 = v1773; goto L240;
 L239:
-	if (!v1780 || !v1778) goto L241;
-	v252 = v1776;
+	if (!v1777 || !v1775) goto L241;
+	v247 = v1773;
 L240:
-	deallocate((ptr)v252);
+	deallocate((ptr)v247);
 L241:;
-	u64 v1781 = v251 + 1;
-	if (v1781 != v1724) { v251 = v1781; goto L232; }
+	u64 v1778 = v246 + 1;
+	if (v1778 != v1721) { v246 = v1778; goto L232; }
 L242:;
-	u8 v1782 = (u8)v1744, v1783 = (u8)((u64)(ptr)static_44 >> 16);
-	u8 v1784 = (u8)((u64)(ptr)static_44 >> 24);
-	u32 v1785 = (u32)((u64)(ptr)static_44 >> 32);
-	if (!v1725) { M101: v258 = (u64)(ptr)static_44; v259 = v1782; v260 = v1783; v261 = v1784; v262 = v1785; v268 = (ptr)0; v271 = (ptr)0; v257 = 2; v263 = 21; v264 = v265 = v266 = v267 = v269 = v270 = v272 = v273 = v274 = 0; goto L271; }
-	deallocate((ptr)v1733);
-	goto M101;
+	u8 v1779 = (u8)v1741, v1780 = (u8)((u64)(ptr)static_44 >> 16);
+	u8 v1781 = (u8)((u64)(ptr)static_44 >> 24);
+	u32 v1782 = (u32)((u64)(ptr)static_44 >> 32);
+	if (!v1722) { M103: v253 = (u64)(ptr)static_44; v254 = v1779; v255 = v1780; v256 = v1781; v257 = v1782; v263 = (ptr)0; v266 = (ptr)0; v252 = 2; v258 = 21; v259 = v260 = v261 = v262 = v264 = v265 = v267 = v268 = v269 = 0; goto L271; }
+	deallocate((ptr)v1730);
+	goto M103;
 L243:
 	__builtin_trap();
 L244:
 	__builtin_trap();
 L245:
-	if (!v1733) goto L253;
-	v253 = 0;
+	if (!v1730) goto L253;
+	v248 = 0;
 L246:;
-	ptr v1786 = at((ptr)v1732, v253 * 48);
-	u64 v1787 = lu64(v1786+16), v1788 = lu64(v1786+24), v1789 = lu64(v1786+40);
-	u8 v1790 = (u8)v1787;
-	switch (ld8(v1786)) {
+	ptr v1783 = at((ptr)v1729, v248 * 48);
+	u64 v1784 = lu64(v1783+16), v1785 = lu64(v1783+24), v1786 = lu64(v1783+40);
+	u8 v1787 = (u8)v1784;
+	switch (ld8(v1783)) {
 	case 0: goto L247;
 	case 1: case 2: case 3: case 4: case 5: case 6: case 7: goto L252;
 	case 8: goto L248;
@@ -10146,42 +10147,42 @@ L246:;
 	default: goto L254;
 	}
 L247:
-	if (!(lu64(v1786+8) & 255) || !lu64(v1786+32)) goto L252;
-	v254 = v1787; goto L251;
+	if (!(lu64(v1783+8) & 255) || !lu64(v1783+32)) goto L252;
+	v249 = v1784; goto L251;
 L248:
-	if (!v1790 || !v1789) goto L252;
-	v254 = v1788; goto L251;
+	if (!v1787 || !v1786) goto L252;
+	v249 = v1785; goto L251;
 L249:
-	if (!v1790 || !v1789) goto L252;
-	v254 = v1788; goto L251;
+	if (!v1787 || !v1786) goto L252;
+	v249 = v1785; goto L251;
 L250:
-	if (!v1790 || !v1789) goto L252;
-	v254 = v1788;
+	if (!v1787 || !v1786) goto L252;
+	v249 = v1785;
 L251:
-	deallocate((ptr)v254);
+	deallocate((ptr)v249);
 L252:;
-	u64 v1791 = v253 + 1;
-	if (v1791 != v1733) { v253 = v1791; goto L246; }
+	u64 v1788 = v248 + 1;
+	if (v1788 != v1730) { v248 = v1788; goto L246; }
 L253:;
-	u8 v1792 = (u8)v1744, v1793 = (u8)((u64)(ptr)static_44 >> 16);
-	u8 v1794 = (u8)((u64)(ptr)static_44 >> 24);
-	u32 v1795 = (u32)((u64)(ptr)static_44 >> 32);
-	if (!v1724) { M102: v258 = (u64)(ptr)static_44; v259 = v1792; v260 = v1793; v261 = v1794; v262 = v1795; v268 = (ptr)0; v271 = (ptr)0; v257 = 2; v263 = 21; v264 = v265 = v266 = v267 = v269 = v270 = v272 = v273 = v274 = 0; goto L271; }
-	deallocate((ptr)v1732);
-	goto M102;
+	u8 v1789 = (u8)v1741, v1790 = (u8)((u64)(ptr)static_44 >> 16);
+	u8 v1791 = (u8)((u64)(ptr)static_44 >> 24);
+	u32 v1792 = (u32)((u64)(ptr)static_44 >> 32);
+	if (!v1721) { M104: v253 = (u64)(ptr)static_44; v254 = v1789; v255 = v1790; v256 = v1791; v257 = v1792; v263 = (ptr)0; v266 = (ptr)0; v252 = 2; v258 = 21; v259 = v260 = v261 = v262 = v264 = v265 = v267 = v268 = v269 = 0; goto L271; }
+	deallocate((ptr)v1729);
+	goto M104;
 L254:
 	__builtin_trap();
 L255:
-	if (v1734 != 1 || !v1726) goto L256;
-	deallocate((ptr)v1724);
+	if (v1731 != 1 || !v1723) goto L256;
+	deallocate((ptr)v1721);
 L256:
-	if (!v1728) goto L265;
-	v255 = 0;
+	if (!v1725) goto L265;
+	v250 = 0;
 L257:;
-	ptr v1796 = at(v1727, v255 * 48);
-	u64 v1797 = lu64(v1796+16), v1798 = lu64(v1796+24), v1799 = lu64(v1796+32), v1800 = lu64(v1796+40);
-	u8 v1801 = (u8)lu64(v1796+8), v1802 = (u8)v1797;
-	switch (ld8(v1796)) {
+	ptr v1793 = at(v1724, v250 * 48);
+	u64 v1794 = lu64(v1793+16), v1795 = lu64(v1793+24), v1796 = lu64(v1793+32), v1797 = lu64(v1793+40);
+	u8 v1798 = (u8)lu64(v1793+8), v1799 = (u8)v1794;
+	switch (ld8(v1793)) {
 	case 0: goto L258;
 	case 1: case 3: goto L264;
 	case 2: goto L259;
@@ -10191,145 +10192,145 @@ L257:;
 	default: goto L266;
 	}
 L258:
-	if (!v1801 || !v1799) goto L264;
-	v256 = v1797; goto L263;
+	if (!v1798 || !v1796) goto L264;
+	v251 = v1794; goto L263;
 L259:
-	if (!v1801 || !v1799) goto L264;
-	v256 = v1797; goto L263;
+	if (!v1798 || !v1796) goto L264;
+	v251 = v1794; goto L263;
 L260:
-	if (!v1802 || !v1800) goto L264;
-	v256 = v1798; goto L263;
+	if (!v1799 || !v1797) goto L264;
+	v251 = v1795; goto L263;
 L261:
-	if (!v1802 || !v1800) goto L264;
-	v256 = v1798; goto L263;
+	if (!v1799 || !v1797) goto L264;
+	v251 = v1795; goto L263;
 L262:
-	if (!v1802 || !v1800) goto L264;
-	v256 = v1798;
+	if (!v1799 || !v1797) goto L264;
+	v251 = v1795;
 L263:
-	deallocate((ptr)v256);
+	deallocate((ptr)v251);
 L264:;
-	u64 v1803 = v255 + 1;
-	if (v1803 != v1728) { v255 = v1803; goto L257; }
+	u64 v1800 = v250 + 1;
+	if (v1800 != v1725) { v250 = v1800; goto L257; }
 L265:;
-	u8 v1804 = (u8)v1744, v1805 = (u8)((u64)(ptr)static_44 >> 16);
-	u8 v1806 = (u8)((u64)(ptr)static_44 >> 24);
-	u32 v1807 = (u32)((u64)(ptr)static_44 >> 32);
-	if (!v1729) { M103: v258 = (u64)(ptr)static_44; v259 = v1804; v260 = v1805; v261 = v1806; v262 = v1807; v268 = (ptr)0; v271 = (ptr)0; v257 = 2; v263 = 21; v264 = v265 = v266 = v267 = v269 = v270 = v272 = v273 = v274 = 0; goto L271; }
-	deallocate(v1727);
-	goto M103;
+	u8 v1801 = (u8)v1741, v1802 = (u8)((u64)(ptr)static_44 >> 16);
+	u8 v1803 = (u8)((u64)(ptr)static_44 >> 24);
+	u32 v1804 = (u32)((u64)(ptr)static_44 >> 32);
+	if (!v1726) { M105: v253 = (u64)(ptr)static_44; v254 = v1801; v255 = v1802; v256 = v1803; v257 = v1804; v263 = (ptr)0; v266 = (ptr)0; v252 = 2; v258 = 21; v259 = v260 = v261 = v262 = v264 = v265 = v267 = v268 = v269 = 0; goto L271; }
+	deallocate(v1724);
+	goto M105;
 L266:
 	__builtin_trap();
 L267:;
-	u8 v1808 = (u8)v1744, v1809 = (u8)((u64)(ptr)static_44 >> 16);
-	u8 v1810 = (u8)((u64)(ptr)static_44 >> 24);
-	u32 v1811 = (u32)((u64)(ptr)static_44 >> 32);
-	if ((v1730 & 255) != 1 || !v1733) { M104: v258 = (u64)(ptr)static_44; v259 = v1808; v260 = v1809; v261 = v1810; v262 = v1811; v268 = (ptr)0; v271 = (ptr)0; v257 = 2; v263 = 21; v264 = v265 = v266 = v267 = v269 = v270 = v272 = v273 = v274 = 0; goto L271; }
-	deallocate((ptr)v1731);
-	goto M104;
+	u8 v1805 = (u8)v1741, v1806 = (u8)((u64)(ptr)static_44 >> 16);
+	u8 v1807 = (u8)((u64)(ptr)static_44 >> 24);
+	u32 v1808 = (u32)((u64)(ptr)static_44 >> 32);
+	if ((v1727 & 255) != 1 || !v1730) { M106: v253 = (u64)(ptr)static_44; v254 = v1805; v255 = v1806; v256 = v1807; v257 = v1808; v263 = (ptr)0; v266 = (ptr)0; v252 = 2; v258 = 21; v259 = v260 = v261 = v262 = v264 = v265 = v267 = v268 = v269 = 0; goto L271; }
+	deallocate((ptr)v1728);
+	goto M106;
 L268:;
-	u8 v1812 = (u8)v1744, v1813 = (u8)((u64)(ptr)static_44 >> 16);
-	u8 v1814 = (u8)((u64)(ptr)static_44 >> 24);
-	u32 v1815 = (u32)((u64)(ptr)static_44 >> 32);
-	if ((v1732 & 255) != 1 || !v1725) { M105: v258 = (u64)(ptr)static_44; v259 = v1812; v260 = v1813; v261 = v1814; v262 = v1815; v268 = (ptr)0; v271 = (ptr)0; v257 = 2; v263 = 21; v264 = v265 = v266 = v267 = v269 = v270 = v272 = v273 = v274 = 0; goto L271; }
-	deallocate((ptr)v1733);
-	goto M105;
+	u8 v1809 = (u8)v1741, v1810 = (u8)((u64)(ptr)static_44 >> 16);
+	u8 v1811 = (u8)((u64)(ptr)static_44 >> 24);
+	u32 v1812 = (u32)((u64)(ptr)static_44 >> 32);
+	if ((v1729 & 255) != 1 || !v1722) { M107: v253 = (u64)(ptr)static_44; v254 = v1809; v255 = v1810; v256 = v1811; v257 = v1812; v263 = (ptr)0; v266 = (ptr)0; v252 = 2; v258 = 21; v259 = v260 = v261 = v262 = v264 = v265 = v267 = v268 = v269 = 0; goto L271; }
+	deallocate((ptr)v1730);
+	goto M107;
 L269:
 	__builtin_trap();
 L270:;
-	u32 v1816 = (u32)ld_bytes(v974+17, 3) & 16777215;
-	u64 v1817 = (u64)v1816;
-	v257 = v1723; v258 = ld8(v974+16); v259 = (u8)v1816; v260 = (u8)(v1817 >> 8); v261 = (u8)(v1817 >> 16); v262 = ld32(v974+20); v263 = ld8(v974+24); v264 = (u64)ld_bytes(v974+25, 7) & 0xffffffffffffffull; v265 = ld8(v974+32); v266 = (u64)ld_bytes(v974+33, 7) & 0xffffffffffffffull; v267 = ld64(v974+40); v268 = (ptr)v1724; v269 = v1725; v270 = v1726; v271 = v1727; v272 = v1728; v273 = v1729; v274 = ld64(v974+96);
+	u32 v1813 = (u32)ld_bytes(v970+17, 3) & 16777215;
+	u64 v1814 = (u64)v1813;
+	v252 = v1720; v253 = ld8(v970+16); v254 = (u8)v1813; v255 = (u8)(v1814 >> 8); v256 = (u8)(v1814 >> 16); v257 = ld32(v970+20); v258 = ld8(v970+24); v259 = (u64)ld_bytes(v970+25, 7) & 0xffffffffffffffull; v260 = ld8(v970+32); v261 = (u64)ld_bytes(v970+33, 7) & 0xffffffffffffffull; v262 = ld64(v970+40); v263 = (ptr)v1721; v264 = v1722; v265 = v1723; v266 = v1724; v267 = v1725; v268 = v1726; v269 = ld64(v970+96);
 L271:
-	v275 = v257; v276 = v258; v277 = v259; v278 = v260; v279 = v261; v280 = v262; v281 = v263; v282 = v264; v283 = v265; v284 = v266; v285 = v267; v286 = v268; v287 = v269; v288 = v270; v289 = v271; v290 = v272; v291 = v273; v292 = v274;
+	v270 = v252; v271 = v253; v272 = v254; v273 = v255; v274 = v256; v275 = v257; v276 = v258; v277 = v259; v278 = v260; v279 = v261; v280 = v262; v281 = v263; v282 = v264; v283 = v265; v284 = v266; v285 = v267; v286 = v268; v287 = v269;
 L272:
-	clear(v973, 7);
-	v294 = v288; v295 = v287; v296 = v286; v297 = v285; v298 = v284; v299 = v283; v300 = v282; v301 = v281; v302 = v277; v303 = v278; v304 = v279; v305 = v280; v306 = v276; v307 = v275; v308 = v289; v309 = v290; v310 = v291; v311 = v292; v293 = 0; goto L274;
+	clear(v969, 7);
+	v289 = v283; v290 = v282; v291 = v281; v292 = v280; v293 = v279; v294 = v278; v295 = v277; v296 = v276; v297 = v272; v298 = v273; v299 = v274; v300 = v275; v301 = v271; v302 = v270; v303 = v284; v304 = v285; v305 = v286; v306 = v287; v288 = 0; goto L274;
 L273:
-	clear(v973, 7);
-	v296 = (ptr)0; v302 = (u8)((u64)(ptr)static_43 >> 8); v303 = (u8)((u64)(ptr)static_43 >> 16); v304 = (u8)((u64)(ptr)static_43 >> 24); v305 = (u32)((u64)(ptr)static_43 >> 32); v306 = (u64)(ptr)static_43; v308 = (ptr)0; v293 = v294 = v295 = v297 = v298 = v299 = v300 = v309 = v310 = v311 = 0; v301 = 38; v307 = 2;
+	clear(v969, 7);
+	v291 = (ptr)0; v297 = (u8)((u64)(ptr)static_43 >> 8); v298 = (u8)((u64)(ptr)static_43 >> 16); v299 = (u8)((u64)(ptr)static_43 >> 24); v300 = (u32)((u64)(ptr)static_43 >> 32); v301 = (u64)(ptr)static_43; v303 = (ptr)0; v288 = v289 = v290 = v292 = v293 = v294 = v295 = v304 = v305 = v306 = 0; v296 = 38; v302 = 2;
 L274:
-	copy(v982, v973, 7);
-	u64 v1818 = (v300 << 8) | (u64)v301, v1819 = (v298 << 8) | (u64)v299;
-	if (!v293) { v589 = v242; v590 = v307; v591 = v306; v592 = v302; v593 = v303; v594 = v304; v595 = v305; v596 = v1818; v597 = v1819; v598 = v297; v599 = v296; v600 = v295; v601 = v294; v602 = v308; v603 = v309; v604 = v310; v605 = v311; goto L392; }
-	copy(v985, v982, 7);
-	if (!v242) goto L275;
-	deallocate(v1721);
+	copy(v978, v969, 7);
+	u64 v1815 = (v295 << 8) | (u64)v296, v1816 = (v293 << 8) | (u64)v294;
+	if (!v288) { v590 = v302; v591 = v301; v592 = v297; v593 = v298; v594 = v299; v595 = v300; v596 = v1815; v597 = v1816; v598 = v292; v599 = v291; v600 = v290; v601 = v289; v602 = v303; v603 = v304; v604 = v305; v605 = v306; goto L392; }
+	copy(v981, v978, 7);
+	if (!ld64(v980+16)) goto L275;
+	deallocate(v1718);
 L275:
-	copy(v987, v985, 7);
-	st8(v986, v307);
-	copy(v986+1, v987, 7);
-	st8(v986+8, v306);
-	st8(v986+9, v302);
-	st8(v986+10, v303);
-	st8(v986+11, v304);
-	st32(v986+12, v305);
-	st64(v986+16, v1818);
-	st64(v986+24, v1819);
-	st64(v986+32, v297);
-	st64(v986+40, (u64)v296);
-	st64(v986+48, v295);
-	st64(v986+56, v294);
-	capcopy_run_blocks_write_section_ce79(v988, v5, v986);
-	u8 v1820 = ld8(v988+16);
-	if (ld8(v988)) goto L384;
-	clear(v989, 126);
-	copy(v989+128, v986, 64);
-	copy(v990, v989, 192);
-	u32 v1821 = (u32)((u64)(ptr)static_43 >> 32);
-	v312 = 0;
+	copy(v983, v981, 7);
+	st8(v982, v302);
+	copy(v982+1, v983, 7);
+	st8(v982+8, v301);
+	st8(v982+9, v297);
+	st8(v982+10, v298);
+	st8(v982+11, v299);
+	st32(v982+12, v300);
+	st64(v982+16, v1815);
+	st64(v982+24, v1816);
+	st64(v982+32, v292);
+	st64(v982+40, (u64)v291);
+	st64(v982+48, v290);
+	st64(v982+56, v289);
+	capcopy_run_blocks_write_section_ce79(v984, v5, v982);
+	u8 v1817 = ld8(v984+16);
+	if (ld8(v984)) goto L384;
+	clear(v985, 126);
+	copy(v985+128, v982, 64);
+	copy(v986, v985, 192);
+	u32 v1818 = (u32)((u64)(ptr)static_43 >> 32);
+	v307 = 0;
 L276:
-	clear(v972, 96);
-	std_io_buffered_BufWriter_flush_buf_9d90(v972, v5);
-	if (ld8(v972)) goto L379;
-	u64 v1822 = ld64(v4+24), v1823 = ld64(v4+32);
-	if (v1822 < v1823) { v313 = v1823; v314 = v1822; goto L277; }
+	clear(v968, 96);
+	std_io_buffered_BufWriter_flush_buf_9d90(v968, v5);
+	if (ld8(v968)) goto L379;
+	u64 v1819 = ld64(v4+24), v1820 = ld64(v4+32);
+	if (v1819 < v1820) { v308 = v1820; v309 = v1819; goto L277; }
 	clear(v4+24, 16);
-	ptr v1824 = ldp(v4);
-	u64 v1825 = ld64(v4+8);
-	clear(v971, 96);
-	capcopy_run_uninterrupted_UninterruptedRead_read_f128(v971, v1824, v1825);
-	u64 v1826 = ld64(v971+8), v1827 = ld64(v971+16), v1828 = ld64(v971+24), v1829 = ld64(v971+32);
-	u64 v1830 = ld64(v971+40), v1831 = ld64(v971+48), v1832 = ld64(v971+56), v1833 = ld64(v971+64);
-	u64 v1834 = ld64(v971+72), v1835 = ld64(v971+80), v1836 = ld64(v971+88);
-	if (ld8(v971)) goto L378;
-	st64(v4+32, v1826);
-	v313 = v1826; v314 = ld64(v4+24);
+	ptr v1821 = ldp(v4);
+	u64 v1822 = ld64(v4+8);
+	clear(v967, 96);
+	capcopy_run_uninterrupted_UninterruptedRead_read_f128(v967, v1821, v1822);
+	u64 v1823 = ld64(v967+8), v1824 = ld64(v967+16), v1825 = ld64(v967+24), v1826 = ld64(v967+32);
+	u64 v1827 = ld64(v967+40), v1828 = ld64(v967+48), v1829 = ld64(v967+56), v1830 = ld64(v967+64);
+	u64 v1831 = ld64(v967+72), v1832 = ld64(v967+80), v1833 = ld64(v967+88);
+	if (ld8(v967)) goto L378;
+	st64(v4+32, v1823);
+	v308 = v1823; v309 = ld64(v4+24);
 L277:;
-	u64 v1837 = v313 - v314;
-	u8 v1838 = v1837 == 0;
-	if (v1838) { v518 = v1838; v521 = (ptr)0; v519 = v520 = v522 = v523 = v524 = v525 = v526 = v527 = v528 = v529 = v530 = v531 = 0; goto L380; }
-	ptr v1839 = at(ldp(v4), v314);
-	clear(v969, 56);
-	clear(v970, 112);
-	v315 = v312; v316 = v1839; v317 = v1837;
+	u64 v1834 = v308 - v309;
+	u8 v1835 = v1834 == 0;
+	if (v1835) { v519 = v1835; v522 = (ptr)0; v520 = v521 = v523 = v524 = v525 = v526 = v527 = v528 = v529 = v530 = v531 = v532 = 0; goto L380; }
+	ptr v1836 = at(ldp(v4), v309);
+	clear(v965, 56);
+	clear(v966, 112);
+	v310 = v307; v311 = v1836; v312 = v1834;
 L278:;
-	u8 v1840 = ld32(v990+128) != 439041101;
-	if (v317 < 12) goto L307;
-	u32 v1841 = lu32(v316), v1842 = v1840 ? v1841 : (u32)__builtin_bswap32(v1841);
-	if (v1842 != 168627466) goto L281;
-	switch ((u32)__builtin_bswap32(lu32(v316+8))) {
+	u8 v1837 = ld32(v986+128) != 439041101;
+	if (v312 < 12) goto L307;
+	u32 v1838 = lu32(v311), v1839 = v1837 ? v1838 : (u32)__builtin_bswap32(v1838);
+	if (v1839 != 168627466) goto L281;
+	switch ((u32)__builtin_bswap32(lu32(v311+8))) {
 	case 439041101: goto L279;
 	case 1295788826: goto L280;
 	default: goto L307;
 	}
 L279:
-	v319 = (u32)__builtin_bswap32(lu32(v316+4)); v318 = 0; goto L282;
+	v314 = (u32)__builtin_bswap32(lu32(v311+4)); v313 = 0; goto L282;
 L280:
-	v319 = lu32(v316+4); v318 = 1; goto L282;
+	v314 = lu32(v311+4); v313 = 1; goto L282;
 L281:;
-	u32 v1843 = lu32(v316+4);
-	v318 = v1840; v319 = v1840 ? v1843 : (u32)__builtin_bswap32(v1843);
+	u32 v1840 = lu32(v311+4);
+	v313 = v1837; v314 = v1837 ? v1840 : (u32)__builtin_bswap32(v1840);
 L282:
-	if ((v319 < 12) | ((v319 & 3) != 0)) goto L307;
-	u64 v1844 = (u64)v319;
-	if (v317 < v1844) goto L307;
-	u64 v1845 = v1844 - 12;
-	ptr v1846 = at(v316+8, v1845);
-	u32 v1847 = lu32(v1846);
-	u64 v1848 = v317 - v1844;
-	if ((!v318 ? (u32)__builtin_bswap32(v1847) : v1847) != v319) goto L307;
-	switch (v1842) {
-	case 168627466: v320 = 0; goto L291;
+	if ((v314 < 12) | ((v314 & 3) != 0)) goto L307;
+	u64 v1841 = (u64)v314;
+	if (v312 < v1841) goto L307;
+	u64 v1842 = v1841 - 12;
+	ptr v1843 = at(v311+8, v1842);
+	u32 v1844 = lu32(v1843);
+	u64 v1845 = v312 - v1841;
+	if ((!v313 ? (u32)__builtin_bswap32(v1844) : v1844) != v314) goto L307;
+	switch (v1839) {
+	case 168627466: v315 = 0; goto L291;
 	case 1: goto L283;
 	case 2: goto L284;
 	case 3: goto L285;
@@ -10340,246 +10341,251 @@ L282:
 	default: goto L290;
 	}
 L283:
-	v320 = 1; goto L291;
+	v315 = 1; goto L291;
 L284:
-	v320 = 2; goto L291;
+	v315 = 2; goto L291;
 L285:
-	v320 = 3; goto L291;
+	v315 = 3; goto L291;
 L286:
-	v320 = 4; goto L291;
+	v315 = 4; goto L291;
 L287:
-	v320 = 5; goto L291;
+	v315 = 5; goto L291;
 L288:
-	v320 = 6; goto L291;
+	v315 = 6; goto L291;
 L289:
-	v320 = 7; goto L291;
+	v315 = 7; goto L291;
 L290:
-	v320 = ((u64)v1842 << 32) | 8;
+	v315 = ((u64)v1839 << 32) | 8;
 L291:
-	st64(v968, v320);
-	st32(v968+8, v319);
-	st32(v968+12, 0);
-	st64(v968+16, 0);
-	stp(v968+24, v316+8);
-	st64(v968+32, v1845);
-	st64(v968+40, 0);
-	st32(v968+48, v319);
-	st8(v968+52, v318);
-	clear(v968+53, 3);
-	clear(v965, 104);
-	clear(v966, 40);
-	clear(v967, 40);
-	clear(v964, 104);
-	switch ((u8)v320) {
+	st64(v964, v315);
+	st32(v964+8, v314);
+	st32(v964+12, 0);
+	st64(v964+16, 0);
+	stp(v964+24, v311+8);
+	st64(v964+32, v1842);
+	st64(v964+40, 0);
+	st32(v964+48, v314);
+	st8(v964+52, v313);
+	clear(v964+53, 3);
+	clear(v961, 104);
+	clear(v962, 40);
+	clear(v963, 40);
+	clear(v960, 104);
+	switch ((u8)v315) {
 	case 0: goto L292;
 	case 1: goto L293;
 	case 2: case 3: case 4: case 5: case 6: case 7: case 8: goto L301;
 	default: goto L306;
 	}
 L292:
-	pcap_ng_pcapng_block_Block_new_section(v964, v316+8, v1845);
+	pcap_ng_pcapng_block_Block_new_section(v960, v311+8, v1842);
 	goto L294;
 L293:
-	pcap_ng_pcapng_block_Block_new_interface(v964, v968);
+	pcap_ng_pcapng_block_Block_new_interface(v960, v964);
 L294:;
-	u8 v1849 = ld8(v964+8);
-	u64 v1850 = ld64(v964+16), v1851 = ld64(v964+24);
-	u32 v1852 = ld32(v964+32), v1853 = ld32(v964+36);
-	u64 v1854 = ld64(v964+40);
-	ptr v1855 = ldp(v964+48);
-	if (ld8(v964)) goto L299;
-	switch (v1849) {
+	u8 v1846 = ld8(v960+8);
+	u64 v1847 = ld64(v960+16), v1848 = ld64(v960+24);
+	u32 v1849 = ld32(v960+32), v1850 = ld32(v960+36);
+	u64 v1851 = ld64(v960+40);
+	ptr v1852 = ldp(v960+48);
+	if (ld8(v960)) goto L299;
+	switch (v1846) {
 	case 0: goto L295;
 	case 1: goto L296;
 	case 2: goto L302;
 	default: goto L298;
 	}
 L295:
-	st64(v966, v1850);
-	st64(v966+8, v1851);
-	st32(v966+16, v1852);
-	st32(v966+20, v1853);
-	st64(v966+24, v1854);
-	stp(v966+32, v1855);
-	pcap_ng_pcapng_state_InForce_begin_section(v965, v990+128, v966);
+	st64(v962, v1847);
+	st64(v962+8, v1848);
+	st32(v962+16, v1849);
+	st32(v962+20, v1850);
+	st64(v962+24, v1851);
+	stp(v962+32, v1852);
+	pcap_ng_pcapng_state_InForce_begin_section(v961, v986+128, v962);
 	goto L297;
 L296:
-	st64(v967, v1850);
-	st64(v967+8, v1851);
-	st32(v967+16, v1852);
-	st32(v967+20, v1853);
-	st64(v967+24, v1854);
-	stp(v967+32, v1855);
-	pcap_ng_pcapng_state_InForce_add_interface(v965, v990+128, v967);
+	st64(v963, v1847);
+	st64(v963+8, v1848);
+	st32(v963+16, v1849);
+	st32(v963+20, v1850);
+	st64(v963+24, v1851);
+	stp(v963+32, v1852);
+	pcap_ng_pcapng_state_InForce_add_interface(v961, v986+128, v963);
 L297:
-	if (!ld8(v965)) goto L303;
-	v321 = ld8(v965+8); v322 = ld32(v965+36); v323 = ld32(v965+32); v324 = ld64(v965+16); goto L300;
+	if (!ld8(v961)) goto L303;
+	v316 = ld8(v961+8); v317 = ld32(v961+36); v318 = ld32(v961+32); v319 = ld64(v961+16); goto L300;
 L298:
 	__builtin_trap();
 L299:
-	v321 = v1849; v322 = v1853; v323 = v1852; v324 = v1850;
+	v316 = v1846; v317 = v1850; v318 = v1849; v319 = v1847;
 L300:
-	if (v321 == 5) { v325 = (ptr)0; v326 = v327 = v328 = v329 = v330 = v331 = v332 = v333 = v334 = v335 = v337 = 0; v336 = 5; goto L305; }
-	if (v321 != 4 || (v323 | v322) == 0) { M114: v338 = v315; v339 = v317; goto L308; }
-	deallocate((ptr)v324);
-	goto M114;
+	if (v316 == 5) { v320 = (ptr)0; v321 = v322 = v323 = v324 = v325 = v326 = v327 = v328 = v329 = v330 = v332 = 0; v331 = 5; goto L305; }
+	if (v316 != 4 || (v318 | v317) == 0) { M116: v333 = v310; v334 = v312; goto L308; }
+	deallocate((ptr)v319);
+	goto M116;
 L301:
 L302:
 L303:
-	st64(v969, v320);
-	st64(v969+8, v1844);
-	st64(v969+16, 0);
-	stp(v969+24, v316+8);
-	st64(v969+32, v1845);
-	st64(v969+40, 0);
-	st32(v969+48, v319);
-	st8(v969+52, v318);
-	clear(v969+53, 3);
-	u64 v1856 = v315 + 1;
-	capcopy_run_blocks_KindLinesBlockLine_write_line_ce79(v970, v990, v5, v1856, v969);
-	if (ld8(v970)) goto L304;
-	if (v315 < 4294967294u) { v315 = v1856; v316 = v1846+4; v317 = v1848; goto L278; }
-	v338 = v1856; v339 = v1848; goto L308;
+	st64(v965, v315);
+	st64(v965+8, v1841);
+	st64(v965+16, 0);
+	stp(v965+24, v311+8);
+	st64(v965+32, v1842);
+	st64(v965+40, 0);
+	st32(v965+48, v314);
+	st8(v965+52, v313);
+	clear(v965+53, 3);
+	u64 v1853 = v310 + 1;
+	capcopy_run_blocks_KindLinesBlockLine_write_line_ce79(v966, v986, v5, v1853, v965);
+	if (ld8(v966)) goto L304;
+	if (v310 < 4294967294u) { v310 = v1853; v311 = v1843+4; v312 = v1845; goto L278; }
+	v333 = v1853; v334 = v1845; goto L308;
 L304:
-	v325 = ldp(v970+24); v326 = ld64(v970+32); v327 = ld64(v970+40); v328 = ld64(v970+48); v329 = ld64(v970+56); v330 = ld64(v970+64); v331 = ld64(v970+72); v332 = ld64(v970+80); v333 = ld64(v970+88); v334 = ld64(v970+96); v335 = ld64(v970+104); v336 = ld8(v970+8); v337 = ld8(v970+16);
+	v320 = ldp(v966+24); v321 = ld64(v966+32); v322 = ld64(v966+40); v323 = ld64(v966+48); v324 = ld64(v966+56); v325 = ld64(v966+64); v326 = ld64(v966+72); v327 = ld64(v966+80); v328 = ld64(v966+88); v329 = ld64(v966+96); v330 = ld64(v966+104); v331 = ld8(v966+8); v332 = ld8(v966+16);
 L305:
-	v519 = v336; v520 = v337; v521 = v325; v522 = v326; v523 = v327; v524 = v328; v525 = v329; v526 = v330; v527 = v331; v528 = v332; v529 = v333; v530 = v334; v531 = v335; v518 = 0; goto L380;
+	v520 = v331; v521 = v332; v522 = v320; v523 = v321; v524 = v322; v525 = v323; v526 = v324; v527 = v325; v528 = v326; v529 = v327; v530 = v328; v531 = v329; v532 = v330; v519 = 0; goto L380;
 L306:
 	__builtin_trap();
 L307:
-	v338 = v315; v339 = v317;
+	v333 = v310; v334 = v312;
 L308:;
-	u64 v1857 = ld64(v4+24), v1858 = v1837 - v339, v1859 = ld64(v4+32) - v1857;
-	st64(v4+24, (v1858 < v1859 ? v1858 : v1859) + v1857);
-	if (v312 < v338) { v487 = v338; goto L368; }
-	clear(v962, 56);
-	clear(v963, 112);
-	clear(v961+8, 24);
-	stp(v961, v941);
-	clear(v960, 56);
-	u8 v1860 = ld32(v990+128) != 439041101;
-	clear(v958, 3);
-	clear(v959, 3);
-	clear(v953, 3);
+	u64 v1854 = ld64(v4+24), v1855 = v1834 - v334, v1856 = ld64(v4+32) - v1854;
+	st64(v4+24, (v1855 < v1856 ? v1855 : v1856) + v1854);
+	if (v307 < v333) { v488 = v333; goto L368; }
+	clear(v958, 56);
+	clear(v959, 112);
+	clear(v957+8, 24);
+	stp(v957, v936);
+	clear(v956, 56);
+	u8 v1857 = ld32(v986+128) != 439041101;
 	clear(v954, 3);
-	clear(v952, 3);
-	v340 = v941; v341 = v342 = 0; v343 = 12;
+	clear(v955, 3);
+	clear(v948, 3);
+	clear(v949, 3);
+	clear(v947, 3);
+	v335 = v936; v336 = v337 = 0; v338 = 12;
 L309:
-	clear(v951, 3);
-	u64 v1861 = v343 < 65536 ? v343 : 65536, v1862 = v1861 + v342;
-	if (v341 >= v1862) { v346 = v342; v347 = v340; v348 = v341; goto L313; }
-	u64 v1863 = v1862 - v341, v1864 = ld64(v961+16);
-	if (v1863 <= v1864 - v341) { v344 = v1864; v345 = v341; goto L311; }
-	u8 v1865 = std_alloc_vec_Vec_grow_amortized_56a3(v961, v1863);
-	if (!v1865) goto L310;
-	v344 = ld64(v961+16); v345 = ld64(v961+8); goto L311;
-L310:
-	clear(v952, 3);
-	v408 = v409 = v410 = v411 = v413 = v414 = v415 = v416 = v417 = v418 = v419 = v420 = 0; v412 = 5; goto L361;
-L311:;
-	u64 v1866 = v345 + v1863;
-	ptr v1867 = ldp(v961);
-	if (v345 >= v1866) goto L312;
-	clear(at(v1867, v345), v1863);
-L312:
-	st64(v961+8, v1866);
-	st64(v961+16, v344);
-	v346 = ld64(v961+24); v347 = v1867; v348 = v1866;
+	clear(v945, 3);
+	clear(v946, 3);
+	u64 v1858 = v338 < 65536 ? v338 : 65536, v1859 = v1858 + v337;
+	if (v336 >= v1859) { v345 = v337; v346 = v335; v347 = v336; goto L313; }
+	v339 = v335; v340 = ld64(v957+16); v341 = v336;
+L310:;
+	u64 v1860 = v1859 - v341, v1861 = v1860 < 1024 ? v1860 : 1024;
+	if (v1861 <= v340 - v341) { v342 = v339; v343 = v340; v344 = v341; goto L312; }
+	u8 v1862 = std_alloc_vec_Vec_grow_amortized_56a3(v957, v1861);
+	if (!v1862) goto L311;
+	v342 = ldp(v957); v343 = ld64(v957+16); v344 = ld64(v957+8); goto L312;
+L311:
+	clear(v947, 3);
+	v409 = v410 = v411 = v412 = v414 = v415 = v416 = v417 = v418 = v419 = v420 = v421 = 0; v413 = 5; goto L361;
+L312:;
+	u64 v1863 = v344 + v1861;
+	clear(at(v342, v344), v1861);
+	st64(v957+8, v1863);
+	st64(v957+16, v343);
+	if (v1863 < v1859) { v339 = v342; v340 = v343; v341 = v1863; goto L310; }
+	v345 = ld64(v957+24); v346 = ldp(v957); v347 = v1863;
 L313:
-	clear(v949, 96);
-	std_io_buffered_BufReaderRead_read_e988(v949, v4, at(v347, v346), v1861);
-	u64 v1868 = ld64(v949+8), v1869 = ld64(v949+16), v1870 = ld64(v949+24), v1871 = ld64(v949+32);
-	u64 v1872 = ld64(v949+40);
-	u32 v1873 = ld32(v949+48);
-	u8 v1874 = ld8(v949+52), v1875 = ld8(v949);
-	copy(v950, v949+53, 3);
-	u64 v1876 = ld64(v949+56), v1877 = ld64(v949+64), v1878 = ld64(v949+72), v1879 = ld64(v949+80);
-	u64 v1880 = ld64(v949+88);
-	if (v1875) goto L360;
-	u64 v1881 = v1868 + v346;
-	st64(v961+24, v1881);
-	copy(v952, v951, 3);
-	if (v1868) goto L315;
-	if (v1881) goto L314;
-	v470 = v471 = v472 = v473 = v474 = v476 = v477 = v478 = v479 = v480 = v481 = v482 = v483 = v484 = v485 = v486 = 0; v475 = 1; goto L365;
+	clear(v944, 96);
+	std_io_buffered_BufReaderRead_read_e988(v944, v4, at(v346, v345), v1858);
+	u64 v1864 = ld64(v944+8), v1865 = ld64(v944+16), v1866 = ld64(v944+24), v1867 = ld64(v944+32);
+	u64 v1868 = ld64(v944+40);
+	u32 v1869 = ld32(v944+48);
+	u8 v1870 = ld8(v944+52), v1871 = ld8(v944);
+	copy(v945, v944+53, 3);
+	u64 v1872 = ld64(v944+56), v1873 = ld64(v944+64), v1874 = ld64(v944+72), v1875 = ld64(v944+80);
+	u64 v1876 = ld64(v944+88);
+	if (v1871) goto L360;
+	u64 v1877 = v1864 + v345;
+	st64(v957+24, v1877);
+	copy(v947, v946, 3);
+	if (v1864) goto L315;
+	if (v1877) goto L314;
+	v471 = v472 = v473 = v474 = v475 = v477 = v478 = v479 = v480 = v481 = v482 = v483 = v484 = v485 = v486 = v487 = 0; v476 = 1; goto L365;
 L314:
-	fill(v954, 46, 3);
-	v421 = 0x2e2e2e2e2e2e2e2eull; v422 = 0x2e2e2e2e2e2e2e2eull; v423 = 0x2e2e2e2e2e2e2e2eull; v424 = 0x2e2e2e2e2e2e2e2eull; v425 = 0x2e2e2e2e2e2e2e2eull; v426 = 774778414; v428 = 0x2e2e2e2e2e2e2e2eull; v434 = 0x6572747320656874ull; v435 = 0x6465646e65206d61ull; v436 = 0x2e2e796c72616520ull; v427 = 46; v429 = 3; v430 = 37; v431 = 22; v432 = v433 = 0; v437 = 1; goto L362;
+	fill(v949, 46, 3);
+	v422 = 0x2e2e2e2e2e2e2e2eull; v423 = 0x2e2e2e2e2e2e2e2eull; v424 = 0x2e2e2e2e2e2e2e2eull; v425 = 0x2e2e2e2e2e2e2e2eull; v426 = 0x2e2e2e2e2e2e2e2eull; v427 = 774778414; v429 = 0x2e2e2e2e2e2e2e2eull; v435 = 0x6572747320656874ull; v436 = 0x6465646e65206d61ull; v437 = 0x2e2e796c72616520ull; v428 = 46; v430 = 3; v431 = 37; v432 = 22; v433 = v434 = 0; v438 = 1; goto L362;
 L315:;
-	u64 v1882 = v343 - v1868;
-	if (v1882) { v340 = v347; v341 = v348; v342 = v1881; v343 = v1882; goto L309; }
-	u32 v1883 = lu32(v347), v1884 = v1860 ? v1883 : (u32)__builtin_bswap32(v1883);
-	if (v1884 != 168627466) goto L318;
-	switch ((u32)__builtin_bswap32(lu32(v347+8))) {
+	u64 v1878 = v338 - v1864;
+	if (v1878) { v335 = v346; v336 = v347; v337 = v1877; v338 = v1878; goto L309; }
+	u32 v1879 = lu32(v346), v1880 = v1857 ? v1879 : (u32)__builtin_bswap32(v1879);
+	if (v1880 != 168627466) goto L318;
+	switch ((u32)__builtin_bswap32(lu32(v346+8))) {
 	case 439041101: goto L316;
 	case 1295788826: goto L317;
-	default: v406 = (ptr)static_40; v407 = 40; goto L359;
+	default: v407 = (ptr)static_40; v408 = 40; goto L359;
 	}
 L316:
-	v350 = (u32)__builtin_bswap32(lu32(v347+4)); v349 = 0; goto L319;
+	v349 = (u32)__builtin_bswap32(lu32(v346+4)); v348 = 0; goto L319;
 L317:
-	v350 = lu32(v347+4); v349 = 1; goto L319;
+	v349 = lu32(v346+4); v348 = 1; goto L319;
 L318:;
-	u32 v1885 = lu32(v347+4);
-	v349 = v1860; v350 = v1860 ? v1885 : (u32)__builtin_bswap32(v1885);
+	u32 v1881 = lu32(v346+4);
+	v348 = v1857; v349 = v1857 ? v1881 : (u32)__builtin_bswap32(v1881);
 L319:
-	if (v350 & 3) { v406 = (ptr)static_41; v407 = 29; goto L359; }
-	if (v350 < 12) { v406 = (ptr)static_42; v407 = 23; goto L359; }
-	u64 v1886 = (u64)v350 - 12;
-	copy(v958, v953, 3);
-	u8 v1887 = v1886 == 0;
-	if (!v1887) goto L320;
-	v358 = ldp(v961); goto L328;
+	if (v349 & 3) { v407 = (ptr)static_41; v408 = 29; goto L359; }
+	if (v349 < 12) { v407 = (ptr)static_42; v408 = 23; goto L359; }
+	u64 v1882 = (u64)v349 - 12;
+	copy(v954, v948, 3);
+	u8 v1883 = v1882 == 0;
+	if (v1883) goto L328;
+	clear(v953, 3);
+	v350 = ld64(v957+8); v351 = v1877; v352 = v1882;
 L320:
-	v351 = ld64(v961+8); v352 = v1881; v353 = v1886;
+	clear(v951, 3);
+	clear(v952, 3);
+	u64 v1884 = v352 < 65536 ? v352 : 65536, v1885 = v1884 + v351;
+	if (v350 >= v1885) goto L324;
+	v353 = ld64(v957+16); v354 = v350;
 L321:;
-	u64 v1888 = v353 < 65536 ? v353 : 65536, v1889 = v1888 + v352;
-	if (v351 >= v1889) { v356 = v352; v357 = v351; goto L325; }
-	u64 v1890 = v1889 - v351, v1891 = ld64(v961+16);
-	if (v1890 <= v1891 - v351) { v354 = v1891; v355 = v351; goto L323; }
-	u8 v1892 = std_alloc_vec_Vec_grow_amortized_56a3(v961, v1890);
-	if (!v1892) goto L322;
-	v354 = ld64(v961+16); v355 = ld64(v961+8); goto L323;
+	u64 v1886 = v1885 - v354, v1887 = v1886 < 1024 ? v1886 : 1024;
+	if (v1887 <= v353 - v354) { v355 = v353; v356 = v354; goto L323; }
+	u8 v1888 = std_alloc_vec_Vec_grow_amortized_56a3(v957, v1887);
+	if (!v1888) goto L322;
+	v355 = ld64(v957+16); v356 = ld64(v957+8); goto L323;
 L322:
-	clear(v957, 3);
-	v379 = v380 = v381 = v382 = v384 = v385 = v386 = v387 = v388 = v389 = v390 = v391 = 0; v383 = 5; goto L357;
+	clear(v953, 3);
+	v380 = v381 = v382 = v383 = v385 = v386 = v387 = v388 = v389 = v390 = v391 = v392 = 0; v384 = 5; goto L357;
 L323:;
-	u64 v1893 = v355 + v1890;
-	if (v355 >= v1893) goto L324;
-	clear(at(ldp(v961), v355), v1890);
+	u64 v1889 = v356 + v1887;
+	ptr v1890 = ldp(v957);
+	clear(at(v1890, v356), v1887);
+	st64(v957+8, v1889);
+	st64(v957+16, v355);
+	if (v1889 < v1885) { v353 = v355; v354 = v1889; goto L321; }
+	v357 = ld64(v957+24); v358 = v1890; v359 = v1889; goto L325;
 L324:
-	st64(v961+8, v1893);
-	st64(v961+16, v354);
-	v356 = ld64(v961+24); v357 = v1893;
-L325:;
-	ptr v1894 = ldp(v961);
-	clear(v955, 96);
-	std_io_buffered_BufReaderRead_read_e988(v955, v4, at(v1894, v356), v1888);
-	u64 v1895 = ld64(v955+8), v1896 = ld64(v955+16), v1897 = ld64(v955+24), v1898 = ld64(v955+32);
-	u64 v1899 = ld64(v955+40);
-	u32 v1900 = ld32(v955+48);
-	u8 v1901 = ld8(v955+52), v1902 = ld8(v955);
-	copy(v956, v955+53, 3);
-	u64 v1903 = ld64(v955+56), v1904 = ld64(v955+64), v1905 = ld64(v955+72), v1906 = ld64(v955+80);
-	u64 v1907 = ld64(v955+88);
-	if (v1902) goto L356;
-	u64 v1908 = v1895 + v356;
-	st64(v961+24, v1908);
-	clear(v957, 3);
-	if (v1895) goto L326;
-	if (!v1908) goto L327;
-	fill(v959, 46, 3);
-	v392 = 0x2e2e2e2e2e2e2e2eull; v393 = 0x2e2e2e2e2e2e2e2eull; v394 = 0x2e2e2e2e2e2e2e2eull; v395 = 0x2e2e2e2e2e2e2e2eull; v396 = 0x2e2e2e2e2e2e2e2eull; v397 = 774778414; v399 = 0x2e2e2e2e2e2e2e2eull; v400 = 1451267; v402 = 0x6572747320656874ull; v403 = 0x6465646e65206d61ull; v404 = 0x2e2e796c72616520ull; v398 = 46; v401 = 0; v405 = 1; goto L358;
+	v357 = v351; v358 = ldp(v957); v359 = v350;
+L325:
+	clear(v950, 96);
+	std_io_buffered_BufReaderRead_read_e988(v950, v4, at(v358, v357), v1884);
+	u64 v1891 = ld64(v950+8), v1892 = ld64(v950+16), v1893 = ld64(v950+24), v1894 = ld64(v950+32);
+	u64 v1895 = ld64(v950+40);
+	u32 v1896 = ld32(v950+48);
+	u8 v1897 = ld8(v950+52), v1898 = ld8(v950);
+	copy(v951, v950+53, 3);
+	u64 v1899 = ld64(v950+56), v1900 = ld64(v950+64), v1901 = ld64(v950+72), v1902 = ld64(v950+80);
+	u64 v1903 = ld64(v950+88);
+	if (v1898) goto L356;
+	u64 v1904 = v1891 + v357;
+	st64(v957+24, v1904);
+	copy(v953, v952, 3);
+	if (v1891) goto L326;
+	if (!v1904) goto L327;
+	fill(v955, 46, 3);
+	v393 = 0x2e2e2e2e2e2e2e2eull; v394 = 0x2e2e2e2e2e2e2e2eull; v395 = 0x2e2e2e2e2e2e2e2eull; v396 = 0x2e2e2e2e2e2e2e2eull; v397 = 0x2e2e2e2e2e2e2e2eull; v398 = 774778414; v400 = 0x2e2e2e2e2e2e2e2eull; v401 = 1451267; v403 = 0x6572747320656874ull; v404 = 0x6465646e65206d61ull; v405 = 0x2e2e796c72616520ull; v399 = 46; v402 = 0; v406 = 1; goto L358;
 L326:;
-	u64 v1909 = v353 - v1895;
-	if (v1909) { v351 = v357; v352 = v1908; v353 = v1909; goto L321; }
+	u64 v1905 = v352 - v1891;
+	if (v1905) { v350 = v359; v351 = v1904; v352 = v1905; goto L320; }
 L327:
-	v358 = v1894;
 L328:;
-	u32 v1910 = lu32(at(v358+8, v1886));
-	if ((!v349 ? (u32)__builtin_bswap32(v1910) : v1910) != v350) goto L355;
-	switch (v1884) {
-	case 168627466: v359 = v360 = 0; goto L337;
+	ptr v1906 = ldp(v957)+8;
+	u32 v1907 = lu32(at(v1906, v1882));
+	if ((!v348 ? (u32)__builtin_bswap32(v1907) : v1907) != v349) goto L355;
+	switch (v1880) {
+	case 168627466: v360 = v361 = 0; goto L337;
 	case 1: goto L329;
 	case 2: goto L330;
 	case 3: goto L331;
@@ -10590,260 +10596,260 @@ L328:;
 	default: goto L336;
 	}
 L329:
-	v359 = 1; v360 = 0; goto L337;
+	v360 = 1; v361 = 0; goto L337;
 L330:
-	v359 = 2; v360 = 0; goto L337;
+	v360 = 2; v361 = 0; goto L337;
 L331:
-	v359 = 3; v360 = 0; goto L337;
+	v360 = 3; v361 = 0; goto L337;
 L332:
-	v359 = 4; v360 = 0; goto L337;
+	v360 = 4; v361 = 0; goto L337;
 L333:
-	v359 = 5; v360 = 0; goto L337;
+	v360 = 5; v361 = 0; goto L337;
 L334:
-	v359 = 6; v360 = 0; goto L337;
+	v360 = 6; v361 = 0; goto L337;
 L335:
-	v359 = 7; v360 = 0; goto L337;
+	v360 = 7; v361 = 0; goto L337;
 L336:
-	v360 = v1884; v359 = 8;
+	v361 = v1880; v360 = 8;
 L337:
-	if (v1887) { v361 = v941; goto L338; }
-	t_64_64 v1911 = allocate(v1886, 1);
-	if (!(v1911.f0 & 1)) { v470 = v471 = v472 = v473 = v474 = v475 = v477 = v478 = v479 = v480 = v481 = v482 = v483 = v484 = v485 = v486 = 0; v476 = 5; goto L365; }
-	v361 = (ptr)v1911.f1;
+	if (v1883) { v362 = v936; goto L338; }
+	t_64_64 v1908 = allocate(v1882, 1);
+	if (!(v1908.f0 & 1)) { v471 = v472 = v473 = v474 = v475 = v476 = v478 = v479 = v480 = v481 = v482 = v483 = v484 = v485 = v486 = v487 = 0; v477 = 5; goto L365; }
+	v362 = (ptr)v1908.f1;
 L338:
-	if ((u64)v361 - (u64)(v358+8) >= v1886) goto L340;
-	v362 = 0;
+	if ((u64)v362 - (u64)v1906 >= v1882) goto L340;
+	v363 = 0;
 L339:
-	st8(at(v361, v362), ld8(at(v358+8, v362)));
-	u64 v1912 = v362 + 1;
-	if (v1912 == v1886) goto L341;
-	v362 = v1912; goto L339;
+	st8(at(v362, v363), ld8(at(v1906, v363)));
+	u64 v1909 = v363 + 1;
+	if (v1909 == v1882) goto L341;
+	v363 = v1909; goto L339;
 L340:
-	move(v361, v358+8, v1886);
+	move(v362, v1906, v1882);
 L341:
-	st8(v960, v359);
-	st_bytes(v960+1, 0, 3);
-	st32(v960+4, v360);
-	st32(v960+8, v350);
-	st32(v960+12, 0);
-	st64(v960+16, 1);
-	stp(v960+24, v361);
-	st64(v960+32, v1886);
-	st64(v960+40, v1886);
-	st32(v960+48, v350);
-	st8(v960+52, v349);
-	clear(v960+53, 3);
-	clear(v946, 104);
-	clear(v945, 104);
-	u64 v1913 = (u64)v361;
-	u32 v1914 = (u32)v1886;
-	switch (v359) {
+	st8(v956, v360);
+	st_bytes(v956+1, 0, 3);
+	st32(v956+4, v361);
+	st32(v956+8, v349);
+	st32(v956+12, 0);
+	st64(v956+16, 1);
+	stp(v956+24, v362);
+	st64(v956+32, v1882);
+	st64(v956+40, v1882);
+	st32(v956+48, v349);
+	st8(v956+52, v348);
+	clear(v956+53, 3);
+	clear(v941, 104);
+	clear(v940, 104);
+	u64 v1910 = (u64)v362;
+	u32 v1911 = (u32)v1882;
+	switch (v360) {
 	case 0: goto L342;
 	case 1: goto L343;
 	case 2: case 3: case 4: case 5: case 6: case 7: case 8: goto L351;
 	default: goto L354;
 	}
 L342:
-	pcap_ng_pcapng_block_Block_new_section(v945, v361, v1886);
+	pcap_ng_pcapng_block_Block_new_section(v940, v362, v1882);
 	goto L344;
 L343:
-	pcap_ng_pcapng_block_Block_new_interface(v945, v960);
+	pcap_ng_pcapng_block_Block_new_interface(v940, v956);
 L344:;
-	u8 v1915 = ld8(v945+8);
-	u32 v1916 = ld32(v945+56);
-	u8 v1917 = ld8(v945+60);
-	u64 v1918 = ld64(v945+64);
-	u32 v1919 = ld32(v945+16), v1920 = ld32(v945+20), v1921 = ld32(v945+24), v1922 = ld32(v945+28);
-	u64 v1923 = ld64(v945+32), v1924 = ld64(v945+40), v1925 = ld64(v945+48);
-	u32 v1926 = (u32)ld_bytes(v945+61, 3) & 16777215;
-	u64 v1927 = ld64(v945+72), v1928 = ld64(v945+80), v1929 = ld64(v945+88), v1930 = ld64(v945+96);
-	if (ld8(v945)) goto L349;
-	switch (v1915) {
+	u8 v1912 = ld8(v940+8);
+	u32 v1913 = ld32(v940+56);
+	u8 v1914 = ld8(v940+60);
+	u64 v1915 = ld64(v940+64);
+	u32 v1916 = ld32(v940+16), v1917 = ld32(v940+20), v1918 = ld32(v940+24), v1919 = ld32(v940+28);
+	u64 v1920 = ld64(v940+32), v1921 = ld64(v940+40), v1922 = ld64(v940+48);
+	u32 v1923 = (u32)ld_bytes(v940+61, 3) & 16777215;
+	u64 v1924 = ld64(v940+72), v1925 = ld64(v940+80), v1926 = ld64(v940+88), v1927 = ld64(v940+96);
+	if (ld8(v940)) goto L349;
+	switch (v1912) {
 	case 0: goto L345;
 	case 1: goto L346;
 	case 2: goto L352;
 	default: goto L348;
 	}
 L345:
-	st32(v947, v1919);
-	st32(v947+4, v1920);
-	st32(v947+8, v1921);
-	st32(v947+12, v1922);
-	st64(v947+16, v1923);
-	st64(v947+24, v1924);
-	st64(v947+32, v1925);
-	pcap_ng_pcapng_state_InForce_begin_section(v946, v990+128, v947);
+	st32(v942, v1916);
+	st32(v942+4, v1917);
+	st32(v942+8, v1918);
+	st32(v942+12, v1919);
+	st64(v942+16, v1920);
+	st64(v942+24, v1921);
+	st64(v942+32, v1922);
+	pcap_ng_pcapng_state_InForce_begin_section(v941, v986+128, v942);
 	goto L347;
 L346:
-	st32(v948, v1919);
-	st32(v948+4, v1920);
-	st32(v948+8, v1921);
-	st32(v948+12, v1922);
-	st64(v948+16, v1923);
-	st64(v948+24, v1924);
-	st64(v948+32, v1925);
-	pcap_ng_pcapng_state_InForce_add_interface(v946, v990+128, v948);
+	st32(v943, v1916);
+	st32(v943+4, v1917);
+	st32(v943+8, v1918);
+	st32(v943+12, v1919);
+	st64(v943+16, v1920);
+	st64(v943+24, v1921);
+	st64(v943+32, v1922);
+	pcap_ng_pcapng_state_InForce_add_interface(v941, v986+128, v943);
 L347:
-	if (!ld8(v946)) goto L353;
-	v363 = (u32)ld_bytes(v946+61, 3) & 16777215; v364 = ld64(v946+72); v365 = ld64(v946+80); v366 = ld64(v946+88); v367 = ld64(v946+96); v368 = ld8(v946+8); v369 = ld32(v946+16); v370 = ld32(v946+20); v371 = ld32(v946+24); v372 = ld32(v946+28); v373 = ld64(v946+32); v374 = ld64(v946+40); v375 = ld64(v946+48); v376 = ld32(v946+56); v377 = ld8(v946+60); v378 = ld64(v946+64); goto L350;
+	if (!ld8(v941)) goto L353;
+	v364 = (u32)ld_bytes(v941+61, 3) & 16777215; v365 = ld64(v941+72); v366 = ld64(v941+80); v367 = ld64(v941+88); v368 = ld64(v941+96); v369 = ld8(v941+8); v370 = ld32(v941+16); v371 = ld32(v941+20); v372 = ld32(v941+24); v373 = ld32(v941+28); v374 = ld64(v941+32); v375 = ld64(v941+40); v376 = ld64(v941+48); v377 = ld32(v941+56); v378 = ld8(v941+60); v379 = ld64(v941+64); goto L350;
 L348:
 	__builtin_trap();
 L349:
-	v363 = v1926; v364 = v1927; v365 = v1928; v366 = v1929; v367 = v1930; v368 = v1915; v369 = v1919; v370 = v1920; v371 = v1921; v372 = v1922; v373 = v1923; v374 = v1924; v375 = v1925; v376 = v1916; v377 = v1917; v378 = v1918;
+	v364 = v1923; v365 = v1924; v366 = v1925; v367 = v1926; v368 = v1927; v369 = v1912; v370 = v1916; v371 = v1917; v372 = v1918; v373 = v1919; v374 = v1920; v375 = v1921; v376 = v1922; v377 = v1913; v378 = v1914; v379 = v1915;
 L350:
-	if (v1887) { M145: v470 = v363; v471 = v364; v472 = v365; v473 = v366; v474 = v367; v476 = v368; v477 = v369; v478 = v370; v479 = v371; v480 = v372; v481 = v373; v482 = v374; v483 = v375; v484 = v376; v485 = v377; v486 = v378; v475 = 0; goto L365; }
-	deallocate(v361);
-	goto M145;
+	if (v1883) { M149: v471 = v364; v472 = v365; v473 = v366; v474 = v367; v475 = v368; v477 = v369; v478 = v370; v479 = v371; v480 = v372; v481 = v373; v482 = v374; v483 = v375; v484 = v376; v485 = v377; v486 = v378; v487 = v379; v476 = 0; goto L365; }
+	deallocate(v362);
+	goto M149;
 L351:
 L352:
 L353:
-	v477 = ld32(v960); v478 = v360; v479 = v350; v482 = v1913; v483 = v1886; v484 = v1914; v486 = ld64(v960+48); v470 = v471 = v472 = v473 = v474 = v480 = v485 = 0; v475 = v476 = v481 = 1; goto L365;
+	v478 = ld32(v956); v479 = v361; v480 = v349; v483 = v1910; v484 = v1882; v485 = v1911; v487 = ld64(v956+48); v471 = v472 = v473 = v474 = v475 = v481 = v486 = 0; v476 = v477 = v482 = 1; goto L365;
 L354:
 	__builtin_trap();
 L355:
-	st8(v944, 38);
-	st_bytes(v944+1, 0, 7);
-	v477 = (u64)(ptr)static_43; v478 = v1821; v479 = ld32(v944); v470 = v471 = v472 = v473 = v474 = v475 = v480 = v481 = v482 = v483 = v484 = v485 = v486 = 0; v476 = 2; goto L365;
+	st8(v939, 38);
+	st_bytes(v939+1, 0, 7);
+	v478 = (u64)(ptr)static_43; v479 = v1818; v480 = ld32(v939); v471 = v472 = v473 = v474 = v475 = v476 = v481 = v482 = v483 = v484 = v485 = v486 = v487 = 0; v477 = 2; goto L365;
 L356:
-	copy(v957, v956, 3);
-	v379 = v1904; v380 = v1905; v381 = v1906; v382 = v1907; v384 = v1895; v385 = v1898; v386 = v1897; v387 = v1896; v388 = v1903; v389 = v1901; v390 = v1900; v391 = v1899; v383 = 1;
+	copy(v953, v951, 3);
+	v380 = v1900; v381 = v1901; v382 = v1902; v383 = v1903; v385 = v1891; v386 = v1894; v387 = v1893; v388 = v1892; v389 = v1899; v390 = v1897; v391 = v1896; v392 = v1895; v384 = 1;
 L357:
-	copy(v959, v957, 3);
-	v392 = v379; v393 = v380; v394 = v381; v395 = v382; v396 = v391; v397 = v390; v398 = v389; v399 = v388; v400 = (u32)v384; v401 = (u32)(v384 >> 32); v402 = v387; v403 = v386; v404 = v385; v405 = v383;
+	copy(v955, v953, 3);
+	v393 = v380; v394 = v381; v395 = v382; v396 = v383; v397 = v392; v398 = v391; v399 = v390; v400 = v389; v401 = (u32)v385; v402 = (u32)(v385 >> 32); v403 = v388; v404 = v387; v405 = v386; v406 = v384;
 L358:
-	v455 = v959; v456 = v393; v457 = v394; v458 = v395; v459 = v392; v460 = v396; v461 = v397; v462 = v398; v463 = v399; v464 = v401; v465 = v402; v466 = v403; v467 = v404; v468 = v400; v469 = v405; goto L364;
+	v456 = v955; v457 = v394; v458 = v395; v459 = v396; v460 = v393; v461 = v397; v462 = v398; v463 = v399; v464 = v400; v465 = v402; v466 = v403; v467 = v404; v468 = v405; v469 = v401; v470 = v406; goto L364;
 L359:;
-	u64 v1931 = (u64)v406;
-	clear(v958, 3);
-	v446 = (u32)(v1931 >> 8); v447 = (u32)(v1931 >> 16); v448 = (u32)(v1931 >> 24); v449 = (u32)(v1931 >> 32); v450 = v407; v453 = (u32)v1931; v438 = v439 = v440 = v441 = v442 = v443 = v444 = v445 = v451 = v452 = 0; v454 = 2; goto L363;
+	u64 v1928 = (u64)v407;
+	clear(v954, 3);
+	v447 = (u32)(v1928 >> 8); v448 = (u32)(v1928 >> 16); v449 = (u32)(v1928 >> 24); v450 = (u32)(v1928 >> 32); v451 = v408; v454 = (u32)v1928; v439 = v440 = v441 = v442 = v443 = v444 = v445 = v446 = v452 = v453 = 0; v455 = 2; goto L363;
 L360:
-	copy(v952, v950, 3);
-	v408 = v1880; v409 = v1879; v410 = v1878; v411 = v1877; v413 = v1868; v414 = v1871; v415 = v1870; v416 = v1869; v417 = v1876; v418 = v1874; v419 = v1873; v420 = v1872; v412 = 1;
+	copy(v947, v945, 3);
+	v409 = v1876; v410 = v1875; v411 = v1874; v412 = v1873; v414 = v1864; v415 = v1867; v416 = v1866; v417 = v1865; v418 = v1872; v419 = v1870; v420 = v1869; v421 = v1868; v413 = 1;
 L361:
-	copy(v954, v952, 3);
-	v421 = v411; v422 = v410; v423 = v409; v424 = v408; v425 = v420; v426 = v419; v427 = v418; v428 = v417; v429 = (u32)v413; v430 = (u32)(v413 >> 8); v431 = (u32)(v413 >> 16); v432 = (u32)(v413 >> 24); v433 = (u32)(v413 >> 32); v434 = v416; v435 = v415; v436 = v414; v437 = v412;
+	copy(v949, v947, 3);
+	v422 = v412; v423 = v411; v424 = v410; v425 = v409; v426 = v421; v427 = v420; v428 = v419; v429 = v418; v430 = (u32)v414; v431 = (u32)(v414 >> 8); v432 = (u32)(v414 >> 16); v433 = (u32)(v414 >> 24); v434 = (u32)(v414 >> 32); v435 = v417; v436 = v416; v437 = v415; v438 = v413;
 L362:
-	copy(v958, v954, 3);
-	v438 = v421; v439 = v422; v440 = v423; v441 = v424; v442 = v425; v443 = v426; v444 = v427; v445 = v428; v446 = v430; v447 = v431; v448 = v432; v449 = v433; v450 = v434; v451 = v435; v452 = v436; v453 = v429; v454 = v437;
+	copy(v954, v949, 3);
+	v439 = v422; v440 = v423; v441 = v424; v442 = v425; v443 = v426; v444 = v427; v445 = v428; v446 = v429; v447 = v431; v448 = v432; v449 = v433; v450 = v434; v451 = v435; v452 = v436; v453 = v437; v454 = v430; v455 = v438;
 L363:
-	v455 = v958; v456 = v439; v457 = v440; v458 = v441; v459 = v438; v460 = v442; v461 = v443; v462 = v444; v463 = v445; v464 = v449; v465 = v450; v466 = v451; v467 = v452; v468 = (v453 & 255) | (((v446 << 8) & 65280) | ((v447 << 16) & 16711680) | (v448 << 24)); v469 = v454;
+	v456 = v954; v457 = v440; v458 = v441; v459 = v442; v460 = v439; v461 = v443; v462 = v444; v463 = v445; v464 = v446; v465 = v450; v466 = v451; v467 = v452; v468 = v453; v469 = (v454 & 255) | (((v447 << 8) & 65280) | ((v448 << 16) & 16711680) | (v449 << 24)); v470 = v455;
 L364:
-	v470 = (u32)ld_bytes(v455, 3) & 16777215; v471 = v459; v472 = v456; v473 = v457; v474 = v458; v476 = v469; v477 = v468; v478 = v464; v479 = (u32)v465; v480 = (u32)(v465 >> 32); v481 = v466; v482 = v467; v483 = v460; v484 = v461; v485 = v462; v486 = v463; v475 = 0;
+	v471 = (u32)ld_bytes(v456, 3) & 16777215; v472 = v460; v473 = v457; v474 = v458; v475 = v459; v477 = v470; v478 = v469; v479 = v465; v480 = (u32)v466; v481 = (u32)(v466 >> 32); v482 = v467; v483 = v468; v484 = v461; v485 = v462; v486 = v463; v487 = v464; v476 = 0;
 L365:
-	if (!ld64(v961+16)) goto L366;
-	deallocate(ldp(v961));
+	if (!ld64(v957+16)) goto L366;
+	deallocate(ldp(v957));
 L366:
-	if (!v475) goto L371;
-	if (v476 != 1) goto L370;
-	u64 v1932 = ((u64)v485 << 32) | (u64)v484 | ((u64)v470 << 40);
-	st32(v962, v477);
-	st32(v962+4, v478);
-	st64(v962+8, ((u64)v480 << 32) | (u64)v479);
-	st64(v962+16, v481);
-	st64(v962+24, v482);
-	st64(v962+32, v483);
-	st64(v962+40, v1932);
-	st64(v962+48, v486);
-	u64 v1933 = v338 + 1;
-	capcopy_run_blocks_KindLinesBlockLine_write_line_ce79(v963, v990, v5, v1933, v962);
-	u8 v1934 = ld8(v963+16), v1935 = (u8)v481;
-	if (ld8(v963)) goto L369;
-	if (v1935 != 1 || !v1932) goto L367;
-	deallocate((ptr)v482);
+	if (!v476) goto L371;
+	if (v477 != 1) goto L370;
+	u64 v1929 = ((u64)v486 << 32) | (u64)v485 | ((u64)v471 << 40);
+	st32(v958, v478);
+	st32(v958+4, v479);
+	st64(v958+8, ((u64)v481 << 32) | (u64)v480);
+	st64(v958+16, v482);
+	st64(v958+24, v483);
+	st64(v958+32, v484);
+	st64(v958+40, v1929);
+	st64(v958+48, v487);
+	u64 v1930 = v333 + 1;
+	capcopy_run_blocks_KindLinesBlockLine_write_line_ce79(v959, v986, v5, v1930, v958);
+	u8 v1931 = ld8(v959+16), v1932 = (u8)v482;
+	if (ld8(v959)) goto L369;
+	if (v1932 != 1 || !v1929) goto L367;
+	deallocate((ptr)v483);
 L367:
-	v487 = v1933;
+	v488 = v1930;
 L368:
-	if (v487 < 4294967295u) { v312 = v487; goto L276; }
-	v518 = v1838; v521 = (ptr)0; v519 = 2; v520 = v522 = v523 = v524 = v525 = v526 = v527 = v528 = v529 = v530 = v531 = 0; goto L380;
+	if (v488 < 4294967295u) { v307 = v488; goto L276; }
+	v519 = v1835; v522 = (ptr)0; v520 = 2; v521 = v523 = v524 = v525 = v526 = v527 = v528 = v529 = v530 = v531 = v532 = 0; goto L380;
 L369:;
-	u8 v1936 = ld8(v963+8);
-	u64 v1937 = ld64(v963+24), v1938 = ld64(v963+32), v1939 = ld64(v963+40), v1940 = ld64(v963+48);
-	u64 v1941 = ld64(v963+56), v1942 = ld64(v963+64), v1943 = ld64(v963+72), v1944 = ld64(v963+80);
-	u64 v1945 = ld64(v963+88), v1946 = ld64(v963+96), v1947 = ld64(v963+104);
-	if (v1935 != 1 || !v1932) { M151: v505 = v1936; v506 = v1934; v507 = v1937; v508 = v1938; v509 = v1939; v510 = v1940; v511 = v1941; v512 = v1942; v513 = v1943; v514 = v1944; v515 = v1945; v516 = v1946; v517 = v1947; goto L376; }
-	deallocate((ptr)v482);
-	goto M151;
+	u8 v1933 = ld8(v959+8);
+	u64 v1934 = ld64(v959+24), v1935 = ld64(v959+32), v1936 = ld64(v959+40), v1937 = ld64(v959+48);
+	u64 v1938 = ld64(v959+56), v1939 = ld64(v959+64), v1940 = ld64(v959+72), v1941 = ld64(v959+80);
+	u64 v1942 = ld64(v959+88), v1943 = ld64(v959+96), v1944 = ld64(v959+104);
+	if (v1932 != 1 || !v1929) { M155: v506 = v1933; v507 = v1931; v508 = v1934; v509 = v1935; v510 = v1936; v511 = v1937; v512 = v1938; v513 = v1939; v514 = v1940; v515 = v1941; v516 = v1942; v517 = v1943; v518 = v1944; goto L376; }
+	deallocate((ptr)v483);
+	goto M155;
 L370:
-	v521 = (ptr)0; v518 = 1; v519 = v520 = v522 = v523 = v524 = v525 = v526 = v527 = v528 = v529 = v530 = v531 = 0; goto L380;
+	v522 = (ptr)0; v519 = 1; v520 = v521 = v523 = v524 = v525 = v526 = v527 = v528 = v529 = v530 = v531 = v532 = 0; goto L380;
 L371:;
-	u64 v1948 = ((u64)v480 << 32) | (u64)v479;
-	u64 v1949 = ((u64)v485 << 32) | (u64)v484 | ((u64)v470 << 40);
-	u8 v1950 = (u8)v477, v1951 = (u8)(v477 >> 8), v1952 = (u8)(v477 >> 16), v1953 = (u8)(v477 >> 24);
-	switch (v476) {
+	u64 v1945 = ((u64)v481 << 32) | (u64)v480;
+	u64 v1946 = ((u64)v486 << 32) | (u64)v485 | ((u64)v471 << 40);
+	u8 v1947 = (u8)v478, v1948 = (u8)(v478 >> 8), v1949 = (u8)(v478 >> 16), v1950 = (u8)(v478 >> 24);
+	switch (v477) {
 	case 0: goto L372;
 	case 1: goto L373;
-	case 5: v503 = v476; v488 = v489 = v490 = v491 = v492 = v493 = v494 = v495 = v496 = v497 = v498 = v499 = v500 = v501 = v502 = v504 = 0; goto L375;
+	case 5: v504 = v477; v489 = v490 = v491 = v492 = v493 = v494 = v495 = v496 = v497 = v498 = v499 = v500 = v501 = v502 = v503 = v505 = 0; goto L375;
 	case 2: case 3: case 4: case 6: goto L374;
 	default: goto L377;
 	}
 L372:
-	v493 = 0x7470616320656874ull; v494 = 0x65646e6520657275ull; v495 = 0x2e796c7261652064ull; v496 = 0x2e2e2e2e2e2e2e2eull; v497 = 0x2e2e2e2e2e2e2e2eull; v498 = 0x2e2e2e2e2e2e2e2eull; v499 = 0x2e2e2e2e2e2e2e2eull; v500 = 0x2e2e2e2e2e2e2e2eull; v501 = 0x2e2e2e2e2e2e2e2eull; v502 = 0x2e2e2e2e2e2e2e2eull; v488 = 3; v489 = 37; v490 = 23; v491 = v492 = 0; v503 = 4; v504 = 1; goto L375;
+	v494 = 0x7470616320656874ull; v495 = 0x65646e6520657275ull; v496 = 0x2e796c7261652064ull; v497 = 0x2e2e2e2e2e2e2e2eull; v498 = 0x2e2e2e2e2e2e2e2eull; v499 = 0x2e2e2e2e2e2e2e2eull; v500 = 0x2e2e2e2e2e2e2e2eull; v501 = 0x2e2e2e2e2e2e2e2eull; v502 = 0x2e2e2e2e2e2e2e2eull; v503 = 0x2e2e2e2e2e2e2e2eull; v489 = 3; v490 = 37; v491 = 23; v492 = v493 = 0; v504 = 4; v505 = 1; goto L375;
 L373:
-	v488 = v1950; v489 = v1951; v490 = v1952; v491 = v1953; v492 = v478; v493 = v1948; v494 = v481; v495 = v482; v496 = v483; v497 = v1949; v498 = v486; v499 = v471; v500 = v472; v501 = v473; v502 = v474; v504 = v476; v503 = 4; goto L375;
+	v489 = v1947; v490 = v1948; v491 = v1949; v492 = v1950; v493 = v479; v494 = v1945; v495 = v482; v496 = v483; v497 = v484; v498 = v1946; v499 = v487; v500 = v472; v501 = v473; v502 = v474; v503 = v475; v505 = v477; v504 = 4; goto L375;
 L374:
-	v488 = v1950; v489 = v1951; v490 = v1952; v491 = v1953; v492 = v478; v493 = v1948; v494 = v481; v495 = v482; v496 = v483; v497 = v1949; v498 = v486; v499 = v471; v500 = v472; v501 = v473; v502 = v474; v504 = v476; v503 = 1;
+	v489 = v1947; v490 = v1948; v491 = v1949; v492 = v1950; v493 = v479; v494 = v1945; v495 = v482; v496 = v483; v497 = v484; v498 = v1946; v499 = v487; v500 = v472; v501 = v473; v502 = v474; v503 = v475; v505 = v477; v504 = 1;
 L375:
-	v505 = v503; v506 = v504; v507 = ((u64)v489 << 8) | (u64)v488 | ((u64)v490 << 16) | ((u64)v491 << 24) | ((u64)v492 << 32); v508 = v493; v509 = v494; v510 = v495; v511 = v496; v512 = v497; v513 = v498; v514 = v499; v515 = v500; v516 = v501; v517 = v502;
+	v506 = v504; v507 = v505; v508 = ((u64)v490 << 8) | (u64)v489 | ((u64)v491 << 16) | ((u64)v492 << 24) | ((u64)v493 << 32); v509 = v494; v510 = v495; v511 = v496; v512 = v497; v513 = v498; v514 = v499; v515 = v500; v516 = v501; v517 = v502; v518 = v503;
 L376:
-	v519 = v505; v520 = v506; v521 = (ptr)v507; v522 = v508; v523 = v509; v524 = v510; v525 = v511; v526 = v512; v527 = v513; v528 = v514; v529 = v515; v530 = v516; v531 = v517; v518 = 0; goto L380;
+	v520 = v506; v521 = v507; v522 = (ptr)v508; v523 = v509; v524 = v510; v525 = v511; v526 = v512; v527 = v513; v528 = v514; v529 = v515; v530 = v516; v531 = v517; v532 = v518; v519 = 0; goto L380;
 L377:
 	__builtin_trap();
 L378:
-	v521 = (ptr)v1826; v522 = v1827; v523 = v1828; v524 = v1829; v525 = v1830; v526 = v1831; v527 = v1832; v528 = v1833; v529 = v1834; v530 = v1835; v531 = v1836; v518 = 0; v519 = 4; v520 = 1; goto L380;
+	v522 = (ptr)v1823; v523 = v1824; v524 = v1825; v525 = v1826; v526 = v1827; v527 = v1828; v528 = v1829; v529 = v1830; v530 = v1831; v531 = v1832; v532 = v1833; v519 = 0; v520 = 4; v521 = 1; goto L380;
 L379:
-	v521 = ldp(v972+8); v522 = ld64(v972+16); v523 = ld64(v972+24); v524 = ld64(v972+32); v525 = ld64(v972+40); v526 = ld64(v972+48); v527 = ld64(v972+56); v528 = ld64(v972+64); v529 = ld64(v972+72); v530 = ld64(v972+80); v531 = ld64(v972+88); v518 = 0; v519 = 4; v520 = 1;
+	v522 = ldp(v968+8); v523 = ld64(v968+16); v524 = ld64(v968+24); v525 = ld64(v968+32); v526 = ld64(v968+40); v527 = ld64(v968+48); v528 = ld64(v968+56); v529 = ld64(v968+64); v530 = ld64(v968+72); v531 = ld64(v968+80); v532 = ld64(v968+88); v519 = 0; v520 = 4; v521 = 1;
 L380:;
-	ptr v1954 = ldp(v990+168);
-	u64 v1955 = ld64(v990+176), v1956 = ld64(v990+184);
-	copy(v991, v990+144, 24);
-	std_alloc_vec_Vec_drop_0f0e(v991);
-	if (!v1955) goto L382;
-	v532 = 0;
-L381:
-	copy(v943, at(v1954, v532 * 40)+16, 24);
-	std_alloc_vec_Vec_drop_37c7(v943);
-	u64 v1957 = v532 + 1;
-	if (v1957 != v1955) { v532 = v1957; goto L381; }
-L382:
-	if (!v1956) goto L383;
-	deallocate(v1954);
-L383:
-	if (v518) { v928 = v929 = v930 = v931 = v932 = v933 = v934 = v935 = v936 = v937 = v938 = v939 = v940 = 0; goto L518; }
-	v636 = v519; v637 = v531; v638 = v530; v639 = v529; v640 = v528; v641 = v527; v642 = v526; v643 = v525; v644 = v524; v645 = v523; v646 = v522; v647 = v521; v648 = v520; goto L399;
-L384:;
-	u8 v1958 = ld8(v988+8);
-	ptr v1959 = ldp(v988+24);
-	u64 v1960 = ld64(v988+32), v1961 = ld64(v988+40), v1962 = ld64(v988+48), v1963 = ld64(v988+56);
-	u64 v1964 = ld64(v988+64), v1965 = ld64(v988+72), v1966 = ld64(v988+80), v1967 = ld64(v988+88);
-	u64 v1968 = ld64(v988+96), v1969 = ld64(v988+104);
-	std_alloc_vec_Vec_drop_0f0e(v986+16);
-	if (!v295) goto L386;
+	ptr v1951 = ldp(v986+168);
+	u64 v1952 = ld64(v986+176), v1953 = ld64(v986+184);
+	copy(v987, v986+144, 24);
+	std_alloc_vec_Vec_drop_0f0e(v987);
+	if (!v1952) goto L382;
 	v533 = 0;
+L381:
+	copy(v938, at(v1951, v533 * 40)+16, 24);
+	std_alloc_vec_Vec_drop_37c7(v938);
+	u64 v1954 = v533 + 1;
+	if (v1954 != v1952) { v533 = v1954; goto L381; }
+L382:
+	if (!v1953) goto L383;
+	deallocate(v1951);
+L383:
+	if (v519) { v923 = v924 = v925 = v926 = v927 = v928 = v929 = v930 = v931 = v932 = v933 = v934 = v935 = 0; goto L518; }
+	v636 = v520; v637 = v532; v638 = v531; v639 = v530; v640 = v529; v641 = v528; v642 = v527; v643 = v526; v644 = v525; v645 = v524; v646 = v523; v647 = v522; v648 = v521; goto L399;
+L384:;
+	u8 v1955 = ld8(v984+8);
+	ptr v1956 = ldp(v984+24);
+	u64 v1957 = ld64(v984+32), v1958 = ld64(v984+40), v1959 = ld64(v984+48), v1960 = ld64(v984+56);
+	u64 v1961 = ld64(v984+64), v1962 = ld64(v984+72), v1963 = ld64(v984+80), v1964 = ld64(v984+88);
+	u64 v1965 = ld64(v984+96), v1966 = ld64(v984+104);
+	std_alloc_vec_Vec_drop_0f0e(v982+16);
+	if (!v290) goto L386;
+	v534 = 0;
 L385:
-	copy(v942, at(v296, v533 * 40)+16, 24);
-	std_alloc_vec_Vec_drop_37c7(v942);
-	u64 v1970 = v533 + 1;
-	if (v1970 != v295) { v533 = v1970; goto L385; }
+	copy(v937, at(v291, v534 * 40)+16, 24);
+	std_alloc_vec_Vec_drop_37c7(v937);
+	u64 v1967 = v534 + 1;
+	if (v1967 != v290) { v534 = v1967; goto L385; }
 L386:
-	if (!v294) { M159: v623 = v1958; v624 = v1820; v625 = v1959; v626 = v1960; v627 = v1961; v628 = v1962; v629 = v1963; v630 = v1964; v631 = v1965; v632 = v1966; v633 = v1967; v634 = v1968; v635 = v1969; goto L398; }
-	deallocate(v296);
-	goto M159;
+	if (!v289) { M163: v623 = v1955; v624 = v1817; v625 = v1956; v626 = v1957; v627 = v1958; v628 = v1959; v629 = v1960; v630 = v1961; v631 = v1962; v632 = v1963; v633 = v1964; v634 = v1965; v635 = v1966; goto L398; }
+	deallocate(v291);
+	goto M163;
 L387:
-	v576 = v543; v577 = v542; v578 = v541; v579 = v540; v580 = v534; v581 = v535; v582 = v536; v583 = (u32)(v544 >> 32); v584 = v537; v585 = v538; v586 = v539; v587 = (u32)v544; v588 = v545; goto L391;
+	v577 = v544; v578 = v543; v579 = v542; v580 = v541; v581 = v535; v582 = v536; v583 = v537; v584 = (u32)(v545 >> 32); v585 = v538; v586 = v539; v587 = v540; v588 = (u32)v545; v589 = v546; goto L391;
 L388:;
-	u64 v1971 = (u64)v546;
-	v560 = (ptr)0; v564 = (ptr)0; v567 = (u32)(v1971 >> 8); v568 = (u32)(v1971 >> 16); v569 = (u32)(v1971 >> 24); v570 = (u32)(v1971 >> 32); v571 = v547; v574 = (u32)v1971; v561 = v562 = v563 = v565 = v566 = v572 = v573 = 0; v575 = 2; goto L390;
+	u64 v1968 = (u64)v547;
+	v561 = (ptr)0; v565 = (ptr)0; v568 = (u32)(v1968 >> 8); v569 = (u32)(v1968 >> 16); v570 = (u32)(v1968 >> 24); v571 = (u32)(v1968 >> 32); v572 = v548; v575 = (u32)v1968; v562 = v563 = v564 = v566 = v567 = v573 = v574 = 0; v576 = 2; goto L390;
 L389:
-	v560 = v548; v561 = v549; v562 = v550; v563 = v551; v564 = v552; v565 = v553; v566 = v554; v567 = (u32)(v558 >> 8); v568 = (u32)(v558 >> 16); v569 = (u32)(v558 >> 24); v570 = (u32)(v558 >> 32); v571 = v555; v572 = v556; v573 = v557; v574 = (u32)v558; v575 = v559;
+	v561 = v549; v562 = v550; v563 = v551; v564 = v552; v565 = v553; v566 = v554; v567 = v555; v568 = (u32)(v559 >> 8); v569 = (u32)(v559 >> 16); v570 = (u32)(v559 >> 24); v571 = (u32)(v559 >> 32); v572 = v556; v573 = v557; v574 = v558; v575 = (u32)v559; v576 = v560;
 L390:
-	v576 = v560; v577 = v561; v578 = v562; v579 = v563; v580 = v564; v581 = v565; v582 = v566; v583 = v570; v584 = v571; v585 = v572; v586 = v573; v587 = (v574 & 255) | (((v567 << 8) & 65280) | ((v568 << 16) & 16711680) | (v569 << 24)); v588 = v575;
+	v577 = v561; v578 = v562; v579 = v563; v580 = v564; v581 = v565; v582 = v566; v583 = v567; v584 = v571; v585 = v572; v586 = v573; v587 = v574; v588 = (v575 & 255) | (((v568 << 8) & 65280) | ((v569 << 16) & 16711680) | (v570 << 24)); v589 = v576;
 L391:
-	v589 = ld64(v984+16); v590 = v588; v591 = (u8)v587; v592 = (u8)(v587 >> 8); v593 = (u8)(v587 >> 16); v594 = (u8)(v587 >> 24); v595 = v583; v596 = v584; v597 = v585; v598 = v586; v599 = v580; v600 = v581; v601 = v582; v602 = v576; v603 = v577; v604 = v578; v605 = v579;
+	v590 = v589; v591 = (u8)v588; v592 = (u8)(v588 >> 8); v593 = (u8)(v588 >> 16); v594 = (u8)(v588 >> 24); v595 = v584; v596 = v585; v597 = v586; v598 = v587; v599 = v581; v600 = v582; v601 = v583; v602 = v577; v603 = v578; v604 = v579; v605 = v580;
 L392:
-	if (!v589) goto L393;
-	deallocate(ldp(v984));
+	if (!ld64(v980+16)) goto L393;
+	deallocate(ldp(v980));
 L393:;
-	u64 v1972 = (u64)v599, v1973 = (u64)v602;
+	u64 v1969 = (u64)v599, v1970 = (u64)v602;
 	switch (v590) {
 	case 0: goto L394;
 	case 1: goto L395;
@@ -10854,667 +10860,663 @@ L393:;
 L394:
 	v611 = 0x7470616320656874ull; v612 = 0x65646e6520657275ull; v613 = 0x2e796c7261652064ull; v614 = 0x2e2e2e2e2e2e2e2eull; v615 = 0x2e2e2e2e2e2e2e2eull; v616 = 0x2e2e2e2e2e2e2e2eull; v617 = 0x2e2e2e2e2e2e2e2eull; v618 = 0x2e2e2e2e2e2e2e2eull; v619 = 0x2e2e2e2e2e2e2e2eull; v620 = 0x2e2e2e2e2e2e2e2eull; v606 = 3; v607 = 37; v608 = 23; v609 = v610 = 0; v621 = 4; v622 = 1; goto L397;
 L395:
-	v606 = v591; v607 = v592; v608 = v593; v609 = v594; v610 = v595; v611 = v596; v612 = v597; v613 = v598; v614 = v1972; v615 = v600; v616 = v601; v617 = v1973; v618 = v603; v619 = v604; v620 = v605; v622 = v590; v621 = 4; goto L397;
+	v606 = v591; v607 = v592; v608 = v593; v609 = v594; v610 = v595; v611 = v596; v612 = v597; v613 = v598; v614 = v1969; v615 = v600; v616 = v601; v617 = v1970; v618 = v603; v619 = v604; v620 = v605; v622 = v590; v621 = 4; goto L397;
 L396:
-	v606 = v591; v607 = v592; v608 = v593; v609 = v594; v610 = v595; v611 = v596; v612 = v597; v613 = v598; v614 = v1972; v615 = v600; v616 = v601; v617 = v1973; v618 = v603; v619 = v604; v620 = v605; v622 = v590; v621 = 1;
+	v606 = v591; v607 = v592; v608 = v593; v609 = v594; v610 = v595; v611 = v596; v612 = v597; v613 = v598; v614 = v1969; v615 = v600; v616 = v601; v617 = v1970; v618 = v603; v619 = v604; v620 = v605; v622 = v590; v621 = 1;
 L397:;
-	ptr v1974 = (ptr)(((u64)v607 << 8) | (u64)v606 | ((u64)v608 << 16) | ((u64)v609 << 24) | ((u64)v610 << 32));
-	v623 = v621; v624 = v622; v625 = v1974; v626 = v611; v627 = v612; v628 = v613; v629 = v614; v630 = v615; v631 = v616; v632 = v617; v633 = v618; v634 = v619; v635 = v620;
+	ptr v1971 = (ptr)(((u64)v607 << 8) | (u64)v606 | ((u64)v608 << 16) | ((u64)v609 << 24) | ((u64)v610 << 32));
+	v623 = v621; v624 = v622; v625 = v1971; v626 = v611; v627 = v612; v628 = v613; v629 = v614; v630 = v615; v631 = v616; v632 = v617; v633 = v618; v634 = v619; v635 = v620;
 L398:
 	v636 = v623; v637 = v635; v638 = v634; v639 = v633; v640 = v632; v641 = v631; v642 = v630; v643 = v629; v644 = v628; v645 = v627; v646 = v626; v647 = v625; v648 = v624;
 L399:
-	v928 = (u64)v647; v929 = v646; v930 = v645; v931 = v644; v932 = v643; v933 = v642; v934 = v641; v935 = v640; v936 = v639; v937 = v638; v938 = v637; v939 = v636; v940 = v648; goto L518;
+	v923 = (u64)v647; v924 = v646; v925 = v645; v926 = v644; v927 = v643; v928 = v642; v929 = v641; v930 = v640; v931 = v639; v932 = v638; v933 = v637; v934 = v636; v935 = v648; goto L518;
 L400:
 	__builtin_trap();
 L401:
 	if (v3 == 2) goto M0;
 	if (lu64(v2+8) != 4) goto M0;
-	u64 v1975 = (u64)lu32(lup(v2));
-	if (((v1975 << 32) | v1975) != 0x79706f6379706f63ull) goto M0;
-	ptr v1976 = lup(v2+16);
+	u64 v1972 = (u64)lu32(lup(v2));
+	if (((v1972 << 32) | v1972) != 0x79706f6379706f63ull) goto M0;
+	ptr v1973 = lup(v2+16);
 	switch (lu64(v2+24)) {
 	case 3: goto L402;
 	case 6: goto L405;
 	default: goto M0;
 	}
 L402:
-	if ((((u64)ld8(v1976+1) << 8) | ((u64)ld8(v1976) << 16) | (u64)ld8(v1976+2)) != 6449511) goto M0;
-	ptr v1977 = lup(v2+32);
+	if ((((u64)ld8(v1973+1) << 8) | ((u64)ld8(v1973) << 16) | (u64)ld8(v1973+2)) != 6449511) goto M0;
+	ptr v1974 = lup(v2+32);
 	switch (lu64(v2+40)) {
 	case 5: goto L403;
 	case 4: goto L404;
 	default: goto M0;
 	}
 L403:
-	if ((((u64)lu32(v1977+1) << 32) | (u64)lu32(v1977)) == 0x6f7263697263696dull) { v649 = v650 = 1; goto L407; }
+	if ((((u64)lu32(v1974+1) << 32) | (u64)lu32(v1974)) == 0x6f7263697263696dull) { v649 = v650 = 1; goto L407; }
 	goto M0;
 L404:;
-	u64 v1978 = (u64)lu32(v1977);
-	if (((v1978 << 32) | v1978) == 0x6f6e616e6f6e616eull) { v649 = 1; v650 = 0; goto L407; }
+	u64 v1975 = (u64)lu32(v1974);
+	if (((v1975 << 32) | v1975) == 0x6f6e616e6f6e616eull) { v649 = 1; v650 = 0; goto L407; }
 	goto M0;
 L405:
-	if ((((u64)lu32(v1976+2) << 32) | (u64)lu32(v1976)) != 0x656c74747474696cull) goto M0;
-	ptr v1979 = lup(v2+32);
-	u64 v1980 = lu64(v2+40);
-	if (v1980 != 5) goto L406;
-	if ((((u64)lu32(v1979+1) << 32) | (u64)lu32(v1979)) == 0x6f7263697263696dull) { v649 = 0; v650 = 1; goto L407; }
+	if ((((u64)lu32(v1973+2) << 32) | (u64)lu32(v1973)) != 0x656c74747474696cull) goto M0;
+	ptr v1976 = lup(v2+32);
+	u64 v1977 = lu64(v2+40);
+	if (v1977 != 5) goto L406;
+	if ((((u64)lu32(v1976+1) << 32) | (u64)lu32(v1976)) == 0x6f7263697263696dull) { v649 = 0; v650 = 1; goto L407; }
 L406:;
-	u8 v1981 = core_lang_str_eq(v1979, v1980, (ptr)static_30, 4);
-	if (!v1981) goto M0;
+	u8 v1978 = core_lang_str_eq(v1976, v1977, (ptr)static_30, 4);
+	if (!v1978) goto M0;
 	v649 = v650 = 0;
 L407:
-	clear(v1041, 56);
-	clear(v1042, 16);
-	stp(v1043, v941);
-	clear(v1043+8, 24);
-	clear(v1040, 104);
-	pcap_classic_pcap_header_read_header_67f8(v1040, v4, v1042+8);
-	u32 v1982 = ld32(v1040+4);
-	u8 v1983 = ld8(v1040+8);
-	if (ld8(v1040)) goto L510;
-	ptr v1984 = ldp(v1040+16);
-	u64 v1985 = ld64(v1040+24);
-	u32 v1986 = (u32)ld_bytes(v1040+9, 3) & 16777215;
-	st32(v1039, ld32(v1040+12));
-	sup(v1039+4, v1984);
-	u32 v1987 = v1064 ? v1982 : (v649 ? (v650 ? 2712847316u : 2712812621u) : (v650 ? 3569595041u : 1295823521u));
-	u32 v1988 = (v1986 << 8) | (u32)v1983;
-	u64 v1989 = (u64)v1988 << 32, v1990 = ld64(v1039);
-	u32 v1991 = (u32)((u64)v1984 >> 32);
-	u8 v1992 = (u8)v1985;
-	u32 v1993 = (u32)(v1985 >> 32), v1994 = (u32)((v1985 >> 8) & 16777215);
-	u32 v1995 = (u32)__builtin_bswap32(v1987);
-	switch (v1987) {
+	clear(v1034, 56);
+	clear(v1035, 16);
+	stp(v1036, v936);
+	clear(v1036+8, 24);
+	clear(v1033, 104);
+	pcap_classic_pcap_header_read_header_67f8(v1033, v4, v1035+8);
+	u32 v1979 = ld32(v1033+4);
+	u8 v1980 = ld8(v1033+8);
+	if (ld8(v1033)) goto L510;
+	ptr v1981 = ldp(v1033+16);
+	u64 v1982 = ld64(v1033+24);
+	u32 v1983 = (u32)ld_bytes(v1033+9, 3) & 16777215;
+	st32(v1032, ld32(v1033+12));
+	sup(v1032+4, v1981);
+	u32 v1984 = v1057 ? v1979 : (v649 ? (v650 ? 2712847316u : 2712812621u) : (v650 ? 3569595041u : 1295823521u));
+	u32 v1985 = (v1983 << 8) | (u32)v1980;
+	u64 v1986 = (u64)v1985 << 32, v1987 = ld64(v1032);
+	u32 v1988 = (u32)((u64)v1981 >> 32);
+	u8 v1989 = (u8)v1982;
+	u32 v1990 = (u32)(v1982 >> 32), v1991 = (u32)((v1982 >> 8) & 16777215);
+	u32 v1992 = (u32)__builtin_bswap32(v1984);
+	switch (v1984) {
 	case 2712847316u: case 2712812621u: goto L408;
 	default: goto L415;
 	}
 L408:;
-	u32 v1996 = core_convert_AnyInto_into_d3a8(v1992, v1993);
-	st32(v1037, v1995);
-	st16(v1037+4, (u16)__builtin_bswap16((u16)v1988));
-	st16(v1037+6, (u16)__builtin_bswap16((u16)(v1986 >> 8)));
-	st32(v1037+8, (u32)__builtin_bswap32((u32)v1990));
-	st32(v1037+12, (u32)__builtin_bswap32((u32)(v1990 >> 32)));
-	st32(v1037+16, (u32)__builtin_bswap32(v1991));
-	st32(v1037+20, (u32)__builtin_bswap32(v1996));
-	v651 = v1037; v652 = 24;
+	u32 v1993 = core_convert_AnyInto_into_d3a8(v1989, v1990);
+	st32(v1030, v1992);
+	st16(v1030+4, (u16)__builtin_bswap16((u16)v1985));
+	st16(v1030+6, (u16)__builtin_bswap16((u16)(v1983 >> 8)));
+	st32(v1030+8, (u32)__builtin_bswap32((u32)v1987));
+	st32(v1030+12, (u32)__builtin_bswap32((u32)(v1987 >> 32)));
+	st32(v1030+16, (u32)__builtin_bswap32(v1988));
+	st32(v1030+20, (u32)__builtin_bswap32(v1993));
+	v651 = v1030; v652 = 24;
 L409:
-	clear(v1036, 96);
-	u64 v1997 = ld64(v5+16), v1998 = ld64(v5+8);
-	if (v652 >= v1997 - v1998) goto L413;
-	u64 v1999 = v1998 + v652;
-	ptr v2000 = ldp(v5), v2001 = at(v2000, v1998);
-	if ((u64)v2001 - (u64)v651 >= v652) goto L411;
+	clear(v1029, 96);
+	u64 v1994 = ld64(v5+16), v1995 = ld64(v5+8);
+	if (v652 >= v1994 - v1995) goto L413;
+	u64 v1996 = v1995 + v652;
+	ptr v1997 = ldp(v5), v1998 = at(v1997, v1995);
+	if ((u64)v1998 - (u64)v651 >= v652) goto L411;
 	v653 = 0;
 L410:
-	st8(at(v2001, v653), ld8(at(v651, v653)));
-	u64 v2002 = v653 + 1;
-	if (v2002 == v652) goto L412;
-	v653 = v2002; goto L410;
+	st8(at(v1998, v653), ld8(at(v651, v653)));
+	u64 v1999 = v653 + 1;
+	if (v1999 == v652) goto L412;
+	v653 = v1999; goto L410;
 L411:
-	move(v2001, v651, v652);
+	move(v1998, v651, v652);
 L412:
-	stp(v5, v2000);
-	st64(v5+8, v1999);
-	st64(v5+16, v1997);
+	stp(v5, v1997);
+	st64(v5+8, v1996);
+	st64(v5+16, v1994);
 	v654 = v652; goto L414;
 L413:
-	std_io_buffered_BufWriter_write_cold_9d90(v1036, v5, v651, v652);
-	u64 v2003 = ld64(v1036+8);
-	if (ld8(v1036)) { v864 = (u32)ld_bytes(v1036+45, 3) & 16777215; v865 = ld32(v1036+52); v866 = ld64(v1036+56); v867 = ld64(v1036+64); v868 = ld64(v1036+72); v869 = ld64(v1036+80); v870 = ld64(v1036+88); v871 = ld32(v1036+48); v872 = ld8(v1036+44); v873 = ld32(v1036+40); v874 = v2003; v875 = ld64(v1036+16); v876 = ld64(v1036+24); v877 = ld64(v1036+32); goto L509; }
-	if (!v2003) { M169: v864 = 3026478; v865 = 774778414; v866 = 0x2e2e2e2e2e2e2e2eull; v867 = 0x2e2e2e2e2e2e2e2eull; v868 = 0x2e2e2e2e2e2e2e2eull; v869 = 0x2e2e2e2e2e2e2e2eull; v870 = 0x2e2e2e2e2e2e2e2eull; v871 = 774778414; v873 = 774778414; v874 = 1513219; v875 = 0x7469727720656874ull; v876 = 0x206b6f6f74207265ull; v877 = 0x2e676e6968746f6eull; v872 = 46; goto L509; }
-	v654 = v2003;
+	std_io_buffered_BufWriter_write_cold_9d90(v1029, v5, v651, v652);
+	u64 v2000 = ld64(v1029+8);
+	if (ld8(v1029)) { v859 = (u32)ld_bytes(v1029+45, 3) & 16777215; v860 = ld32(v1029+52); v861 = ld64(v1029+56); v862 = ld64(v1029+64); v863 = ld64(v1029+72); v864 = ld64(v1029+80); v865 = ld64(v1029+88); v866 = ld32(v1029+48); v867 = ld8(v1029+44); v868 = ld32(v1029+40); v869 = v2000; v870 = ld64(v1029+16); v871 = ld64(v1029+24); v872 = ld64(v1029+32); goto L509; }
+	if (!v2000) { M173: v859 = 3026478; v860 = 774778414; v861 = 0x2e2e2e2e2e2e2e2eull; v862 = 0x2e2e2e2e2e2e2e2eull; v863 = 0x2e2e2e2e2e2e2e2eull; v864 = 0x2e2e2e2e2e2e2e2eull; v865 = 0x2e2e2e2e2e2e2e2eull; v866 = 774778414; v868 = 774778414; v869 = 1513219; v870 = 0x7469727720656874ull; v871 = 0x206b6f6f74207265ull; v872 = 0x2e676e6968746f6eull; v867 = 46; goto L509; }
+	v654 = v2000;
 L414:;
-	u64 v2004 = v652 - v654;
-	if (!v2004) goto L422;
-	v651 = at(v651, v654); v652 = v2004; goto L409;
+	u64 v2001 = v652 - v654;
+	if (!v2001) goto L422;
+	v651 = at(v651, v654); v652 = v2001; goto L409;
 L415:;
-	u32 v2005 = core_convert_AnyInto_into_d3a8(v1992, v1993);
-	st32(v1038, v1995);
-	st32(v1038+4, v1988);
-	su64(v1038+8, v1990);
-	st32(v1038+16, v1991);
-	st32(v1038+20, v2005);
-	v655 = v1038; v656 = 24;
+	u32 v2002 = core_convert_AnyInto_into_d3a8(v1989, v1990);
+	st32(v1031, v1992);
+	st32(v1031+4, v1985);
+	su64(v1031+8, v1987);
+	st32(v1031+16, v1988);
+	st32(v1031+20, v2002);
+	v655 = v1031; v656 = 24;
 L416:
-	clear(v1035, 96);
-	u64 v2006 = ld64(v5+16), v2007 = ld64(v5+8);
-	if (v656 >= v2006 - v2007) goto L420;
-	u64 v2008 = v2007 + v656;
-	ptr v2009 = ldp(v5), v2010 = at(v2009, v2007);
-	if ((u64)v2010 - (u64)v655 >= v656) goto L418;
+	clear(v1028, 96);
+	u64 v2003 = ld64(v5+16), v2004 = ld64(v5+8);
+	if (v656 >= v2003 - v2004) goto L420;
+	u64 v2005 = v2004 + v656;
+	ptr v2006 = ldp(v5), v2007 = at(v2006, v2004);
+	if ((u64)v2007 - (u64)v655 >= v656) goto L418;
 	v657 = 0;
 L417:
-	st8(at(v2010, v657), ld8(at(v655, v657)));
-	u64 v2011 = v657 + 1;
-	if (v2011 == v656) goto L419;
-	v657 = v2011; goto L417;
+	st8(at(v2007, v657), ld8(at(v655, v657)));
+	u64 v2008 = v657 + 1;
+	if (v2008 == v656) goto L419;
+	v657 = v2008; goto L417;
 L418:
-	move(v2010, v655, v656);
+	move(v2007, v655, v656);
 L419:
-	stp(v5, v2009);
-	st64(v5+8, v2008);
-	st64(v5+16, v2006);
+	stp(v5, v2006);
+	st64(v5+8, v2005);
+	st64(v5+16, v2003);
 	v658 = v656; goto L421;
 L420:
-	std_io_buffered_BufWriter_write_cold_9d90(v1035, v5, v655, v656);
-	u64 v2012 = ld64(v1035+8);
-	if (ld8(v1035)) { v864 = (u32)ld_bytes(v1035+45, 3) & 16777215; v865 = ld32(v1035+52); v866 = ld64(v1035+56); v867 = ld64(v1035+64); v868 = ld64(v1035+72); v869 = ld64(v1035+80); v870 = ld64(v1035+88); v871 = ld32(v1035+48); v872 = ld8(v1035+44); v873 = ld32(v1035+40); v874 = v2012; v875 = ld64(v1035+16); v876 = ld64(v1035+24); v877 = ld64(v1035+32); goto L509; }
-	if (!v2012) goto M169;
-	v658 = v2012;
+	std_io_buffered_BufWriter_write_cold_9d90(v1028, v5, v655, v656);
+	u64 v2009 = ld64(v1028+8);
+	if (ld8(v1028)) { v859 = (u32)ld_bytes(v1028+45, 3) & 16777215; v860 = ld32(v1028+52); v861 = ld64(v1028+56); v862 = ld64(v1028+64); v863 = ld64(v1028+72); v864 = ld64(v1028+80); v865 = ld64(v1028+88); v866 = ld32(v1028+48); v867 = ld8(v1028+44); v868 = ld32(v1028+40); v869 = v2009; v870 = ld64(v1028+16); v871 = ld64(v1028+24); v872 = ld64(v1028+32); goto L509; }
+	if (!v2009) goto M173;
+	v658 = v2009;
 L421:;
-	u64 v2013 = v656 - v658;
-	if (v2013) { v655 = at(v655, v658); v656 = v2013; goto L416; }
+	u64 v2010 = v656 - v658;
+	if (v2010) { v655 = at(v655, v658); v656 = v2010; goto L416; }
 L422:
-	copy(v1044, v1040+9, 7);
-	st32(v1041, v1982);
-	st8(v1041+4, v1983);
-	copy(v1041+5, v1044, 7);
-	sup(v1041+12, v1984);
-	su64(v1041+20, v1985);
-	su64(v1041+28, v1989 | (u64)v1987);
-	su64(v1041+36, v1990);
-	st32(v1041+44, v1991);
-	st8(v1041+48, v1992);
-	st_bytes(v1041+49, v1994, 3);
-	st32(v1041+52, v1993);
-	clear(v1034, 3);
-	u64 v2014 = ld64(v1042);
-	if (v2014 >= 4294967295u) { v847 = v848 = v849 = v850 = v851 = v852 = v853 = v854 = v855 = v856 = v857 = v858 = v859 = v860 = v861 = v862 = v863 = 0; goto L506; }
-	v661 = v1982; v662 = v2014; v659 = v660 = 0;
+	copy(v1037, v1033+9, 7);
+	st32(v1034, v1979);
+	st8(v1034+4, v1980);
+	copy(v1034+5, v1037, 7);
+	sup(v1034+12, v1981);
+	su64(v1034+20, v1982);
+	su64(v1034+28, v1986 | (u64)v1984);
+	su64(v1034+36, v1987);
+	st32(v1034+44, v1988);
+	st8(v1034+48, v1989);
+	st_bytes(v1034+49, v1991, 3);
+	st32(v1034+52, v1990);
+	clear(v1027, 3);
+	u64 v2011 = ld64(v1035);
+	if (v2011 >= 4294967295u) { v842 = v843 = v844 = v845 = v846 = v847 = v848 = v849 = v850 = v851 = v852 = v853 = v854 = v855 = v856 = v857 = v858 = 0; goto L506; }
+	u8 v2012 = v1979 == v1984, v2013 = v1979 == 2712847316u;
+	v660 = v2011; v659 = 0;
 L423:
-	clear(v1010, 56);
-	clear(v1011, 3);
-	u64 v2015 = ld64(v4+24), v2016 = ld64(v4+32);
-	if (v2015 < v2016) { v663 = v2016; v664 = v2015; goto L424; }
-	clear(v4+24, 16);
-	ptr v2017 = ldp(v4);
-	u64 v2018 = ld64(v4+8);
-	clear(v1007, 96);
-	capcopy_run_uninterrupted_UninterruptedRead_read_f128(v1007, v2017, v2018);
-	u64 v2019 = ld64(v1007+8), v2020 = ld64(v1007+16), v2021 = ld64(v1007+24), v2022 = ld64(v1007+32);
-	u8 v2023 = ld8(v1007);
-	copy(v1008, v1007+40, 56);
-	if (v2023) goto L503;
-	st64(v4+32, v2019);
-	v663 = v2019; v664 = ld64(v4+24);
-L424:;
-	ptr v2024 = at(ldp(v4), v664);
-	u64 v2025 = v663 - v664;
-	clear(v1009, 56);
-	if (v2025) goto L425;
-	M174: v847 = v659; v848 = v849 = v850 = v851 = v852 = v853 = v854 = v855 = v856 = v857 = v858 = v859 = v860 = v861 = v862 = v863 = 0; goto L506;
-L425:;
-	u64 v2026 = v662 ^ 4294967295u;
 	clear(v1006, 56);
+	clear(v1007, 3);
+	u64 v2014 = ld64(v4+24), v2015 = ld64(v4+32);
+	if (v2014 < v2015) { v661 = v2015; v662 = v2014; goto L424; }
+	clear(v4+24, 16);
+	ptr v2016 = ldp(v4);
+	u64 v2017 = ld64(v4+8);
+	clear(v1003, 96);
+	capcopy_run_uninterrupted_UninterruptedRead_read_f128(v1003, v2016, v2017);
+	u64 v2018 = ld64(v1003+8), v2019 = ld64(v1003+16), v2020 = ld64(v1003+24), v2021 = ld64(v1003+32);
+	u8 v2022 = ld8(v1003);
+	copy(v1004, v1003+40, 56);
+	if (v2022) goto L503;
+	st64(v4+32, v2018);
+	v661 = v2018; v662 = ld64(v4+24);
+L424:;
+	ptr v2023 = at(ldp(v4), v662);
+	u64 v2024 = v661 - v662;
 	clear(v1005, 56);
-	if (v661 != v1987) goto L436;
-	clear(v1001, 24);
-	clear(v1003, 24);
-	clear(v1004, 24);
-	pcap_classic_run_stretch_whole_packets(v1001, v1041, v2024, v2025, v2026);
-	u64 v2027 = ld64(v1001), v2028 = ld64(v1001+16), v2029 = v2025 - v2028;
-	if (!v2029) goto L432;
-	v665 = v2024; v666 = v2029;
-L426:
-	clear(v999, 96);
-	u64 v2030 = ld64(v5+16), v2031 = ld64(v5+8);
-	if (v666 >= v2030 - v2031) goto L430;
-	u64 v2032 = v2031 + v666;
-	ptr v2033 = ldp(v5);
-	clear(v5+8, 16);
-	ptr v2034 = at(v2033, v2031);
-	if ((u64)v2034 - (u64)v665 >= v666) goto L428;
-	v667 = 0;
-L427:
-	st8(at(v2034, v667), ld8(at(v665, v667)));
-	u64 v2035 = v667 + 1;
-	if (v2035 == v666) goto L429;
-	v667 = v2035; goto L427;
-L428:
-	move(v2034, v665, v666);
-L429:
-	stp(v5, v2033);
-	st64(v5+8, v2032);
-	st64(v5+16, v2030);
-	clear(v1000, 56);
-	v668 = v666; goto L431;
-L430:
-	std_io_buffered_BufWriter_write_cold_9d90(v999, v5, v665, v666);
-	u64 v2036 = ld64(v999+8), v2037 = ld64(v999+16), v2038 = ld64(v999+24), v2039 = ld64(v999+32);
-	u8 v2040 = ld8(v999);
-	copy(v1000, v999+40, 56);
-	if (v2040) goto L433;
-	if (v2036) { v668 = v2036; goto L431; }
-	st8(v1042+9, 1);
-	fill(v1002, 46, 56);
-	v669 = 1513219; v670 = 0x7469727720656874ull; v671 = 0x206b6f6f74207265ull; v672 = 0x2e676e6968746f6eull; goto L434;
-L431:;
-	u64 v2041 = v666 - v668;
-	if (v2041) { v665 = at(v665, v668); v666 = v2041; goto L426; }
-L432:
+	if (v2024) goto L425;
+	M178: v842 = v659; v843 = v844 = v845 = v846 = v847 = v848 = v849 = v850 = v851 = v852 = v853 = v854 = v855 = v856 = v857 = v858 = 0; goto L506;
+L425:;
+	u64 v2025 = v660 ^ 4294967295u;
 	clear(v1002, 56);
-	v677 = v2028; v678 = v2027; v673 = v674 = v675 = v676 = v679 = 0; goto L435;
-L433:
-	st8(v1042+9, 1);
-	copy(v1002, v1000, 56);
-	v669 = v2036; v670 = v2037; v671 = v2038; v672 = v2039;
-L434:;
-	u64 v2042 = v2029 - v666;
-	pcap_classic_run_stretch_whole_packets(v1003, v1041, v2024, v2042, v2026);
-	u64 v2043 = v2042 - ld64(v1003+16), v2044 = ld64(v1003);
-	pcap_classic_run_stretch_whole_packets(v1004, v1041, at(v2024, v2043), v2025 - v2043, 1);
-	v673 = v669; v674 = v670; v675 = v671; v676 = v672; v677 = ld64(v1004+16); v678 = v2044; v679 = 1;
-L435:
-	copy(v1005, v1002, 56);
-	v699 = v662; v700 = v678; v701 = v677; v702 = v679; v703 = v679; v704 = v673; v705 = v674; v706 = v675; v707 = v676; goto L448;
-L436:
+	clear(v1001, 56);
+	if (!v2012) goto L436;
+	clear(v997, 24);
+	clear(v999, 24);
+	clear(v1000, 24);
+	pcap_classic_run_stretch_whole_packets(v997, v1034, v2023, v2024, v2025);
+	u64 v2026 = ld64(v997), v2027 = ld64(v997+16), v2028 = v2024 - v2027;
+	if (!v2028) goto L432;
+	v663 = v2023; v664 = v2028;
+L426:
+	clear(v995, 96);
+	u64 v2029 = ld64(v5+16), v2030 = ld64(v5+8);
+	if (v664 >= v2029 - v2030) goto L430;
+	u64 v2031 = v2030 + v664;
+	ptr v2032 = ldp(v5);
+	clear(v5+8, 16);
+	ptr v2033 = at(v2032, v2030);
+	if ((u64)v2033 - (u64)v663 >= v664) goto L428;
+	v665 = 0;
+L427:
+	st8(at(v2033, v665), ld8(at(v663, v665)));
+	u64 v2034 = v665 + 1;
+	if (v2034 == v664) goto L429;
+	v665 = v2034; goto L427;
+L428:
+	move(v2033, v663, v664);
+L429:
+	stp(v5, v2032);
+	st64(v5+8, v2031);
+	st64(v5+16, v2029);
 	clear(v996, 56);
-	clear(v997, 48);
-	clear(v998, 104);
-	u8 v2045 = v661 == 2712847316u;
-	v680 = v2025; v681 = v2024; v682 = 0;
+	v666 = v664; goto L431;
+L430:
+	std_io_buffered_BufWriter_write_cold_9d90(v995, v5, v663, v664);
+	u64 v2035 = ld64(v995+8), v2036 = ld64(v995+16), v2037 = ld64(v995+24), v2038 = ld64(v995+32);
+	u8 v2039 = ld8(v995);
+	copy(v996, v995+40, 56);
+	if (v2039) goto L433;
+	if (v2035) { v666 = v2035; goto L431; }
+	st8(v1035+9, 1);
+	fill(v998, 46, 56);
+	v667 = 1513219; v668 = 0x7469727720656874ull; v669 = 0x206b6f6f74207265ull; v670 = 0x2e676e6968746f6eull; goto L434;
+L431:;
+	u64 v2040 = v664 - v666;
+	if (v2040) { v663 = at(v663, v666); v664 = v2040; goto L426; }
+L432:
+	clear(v998, 56);
+	v675 = v2027; v676 = v2026; v671 = v672 = v673 = v674 = v677 = 0; goto L435;
+L433:
+	st8(v1035+9, 1);
+	copy(v998, v996, 56);
+	v667 = v2035; v668 = v2036; v669 = v2037; v670 = v2038;
+L434:;
+	u64 v2041 = v2028 - v664;
+	pcap_classic_run_stretch_whole_packets(v999, v1034, v2023, v2041, v2025);
+	u64 v2042 = v2041 - ld64(v999+16), v2043 = ld64(v999);
+	pcap_classic_run_stretch_whole_packets(v1000, v1034, at(v2023, v2042), v2024 - v2042, 1);
+	v671 = v667; v672 = v668; v673 = v669; v674 = v670; v675 = ld64(v1000+16); v676 = v2043; v677 = 1;
+L435:
+	copy(v1001, v998, 56);
+	v697 = v660; v698 = v676; v699 = v675; v700 = v677; v701 = v677; v702 = v671; v703 = v672; v704 = v673; v705 = v674; goto L448;
+L436:
+	clear(v992, 56);
+	clear(v993, 48);
+	clear(v994, 104);
+	v678 = v2024; v679 = v2023; v680 = 0;
 L437:;
-	u8 v2046 = v680 < 16;
-	switch (v661) {
+	u8 v2044 = v678 < 16;
+	switch (v1979) {
 	case 2712847316u: case 2712812621u: goto L438;
 	default: goto L440;
 	}
 L438:
-	if (v2046) goto L443;
-	u32 v2047 = (u32)__builtin_bswap32(lu32(v681)), v2048 = (u32)__builtin_bswap32(lu32(v681+4));
-	u32 v2049 = lu32(v681+8), v2050 = (u32)__builtin_bswap32(v2049);
-	u64 v2051 = v680 - 16;
-	u32 v2052 = lu32(v681+12), v2053 = (u32)__builtin_bswap32(v2052);
-	if (!v2045) { v683 = v2048; goto L439; }
-	if (v2048 > 4294967) goto L443;
-	v683 = v2048 * 1000;
+	if (v2044) goto L443;
+	u32 v2045 = (u32)__builtin_bswap32(lu32(v679)), v2046 = (u32)__builtin_bswap32(lu32(v679+4));
+	u32 v2047 = lu32(v679+8), v2048 = (u32)__builtin_bswap32(v2047);
+	u64 v2049 = v678 - 16;
+	u32 v2050 = lu32(v679+12), v2051 = (u32)__builtin_bswap32(v2050);
+	if (!v2013) { v681 = v2046; goto L439; }
+	if (v2046 > 4294967) goto L443;
+	v681 = v2046 * 1000;
 L439:
-	if ((v2050 > 262144) | (v2053 > 262144) || v2053 < v2050) goto L443;
-	u64 v2054 = (u64)__builtin_bswap64(((u64)v2049 << 32) | (u64)v2052), v2055 = v2054 & 4294967295u;
-	if (v2051 < v2055) goto L443;
-	v685 = v2055; v686 = at(v681+16, v2055); v687 = v2051 - v2055; v688 = ((u64)v683 << 32) | (u64)v2047; v689 = v2054 >> 32; v690 = v681+16; goto L445;
+	if ((v2048 > 262144) | (v2051 > 262144) || v2051 < v2048) goto L443;
+	u64 v2052 = (u64)__builtin_bswap64(((u64)v2047 << 32) | (u64)v2050), v2053 = v2052 & 4294967295u;
+	if (v2049 < v2053) goto L443;
+	v683 = v2053; v684 = at(v679+16, v2053); v685 = v2049 - v2053; v686 = ((u64)v681 << 32) | (u64)v2045; v687 = v2052 >> 32; v688 = v679+16; goto L445;
 L440:
-	if (v2046) goto L443;
-	u32 v2056 = lu32(v681), v2057 = lu32(v681+4);
-	u64 v2058 = lu64(v681+8);
-	u32 v2059 = (u32)v2058;
-	u64 v2060 = v680 - 16, v2061 = v2058 >> 32;
-	u32 v2062 = (u32)v2061;
-	switch (v661) {
+	if (v2044) goto L443;
+	u32 v2054 = lu32(v679), v2055 = lu32(v679+4);
+	u64 v2056 = lu64(v679+8);
+	u32 v2057 = (u32)v2056;
+	u64 v2058 = v678 - 16, v2059 = v2056 >> 32;
+	u32 v2060 = (u32)v2059;
+	switch (v1979) {
 	case 3569595041u: case 2712847316u: goto L441;
-	default: v684 = v2057; goto L442;
+	default: v682 = v2055; goto L442;
 	}
 L441:
-	if (v2057 > 4294967) goto L443;
-	v684 = v2057 * 1000;
+	if (v2055 > 4294967) goto L443;
+	v682 = v2055 * 1000;
 L442:
-	if ((v2058 > 0x40000ffffffffull) | (v2059 > 262144) || v2062 < v2059) goto L443;
-	u64 v2063 = v2058 & 524287;
-	if (v2060 >= v2063) goto L444;
+	if ((v2056 > 0x40000ffffffffull) | (v2057 > 262144) || v2060 < v2057) goto L443;
+	u64 v2061 = v2056 & 524287;
+	if (v2058 >= v2061) goto L444;
 L443:
-	clear(v996, 56);
-	v695 = v682; v696 = v680; v691 = v692 = v693 = v694 = v697 = v698 = 0; goto L447;
+	clear(v992, 56);
+	v693 = v680; v694 = v678; v689 = v690 = v691 = v692 = v695 = v696 = 0; goto L447;
 L444:
-	v685 = v2063; v686 = at(v681+16, v2063); v687 = v2060 - v2063; v688 = ((u64)v684 << 32) | (u64)v2056; v689 = v2061; v690 = v681+16;
+	v683 = v2061; v684 = at(v679+16, v2061); v685 = v2058 - v2061; v686 = ((u64)v682 << 32) | (u64)v2054; v687 = v2059; v688 = v679+16;
 L445:
-	st64(v997, v688);
-	st64(v997+8, (v689 << 32) | v685);
-	st64(v997+16, 0);
-	st64(v997+24, (u64)v690);
-	st64(v997+32, v685);
-	st64(v997+40, 0);
-	pcap_classic_pcap_writer_put_packet_ce79(v998, v5, v1042+9, v1987, v997);
-	if (ld8(v998) != 1) goto L446;
-	u8 v2064 = ld8(v998+8);
-	u64 v2065 = ld64(v998+16), v2066 = ld64(v998+24), v2067 = ld64(v998+32), v2068 = ld64(v998+40);
-	copy(v996, v998+48, 56);
-	v691 = v2065; v692 = v2066; v693 = v2067; v694 = v2068; v695 = v682; v696 = v687; v698 = v2064; v697 = 1; goto L447;
+	st64(v993, v686);
+	st64(v993+8, (v687 << 32) | v683);
+	st64(v993+16, 0);
+	st64(v993+24, (u64)v688);
+	st64(v993+32, v683);
+	st64(v993+40, 0);
+	pcap_classic_pcap_writer_put_packet_ce79(v994, v5, v1035+9, v1984, v993);
+	if (ld8(v994) != 1) goto L446;
+	u8 v2062 = ld8(v994+8);
+	u64 v2063 = ld64(v994+16), v2064 = ld64(v994+24), v2065 = ld64(v994+32), v2066 = ld64(v994+40);
+	copy(v992, v994+48, 56);
+	v689 = v2063; v690 = v2064; v691 = v2065; v692 = v2066; v693 = v680; v694 = v685; v696 = v2062; v695 = 1; goto L447;
 L446:;
-	u64 v2069 = v682 + 1;
-	if (v2069 != v2026) { v680 = v687; v681 = v686; v682 = v2069; goto L437; }
-	clear(v996, 56);
-	v695 = v2026; v696 = v687; v691 = v692 = v693 = v694 = v697 = v698 = 0;
+	u64 v2067 = v680 + 1;
+	if (v2067 != v2025) { v678 = v685; v679 = v684; v680 = v2067; goto L437; }
+	clear(v992, 56);
+	v693 = v2025; v694 = v685; v689 = v690 = v691 = v692 = v695 = v696 = 0;
 L447:
-	copy(v1005, v996, 56);
-	v699 = ld64(v1042); v700 = v695; v701 = v696; v702 = v697; v703 = v698; v704 = v691; v705 = v692; v706 = v693; v707 = v694;
+	copy(v1001, v992, 56);
+	v697 = ld64(v1035); v698 = v693; v699 = v694; v700 = v695; v701 = v696; v702 = v689; v703 = v690; v704 = v691; v705 = v692;
 L448:
-	copy(v1006, v1005, 56);
-	copy(v1010, v1006, 56);
-	u64 v2070 = ld64(v4+24), v2071 = v2025 - v701, v2072 = ld64(v4+32) - v2070;
-	st64(v4+24, (v2071 < v2072 ? v2071 : v2072) + v2070);
-	u64 v2073 = v700 + v699;
-	st64(v1042, v2073);
-	if (v702) { v821 = v1010+4; v822 = v1010+5; v823 = v1010+8; v824 = v1010+12; v825 = v1010; v826 = v707; v827 = v706; v828 = v705; v829 = v704; v830 = v703; goto L504; }
-	copy(v1033, v1011, 3);
-	if (v2073 == 4294967295u) goto M174;
-	clear(v1030, 3);
-	clear(v1031, 56);
-	clear(v1032, 56);
-	clear(v1027, 56);
-	clear(v1028, 56);
-	clear(v1029, 56);
+	copy(v1002, v1001, 56);
+	copy(v1006, v1002, 56);
+	u64 v2068 = ld64(v4+24), v2069 = v2024 - v699, v2070 = ld64(v4+32) - v2068;
+	st64(v4+24, (v2069 < v2070 ? v2069 : v2070) + v2068);
+	u64 v2071 = v698 + v697;
+	st64(v1035, v2071);
+	if (v700) { v816 = v1006+4; v817 = v1006+5; v818 = v1006+8; v819 = v1006+12; v820 = v1006; v821 = v705; v822 = v704; v823 = v703; v824 = v702; v825 = v701; goto L504; }
+	copy(v1026, v1007, 3);
+	if (v2071 == 4294967295u) goto M178;
+	clear(v1023, 3);
 	clear(v1024, 56);
 	clear(v1025, 56);
-	clear(v1026, 56);
-	switch (v661) {
+	clear(v1020, 56);
+	clear(v1021, 56);
+	clear(v1022, 56);
+	clear(v1017, 56);
+	clear(v1018, 56);
+	clear(v1019, 56);
+	switch (v1979) {
 	case 1295823521: case 2712812621u: case 2712847316u: case 3569595041u: goto L449;
-	default: v708 = 1; goto L450;
+	default: v706 = 1; goto L450;
 	}
 L449:
-	v708 = 16;
+	v706 = 16;
 L450:
-	clear(v1022, 56);
-	clear(v1023, 56);
-	v709 = v659; v710 = v660; v711 = v660; v713 = v708; v712 = 0;
-L451:
 	clear(v1016, 56);
-	clear(v1017, 56);
-	u64 v2074 = v713 < 65536 ? v713 : 65536, v2075 = v2074 + v712;
-	if (v711 >= v2075) goto L455;
-	u64 v2076 = v2075 - v711;
-	if (v2076 <= v709 - v711) { v714 = v709; v715 = v711; goto L453; }
-	u8 v2077 = std_alloc_vec_Vec_grow_amortized_56a3(v1043, v2076);
-	if (!v2077) goto L452;
-	v714 = ld64(v1043+16); v715 = ld64(v1043+8); goto L453;
-L452:
-	clear(v1023, 56);
-	v780 = 5; v781 = v782 = v783 = v784 = 0; goto L498;
-L453:;
-	u64 v2078 = v715 + v2076;
-	ptr v2079 = ldp(v1043);
-	if (v715 >= v2078) goto L454;
-	clear(at(v2079, v715), v2076);
-L454:
-	st64(v1043+8, v2078);
-	st64(v1043+16, v714);
-	v716 = v714; v717 = v2078; v718 = v2078; v719 = ld64(v1043+24); v720 = v2079; goto L456;
+	v707 = v659; v708 = ld64(v1036+8); v710 = v706; v709 = 0;
+L451:;
+	u64 v2072 = v710 < 65536 ? v710 : 65536, v2073 = v2072 + v709;
+	if (v708 >= v2073) goto L455;
+	v711 = v707; v712 = v708;
+L452:;
+	u64 v2074 = v2073 - v712, v2075 = v2074 < 1024 ? v2074 : 1024;
+	if (v2075 <= v711 - v712) { v713 = v711; v714 = v712; goto L454; }
+	u8 v2076 = std_alloc_vec_Vec_grow_amortized_56a3(v1036, v2075);
+	if (!v2076) goto L453;
+	v713 = ld64(v1036+16); v714 = ld64(v1036+8); goto L454;
+L453:
+	clear(v1016, 56);
+	v775 = 5; v776 = v777 = v778 = v779 = 0; goto L498;
+L454:;
+	u64 v2077 = v714 + v2075;
+	ptr v2078 = ldp(v1036);
+	clear(at(v2078, v714), v2075);
+	st64(v1036+8, v2077);
+	st64(v1036+16, v713);
+	if (v2077 < v2073) { v711 = v713; v712 = v2077; goto L452; }
+	v715 = v713; v716 = ld64(v1036+24); v717 = v2078; v718 = v2077; goto L456;
 L455:
-	v716 = v709; v717 = v710; v718 = v711; v719 = v712; v720 = ldp(v1043);
+	v715 = v707; v716 = v709; v717 = ldp(v1036); v718 = v708;
 L456:
-	clear(v1015, 96);
-	std_io_buffered_BufReaderRead_read_e988(v1015, v4, at(v720, v719), v2074);
-	u64 v2080 = ld64(v1015+8), v2081 = ld64(v1015+16), v2082 = ld64(v1015+24), v2083 = ld64(v1015+32);
-	u8 v2084 = ld8(v1015);
-	copy(v1016, v1015+40, 56);
-	if (v2084) goto L497;
-	u64 v2085 = v2080 + v719;
-	st64(v1043+24, v2085);
-	copy(v1023, v1017, 56);
-	if (v2080) goto L458;
-	if (v2085) goto L457;
-	v847 = v716; v848 = v849 = v850 = v851 = v852 = v853 = v854 = v855 = v856 = v857 = v858 = v859 = v860 = v861 = v862 = v863 = 0; goto L506;
+	clear(v1011, 96);
+	std_io_buffered_BufReaderRead_read_e988(v1011, v4, at(v717, v716), v2072);
+	u64 v2079 = ld64(v1011+8), v2080 = ld64(v1011+16), v2081 = ld64(v1011+24), v2082 = ld64(v1011+32);
+	u8 v2083 = ld8(v1011);
+	copy(v1012, v1011+40, 56);
+	if (v2083) goto L497;
+	u64 v2084 = v2079 + v716;
+	st64(v1036+24, v2084);
+	clear(v1016, 56);
+	if (v2079) goto L458;
+	if (v2084) goto L457;
+	v842 = v715; v843 = v844 = v845 = v846 = v847 = v848 = v849 = v850 = v851 = v852 = v853 = v854 = v855 = v856 = v857 = v858 = 0; goto L506;
 L457:
-	fill(v1025, 46, 56);
-	v786 = 9472; v787 = 1441792; v790 = 0x6572747320656874ull; v791 = 0x6465646e65206d61ull; v792 = 0x2e2e796c72616520ull; v785 = 3; v788 = v789 = 0; v793 = 1; goto L499;
+	fill(v1018, 46, 56);
+	v781 = 9472; v782 = 1441792; v785 = 0x6572747320656874ull; v786 = 0x6465646e65206d61ull; v787 = 0x2e2e796c72616520ull; v780 = 3; v783 = v784 = 0; v788 = 1; goto L499;
 L458:;
-	u64 v2086 = v713 - v2080;
-	if (v2086) { v709 = v716; v710 = v717; v711 = v718; v712 = v2085; v713 = v2086; goto L451; }
-	copy(v1025, v1022, 56);
-	ptr v2087 = ldp(v1043);
-	u32 v2088 = ld32(v1041);
-	switch (v2088) {
-	case 2712847316u: v721 = 0; goto L460;
+	u64 v2085 = v710 - v2079;
+	if (v2085) { v707 = v715; v708 = v718; v709 = v2084; v710 = v2085; goto L451; }
+	clear(v1018, 56);
+	switch (v1979) {
+	case 2712847316u: v719 = 0; goto L460;
 	case 2712812621u: goto L459;
 	case 3569595041u: goto L465;
 	case 1295823521: goto L466;
-	default: v777 = (u64)(ptr)static_35; v778 = 29; v779 = 2; goto L496;
+	default: v772 = (u64)(ptr)static_35; v773 = 29; v774 = 2; goto L496;
 	}
 L459:
-	v721 = 1;
+	v719 = 1;
 L460:
-	if (v2085 >= 16) goto L461;
-	M192: v777 = 16ull - v2085; v778 = v779 = 0; goto L496;
+	if (v2084 >= 16) goto L461;
+	M197: v772 = 16ull - v2084; v773 = v774 = 0; goto L496;
 L461:;
-	u32 v2089 = (u32)__builtin_bswap32(lu32(v2087)), v2090 = (u32)__builtin_bswap32(lu32(v2087+4));
-	u32 v2091 = lu32(v2087+8), v2092 = (u32)__builtin_bswap32(v2091), v2093 = lu32(v2087+12);
-	u32 v2094 = (u32)__builtin_bswap32(v2093);
-	if (v721) { v722 = v2090; goto L462; }
-	if (v2090 > 4294967) { v724 = (ptr)static_36; v723 = 40; goto L463; }
-	v722 = v2090 * 1000;
+	u32 v2086 = (u32)__builtin_bswap32(lu32(v717)), v2087 = (u32)__builtin_bswap32(lu32(v717+4));
+	u32 v2088 = lu32(v717+8), v2089 = (u32)__builtin_bswap32(v2088), v2090 = lu32(v717+12);
+	u32 v2091 = (u32)__builtin_bswap32(v2090);
+	if (v719) { v720 = v2087; goto L462; }
+	if (v2087 > 4294967) { v722 = (ptr)static_36; v721 = 40; goto L463; }
+	v720 = v2087 * 1000;
 L462:
-	if (v2092 > 262144) { v724 = (ptr)static_37; v723 = 31; goto L463; }
-	if (v2094 > 262144) { v724 = (ptr)static_38; v723 = 31; goto L463; }
-	if (v2094 >= v2092) goto L464;
-	v724 = (ptr)static_39; v723 = 32;
+	if (v2089 > 262144) { v722 = (ptr)static_37; v721 = 31; goto L463; }
+	if (v2091 > 262144) { v722 = (ptr)static_38; v721 = 31; goto L463; }
+	if (v2091 >= v2089) goto L464;
+	v722 = (ptr)static_39; v721 = 32;
 L463:
-	v777 = (u64)v724; v778 = v723; v779 = 2; goto L496;
+	v772 = (u64)v722; v773 = v721; v774 = 2; goto L496;
 L464:
-	v728 = v722; v729 = v2089; v730 = (u64)__builtin_bswap64(((u64)v2091 << 32) | (u64)v2093); goto L471;
+	v726 = v720; v727 = v2086; v728 = (u64)__builtin_bswap64(((u64)v2088 << 32) | (u64)v2090); goto L471;
 L465:
-	if (v2085 < 16) goto L467;
-	u32 v2095 = lu32(v2087+4);
-	if (v2095 > 4294967) { v727 = (ptr)static_36; v726 = 40; goto L470; }
-	v725 = v2095 * 1000; goto L469;
+	if (v2084 < 16) goto L467;
+	u32 v2092 = lu32(v717+4);
+	if (v2092 > 4294967) { v725 = (ptr)static_36; v724 = 40; goto L470; }
+	v723 = v2092 * 1000; goto L469;
 L466:
-	if (v2085 >= 16) goto L468;
+	if (v2084 >= 16) goto L468;
 L467:
-	goto M192;
+	goto M197;
 L468:
-	v725 = lu32(v2087+4);
+	v723 = lu32(v717+4);
 L469:;
-	u32 v2096 = lu32(v2087);
-	u64 v2097 = lu64(v2087+8);
-	u32 v2098 = (u32)v2097, v2099 = (u32)(v2097 >> 32);
-	if (v2098 > 262144) { v727 = (ptr)static_37; v726 = 31; goto L470; }
-	if (v2097 > 0x40000ffffffffull) { v727 = (ptr)static_38; v726 = 31; goto L470; }
-	if (v2099 >= v2098) { v728 = v725; v729 = v2096; v730 = v2097; goto L471; }
-	v727 = (ptr)static_39; v726 = 32;
+	u32 v2093 = lu32(v717);
+	u64 v2094 = lu64(v717+8);
+	u32 v2095 = (u32)v2094, v2096 = (u32)(v2094 >> 32);
+	if (v2095 > 262144) { v725 = (ptr)static_37; v724 = 31; goto L470; }
+	if (v2094 > 0x40000ffffffffull) { v725 = (ptr)static_38; v724 = 31; goto L470; }
+	if (v2096 >= v2095) { v726 = v723; v727 = v2093; v728 = v2094; goto L471; }
+	v725 = (ptr)static_39; v724 = 32;
 L470:
-	v777 = (u64)v727; v778 = v726; v779 = 2; goto L496;
+	v772 = (u64)v725; v773 = v724; v774 = 2; goto L496;
 L471:;
-	u64 v2100 = v730 & 4294967295u;
-	copy(v1028, v1024, 56);
-	if (!v2100) { v743 = v716; v744 = v717; v745 = v2088; v746 = v2085; v747 = v2087; goto L480; }
-	clear(v1021, 56);
-	v731 = v716; v732 = v717; v733 = v718; v734 = v2085; v735 = v2100;
-L472:
-	clear(v1019, 56);
-	clear(v1020, 56);
-	u64 v2101 = v735 < 65536 ? v735 : 65536, v2102 = v2101 + v734;
-	if (v733 >= v2102) goto L476;
-	u64 v2103 = v2102 - v733;
-	if (v2103 <= v731 - v733) { v736 = v731; v737 = v733; goto L474; }
-	u8 v2104 = std_alloc_vec_Vec_grow_amortized_56a3(v1043, v2103);
-	if (!v2104) goto L473;
-	v736 = ld64(v1043+16); v737 = ld64(v1043+8); goto L474;
-L473:
-	clear(v1021, 56);
-	v767 = 5; v768 = v769 = v770 = v771 = 0; goto L494;
-L474:;
-	u64 v2105 = v737 + v2103;
-	ptr v2106 = ldp(v1043);
-	if (v737 >= v2105) goto L475;
-	clear(at(v2106, v737), v2103);
-L475:
-	st64(v1043+8, v2105);
-	st64(v1043+16, v736);
-	v738 = v736; v739 = v2105; v740 = v2105; v741 = ld64(v1043+24); v742 = v2106; goto L477;
+	u64 v2097 = v728 & 4294967295u;
+	copy(v1021, v1017, 56);
+	if (!v2097) { v741 = v715; v742 = v2084; goto L480; }
+	clear(v1015, 56);
+	v729 = v715; v730 = v718; v731 = v2084; v732 = v2097;
+L472:;
+	u64 v2098 = v732 < 65536 ? v732 : 65536, v2099 = v2098 + v731;
+	if (v730 >= v2099) goto L476;
+	v733 = v729; v734 = v730;
+L473:;
+	u64 v2100 = v2099 - v734, v2101 = v2100 < 1024 ? v2100 : 1024;
+	if (v2101 <= v733 - v734) { v735 = v733; v736 = v734; goto L475; }
+	u8 v2102 = std_alloc_vec_Vec_grow_amortized_56a3(v1036, v2101);
+	if (!v2102) goto L474;
+	v735 = ld64(v1036+16); v736 = ld64(v1036+8); goto L475;
+L474:
+	clear(v1015, 56);
+	v762 = 5; v763 = v764 = v765 = v766 = 0; goto L494;
+L475:;
+	u64 v2103 = v736 + v2101;
+	ptr v2104 = ldp(v1036);
+	clear(at(v2104, v736), v2101);
+	st64(v1036+8, v2103);
+	st64(v1036+16, v735);
+	if (v2103 < v2099) { v733 = v735; v734 = v2103; goto L473; }
+	v737 = v735; v738 = ld64(v1036+24); v739 = v2104; v740 = v2103; goto L477;
 L476:
-	v738 = v731; v739 = v732; v740 = v733; v741 = v734; v742 = ldp(v1043);
+	v737 = v729; v738 = v731; v739 = ldp(v1036); v740 = v730;
 L477:
-	clear(v1018, 96);
-	std_io_buffered_BufReaderRead_read_e988(v1018, v4, at(v742, v741), v2101);
-	u64 v2107 = ld64(v1018+8), v2108 = ld64(v1018+16), v2109 = ld64(v1018+24), v2110 = ld64(v1018+32);
-	u8 v2111 = ld8(v1018);
-	copy(v1019, v1018+40, 56);
-	if (v2111) goto L493;
-	u64 v2112 = v2107 + v741;
-	st64(v1043+24, v2112);
-	copy(v1021, v1020, 56);
-	if (v2107) goto L478;
-	if (!v2112) goto L479;
-	fill(v1029, 46, 56);
-	v773 = 1451267; v774 = 0x6572747320656874ull; v775 = 0x6465646e65206d61ull; v776 = 0x2e2e796c72616520ull; v772 = 1; goto L495;
+	clear(v1013, 96);
+	std_io_buffered_BufReaderRead_read_e988(v1013, v4, at(v739, v738), v2098);
+	u64 v2105 = ld64(v1013+8), v2106 = ld64(v1013+16), v2107 = ld64(v1013+24), v2108 = ld64(v1013+32);
+	u8 v2109 = ld8(v1013);
+	copy(v1014, v1013+40, 56);
+	if (v2109) goto L493;
+	u64 v2110 = v2105 + v738;
+	st64(v1036+24, v2110);
+	clear(v1015, 56);
+	if (v2105) goto L478;
+	if (!v2110) goto L479;
+	fill(v1022, 46, 56);
+	v768 = 1451267; v769 = 0x6572747320656874ull; v770 = 0x6465646e65206d61ull; v771 = 0x2e2e796c72616520ull; v767 = 1; goto L495;
 L478:;
-	u64 v2113 = v735 - v2107;
-	if (v2113) { v731 = v738; v732 = v739; v733 = v740; v734 = v2112; v735 = v2113; goto L472; }
+	u64 v2111 = v732 - v2105;
+	if (v2111) { v729 = v737; v730 = v740; v731 = v2110; v732 = v2111; goto L472; }
 L479:
-	v743 = v738; v744 = v739; v745 = ld32(v1041); v746 = v2112; v747 = ldp(v1043);
+	v741 = v737; v742 = v2110;
 L480:
-	copy(v1031, v1027, 56);
-	clear(v1012, 104);
-	if (v745 != v1987) goto L491;
-	clear(v995, 56);
-	if (!v746) goto L487;
-	v748 = v747; v749 = v746;
+	copy(v1024, v1020, 56);
+	ptr v2112 = ldp(v1036);
+	clear(v1008, 104);
+	if (!v2012) goto L491;
+	clear(v991, 56);
+	if (!v742) goto L487;
+	v743 = v2112; v744 = v742;
 L481:
-	clear(v992, 96);
-	u64 v2114 = ld64(v5+16), v2115 = ld64(v5+8);
-	if (v749 >= v2114 - v2115) goto L485;
-	u64 v2116 = v2115 + v749;
-	ptr v2117 = ldp(v5);
+	clear(v988, 96);
+	u64 v2113 = ld64(v5+16), v2114 = ld64(v5+8);
+	if (v744 >= v2113 - v2114) goto L485;
+	u64 v2115 = v2114 + v744;
+	ptr v2116 = ldp(v5);
 	clear(v5+8, 16);
-	ptr v2118 = at(v2117, v2115);
-	if ((u64)v2118 - (u64)v748 >= v749) goto L483;
-	v750 = 0;
+	ptr v2117 = at(v2116, v2114);
+	if ((u64)v2117 - (u64)v743 >= v744) goto L483;
+	v745 = 0;
 L482:
-	st8(at(v2118, v750), ld8(at(v748, v750)));
-	u64 v2119 = v750 + 1;
-	if (v2119 == v749) goto L484;
-	v750 = v2119; goto L482;
+	st8(at(v2117, v745), ld8(at(v743, v745)));
+	u64 v2118 = v745 + 1;
+	if (v2118 == v744) goto L484;
+	v745 = v2118; goto L482;
 L483:
-	move(v2118, v748, v749);
+	move(v2117, v743, v744);
 L484:
-	stp(v5, v2117);
-	st64(v5+8, v2116);
-	st64(v5+16, v2114);
-	clear(v993, 56);
-	v751 = v749; goto L486;
+	stp(v5, v2116);
+	st64(v5+8, v2115);
+	st64(v5+16, v2113);
+	clear(v989, 56);
+	v746 = v744; goto L486;
 L485:
-	std_io_buffered_BufWriter_write_cold_9d90(v992, v5, v748, v749);
-	u64 v2120 = ld64(v992+8), v2121 = ld64(v992+16), v2122 = ld64(v992+24), v2123 = ld64(v992+32);
-	u8 v2124 = ld8(v992);
-	copy(v993, v992+40, 56);
-	if (v2124) goto L488;
-	if (v2120) { v751 = v2120; goto L486; }
-	fill(v994, 46, 56);
-	v752 = 1513219; v753 = 0x7469727720656874ull; v754 = 0x206b6f6f74207265ull; v755 = 0x2e676e6968746f6eull; goto L489;
+	std_io_buffered_BufWriter_write_cold_9d90(v988, v5, v743, v744);
+	u64 v2119 = ld64(v988+8), v2120 = ld64(v988+16), v2121 = ld64(v988+24), v2122 = ld64(v988+32);
+	u8 v2123 = ld8(v988);
+	copy(v989, v988+40, 56);
+	if (v2123) goto L488;
+	if (v2119) { v746 = v2119; goto L486; }
+	fill(v990, 46, 56);
+	v747 = 1513219; v748 = 0x7469727720656874ull; v749 = 0x206b6f6f74207265ull; v750 = 0x2e676e6968746f6eull; goto L489;
 L486:;
-	u64 v2125 = v749 - v751;
-	if (v2125) { v748 = at(v748, v751); v749 = v2125; goto L481; }
+	u64 v2124 = v744 - v746;
+	if (v2124) { v743 = at(v743, v746); v744 = v2124; goto L481; }
 L487:
-	v756 = v757 = v758 = v759 = v760 = 0; goto L490;
+	v751 = v752 = v753 = v754 = v755 = 0; goto L490;
 L488:
-	copy(v994, v993, 56);
-	v752 = v2120; v753 = v2121; v754 = v2122; v755 = v2123;
+	copy(v990, v989, 56);
+	v747 = v2119; v748 = v2120; v749 = v2121; v750 = v2122;
 L489:
-	copy(v995, v994, 56);
-	v757 = v752; v758 = v753; v759 = v754; v760 = v755; v756 = 1;
+	copy(v991, v990, 56);
+	v752 = v747; v753 = v748; v754 = v749; v755 = v750; v751 = 1;
 L490:
-	copy(v1012+48, v995, 56);
-	v761 = v760; v762 = v759; v763 = v758; v764 = v757; v765 = v756; v766 = v756; goto L492;
+	copy(v1008+48, v991, 56);
+	v756 = v755; v757 = v754; v758 = v753; v759 = v752; v760 = v751; v761 = v751; goto L492;
 L491:
-	st32(v1014, v729);
-	st32(v1014+4, v728);
-	st64(v1014+8, v730);
-	st64(v1014+16, 0);
-	stp(v1014+24, v747+16);
-	st64(v1014+32, v746 - 16);
-	st64(v1014+40, 0);
-	pcap_classic_pcap_writer_put_packet_ce79(v1012, v5, v1013, v1987, v1014);
-	v761 = ld64(v1012+40); v762 = ld64(v1012+32); v763 = ld64(v1012+24); v764 = ld64(v1012+16); v765 = ld8(v1012+8); v766 = ld8(v1012);
+	st32(v1010, v727);
+	st32(v1010+4, v726);
+	st64(v1010+8, v728);
+	st64(v1010+16, 0);
+	stp(v1010+24, v2112+16);
+	st64(v1010+32, v742 - 16);
+	st64(v1010+40, 0);
+	pcap_classic_pcap_writer_put_packet_ce79(v1008, v5, v1009, v1984, v1010);
+	v756 = ld64(v1008+40); v757 = ld64(v1008+32); v758 = ld64(v1008+24); v759 = ld64(v1008+16); v760 = ld8(v1008+8); v761 = ld8(v1008);
 L492:
-	copy(v1032, v1012+48, 56);
-	if (v766 == 1) { v810 = v743; v811 = v1032+4; v812 = v1032+5; v813 = v1032+8; v814 = v1032+12; v815 = v1032; v816 = v761; v817 = v762; v818 = v763; v819 = v764; v820 = v765; goto L502; }
-	st64(v1043+24, 0);
-	u64 v2126 = ld64(v1042) + 1;
-	st64(v1042, v2126);
-	copy(v1034, v1030, 3);
-	if (v2126 < 4294967295u) { v659 = v743; v660 = v744; v661 = v745; v662 = v2126; goto L423; }
-	v847 = v743; v848 = v849 = v850 = v851 = v852 = v853 = v854 = v855 = v856 = v857 = v858 = v859 = v860 = v861 = v862 = v863 = 0; goto L506;
+	copy(v1025, v1008+48, 56);
+	if (v761 == 1) { v805 = v741; v806 = v1025+4; v807 = v1025+5; v808 = v1025+8; v809 = v1025+12; v810 = v1025; v811 = v756; v812 = v757; v813 = v758; v814 = v759; v815 = v760; goto L502; }
+	st64(v1036+24, 0);
+	u64 v2125 = ld64(v1035) + 1;
+	st64(v1035, v2125);
+	copy(v1027, v1023, 3);
+	if (v2125 < 4294967295u) { v659 = v741; v660 = v2125; goto L423; }
+	v842 = v741; v843 = v844 = v845 = v846 = v847 = v848 = v849 = v850 = v851 = v852 = v853 = v854 = v855 = v856 = v857 = v858 = 0; goto L506;
 L493:
-	copy(v1021, v1019, 56);
-	v768 = v2107; v769 = v2110; v770 = v2109; v771 = v2108; v767 = 1;
+	copy(v1015, v1014, 56);
+	v763 = v2105; v764 = v2108; v765 = v2107; v766 = v2106; v762 = 1;
 L494:
-	copy(v1029, v1021, 56);
-	v772 = v767; v773 = v768; v774 = v771; v775 = v770; v776 = v769;
+	copy(v1022, v1015, 56);
+	v767 = v762; v768 = v763; v769 = v766; v770 = v765; v771 = v764;
 L495:
-	v804 = v1029; v805 = v774; v806 = v775; v807 = v776; v808 = v773; v809 = v772; goto L501;
+	v799 = v1022; v800 = v769; v801 = v770; v802 = v771; v803 = v768; v804 = v767; goto L501;
 L496:
-	clear(v1026, 56);
-	v794 = v1026; v795 = v777; v796 = v777; v797 = v777; v798 = v777 & 0xffffffff00000000ull; v799 = v778; v802 = v777; v803 = v779; v800 = v801 = 0; goto L500;
+	clear(v1019, 56);
+	v789 = v1019; v790 = v772; v791 = v772; v792 = v772; v793 = v772 & 0xffffffff00000000ull; v794 = v773; v797 = v772; v798 = v774; v795 = v796 = 0; goto L500;
 L497:
-	copy(v1023, v1016, 56);
-	v781 = v2080; v782 = v2083; v783 = v2082; v784 = v2081; v780 = 1;
+	copy(v1016, v1012, 56);
+	v776 = v2079; v777 = v2082; v778 = v2081; v779 = v2080; v775 = 1;
 L498:
-	copy(v1025, v1023, 56);
-	v785 = v781; v786 = v781; v787 = v781; v788 = v781; v789 = v781 & 0xffffffff00000000ull; v790 = v784; v791 = v783; v792 = v782; v793 = v780;
+	copy(v1018, v1016, 56);
+	v780 = v776; v781 = v776; v782 = v776; v783 = v776; v784 = v776 & 0xffffffff00000000ull; v785 = v779; v786 = v778; v787 = v777; v788 = v775;
 L499:
-	v794 = v1025; v795 = v786; v796 = v787; v797 = v788; v798 = v789; v799 = v790; v800 = v791; v801 = v792; v802 = v785; v803 = v793;
+	v789 = v1018; v790 = v781; v791 = v782; v792 = v783; v793 = v784; v794 = v785; v795 = v786; v796 = v787; v797 = v780; v798 = v788;
 L500:
-	copy(v1028, v794, 56);
-	v804 = v1028; v805 = v799; v806 = v800; v807 = v801; v808 = (v796 & 16711680) | (v795 & 65280) | (v797 & 4278190080u) | v798 | (v802 & 255); v809 = v803;
+	copy(v1021, v789, 56);
+	v799 = v1021; v800 = v794; v801 = v795; v802 = v796; v803 = (v791 & 16711680) | (v790 & 65280) | (v792 & 4278190080u) | v793 | (v797 & 255); v804 = v798;
 L501:
-	copy(v1031, v804, 56);
-	v810 = ld64(v1043+16); v811 = v1031+4; v812 = v1031+5; v813 = v1031+8; v814 = v1031+12; v815 = v1031; v816 = v807; v817 = v806; v818 = v805; v819 = v808; v820 = v809;
+	copy(v1024, v799, 56);
+	v805 = ld64(v1036+16); v806 = v1024+4; v807 = v1024+5; v808 = v1024+8; v809 = v1024+12; v810 = v1024; v811 = v802; v812 = v801; v813 = v800; v814 = v803; v815 = v804;
 L502:;
-	u32 v2127 = lu32(v815);
-	u8 v2128 = ld8(v811);
-	copy(v1034, v812, 3);
-	v831 = v810; v832 = v1034; v833 = lu64(v814+4); v834 = lu64(v814+12); v835 = lu64(v814+20); v836 = lu64(v814+28); v837 = lu64(v814+36); v838 = lu32(v814); v839 = v2127; v840 = v2128; v841 = lu32(v813); v842 = v820; v843 = v819; v844 = v818; v845 = v817; v846 = v816; goto L505;
+	u32 v2126 = lu32(v810);
+	u8 v2127 = ld8(v806);
+	copy(v1027, v807, 3);
+	v826 = v805; v827 = v1027; v828 = lu64(v809+4); v829 = lu64(v809+12); v830 = lu64(v809+20); v831 = lu64(v809+28); v832 = lu64(v809+36); v833 = lu32(v809); v834 = v2126; v835 = v2127; v836 = lu32(v808); v837 = v815; v838 = v814; v839 = v813; v840 = v812; v841 = v811; goto L505;
 L503:
-	copy(v1009, v1008, 56);
-	v821 = v1009+4; v822 = v1009+5; v823 = v1009+8; v824 = v1009+12; v825 = v1009; v826 = v2022; v827 = v2021; v828 = v2020; v829 = v2019; v830 = 1;
+	copy(v1005, v1004, 56);
+	v816 = v1005+4; v817 = v1005+5; v818 = v1005+8; v819 = v1005+12; v820 = v1005; v821 = v2021; v822 = v2020; v823 = v2019; v824 = v2018; v825 = 1;
 L504:;
-	u32 v2129 = ld32(v825);
-	u8 v2130 = ld8(v821);
-	copy(v1033, v822, 3);
-	v831 = v659; v832 = v1033; v833 = lu64(v824+4); v834 = lu64(v824+12); v835 = lu64(v824+20); v836 = lu64(v824+28); v837 = lu64(v824+36); v838 = ld32(v824); v839 = v2129; v840 = v2130; v841 = ld32(v823); v842 = v830; v843 = v829; v844 = v828; v845 = v827; v846 = v826;
+	u32 v2128 = ld32(v820);
+	u8 v2129 = ld8(v816);
+	copy(v1026, v817, 3);
+	v826 = v659; v827 = v1026; v828 = lu64(v819+4); v829 = lu64(v819+12); v830 = lu64(v819+20); v831 = lu64(v819+28); v832 = lu64(v819+36); v833 = ld32(v819); v834 = v2128; v835 = v2129; v836 = ld32(v818); v837 = v825; v838 = v824; v839 = v823; v840 = v822; v841 = v821;
 L505:
-	v847 = v831; v848 = (u32)ld_bytes(v832, 3) & 16777215; v849 = v838; v850 = v833; v851 = v834; v852 = v835; v853 = v836; v854 = v837; v855 = v843; v856 = v844; v857 = v845; v858 = v846; v859 = v839; v860 = v840; v861 = v841; v863 = v842; v862 = 1;
+	v842 = v826; v843 = (u32)ld_bytes(v827, 3) & 16777215; v844 = v833; v845 = v828; v846 = v829; v847 = v830; v848 = v831; v849 = v832; v850 = v838; v851 = v839; v852 = v840; v853 = v841; v854 = v834; v855 = v835; v856 = v836; v858 = v837; v857 = 1;
 L506:;
-	u64 v2131 = ld64(v1042);
-	if (v847) goto L507;
-	if (v862) { M219: v896 = v848; v897 = v849; v898 = v850; v899 = v851; v900 = v852; v901 = v853; v902 = v854; v903 = v855; v904 = v856; v905 = v857; v906 = v858; v907 = v859; v908 = v860; v909 = v861; v910 = v863; goto L512; }
+	u64 v2130 = ld64(v1035);
+	if (v842) goto L507;
+	if (v857) { M225: v891 = v843; v892 = v844; v893 = v845; v894 = v846; v895 = v847; v896 = v848; v897 = v849; v898 = v850; v899 = v851; v900 = v852; v901 = v853; v902 = v854; v903 = v855; v904 = v856; v905 = v858; goto L512; }
 	goto L508;
 L507:
-	deallocate(ldp(v1043));
-	if (v862) goto M219;
+	deallocate(ldp(v1036));
+	if (v857) goto M225;
 L508:
-	v939 = v2131 == 4294967295u ? 2u : 0u; v928 = v929 = v930 = v931 = v932 = v933 = v934 = v935 = v936 = v937 = v938 = v940 = 0; goto L518;
+	v934 = v2130 == 4294967295u ? 2u : 0u; v923 = v924 = v925 = v926 = v927 = v928 = v929 = v930 = v931 = v932 = v933 = v935 = 0; goto L518;
 L509:
-	v878 = v864; v879 = v865; v880 = v866; v881 = v867; v882 = v868; v883 = v869; v884 = v870; v886 = v874; v887 = v875; v888 = (u32)v876; v889 = (u16)(v876 >> 32); v890 = (u16)(v876 >> 48); v891 = (u32)v877; v892 = (u32)(v877 >> 32); v893 = v873; v894 = v872; v895 = v871; v885 = 1; goto L511;
+	v873 = v859; v874 = v860; v875 = v861; v876 = v862; v877 = v863; v878 = v864; v879 = v865; v881 = v869; v882 = v870; v883 = (u32)v871; v884 = (u16)(v871 >> 32); v885 = (u16)(v871 >> 48); v886 = (u32)v872; v887 = (u32)(v872 >> 32); v888 = v868; v889 = v867; v890 = v866; v880 = 1; goto L511;
 L510:
-	v878 = (u32)ld_bytes(v1040+53, 3) & 16777215; v879 = ld32(v1040+60); v880 = ld64(v1040+64); v881 = ld64(v1040+72); v882 = ld64(v1040+80); v883 = ld64(v1040+88); v884 = ld64(v1040+96); v885 = v1983; v886 = (u64)ldp(v1040+16); v887 = ld64(v1040+24); v888 = ld32(v1040+32); v889 = ld16(v1040+36); v890 = ld16(v1040+38); v891 = ld32(v1040+40); v892 = ld32(v1040+44); v893 = ld32(v1040+48); v894 = ld8(v1040+52); v895 = ld32(v1040+56);
+	v873 = (u32)ld_bytes(v1033+53, 3) & 16777215; v874 = ld32(v1033+60); v875 = ld64(v1033+64); v876 = ld64(v1033+72); v877 = ld64(v1033+80); v878 = ld64(v1033+88); v879 = ld64(v1033+96); v880 = v1980; v881 = (u64)ldp(v1033+16); v882 = ld64(v1033+24); v883 = ld32(v1033+32); v884 = ld16(v1033+36); v885 = ld16(v1033+38); v886 = ld32(v1033+40); v887 = ld32(v1033+44); v888 = ld32(v1033+48); v889 = ld8(v1033+52); v890 = ld32(v1033+56);
 L511:
-	v896 = v878; v897 = v879; v898 = v880; v899 = v881; v900 = v882; v901 = v883; v902 = v884; v903 = v886; v904 = v887; v905 = ((u64)v890 << 48) | ((u64)v889 << 32) | (u64)v888; v906 = ((u64)v892 << 32) | (u64)v891; v907 = v893; v908 = v894; v909 = v895; v910 = v885;
+	v891 = v873; v892 = v874; v893 = v875; v894 = v876; v895 = v877; v896 = v878; v897 = v879; v898 = v881; v899 = v882; v900 = ((u64)v885 << 48) | ((u64)v884 << 32) | (u64)v883; v901 = ((u64)v887 << 32) | (u64)v886; v902 = v888; v903 = v889; v904 = v890; v905 = v880;
 L512:;
-	u64 v2132 = v903 >> 8, v2133 = v903 >> 16, v2134 = v903 >> 24, v2135 = v903 >> 32;
-	u64 v2136 = ((u64)v908 << 32) | ((u64)v896 << 40) | (u64)v907;
-	u64 v2137 = ((u64)v897 << 32) | (u64)v909;
-	switch (v910) {
+	u64 v2131 = v898 >> 8, v2132 = v898 >> 16, v2133 = v898 >> 24, v2134 = v898 >> 32;
+	u64 v2135 = ((u64)v903 << 32) | ((u64)v891 << 40) | (u64)v902;
+	u64 v2136 = ((u64)v892 << 32) | (u64)v904;
+	switch (v905) {
 	case 0: goto L513;
 	case 1: goto L514;
-	case 5: v926 = v910; v911 = v912 = v913 = v914 = v915 = v916 = v917 = v918 = v919 = v920 = v921 = v922 = v923 = v924 = v925 = v927 = 0; goto L516;
+	case 5: v921 = v905; v906 = v907 = v908 = v909 = v910 = v911 = v912 = v913 = v914 = v915 = v916 = v917 = v918 = v919 = v920 = v922 = 0; goto L516;
 	case 2: case 3: case 4: case 6: goto L515;
 	default: goto L517;
 	}
 L513:
-	v916 = 0x7470616320656874ull; v917 = 0x65646e6520657275ull; v918 = 0x2e796c7261652064ull; v919 = 0x2e2e2e2e2e2e2e2eull; v920 = 0x2e2e2e2e2e2e2e2eull; v921 = 0x2e2e2e2e2e2e2e2eull; v922 = 0x2e2e2e2e2e2e2e2eull; v923 = 0x2e2e2e2e2e2e2e2eull; v924 = 0x2e2e2e2e2e2e2e2eull; v925 = 0x2e2e2e2e2e2e2e2eull; v911 = 3; v912 = 37; v913 = 23; v914 = v915 = 0; v926 = 4; v927 = 1; goto L516;
+	v911 = 0x7470616320656874ull; v912 = 0x65646e6520657275ull; v913 = 0x2e796c7261652064ull; v914 = 0x2e2e2e2e2e2e2e2eull; v915 = 0x2e2e2e2e2e2e2e2eull; v916 = 0x2e2e2e2e2e2e2e2eull; v917 = 0x2e2e2e2e2e2e2e2eull; v918 = 0x2e2e2e2e2e2e2e2eull; v919 = 0x2e2e2e2e2e2e2e2eull; v920 = 0x2e2e2e2e2e2e2e2eull; v906 = 3; v907 = 37; v908 = 23; v909 = v910 = 0; v921 = 4; v922 = 1; goto L516;
 L514:
-	v911 = v903; v912 = v2132; v913 = v2133; v914 = v2134; v915 = v2135; v916 = v904; v917 = v905; v918 = v906; v919 = v2136; v920 = v2137; v921 = v898; v922 = v899; v923 = v900; v924 = v901; v925 = v902; v927 = v910; v926 = 4; goto L516;
+	v906 = v898; v907 = v2131; v908 = v2132; v909 = v2133; v910 = v2134; v911 = v899; v912 = v900; v913 = v901; v914 = v2135; v915 = v2136; v916 = v893; v917 = v894; v918 = v895; v919 = v896; v920 = v897; v922 = v905; v921 = 4; goto L516;
 L515:
-	v911 = v903; v912 = v2132; v913 = v2133; v914 = v2134; v915 = v2135; v916 = v904; v917 = v905; v918 = v906; v919 = v2136; v920 = v2137; v921 = v898; v922 = v899; v923 = v900; v924 = v901; v925 = v902; v927 = v910; v926 = 1;
+	v906 = v898; v907 = v2131; v908 = v2132; v909 = v2133; v910 = v2134; v911 = v899; v912 = v900; v913 = v901; v914 = v2135; v915 = v2136; v916 = v893; v917 = v894; v918 = v895; v919 = v896; v920 = v897; v922 = v905; v921 = 1;
 L516:;
-	u64 v2138 = (v915 << 32) | ((v914 << 24) & 4278190080u) | ((v913 << 16) & 16711680) | ((v912 << 8) & 65280);
-	v928 = v2138 | (v911 & 255); v929 = v916; v930 = v917; v931 = v918; v932 = v919; v933 = v920; v934 = v921; v935 = v922; v936 = v923; v937 = v924; v938 = v925; v939 = v926; v940 = v927; goto L518;
+	u64 v2137 = (v910 << 32) | ((v909 << 24) & 4278190080u) | ((v908 << 16) & 16711680) | ((v907 << 8) & 65280);
+	v923 = v2137 | (v906 & 255); v924 = v911; v925 = v912; v926 = v913; v927 = v914; v928 = v915; v929 = v916; v930 = v917; v931 = v918; v932 = v919; v933 = v920; v934 = v921; v935 = v922; goto L518;
 L517:
 	__builtin_trap();
 L518:
-	su64(v1, (u64)v939);
-	st8(v1+8, v940);
-	su64(v1+16, v928);
-	su64(v1+24, v929);
-	su64(v1+32, v930);
-	su64(v1+40, v931);
-	su64(v1+48, v932);
-	su64(v1+56, v933);
-	su64(v1+64, v934);
-	su64(v1+72, v935);
-	su64(v1+80, v936);
-	su64(v1+88, v937);
-	su64(v1+96, v938);
+	su64(v1, (u64)v934);
+	st8(v1+8, v935);
+	su64(v1+16, v923);
+	su64(v1+24, v924);
+	su64(v1+32, v925);
+	su64(v1+40, v926);
+	su64(v1+48, v927);
+	su64(v1+56, v928);
+	su64(v1+64, v929);
+	su64(v1+72, v930);
+	su64(v1+80, v931);
+	su64(v1+88, v932);
+	su64(v1+96, v933);
 	return;
 }
 int32_t program_main(void) {
