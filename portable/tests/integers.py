@@ -98,7 +98,19 @@ def too_far():
             yield Case(f"far_{op}_{bits}", body, inputs, lambda a, b, r=rule, n=bits: [r(a, b, n) % (1 << n) if b < n else 77])
 
 
+def comparisons_of_addresses():
+    """Yields cases in which numbers are compared as addresses."""
+    both = number(0, 64, "a") + number(1, 64, "b") + "  %p = inttoptr i64 %a to ptr\n  %q = inttoptr i64 %b to ptr\n"
+    for name, rule in CONDITIONS.items():
+        body = both + f"  %r = icmp {name} ptr %p, %q\n" + give(1, "r")
+        all_pairs = [(a, b) for a in edges(64) for b in edges(64)]
+        yield Case(f"icmp_{name}_ptr", body, all_pairs, lambda a, b, rule=rule: [int(rule(a, b, 64))])
+        body = both + f"  %r = icmp {name} ptr %p, inttoptr (i64 -1 to ptr)\n" + give(1, "r")
+        yield Case(f"icmp_{name}_ptr_last", body, all_pairs, lambda a, b, rule=rule: [int(rule(a, (1 << 64) - 1, 64))])
+
+
 def comparisons():
+    yield from comparisons_of_addresses()
     for bits in WIDTHS:
         both = number(0, bits, "a") + number(1, bits, "b")
         all_pairs = [(a, b) for a in edges(bits) for b in edges(bits)]

@@ -107,10 +107,10 @@ def compare(writer, instruction):
         return
     sign = COMPARISONS[condition[-2:]]
     if left.type.kind == "ptr":
-        demand(condition[0] != "s", "a signed comparison of addresses", instruction)
         both = [writer.expression(it) for it in (left, right)]
-        if condition[0] == "u":
-            both = [cast("u64", it) for it in both]
+        # The letter is u or s in a comparison of more and less. LLVM compares addresses there as numbers.
+        if condition[0] in "us":
+            both = [cast(f"{condition[0]}64", it) for it in both]
     elif condition[0] == "s":
         both = [signed(writer, it) for it in (left, right)]
     else:
