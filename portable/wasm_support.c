@@ -19,6 +19,7 @@ __int128 __multi3(__int128 one, __int128 other);
 __int128 __ashlti3(__int128 value, int by);
 __int128 __lshrti3(__int128 value, int by);
 unsigned __int128 __udivti3(unsigned __int128 value, unsigned __int128 by);
+__int128 __divti3(__int128 value, __int128 by);
 
 enum { SMALLEST = 16, PAGE_BITS = 16, MOST_PAGES = 65536 };
 
@@ -169,4 +170,11 @@ unsigned __int128 __udivti3(unsigned __int128 value, unsigned __int128 by) {
     if (value >> 64 == 0 && by >> 64 == 0)
         return (uint64_t)value / (uint64_t)by;
     return by >> 32 ? quotient_by_bits(value, by) : quotient_by_digits(value, (uint32_t)by);
+}
+
+static unsigned __int128 magnitude(__int128 value) { return value < 0 ? -(unsigned __int128)value : (unsigned __int128)value; }
+
+__int128 __divti3(__int128 value, __int128 by) {
+    unsigned __int128 quotient = __udivti3(magnitude(value), magnitude(by));
+    return (__int128)((value < 0) == (by < 0) ? quotient : -quotient);
 }
