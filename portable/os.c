@@ -23,6 +23,11 @@
 #include <unistd.h>
 #ifdef __linux__
 #include <sys/syscall.h>
+#else
+#define LISTS_BY_READDIR /* on Linux portable/compare --forms gcc-readdir defines it */
+#endif
+#ifdef LISTS_BY_READDIR
+#include <dirent.h>
 #endif
 
 typedef uint8_t *ptr;
@@ -88,7 +93,15 @@ uint64_t os_read(uint32_t file, ptr to, uint64_t room) { return (uint64_t)read((
 uint64_t os_pread(uint32_t file, ptr to, uint64_t room, uint64_t place) { return (uint64_t)pread((int)file, to, room, (off_t)place); }
 uint64_t os_write(uint32_t file, ptr from, uint64_t length) { return (uint64_t)write((int)file, from, length); }
 uint64_t os_lseek(uint32_t file, uint64_t to, uint32_t from) { return (uint64_t)lseek((int)file, (off_t)to, (int)from); }
-uint32_t os_close(uint32_t file) { return (uint32_t)close((int)file); }
+#ifdef LISTS_BY_READDIR
+static void forget_listed(uint32_t file);
+#else
+#define forget_listed(file) (void)(file)
+#endif
+uint32_t os_close(uint32_t file) {
+    forget_listed(file);
+    return (uint32_t)close((int)file);
+}
 uint32_t os_rename(ptr from, ptr to) { return (uint32_t)rename((char *)from, (char *)to); }
 uint32_t os_unlink(ptr path) { return (uint32_t)unlink((char *)path); }
 uint32_t os_isatty(uint32_t file) { return (uint32_t)isatty((int)file); }
@@ -150,17 +163,61 @@ uint32_t os_open_dir_at(uint32_t folder, ptr path) {
     return (uint32_t)openat((int)folder == -100 ? AT_FDCWD : (int)folder, (char *)path, O_RDONLY | O_CLOEXEC | O_DIRECTORY | O_NOFOLLOW);
 }
 
-/* Reads the next entries of a folder, in Linux's layout. On another system a program lists no folder, and finds a time zone only by the
- * name of its file. */
-uint64_t os_getdents64(uint32_t folder, ptr to, uint64_t room) {
-#ifdef __linux__
-    return (uint64_t)syscall(SYS_getdents64, (int)folder, to, room);
-#else
-    (void)folder, (void)to, (void)room;
-    errno = ENOSYS;
-    return (uint64_t)-1;
-#endif
+/* Reads the next entries of a folder, in Linux's layout: 19 bytes, of which two are the length of the entry, and the name. */
+#ifdef LISTS_BY_READDIR
+static DIR *listed;           /* the folder that was read last, and its number as a file */
+static uint32_t listed_file;
+static struct dirent *waiting; /* the entry that had no room */
+
+static void forget_listed(uint32_t file) {
+    if (listed && listed_file == file) {
+        closedir(listed);
+        listed = NULL;
+    }
 }
+
+static int begin_listing(uint32_t folder) {
+    int copy = fcntl((int)folder, F_DUPFD_CLOEXEC, 3);
+    DIR *opened = copy < 0 ? NULL : fdopendir(copy);
+    if (!opened) {
+        if (copy >= 0)
+            close(copy);
+        return -1;
+    }
+    if (listed)
+        closedir(listed);
+    listed = opened;
+    listed_file = folder;
+    waiting = NULL;
+    return 0;
+}
+
+uint64_t os_getdents64(uint32_t folder, ptr to, uint64_t room) {
+    uint64_t filled = 0;
+    if ((!listed || listed_file != folder) && begin_listing(folder) != 0)
+        return (uint64_t)-1;
+    for (;;) {
+        errno = 0;
+        struct dirent *entry = waiting ? waiting : readdir(listed);
+        waiting = NULL;
+        if (!entry)
+            return errno && !filled ? (uint64_t)-1 : filled;
+        size_t name = strlen(entry->d_name) + 1, length = (19 + name + 7) / 8 * 8;
+        if (length > room - filled) {
+            waiting = entry;
+            errno = EINVAL;
+            return filled ? filled : (uint64_t)-1;
+        }
+        memset(to + filled, 0, length);
+        to[filled + 16] = (uint8_t)length;
+        to[filled + 17] = (uint8_t)(length >> 8);
+        memcpy(to + filled + 19, entry->d_name, name);
+        filled += length;
+    }
+}
+#else
+uint64_t os_getdents64(uint32_t folder, ptr to, uint64_t room) { return (uint64_t)syscall(SYS_getdents64, (int)folder, to, room); }
+#endif
 
 /* Clock 0 is that of the day, and any other never goes back. Seconds and nanoseconds are 8 bytes each. */
 uint32_t os_clock_gettime(uint32_t clock, ptr to) {

@@ -84,6 +84,7 @@ FORMS = {
         form("gcc", "gcc", "-O2"),
         form("gcc-O0", "gcc", "-O0"),
         form("gcc-sanitizers", "gcc", *SANITIZERS),
+        form("gcc-readdir", "gcc", "-O2", "-DLISTS_BY_READDIR"),
         form("clang", "clang", "-O2"),
         form("clang-O0", "clang", "-O0"),
         form("clang-sanitizers", "clang", *SANITIZERS),

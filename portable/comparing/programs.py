@@ -18,7 +18,7 @@ BOTH_WAYS = (
     + [["list", flag] for flag in ("--csv", "--json", "--utc", "--hex")]
     + [["info", "--json"], ["info", "--json", "--repair"], ["check", "--quiet"], ["list", "--json", "--as-is"]]
 )
-CUTS = (["--packets", "2-4"], ["--every", "3"], ["--from", "1000000000.5"], ["--until", "1400000000"], ["--bytes", "5000"])
+CUTS = (["--packets", "2-4"], ["--every", "3"], ["--from", "1000000000.5"], ["--until", "1400000000"], ["--bytes", "5000"], ["--seconds", "60"])
 
 
 def words_of_pcapfile():
@@ -29,8 +29,9 @@ def words_of_pcapfile():
         found += [["cut", *cut, "IN", "-o", "OUT.pcap"], ["cut", *cut, "--repair", "IN", "-o", "OUT.pcap"]]
     found += [["cut", "--parts", "3", "IN", "-o", "OUT.pcap"], ["repair", "IN", "-o", "OUT"], ["join", "IN", "IN", "-o", "OUT"]]
     found += [["cut", "--snaplen", "60", "--shift", "1.5", "--dedup", "IN", "-o", "OUT"], ["sort", "IN", "-o", "OUT"]]
+    found += [["cut", flag, "IN", "-o", "OUT"] for flag in ("--nanoseconds", "--microseconds")]
     found += [["merge", "IN", "NEXT", "-o", "OUT"], ["merge", "--repair", "--to", "pcap", "IN", "NEXT", "-o", "OUT"]]
-    found += [["check", "IN", "NEXT", "nothing-here"]]
+    found += [["check", "IN", "NEXT", "nothing-here"], ["check", "--recursive", "."], ["cut", "--until", "-1s", "IN", "-o", "OUT"]]
     return found + [["convert", "-", "-o", "-"], ["repair", "-", "-o", "-"], ["list", "-"], ["info", "-"], ["convert", "IN", "-o", "IN"]]
 
 

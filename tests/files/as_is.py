@@ -907,7 +907,7 @@ def try_several(tally, help):
     listing = f"flawed:\n{listed('', flawed)[0]}blocks:\nsound:\n{listed('', sound)[0]}"
     for name, ended, wanted in (("check", check, lines), ("list", rows, listing)):
         told = ended[2].splitlines()
-        starts = ["missing: No such file", "folder: Is a directory"]
+        starts = ["missing: No such file", {"check": "folder: is a folder; --recursive", "list": "folder: Is a directory"}[name]]
         said = len(told) == len(starts) and all(line.startswith(f"pcapfile: {it}") for line, it in zip(told, starts))
         tally.note(f"{name} --as-is of several", (ended[:2] != (FAILED, wanted.encode()) or not said) and f"it gave {ended}")
     tally.note("the worst of several", worst != [AT_FAULT, AT_FAULT, DONE] and f"it gave {worst}")

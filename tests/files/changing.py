@@ -10,6 +10,10 @@ START, SECOND = 1700000000250000000, 10**9
 ENHANCED, OLD, SIMPLE, NAMES, UNKNOWN = 6, 2, 3, 4, 0x12345
 LENGTHS = (1, 3, 4, 5, 7, 8, 60, 2**32 - 1)
 ORDERS = (("<", 0xA1B2C3D4, 1000), (">", 0xA1B23C4D, 1))
+# The magic numbers of captures, by the nanoseconds in a unit of their times; for each unit the option of cut and the format of editcap.
+MAGICS = {1000: 0xA1B2C3D4, 1: 0xA1B23C4D}
+RESOLUTIONS = ((1000, "--microseconds"), (1, "--nanoseconds"))
+FORMS = {1000: "pcap", 1: "nsecpcap"}
 # A comment, and the end of the options.
 COMMENT = {order: struct.pack(order + "HH", 1, 5) + b"notes\0\0\0" + bytes(4) for order in "<>"}
 
@@ -120,6 +124,68 @@ def try_wrong_lengths(tally, help):
         refuses(tally, help, ["--snaplen", "4", *words])
 
 
+def resolved(order, capture, unit, to):
+    """Returns a classic capture whose fractions are in units of `unit` nanoseconds with fractions in units of `to`, rounded down."""
+    made, at = struct.pack(order + "I", MAGICS[to]) + capture[4:24], 24
+    while at < len(capture):
+        seconds, fraction, stored, wire = struct.unpack_from(order + "IIII", capture, at)
+        made += struct.pack(order + "IIII", seconds, fraction * unit // to, stored, wire) + capture[at + 16 : at + 16 + stored]
+        at += 16 + stored
+    return made
+
+
+def fractions_of(unit):
+    """Returns fractions in units of so many nanoseconds: with one or more digits below a microsecond, of a second or more, and the largest."""
+    return (0, 1, 999, 1000, 1999, 250000 // unit, SECOND // unit - 1, SECOND // unit, SECOND * 2 // unit + 1, (2**32 - 1) // unit)
+
+
+def try_resolutions(tally, help):
+    """Checks captures in the other resolution and in their own, and what the tests see. Each other field of the header keeps its bytes."""
+    for order in "<>":
+        for unit, magic in MAGICS.items():
+            head = struct.pack(order + "IHHiIII", magic, 2, 3, -3600, 9, 96, 0x24000065)
+            capture = head + b"".join(struct.pack(order + "IIII", START // SECOND + k, it, 4, 90) + b"data" for k, it in enumerate(fractions_of(unit)))
+            for to, option in RESOLUTIONS:
+                wanted, name = resolved(order, capture, unit, to), f"{option}, {order}{magic:x}"
+                made = cutting.expects(tally, help, name, {"in": capture}, ["cut", "in", option, "-o", "out"], {"out": wanted})
+                cutting.expects(tally, help, f"{name}, no packet", {"in": head}, ["cut", "in", option, "-o", "out"], {"out": wanted[:24]})
+                tally.note(f"{name}, its own", to == unit and made.get("out") != capture and "it has other bytes")
+                packets = sample()
+                given = help.classic(order, magic, unit, 101, [(time + 1234567 * k, wire, data) for k, (time, wire, data) in enumerate(packets)])[0]
+                made = cutting.expects(tally, help, f"{name}, a sample", {"in": given}, ["cut", "in", option, "-o", "out"], {"out": resolved(order, given, unit, to)})
+                if left_out.has("editcap", "captures in another resolution beside editcap, in tests/files/run"):
+                    theirs = cutting.edited(given, ["-F", FORMS[to], "IN", "OUT"])
+                    other = help.packets_of(theirs) != help.packets_of(made.get("out", head)) and f"it has {help.packets_of(theirs)}"
+                    tally.note(f"editcap -F {FORMS[to]}, {order}{magic:x}", other)
+
+
+def try_resolved_choice(tally, help):
+    """Checks that tests see the times before, and that packets are shortened and duplicates left out too."""
+    for order in "<>":
+        packets = [(START + k * 700, 90, bytes([k % 5]) * (k % 7)) for k in range(20)]
+        capture = help.classic(order, MAGICS[1], 1, 1, packets)[0]
+        kept = distinct(packets, 4)
+        for words, wanted, said in (
+            (["--from", "1700000000.2500021"], packets[3:], ""), (["--until", "1700000000.2500021"], packets[:3], ""), (["--packets", "2-4"], packets[1:4], ""),
+            (["--snaplen", "3"], [(time, wire, data[:3]) for time, wire, data in packets], ""), (["--dedup"], kept, left_out_of(packets, kept)),
+        ):
+            wanted = help.classic(order, MAGICS[1000], 1000, 1, wanted)[0]
+            words = ["cut", "in", *words, "--microseconds", "-o", "out"]
+            cutting.expects(tally, help, f"{' '.join(words)}, {order}", {"in": capture}, words, {"out": wanted}, said=said)
+
+
+def try_wrong_resolutions(tally, help):
+    """Checks that the resolutions exclude each other and parts, and that captures of blocks are refused."""
+    refuses(tally, help, ["--nanoseconds", "--microseconds"])
+    for _, option in RESOLUTIONS:
+        refuses(tally, help, [f"{option}=1"])
+        for words in (["--every", "2"], ["--parts", "2"], ["--bytes", "1K"]):
+            refuses(tally, help, [option, *words])
+        held = {"in": help.blocks("<", block_sample("<"))[0], "out": b"old"}
+        said = "error: --nanoseconds and --microseconds are for classic captures, and in is PcapNg"
+        cutting.fails(tally, help, f"{option} of blocks", held, ["cut", "in", option, "-o", "out"], USAGE, said)
+
+
 def repeating():
     """Returns packets (nanoseconds, length on the wire, data) of which many have the data of an earlier one, some with another length."""
     draw = random.Random(58)
@@ -220,6 +286,6 @@ def try_wrong_duplicates(tally, help):
 
 
 def try_all(tally, help):
-    for tries in (try_classic_lengths, try_block_lengths, try_kept_whole, try_wrong_lengths, try_classic_duplicates, try_block_duplicates,
-                  try_wrong_duplicates):
+    for tries in (try_classic_lengths, try_block_lengths, try_kept_whole, try_wrong_lengths, try_resolutions, try_resolved_choice,
+                  try_wrong_resolutions, try_classic_duplicates, try_block_duplicates, try_wrong_duplicates):
         tries(tally, help)

@@ -1,4 +1,5 @@
 """Checks what `pcapfile cut` and `pcapfile join` write. The test slices packets with struct alone, and also with editcap if that is installed."""
+import itertools
 import os
 import stat
 import struct
@@ -90,6 +91,77 @@ def shares(header, texts, n):
         if k + 1 < len(texts) and any(before < end <= passed for end in ends):
             parts.append(header)
     return parts
+
+
+def spanned(times, seconds):
+    """Returns the number of each packet's part, from 0. A packet begins a part if its span is behind those of all packets before it. Spans are
+    counted from the first time; packets without a time have None."""
+    first = next((it for it in times if it is not None), 0)
+    spans = [-1 if it is None else (it - first) // (seconds * 10**9) for it in times]
+    latest = list(itertools.accumulate(spans, max))
+    begun = sorted({it for it in latest if it >= 0})
+    return [begun.index(it) if it >= 0 else 0 for it in latest]
+
+
+def try_spans(tally, help):
+    """Checks parts by time: packets at both ends of a span and earlier ones, spans without packets, and fractions of a second or more."""
+    second = 10**9
+    times = [it * second // 100 for it in (25, 25, 30, 124, 125, 50, 0, 224, 225, 1026, 25, 1024, 429496729500, 3)]
+    for order, magic, unit in (("<", 0xA1B2C3D4, 1000), (">", 0xA1B23C4D, 1)):
+        for asked in (times, times[:1], [], times[3:] + [0, 10**18], sorted(times)):
+            capture, ends = help.classic(order, magic, unit, 1, [(time, 60, bytes([k]) * k) for k, time in enumerate(asked)])
+            header, texts = pieces(capture, ends)
+            for seconds in (1, 2, 3, 10, 2**32, 2**64 - 1):
+                numbers = spanned(asked, seconds)
+                each = [header + b"".join(text for text, it in zip(texts, numbers) if it == k) for k in range(max(numbers, default=0) + 1)]
+                name = f"{len(asked)} packets, {order}{magic:x}, {seconds} seconds each"
+                made = expects(tally, help, name, {"in": capture}, ["cut", "in", "--seconds", str(seconds), "-o", "out.pcap"], numbered(each))
+                joins(tally, help, f"{name}, joined", made, capture)
+        carried = [struct.pack(order + "IIII", at, fraction // unit, 0, 60) for at, fraction in ((10, 0), (9, 1999999000), (9, 2000000000), (10, 1500000000), (12, 0))]
+        wanted = numbered([header + b"".join(carried[:2]), header + b"".join(carried[2:4]), header + carried[4]])
+        held = {"in": header + b"".join(carried)}
+        expects(tally, help, f"large fractions by seconds, {order}", held, ["cut", "in", "--seconds", "1", "-o", "out.pcap"], wanted)
+    for words in (["--seconds", "0"], ["--seconds", "1.5"], ["--seconds=-1"], ["--seconds", "2", "--every", "2"], ["--seconds", "2", "--packets", "1-"]):
+        fails(tally, help, " ".join(words), {"in": capture, "out": b"old"}, ["cut", "in", *words, "-o", "out"], USAGE, "error: ")
+    try_torn_spans(tally, help)
+    try_block_spans(tally, help)
+
+
+def try_torn_spans(tally, help):
+    """Checks truncated captures: the parts before the one that the error is in stay. A packet without a whole header is in no later part."""
+    capture, ends = help.classic("<", 0xA1B2C3D4, 1000, 1, [(k * 10**9, 60, bytes(range(k))) for k in (3, 4, 9)])
+    header, texts = pieces(capture, ends)
+    for at in range(ends[1] + 1, ends[3]):
+        if at not in ends:
+            place = max(end for end in ends if end < at)
+            whole = ends.index(place) - (at < place + 16)
+            wanted = numbered([header + it for it in texts[:whole]])
+            said = f"pcapfile: in: cut short at byte {place}\n"
+            expects(tally, help, f"{at} bytes by seconds", {"in": capture[:at]}, ["cut", "in", "--seconds", "1", "-o", "out.pcap"], wanted, AT_FAULT, said)
+
+
+def try_block_spans(tally, help):
+    """Checks parts of blocks by time. Packets without a time stay in a part, and so do the blocks before the packet that ends it."""
+    for order in "<>":
+        interface, custom = help.interface(order, 1), (CUSTOM, struct.pack(order + "I", 32473) + b"any data")
+        simple, torn = (SIMPLE, struct.pack(order + "I", 60) + b"data"), (PACKET, bytes(4))
+        times = [None, 1700000000250000, None, 1700000001249999, 1700000000000000, 1700000001250000, None, None, 1700000009000000, 1700000002000000]
+        packets = [simple if it is None else help.enhanced(order, k % 2, it, 60, bytes([k]) * k) for k, it in enumerate(times)]
+        packets[6] = torn
+        found = [interface, interface, *packets[:3], custom, *packets[3:5], interface, custom, packets[5], (NAMES, bytes(4)), *packets[6:9], custom, packets[9], custom]
+        texts = [help.block(order, *it) for it in found]
+        section = help.blocks(order, [])[0]
+        for seconds in (1, 2, 8, 100):
+            numbers = iter(spanned([it and it * 1000 for it in times], seconds))
+            parts, in_force = [section], section
+            for (number, _), text in zip(found, texts):
+                if number in (PACKET, SIMPLE) and next(numbers) == len(parts):
+                    parts.append(in_force)
+                parts[-1] += text
+                in_force += text if number in REPEATED else b""
+            held, name = {"in": section + b"".join(texts)}, f"blocks of {seconds} seconds each, {order}"
+            made = expects(tally, help, name, held, ["cut", "in", "--seconds", str(seconds), "-o", "out.pcap"], numbered(parts))
+            joins(tally, help, f"{name}, joined", made, held["in"])
 
 
 def try_sizes(tally, help):
@@ -372,5 +444,5 @@ def try_block_ranges(tally, help, found):
 
 
 def try_all(tally, help):
-    for tries in (try_parts, try_sizes, try_ranges, try_faults, try_pipes, try_special, try_blocks):
+    for tries in (try_parts, try_spans, try_sizes, try_ranges, try_faults, try_pipes, try_special, try_blocks):
         tries(tally, help)

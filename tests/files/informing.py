@@ -1,5 +1,6 @@
 """Checks what `pcapfile info` writes. The test makes captures and counts their figures itself, and compares files with capinfos if that
 is installed."""
+import hashlib
 import itertools
 import json
 import os
@@ -491,6 +492,46 @@ def try_no_total(tally, help):
             tally.note(f"info {form} --total {word}", not code and "it ended with 0", (last, count) != (files, files) and f"it wrote {written!r}", not told and "it said nothing")
 
 
+def hashed(help):
+    """Yields files: a name, the bytes, and the status of `info`."""
+    packets = [(k * 1000, 60, bytes(60)) for k in range(9000)]
+    sound, _ = help.classic("<", 0xA1B2C3D4, 1000, help.ETHERNET, packets)
+    blocks, _ = help.blocks("<", [help.interface("<", help.ETHERNET), help.enhanced("<", 0, 1, 9, b"123456789")])
+    yield "sound", sound, DONE
+    yield "blocks", blocks, DONE
+    yield "corrupt", sound[:100] + b"\xff" * 16 + sound[100:], AT_FAULT
+    yield "truncated", blocks[:-2], AT_FAULT
+    yield "long", blocks + b"\xff" * 600_000, AT_FAULT
+
+
+def try_digests(tally, help):
+    """Checks that `--hash` gives the SHA-256 of each whole file in all forms, also of one that is malformed or repaired."""
+    with tempfile.TemporaryDirectory() as folder:
+        for name, content, status in hashed(help):
+            help.put(folder, name, content)
+            digest = hashlib.sha256(content).hexdigest()
+            for options in ([], ["--repair"]):
+                wanted = DONE if options else status
+                for form, piped in itertools.product(([], ["--json"], ["--table", "--total"]), (False, True)):
+                    words = [*form, *options, "--hash", "-" if piped else name]
+                    code, written, _ = tally.run(folder, words, given=content if piped else b"", word="info")
+                    lines = written.decode().splitlines()
+                    found = digest_in(form, lines)
+                    tally.note(f"info {words} of {name}", code != wanted and f"it ended with {code}", found != digest and f"it shows {found}")
+
+
+def digest_in(form, lines):
+    """Returns the digest in a report, or what is wrong with it."""
+    if not form:
+        return next((it.split()[1] for it in lines if it.startswith("  SHA-256:           ")), None)
+    if form == ["--json"]:
+        return json.loads(lines[0]).get("sha256")
+    names, row, total = (it.split("\t") for it in lines)
+    if names[-1] != "sha256" or total[-1] != "-" or not len(names) == len(row) == len(total) == len(COLUMNS) + 1:
+        return lines
+    return row[-1]
+
+
 def peak_of(tally, help, options, capture):
     """Returns the peak memory of a report on this capture, in bytes."""
     with tempfile.TemporaryDirectory() as folder:
@@ -513,5 +554,5 @@ def try_memory(tally, help):
 
 
 def try_all(tally, help):
-    for tries in (try_classic, try_link_fields, try_order, try_blocks, try_texts, try_kinds, try_files, try_tables, try_capinfos, try_memory):
+    for tries in (try_classic, try_link_fields, try_order, try_blocks, try_texts, try_kinds, try_files, try_tables, try_digests, try_capinfos, try_memory):
         tries(tally, help)

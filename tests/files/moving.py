@@ -82,6 +82,20 @@ def try_moved_choice(tally, help):
         cutting.expects(tally, help, " ".join(words), {"in": capture}, words, {"out": wanted}, said=said_of(still))
 
 
+def try_moved_resolutions(tally, help):
+    """Checks times that are moved and converted: a capture in nanoseconds can state all of them, and microseconds are rounded down."""
+    for order in "<>":
+        for unit, magic in changing.MAGICS.items():
+            packets = [(time + 999000 * k, wire, data) for k, (time, wire, data) in enumerate(changing.sample())]
+            capture = help.classic(order, magic, unit, 1, packets)[0]
+            for to, option in changing.RESOLUTIONS:
+                for text, shift in (("0.000000001", 1), ("-0.0000005", -500), ("1.0000015", SECOND + 1500), ("-1700000003", -1700000003 * SECOND)):
+                    new, still = moved(packets, shift, min(unit, to))
+                    wanted = help.classic(order, changing.MAGICS[to], to, 1, new)[0]
+                    words = ["cut", "in", "--shift", text, option, "-o", "out"]
+                    cutting.expects(tally, help, f"{text} seconds, {option}, {order}{magic:x}", {"in": capture}, words, {"out": wanted}, said=said_of(still))
+
+
 def clock_blocks(order, shift=None):
     """Returns a section with a packet of each kind for each clock and time. If a shift is given, their times are moved, and the number of
     packets that keep their time is returned too."""
@@ -143,5 +157,5 @@ def try_wrong_shifts(tally, help):
 
 
 def try_all(tally, help):
-    for tries in (try_classic_times, try_large_fractions, try_moved_choice, try_block_times, try_unmoved_blocks, try_wrong_shifts):
+    for tries in (try_classic_times, try_large_fractions, try_moved_choice, try_moved_resolutions, try_block_times, try_unmoved_blocks, try_wrong_shifts):
         tries(tally, help)

@@ -14,6 +14,7 @@ import converting  # noqa: E402
 import cutting  # noqa: E402
 import describing  # noqa: E402
 import dumping  # noqa: E402
+import folders  # noqa: E402
 import foreign  # noqa: E402
 import gaps  # noqa: E402
 import informing  # noqa: E402
@@ -33,7 +34,7 @@ from converting import SECONDS, TOP  # noqa: E402
 # These make their captures by the functions of converting.py.
 OVER_CAPTURES = (
     converting, cutting, selecting, changing, moving, foreign, as_is, repairing, line_ends, describing, variants, informing, listing, dumping,
-    ample, asking, sorting,
+    folders, ample, asking, sorting,
 )
 ALONE = (progress, outputs, streams, gaps)
 PARTS = {

@@ -1,7 +1,9 @@
-"""Checks which packets `pcapfile cut` selects, by tests that Python makes of the same words, and by tcpdump if that is installed."""
+"""Checks which packets `pcapfile cut` selects, by tests that Python makes of the same words, and by tcpdump if that is installed. `list`,
+`info` and `convert` must read with the same words what Python selects."""
 import datetime
 import itertools
 import os
+import re
 import struct
 import subprocess
 import tempfile
@@ -23,9 +25,11 @@ NO_NUMBERS = ("", ",", "1,", ",1", "0", "0-3", "3-2", "-", "1--2", "1-2-3", "a",
 SAME_TIMES = (
     "1700000001.25", "1700000001.250000000", "2023-11-14T22:13:21.25Z", "2023-11-14 22:13:21.25", "2023-11-14T22:13:21.25", "2023-11-14 22:13:21.25Z",
     "2023-11-14T23:13:21.25+01:00", "2023-11-14 16:43:21.25-05:30", "+1", "+1s", "+1.0", "+1000ms", "+1 second",
+    "-3.5s", "-3500ms", "-3s 500ms",
 )
 NO_TIMES = (
     "", "noon", "+", "+-1s", "-", "--1", "1.", ".5", "1.1234567890", "2023-13-01", "2023-02-29", "2023-11-14 25:00", "2023-11-14 22:13:21.25 CET", "+1x", "1e9", "0x10",
+    "-1x", "--1s", "-+1s", "-1h ago", "1s", "1h ago",
 )
 # Programs, as tcpdump prints them, with the packets (bytes, length on the wire) that they accept.
 FILTERS = (
@@ -57,6 +61,14 @@ NO_FILTERS = (
     (b"4097\n" + b"6 0 0 0\n" * 4097, 4098, "a program has at most 4096 instructions"),
 )
 ASKS = "For a program, run 'tcpdump -ddd EXPRESSION'.\n"
+# The commands that read the packets that cut would write.
+READING = (
+    ["list", "in"], ["list", "in", "--csv"], ["list", "in", "--json"], ["list", "in", "--hex", "--utc"], ["list", "in", "in"], ["list", "in", "-n", "2"],
+    ["info", "in"], ["info", "in", "in", "--json", "--total"], ["convert", "in", "-o", "out"], ["convert", "in", "--to", "pcapng", "-o", "-"],
+)
+# Each row of packets takes one of so many commands.
+EACH, TURNS = 4, itertools.count()
+TWICE = "error: a time before the latest packet needs a file and no --repair, because the program reads the capture twice\n"
 
 
 def sample(help):
@@ -80,6 +92,44 @@ def selects(tally, help, words, test, held=None):
         wanted = front + b"".join(text for it, text in zip(packets, texts) if test(*(it[:4] + (0,) if is_classic else it)))
         given = {"in": front + b"".join(texts), **(held or {})}
         cutting.expects(tally, help, f"{kind} {' '.join(words)}", given, ["cut", "in", *words, "-o", "out"], {"out": wanted})
+        numbers = [it[0] for it in packets if test(*(it[:4] + (0,) if is_classic else it))]
+        reads(tally, help, f"{kind} {' '.join(words)}", given, words, wanted, numbers)
+
+
+def numbered(listed, words, numbers):
+    """Returns the lines of a list, with these numbers of its packets."""
+    if "--hex" in words:
+        parts = [it.split(b" ", 1)[1] for it in listed.split(b"\n\n")[:-1]]
+        return b"".join(b"%d %s\n\n" % it for it in zip(numbers, parts, strict=True))
+    before = rb'(^.*"index":)' if "--json" in words else rb"(^)"
+    again = itertools.cycle(numbers)
+    return re.sub(before + rb"\d+(?=[, ])", lambda it: it[1] + b"%d" % next(again), listed, flags=re.M)
+
+
+def reads(tally, help, name, given, words, selected, numbers, status=DONE, said=""):
+    """Checks that some of the commands, in turns, read with these words the selected packets, which have these numbers in their capture."""
+    for command in READING[next(TURNS) % EACH :: EACH]:
+        # A list that ends before the error doesn't report it.
+        is_full = "-n" in command and len(numbers) >= 2
+        ends_well = status == DONE or is_full
+        command = [it for it in command if ends_well or it != "--total"]
+        ends = []
+        for held, more in ((given, words), ({**given, "in": selected}, [])):
+            with tempfile.TemporaryDirectory() as folder:
+                for path, content in held.items():
+                    help.put(folder, path, content)
+                ended = cutting.ran(tally, folder, *command, *more)
+                ends.append((*ended, help.files(folder).get("out")))
+        code, written, told, made = ends[1]
+        if command[0] == "list":
+            written = numbered(written, command, numbers[:2] if "-n" in command else numbers)
+        if not ends_well:
+            code, told = max(code, status), told + said * command.count("in")
+            made = None if command[0] == "convert" else made
+        elif status == DONE:
+            told += said * command.count("in")
+        wanted = (code, written, told, made)
+        tally.note(f"{name} {' '.join(command)}", ends[0] != wanted and f"it ended with {ends[0]}, and not with {wanted}")
 
 
 def refuses(tally, help, words, said, held=None):
@@ -127,6 +177,76 @@ def try_early(tally, help):
         (["--from", "0"], texts[4:]),
     ):
         cutting.expects(tally, help, f"before 1970, {words}", {"in": capture}, ["cut", "in", *words, "-o", "out"], {"out": front + b"".join(chosen)})
+
+
+def try_latest(tally, help):
+    """Checks times before the latest packet, which is not the last one, in both formats and in a truncated capture. One block has no time."""
+    times = [5 * SECOND, 9 * SECOND + SECOND // 4, 7 * SECOND, 2 * SECOND]
+    latest = max(times)
+    capture, ends = help.classic("<", 0xA1B23C4D, 1, 1, [(it, 60, b"data") for it in times])
+    parts = [help.interface("<", 1, 0, True), (help.SIMPLE, struct.pack("<I", 4) + b"none"), *(help.enhanced("<", 0, it, 60, b"data") for it in times)]
+    stored, block_ends = help.blocks("<", parts)
+    for words, test in (
+        (["--from", "-2s"], lambda time: time >= latest - 2 * SECOND),
+        (["--until=-2s"], lambda time: time < latest - 2 * SECOND),
+        (["--from", "-2.25s"], lambda time: time >= 7 * SECOND),
+        (["--from", "-2.249999999s"], lambda time: time > 7 * SECOND),
+        (["--until", "-2250ms"], lambda time: time < 7 * SECOND),
+        (["--from", "-0s"], lambda time: time == latest),
+        (["--until", "-0s"], lambda time: time < latest),
+        (["--from", "-1h"], lambda time: True),
+        (["--until", "-1h 30m"], lambda time: False),
+        (["--from", "+1s", "--until", "-1s"], lambda time: 6 * SECOND <= time < latest - SECOND),
+        (["--from", "-9s", "--packets", "2-3"], lambda time: time in times[1:3]),
+    ):
+        header, texts = cutting.pieces(capture, ends)
+        wanted = header + b"".join(text for time, text in zip(times, texts) if test(time))
+        cutting.expects(tally, help, f"packets {words}", {"in": capture}, ["cut", "in", *words, "-o", "out"], {"out": wanted})
+        with tempfile.TemporaryDirectory() as folder:
+            help.put(folder, "in", capture[:-1])
+            ended = cutting.ran(tally, folder, "cut", "in", *words, "-o", "-")
+        wanted = header + b"".join(text for time, text in zip(times[:-1], texts) if test(time))
+        if "--packets" not in words:
+            tally.note(f"torn packets {words}", ended != (AT_FAULT, wanted, f"pcapfile: in: cut short at byte {ends[-2]}\n") and f"it ended with {ended}")
+        texts = [stored[a:b] for a, b in zip(block_ends[2:], block_ends[3:])]
+        number = {"2-3": times[:2]}.get(words[-1])
+        # The block without a time is the first packet, so the packets have other numbers than in the classic capture.
+        chosen = number or [time for time in times if test(time)]
+        wanted = stored[: block_ends[1]] + b"".join(text for time, text in zip(times, texts) if time in chosen)
+        said = "pcapfile: in: left out 1 packet without a time\n"
+        cutting.expects(tally, help, f"blocks {words}", {"in": stored}, ["cut", "in", *words, "-o", "out"], {"out": wanted}, said="" if number else said)
+        numbers = [k + 2 for k, time in enumerate(times) if time in chosen]
+        reads(tally, help, f"blocks {words}", {"in": stored}, words, wanted, numbers, said="" if number else said)
+    try_not_twice(tally, help, capture)
+
+
+def try_not_twice(tally, help, capture):
+    """Checks captures that can't be read twice, and files that are no captures or have no packet. Each has one message."""
+    for name in ("from", "until"):
+        option = f"--{name}=-1s"
+        for words in (["in", "--repair"], ["-"], ["/dev/stdin"]):
+            for command, *others in (["cut", "-o", "out"], ["list"], ["info"], ["convert", "-o", "out"]):
+                if (command, "--repair") == ("list", words[-1]):
+                    continue
+                with tempfile.TemporaryDirectory() as folder:
+                    help.put(folder, "in", capture)
+                    ended = cutting.ran(tally, folder, command, *words, option, *others, given=capture)
+                    left = sorted(help.files(folder))
+                tally.note(f"{command} {option} {words}", ended != (USAGE, b"", TWICE) and f"it ended with {ended}", left != ["in"] and f"it left {left}")
+        for held, status, said in (
+            ({}, FAILED, "pcapfile: in: No such file or directory (os error 2)\n"),
+            ({"in": b""}, AT_FAULT, "pcapfile: in: is empty\n"),
+            ({"in": b"\x1f\x8b" + capture}, AT_FAULT, "pcapfile: in: is a gzip file, not a capture; 'zcat FILE | pcapfile info -' reads it\n"),
+            ({"in": capture[:9]}, AT_FAULT, "pcapfile: in: cut short at byte 0\n"),
+            ({"in": help.blocks("<", [])[0][:20]}, AT_FAULT, "pcapfile: in: cut short at byte 0\n"),
+        ):
+            with tempfile.TemporaryDirectory() as folder:
+                for path, content in held.items():
+                    help.put(folder, path, content)
+                ended = cutting.ran(tally, folder, "cut", "in", option, "-o", "out")
+                left = help.files(folder)
+            tally.note(f"{option} of {held}", ended != (status, b"", said) and f"it ended with {ended}", left != held and f"it left {sorted(left)}")
+        cutting.expects(tally, help, f"{option} of no packet", {"in": capture[:24]}, ["cut", "in", option, "-o", "out"], {"out": capture[:24]})
 
 
 def try_local(tally, help):
@@ -199,6 +319,39 @@ def try_expressions(tally, help):
         tally.note(f"beside tcpdump {expression}", ended != (DONE, b"", "") and f"it ended with {ended}", not same and "it has other packets")
 
 
+def try_damaged(tally, help):
+    """Checks that the commands read the selected packets before a truncated or malformed item, and report its byte in the capture."""
+    packets, captures = sample(help)
+    big = struct.pack(">IIII", 0, 0, 4, 2) + b"data"
+    for kind, (front, texts) in zip(("packets", "blocks"), captures):
+        for rest, said in (
+            (texts[8][:-1], "cut short at byte {}"),
+            (big + texts[8] if kind == "packets" else struct.pack("<III", 6, 13, 0), "refused at byte {} by rule "),
+        ):
+            capture = front + b"".join(texts[:8]) + rest
+            with tempfile.TemporaryDirectory() as folder:
+                help.put(folder, "in", capture)
+                code, written, told = cutting.ran(tally, folder, "cut", "in", "--packets", "3-", "-o", "-")
+            selected = front + b"".join(texts[2:8])
+            place = f"pcapfile: in: {said.format(len(capture) - len(rest))}"
+            tally.note(f"cut of damaged {kind}", (code, written, told[: len(place)]) != (AT_FAULT, selected, place) and f"it ended with {(code, written, told)}")
+            for words in (["--packets", "3-"], ["--packets=3-8,99"], ["--packets", "3-", "--min-len", "1"]):
+                reads(tally, help, f"damaged {kind}", {"in": capture}, words, selected, range(3, 9), AT_FAULT, told)
+            reads(tally, help, f"{kind} before the damage", {"in": capture}, ["--packets", "3-8"], selected, range(3, 9))
+
+
+def try_both(tally, help):
+    """Checks options that exclude tests, a filter and a capture that are both standard input, and a filter that would be the output."""
+    for words in (["list", "in", "--as-is", "--packets", "1"], ["info", "in", "--hash", "--bpf", "in"]):
+        cutting.fails(tally, help, " ".join(words), {"in": b""}, words, USAGE, "error: ")
+    both = "error: the capture and the filter can't both be standard input\n"
+    for words in (["list", "in", "-"], ["info", "-"], ["convert", "-", "-o", "out"]):
+        cutting.fails(tally, help, f"{words}, both from standard input", {"in": b""}, [*words, "--bpf", "-"], USAGE, both)
+    held = {"in": sample(help)[1][0][0], "filter": FILTERS[0][0].encode()}
+    said = "pcapfile: filter: is one of the inputs; choose another name for the output\n"
+    cutting.fails(tally, help, "convert, the filter itself", held, ["convert", "in", "--bpf", "filter", "-o", "filter"], FAILED, said)
+
+
 def try_all(tally, help):
-    for tries in (try_numbers, try_times, try_early, try_local, try_lengths, try_filters, try_expressions):
+    for tries in (try_numbers, try_times, try_early, try_latest, try_local, try_lengths, try_filters, try_expressions, try_damaged, try_both):
         tries(tally, help)

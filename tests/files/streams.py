@@ -15,6 +15,7 @@ REMEDIES = (
     "pcapfile: --repair reads on after the error, and 'pcapfile repair' writes a well-formed capture\n",
     "pcapfile: 'pcapfile repair' writes a well-formed capture of the malformed part\n",
     "pcapfile: 'pcapfile repair' writes a well-formed capture, which 'pcapfile sort' reads\n",
+    "pcapfile: 'pcapfile repair' writes a well-formed capture, which 'pcapfile list' reads\n",
 )
 FLAWED = CAPTURE + struct.pack("<IIII", 9, 0, 4, 1) + b"data"
 TOP = os.path.dirname(os.path.dirname(os.path.dirname(os.path.abspath(__file__))))
@@ -41,6 +42,7 @@ WORDS = (
     (["join", "in", "-o", "out"], False, False),
     (["merge", "in", "in", "-o", "out"], False, False),
     (["merge", "--to", "pcap", "in", "in", "-o", "out"], False, False),
+    (["merge", "--append", "in", "in", "-o", "out"], False, False),
     (["merge", "--repair", "flawed", "in", "-o", "out"], False, True),
     (["sort", "in", "-o", "out"], False, False),
     (["sort", "in", "-o", "-"], True, False),
@@ -203,6 +205,7 @@ def try_remedies(tally):
     """Checks that the last line names a way to read more if a malformed capture ends a word, and that no line does otherwise."""
     for words, remedy in (
         *((it, REMEDIES[0]) for it in (["check", "torn"], ["list", "torn"])),
+        (["list", "--packets", "1-", "torn"], REMEDIES[4]),
         *((it, REMEDIES[1]) for it in (["info", "torn"], ["convert", "torn", "-o", "out"], ["cut", "torn", "-o", "out"], ["merge", "torn", "-o", "out"])),
         (["join", "torn", "-o", "out"], REMEDIES[2]),
         (["sort", "torn", "-o", "out"], REMEDIES[3]),

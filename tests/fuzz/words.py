@@ -129,7 +129,8 @@ def parts_join(folder, random, capture):
     """Checks that the parts of a sound capture join to its bytes."""
     capture, found = sound(random)
     folder.write("in", capture)
-    way = random.choice([["--every", str(random.randrange(1, 30))], ["--bytes", str(random.randrange(1, 3000))], ["--parts", str(random.randrange(1, 9))]])
+    ways = [["--every", str(random.randrange(1, 30))], ["--bytes", str(random.randrange(1, 3000))], ["--parts", str(random.randrange(1, 9))]]
+    way = random.choice([*ways, ["--seconds", str(2 ** random.randrange(32))]])
     folder.run("cut", "in", *way, "-o", "part", statuses=[DONE])
     parts = sorted(it for it in os.listdir(folder.room) if it.startswith("part-"))
     if parts:
@@ -172,6 +173,21 @@ def shifts_go_back(folder, random, capture):
     assert folder.read("back") == capture, text
 
 
+def resolutions_round_down(folder, random, capture):
+    """Checks that `cut --nanoseconds` keeps all times and `cut --microseconds` rounds them down, and that one of them gives a capture's bytes."""
+    capture, found = sound(random)
+    while capture[:4] not in MAGICS:
+        capture, found = sound(random)
+    folder.write("in", capture)
+    for name, option, unit in (("fine", "--nanoseconds", 1), ("coarse", "--microseconds", 1000)):
+        folder.run("cut", "in", option, "-o", name, statuses=[DONE])
+        times = [seconds_of(it) for it in packets_of(folder, name, statuses=[DONE])]
+        assert times == [it.time // unit * unit for it in found], (option, times)
+    folder.run("cut", "fine", "--microseconds", "-o", "back", statuses=[DONE])
+    assert folder.read("back") == folder.read("coarse")
+    assert capture in (folder.read("fine"), folder.read("coarse"))
+
+
 def conversion_goes_round(folder, random, capture):
     """Checks that a sound classic capture becomes blocks and packets again with the same times, lengths and bytes."""
     capture, found = sound(random)
@@ -207,6 +223,18 @@ def merge_is_the_sorted_union(folder, random, capture):
     assert sorted(told) == sorted((it.time, len(it.data), it.wire) for found in every for it in found)
 
 
+def append_keeps_the_captures_in_a_row(folder, random, capture):
+    """Checks that the packets of each capture are appended to those of the captures before it."""
+    every, names = [], [f"in{number}" for number in range(random.choice([1, 2, 3]))]
+    for name in names:
+        capture, found = sound(random)
+        folder.write(name, capture)
+        every += found
+    folder.run("merge", "--append", *names, "-o", "out", statuses=[DONE])
+    rows = packets_of(folder, "out", statuses=[DONE])
+    assert [(seconds_of(it), int(it["captured"]), int(it["original"])) for it in rows] == [(it.time, len(it.data), it.wire) for it in every]
+
+
 def sort_is_stable(folder, random, capture):
     """Checks that a sound classic capture, twice in a row, is sorted by time and stable, and that any other capture spares the output."""
     folder.write("in", capture)
@@ -240,7 +268,7 @@ def lenient_words_end(folder, random, capture):
 
 
 PROPERTIES = [check_is_the_model, words_agree, lenient_is_strict_on_sound, repair_is_stable, parts_join, duplicates_are_left_out, shifts_go_back,
-              conversion_goes_round, merge_is_the_sorted_union, sort_is_stable, lenient_words_end]
+              resolutions_round_down, conversion_goes_round, merge_is_the_sorted_union, append_keeps_the_captures_in_a_row, sort_is_stable, lenient_words_end]
 
 
 def tried(program, random, capture, of):

@@ -4,18 +4,18 @@
 mod arguments;
 mod sizes;
 mod task;
-mod words;
 
 use arguments::read_arguments;
 use clap::Error;
 use clap::error::ErrorKind;
+use pcapfile_command::words;
+use pcapfile_command::words::Word;
 use pcapfile_files::{Console, Shown, UNREAD, USAGE, keep_standard_streams, status_of};
 use std::alloc::AllocError;
 use std::io;
 use std::io::IsTerminal;
 use std::process::ExitCode;
 use task::{Refusal, Task};
-use words::Word;
 
 fn main(rt: HostRuntime) -> ExitCode {
     match run(&rt) {

@@ -1,21 +1,20 @@
 //! The task that the command line names.
 
 use crate::sizes::size;
-use crate::words;
-use crate::words::Word;
 use clap::ArgMatches;
-use pcapfile_cut::{Changes, Range, Shift};
-use pcapfile_files::Console;
+use pcapfile_command::words;
+use pcapfile_command::words::Word;
+use pcapfile_cut::{Changes, Range, Shift, TsResolution};
+use pcapfile_files::{Console, Inputs, PCAP_EXTENSIONS, PCAPNG_EXTENSIONS};
 use pcapfile_lines::Form;
+use pcapfile_merge::PacketOrder;
 use pcapfile_run::Format;
+use pcapfile_selected::{Choice, Moment, Selecting, Zone, ranges, shift_of_text};
 use pcapfile_words_check::{
     Checking, Informing, Listing, Reporting, check_files, inform_files, list_files,
 };
 use pcapfile_words_convert::{Conversion, Merge, convert_file, merge_files};
-use pcapfile_words_cut::{
-    Cutting, Joining, Moment, Selecting, Sorting, Way, Zone, cut_file, join_files, ranges,
-    shift_of_text, sort_file,
-};
+use pcapfile_words_cut::{Cutting, Joining, Sorting, Way, cut_file, join_files, sort_file};
 use pcapfile_words_repair::{Repair, check_files_as_is, list_files_as_is, opening_of, repair_file};
 use std::alloc::AllocError;
 use std::io;
@@ -28,7 +27,7 @@ const SIZES: &str = "5000, 100K, 1M or 2GB";
 
 /// The forms of a time.
 const TIMES: &str =
-    "1700000000.25, 2023-11-14, '2023-11-14 22:13:20.25', 2023-11-14T22:13:20.25Z or +10s";
+    "1700000000.25, 2023-11-14, '2023-11-14 22:13:20.25', 2023-11-14T22:13:20.25Z, +10s or -10s";
 
 /// The forms of a change of times.
 const SHIFTS: &str = "3600, -3600, +0.000001, '1h 30m' or '-1h 30m'";
@@ -61,7 +60,7 @@ impl From<AllocError> for Refusal {
 pub(crate) enum Task<'a> {
     Check(Checking<'a>),
     /// A lenient check of these files.
-    CheckAsIs(&'a [&'a str]),
+    CheckAsIs(Inputs<'a>),
     Info(Informing<'a>),
     List(Listing<'a>),
     /// A lenient list of the packets of these files.
@@ -82,12 +81,12 @@ impl<'a> Task<'a> {
         words: &'a ArgMatches<'_>,
     ) -> Result<Task<'a>, Refusal> {
         Ok(match word {
-            Word::Check if words.get_flag(words::AS_IS) => Task::CheckAsIs(files(words)),
+            Word::Check if words.get_flag(words::AS_IS) => Task::CheckAsIs(inputs(words)),
             Word::Check => Task::Check(checking(words)),
-            Word::Info => Task::Info(informing(words)),
+            Word::Info => Task::Info(informing(rt, words)?),
             Word::List if words.get_flag(words::AS_IS) => Task::ListAsIs(files(words)),
-            Word::List => Task::List(listing(words)),
-            Word::Convert => Task::Convert(conversion(words)),
+            Word::List => Task::List(listing(rt, words)?),
+            Word::Convert => Task::Convert(conversion(rt, words)?),
             Word::Cut => Task::Cut(cutting(rt, words)?),
             Word::Join => Task::Join(joining(words)),
             Word::Merge => Task::Merge(merging(words)),
@@ -125,6 +124,9 @@ impl<'a> Task<'a> {
     /// Returns how to read more of a truncated or malformed capture, if this task stops there.
     pub(crate) fn remedy(&self) -> Option<&'static str> {
         match self {
+            Task::List(Listing { choice, .. }) if choice.selecting.is_some() => {
+                Some("'pcapfile repair' writes a well-formed capture, which 'pcapfile list' reads")
+            }
             Task::Check(_) | Task::List(_) => Some(
                 "--as-is reads on after the error, and 'pcapfile repair' writes a well-formed capture",
             ),
@@ -154,9 +156,9 @@ impl<'a> Task<'a> {
     pub(crate) fn run(&self, console: &Console) -> io::Result<u8> {
         match self {
             Task::Check(asked) => check_files(console, *asked),
-            Task::CheckAsIs(names) => check_files_as_is(console, names),
+            Task::CheckAsIs(inputs) => check_files_as_is(console, *inputs),
             Task::Info(asked) => inform_files(console, asked),
-            Task::List(asked) => list_files(console, *asked),
+            Task::List(asked) => list_files(console, asked),
             Task::ListAsIs(names) => list_files_as_is(console, names),
             Task::Convert(asked) => convert_file(console, asked),
             Task::Cut(asked) => cut_file(console, asked),
@@ -177,25 +179,36 @@ fn files<'a>(words: &'a ArgMatches<'_>) -> &'a [&'a str] {
     words.get_strs(words::FILES).unwrap_or_default()
 }
 
-// Returns the format that the extension of a file's name stands for, if it stands for one.
-fn format_of_name(name: &str) -> Option<Format> {
-    let (_, extension) = name.rsplit_once('.')?;
-    match extension {
-        "pcap" | "cap" | "dmp" => Some(Format::Pcap),
-        "pcapng" | "ntar" => Some(Format::PcapNg),
-        _ => None,
+// Returns the names of the files and folders that a command reads.
+fn inputs<'a>(words: &'a ArgMatches<'_>) -> Inputs<'a> {
+    Inputs {
+        names: files(words),
+        is_recursive: words.get_flag(words::RECURSIVE),
     }
 }
 
+// Returns the format that the extension of a file's name stands for, if it stands for one.
+fn format_of_name(name: &str) -> Option<Format> {
+    let (_, extension) = name.rsplit_once('.')?;
+    if PCAP_EXTENSIONS.contains(&extension) {
+        return Some(Format::Pcap);
+    }
+    if PCAPNG_EXTENSIONS.contains(&extension) {
+        return Some(Format::PcapNg);
+    }
+    None
+}
+
 // Returns the arguments of the word `convert`.
-fn conversion<'a>(words: &ArgMatches<'a>) -> Conversion<'a> {
+fn conversion<'a>(rt: &HostRuntime, words: &ArgMatches<'a>) -> Result<Conversion<'a>, Refusal> {
     let out = words.get_str(words::OUT).unwrap_or_default();
-    Conversion {
+    Ok(Conversion {
         from: words.get_str(words::IN).unwrap_or_default(),
         to: format(words, out),
         out,
         as_is: is_repaired(words),
-    }
+        choice: choice(rt, words)?,
+    })
 }
 
 // Returns the format that `--to` names, or the extension of the output's name.
@@ -215,6 +228,9 @@ fn way(words: &ArgMatches) -> Result<Way, Refusal> {
     if let Some(parts) = words.get_one::<u64>(words::PARTS) {
         return Ok(Way::Parts(parts));
     }
+    if let Some(seconds) = words.get_one::<u64>(words::SECONDS) {
+        return Ok(Way::Seconds(seconds));
+    }
     if let Some(text) = words.get_str(words::BYTES) {
         let size = size(text).ok_or(Refusal::Value(words::BYTES, SIZES))?;
         return Ok(Way::Bytes(size));
@@ -222,7 +238,19 @@ fn way(words: &ArgMatches) -> Result<Way, Refusal> {
     Ok(Way::One)
 }
 
-// Returns the tests of the packets of a part.
+// Returns the packets that a command reads: all if no test is named.
+fn choice<'a>(rt: &HostRuntime, words: &ArgMatches<'a>) -> Result<Choice<'a>, Refusal> {
+    let has_tests = words::TESTS.iter().any(|test| words.contains_id(test));
+    Ok(Choice {
+        selecting: match has_tests {
+            true => Some(selecting(rt, words)?),
+            false => None,
+        },
+        bpf: words.get_str(words::BPF),
+    })
+}
+
+// Returns the tests of packets.
 fn selecting(rt: &HostRuntime, words: &ArgMatches) -> Result<Selecting, Refusal> {
     let zone = match words.get_flag(words::LOCAL) {
         true => Zone::local(rt).ok_or(Refusal::Zone)?,
@@ -241,6 +269,7 @@ fn selecting(rt: &HostRuntime, words: &ArgMatches) -> Result<Selecting, Refusal>
         changes: Changes {
             snaplen: words.get_one(words::SNAPLEN),
             shift: shift(words)?,
+            resolution: resolution(words),
         },
     })
 }
@@ -254,6 +283,17 @@ fn shift(words: &ArgMatches) -> Result<Option<Shift>, Refusal> {
         Some(shift) => Ok(Some(shift)),
         None => Err(Refusal::Value(words::SHIFT, SHIFTS)),
     }
+}
+
+// Returns the resolution of the output, if one is asked for.
+fn resolution(words: &ArgMatches) -> Option<TsResolution> {
+    if words.get_flag(words::NANOSECONDS) {
+        return Some(TsResolution::NanoSecond);
+    }
+    if words.get_flag(words::MICROSECONDS) {
+        return Some(TsResolution::MicroSecond);
+    }
+    None
 }
 
 // Returns the ranges of the wanted packets' numbers.
@@ -294,12 +334,13 @@ fn joining<'a>(words: &'a ArgMatches<'_>) -> Joining<'a> {
 }
 
 // Returns the arguments of the word `list`.
-fn listing<'a>(words: &'a ArgMatches<'_>) -> Listing<'a> {
-    Listing {
+fn listing<'a>(rt: &HostRuntime, words: &'a ArgMatches<'_>) -> Result<Listing<'a>, Refusal> {
+    Ok(Listing {
         names: files(words),
         form: form(words),
         most: words.get_one(words::COUNT),
-    }
+        choice: choice(rt, words)?,
+    })
 }
 
 // Returns the form of the lines of `list`.
@@ -322,9 +363,19 @@ fn merging<'a>(words: &'a ArgMatches<'_>) -> Merge<'a> {
     let out = words.get_str(words::OUT).unwrap_or_default();
     Merge {
         names: files(words),
+        order: packet_order(words),
         to: format(words, out).unwrap_or(Format::PcapNg),
         out,
         as_is: is_repaired(words),
+    }
+}
+
+// Returns the order in which `merge` takes packets.
+fn packet_order(words: &ArgMatches) -> PacketOrder {
+    if words.get_flag(words::APPEND) {
+        PacketOrder::ByFile
+    } else {
+        PacketOrder::ByTime
     }
 }
 
@@ -339,19 +390,21 @@ fn sorting<'a>(words: &ArgMatches<'a>) -> Sorting<'a> {
 // Returns the arguments of the word `check`.
 fn checking<'a>(words: &'a ArgMatches<'_>) -> Checking<'a> {
     Checking {
-        names: files(words),
+        inputs: inputs(words),
         bodies: words.get_flag(words::BODIES),
     }
 }
 
 // Returns the arguments of the word `info`.
-fn informing<'a>(words: &'a ArgMatches<'_>) -> Informing<'a> {
-    Informing {
-        names: files(words),
+fn informing<'a>(rt: &HostRuntime, words: &'a ArgMatches<'_>) -> Result<Informing<'a>, Refusal> {
+    Ok(Informing {
+        inputs: inputs(words),
         form: reporting(words),
         in_total: words.get_flag(words::TOTAL),
+        with_digest: words.get_flag(words::HASH),
         as_is: is_repaired(words),
-    }
+        choice: choice(rt, words)?,
+    })
 }
 
 // Returns the form of the reports of `info`.

@@ -6,7 +6,7 @@ use Rattle.pcap_core.specs.Faults.{rule_message}
 use Rattle.pcap_core.specs.Rules.{number_of}
 use Rattle.pcapfile_as_is.specs.declared.gaps.Gap.{Gap}
 use Rattle.pcapfile_as_is.specs.declared.gaps.LeftOut.{LeftOut}
-use Rattle.pcapfile_as_is.specs.declared.gaps.Place.{Place}
+use Rattle.pcapfile_as_is.specs.declared.gaps.Position.{Position}
 use Rattle.pcapfile_as_is.specs.declared.gaps.Scrap.{Scrap}
 use Rattle.pcapfile_as_is.specs.declared.gaps.Scrap.TheVariants.{NoPackets, NoBlocks, PacketFront, BlockFront, OtherHeader, OtherLink, Undescribed}
 
@@ -38,5 +38,5 @@ abbrev pub gap_at : ℕ → ℕ → LeftOut → Gap
 gap_at place bytes left = record { place = place; bytes = bytes; scrap = left.scrap; rule = left.rule }
 
 -- The gap after a place, if more bytes are left out than before.
-abbrev pub gap_behind : Place → LeftOut → Option Gap
+abbrev pub gap_behind : Position → LeftOut → Option Gap
 gap_behind place left = if left.bytes - place.left_out == 0 then None else Some (gap_at place.counted.bytes (left.bytes - place.left_out) left)

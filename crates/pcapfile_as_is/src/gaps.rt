@@ -57,7 +57,7 @@ pub struct Gap {
 
 /// The position up to which a capture was read.
 #[derive(Clone, Copy, Debug, PartialEq, Eq)]
-pub struct Place {
+pub struct Position {
     /// The counts of its items. Bytes that are left out count among its bytes.
     pub counted: Counted,
     /// The number of its bytes that are left out.
@@ -80,15 +80,15 @@ impl Scrap {
     }
 }
 
-impl Place {
+impl Position {
     /// Returns the position after the opening of a capture, which has this many bytes.
-    pub fn new(bytes: u64) -> Place
+    pub fn new(bytes: u64) -> Position
         ensures items { result.counted.items ≡ 0 }
         ensures flawed { result.counted.flawed ≡ 0 }
         ensures bytes { result.counted.bytes ≡ bytes }
         ensures left_out { result.left_out ≡ 0 }
     {
-        Place {
+        Position {
             counted: Counted {
                 items: 0,
                 flawed: 0,

@@ -1,6 +1,6 @@
--- Lemmas on packets that are written with another time, or with at most a number of their bytes.
+-- Lemmas on packets that are written with another time, in another resolution, or with at most a number of their bytes.
 use Rattle.std.proofs.Common.{◌≡◌, ◌≤◌, ◌<◌, ◌+◌, ◌-◌, ◌^◌, ℕ, List, [], ◌++◌, length, take, Bool, true, false, Option, Some, None, refl, sym, ap, ◌∙◌, subst, arith, append-nil}
-use Rattle.std.specs.Prelude.{◌&&◌, min, nat_lt, nat_le, if◌then◌else◌}
+use Rattle.std.specs.Prelude.{min, nat_lt, nat_le, IsTrue, if◌then◌else◌}
 use Rattle.std.proofs.lemmas.Bool.Decides.{nat_tests}
 use Rattle.std.proofs.lemmas.List.{length-take, take_all}
 use Rattle.pcap_core.specs.declared.common.Endianness.{Endianness}
@@ -12,7 +12,7 @@ use Rattle.pcap_classic.specs.declared.common.TsResolution.{TsResolution}
 use Rattle.pcap_classic.specs.declared.common.TsResolution.TheVariants.{MicroSecond, NanoSecond}
 use Rattle.pcap_classic.specs.declared.pcap.header.PcapHeader.{PcapHeader}
 use Rattle.pcap_classic.specs.declared.pcap.packet.PacketHeader.{PacketHeader}
-use Rattle.pcap_classic.specs.Magic.{order_of, resolution_of}
+use Rattle.pcap_classic.specs.Magic.{is_magic, magic_for, order_of, resolution_of}
 use Rattle.pcap_classic.specs.Packets.{packet_format}
 use Rattle.pcap_classic.specs.PacketText.{Captured, PacketText, nanoseconds, packet_limit}
 use Rattle.pcap_classic.specs.Written.{IsWhole, cut, fraction_of, record_bytes, written_under}
@@ -21,11 +21,13 @@ use Rattle.pcap_classic.proofs.ReadBack.{written_again}
 use Rattle.pcapfile_cut.specs.declared.changing.Changes.{Changes}
 use Rattle.pcapfile_cut.specs.declared.moving.Shift.{Shift}
 use Rattle.pcapfile_cut.specs.declared.moving.Shift.TheVariants.{Later, Earlier}
-use Rattle.pcapfile_cut.specs.Changes.{bytes_within, changed, head_behind, head_within, moved_or_same, shortened}
+use Rattle.pcapfile_cut.specs.Changes.{bytes_within, changed, head_behind, head_within, header_after, moved_in, moved_or_same, no_changes, rounded, shortened, text_after}
 use Rattle.pcapfile_cut.specs.Choice.{Stored}
 use Rattle.pcapfile_cut.specs.Cuts.{IsStored}
 use Rattle.pcapfile_cut.specs.Moves.{at_time, can_state, moved, moved_by, stated_at}
+use Rattle.pcapfile_cut.specs.Openings.{header_in}
 use Rattle.pcapfile_cut.specs.Selections.{time_of}
+use Rattle.pcapfile_cut.proofs.Resolutions.{order_again, resolution_again, same_header}
 
 -- A header whose time is written without a loss.
 record IsTimed (r : TsResolution) (head : PacketHeader) : Type 0 where
@@ -69,6 +71,16 @@ behind_follows : (r : TsResolution) (shift : Option Shift) (head : PacketHeader)
 behind_follows r None head timed = record { timed = timed; included = refl; original = refl }
 behind_follows r (Some shift) head timed = found_follows r head (moved_by shift (time_of head)) timed
 
+timed_in : (to : Option TsResolution) (r : TsResolution) (head : PacketHeader) → IsTimed r head → IsTimed (moved_in to r) head
+timed_in None r head timed = timed
+timed_in (Some MicroSecond) r head timed = timed
+timed_in (Some NanoSecond) r head timed = record { seconds = timed.seconds; fraction = timed.fraction; whole = refl }
+
+-- The resolution of a capture of this resolution that gets another one, if one is given.
+abbrev resolution_in : Option TsResolution → TsResolution → TsResolution
+resolution_in None r = r
+resolution_in (Some to) r = to
+
 -- A packet with this header and data, with at most so many bytes if a number is given.
 abbrev within : Option ℕ → PacketHeader → List ℕ → Captured
 within most head bytes = record { header = head_within most head; bytes = bytes_within most bytes }
@@ -90,6 +102,11 @@ same_within r None head bytes timed =
 same_within r (Some n) head bytes timed =
     ap (λ (t : ℕ). record { header = record { ts_sec = head.ts_sec; ts_nsec = t; incl_len = min n head.incl_len; orig_len = head.orig_len }; bytes = take n bytes }) timed.whole
 
+cut_within : (to : Option TsResolution) (r : TsResolution) (most : Option ℕ) (head : PacketHeader) (bytes : List ℕ) → IsTimed (moved_in to r) head
+    → cut (resolution_in to r) (within most head bytes) ≡ rounded to (within most head bytes)
+cut_within None r most head bytes timed = same_within r most head bytes timed
+cut_within (Some to) r most head bytes timed = refl
+
 module _ (e : Endianness) (r : TsResolution) (packet : Captured) (s : List ℕ) where
   timed_still : IsBytes s → PacketText packet_limit (number_in e) r packet s [] → IsTimed r packet.header
   timed_still fits p =
@@ -103,18 +120,25 @@ module _ (e : Endianness) (r : TsResolution) (packet : Captured) (s : List ℕ) 
       }
 
   changed_text : (changes : Changes) → IsBytes s → PacketText packet_limit (number_in e) r packet s []
-      → PacketText packet_limit (number_in e) r (changed r changes packet) (record_bytes (number_bytes e) r (changed r changes packet)) []
+      → PacketText packet_limit (number_in e) (resolution_in changes.resolution r) (rounded changes.resolution (changed r changes packet))
+      (record_bytes (number_bytes e) (resolution_in changes.resolution r) (changed r changes packet)) []
   changed_text changes fits p =
       let included : packet.header.incl_len ≡ p.header.head.included = ap (λ (x : PacketHeader). x.incl_len) p.header.value in
       let original : packet.header.orig_len ≡ p.header.head.original = ap (λ (x : PacketHeader). x.orig_len) p.header.value in
-      let new = behind_follows r changes.shift packet.header (timed_still fits p) in
-      let head = head_behind r changes.shift packet.header in
-      let whole = whole_within r changes.snaplen head packet.bytes new.timed (p.whole ∙ sym new.included)
+      let to = changes.resolution in
+      let new = behind_follows (moved_in to r) changes.shift packet.header (timed_in to r packet.header (timed_still fits p)) in
+      let head = head_behind (moved_in to r) changes.shift packet.header in
+      let whole = whole_within (moved_in to r) changes.snaplen head packet.bytes new.timed (p.whole ∙ sym new.included)
       (omega (arith, new.included, new.original, included, original, p.header.good.included)) (omega (arith, new.original, original, p.header.good.original)) in
-      let text = record_bytes (number_bytes e) r (changed r changes packet) in
-      let again : PacketText packet_limit (number_in e) r (cut r (changed r changes packet)) (text ++ []) [] = written_again e r (changed r changes packet) [] whole in
-      subst (λ (t : List ℕ). PacketText packet_limit (number_in e) r (changed r changes packet) t []) (append-nil text)
-      (subst (λ (x : Captured). PacketText packet_limit (number_in e) r x (text ++ []) []) (same_within r changes.snaplen head packet.bytes new.timed) again)
+      let now = resolution_in to r in
+      let text = record_bytes (number_bytes e) now (changed r changes packet) in
+      let again : PacketText packet_limit (number_in e) now (cut now (changed r changes packet)) (text ++ []) [] = written_again e now (changed r changes packet) [] whole in
+      subst (λ (t : List ℕ). PacketText packet_limit (number_in e) now (rounded to (changed r changes packet)) t []) (append-nil text)
+      (subst (λ (x : Captured). PacketText packet_limit (number_in e) now x (text ++ []) []) (cut_within to r changes.snaplen head packet.bytes new.timed) again)
+
+  -- A packet that is not changed is written unchanged.
+  same_text : IsBytes s → PacketText packet_limit (number_in e) r packet s [] → record_bytes (number_bytes e) r packet ≡ s
+  same_text fits p = sym (append-nil (record_bytes (number_bytes e) r packet)) ∙ sym (packet_written packet_limit e r packet s [] fits p).0
 
   -- A packet of no more bytes is not shortened.
   short_text : (n : ℕ) → IsBytes s → PacketText packet_limit (number_in e) r packet s [] → packet.header.incl_len ≤ n → record_bytes (number_bytes e) r (shortened n packet) ≡ s
@@ -126,21 +150,44 @@ module _ (e : Endianness) (r : TsResolution) (packet : Captured) (s : List ℕ) 
       let least : min n packet.header.incl_len ≡ packet.header.incl_len = omega (arith, short) in
       let all : take n packet.bytes ≡ packet.bytes = take_all n packet.bytes (omega (arith, p.whole, short)) in
       let same : shortened n packet ≡ packet = ap (λ (k : ℕ). sized k (take n packet.bytes)) least ∙ ap (sized packet.header.incl_len) all in
-      ap (record_bytes (number_bytes e) r) same ∙ sym (append-nil (record_bytes (number_bytes e) r packet)) ∙ sym (packet_written packet_limit e r packet s [] fits p).0
+      ap (record_bytes (number_bytes e) r) same ∙ same_text fits p
+
+stored_under : (to : Option TsResolution) (header : PcapHeader) (read written : Captured)
+    → PacketText packet_limit (number_in (order_of header.magic_number)) (resolution_in to (resolution_of header.magic_number)) read
+    (record_bytes (number_bytes (order_of header.magic_number)) (resolution_in to (resolution_of header.magic_number)) written) []
+    → IsStored (header_in to header) (record { packet = read; text = written_under (header_in to header) written })
+unfolding packet_format
+stored_under None header read written text = text
+stored_under (Some to) header read written text =
+    let e = order_of header.magic_number in
+    let magic = magic_for e to in
+    subst (λ (o : Endianness). PacketText packet_limit (number_in o) (resolution_of magic) read (record_bytes (number_bytes o) (resolution_of magic) written) []) (sym (order_again e to))
+    (subst (λ (r : TsResolution). PacketText packet_limit (number_in e) r read (record_bytes (number_bytes e) r written) []) (sym (resolution_again e to)) text)
 
 -- A packet that is written after changes is read again.
 pub changed_read : (header : PcapHeader) (changes : Changes) (stored : Stored) → IsBytes stored.text → IsStored header stored
-    → IsStored header (record {
-      packet = changed (resolution_of header.magic_number) changes stored.packet;
-      text = written_under header (changed (resolution_of header.magic_number) changes stored.packet);
+    → IsStored (header_after header changes) (record {
+      packet = rounded changes.resolution (changed (resolution_of header.magic_number) changes stored.packet);
+      text = written_under (header_after header changes) (changed (resolution_of header.magic_number) changes stored.packet);
     })
 unfolding packet_format
-changed_read header changes stored fits is = changed_text (order_of header.magic_number) (resolution_of header.magic_number) stored.packet stored.text changes fits is
+changed_read header changes stored fits is =
+    let r = resolution_of header.magic_number in
+    let new = changed r changes stored.packet in
+    stored_under changes.resolution header (rounded changes.resolution new) new (changed_text (order_of header.magic_number) r stored.packet stored.text changes fits is)
+
+-- A packet keeps its bytes in the resolution that it has.
+pub same_stays : (header : PcapHeader) (stored : Stored) → IsTrue (is_magic header.magic_number) → IsBytes stored.text → IsStored header stored
+    → text_after header (record no_changes { resolution = Some (resolution_of header.magic_number) }) stored ≡ stored.text
+unfolding packet_format
+same_stays header stored valid fits is =
+    ap (λ (h : PcapHeader). written_under h stored.packet) (same_header header valid)
+    ∙ same_text (order_of header.magic_number) (resolution_of header.magic_number) stored.packet stored.text fits is
 
 -- A shortened packet is read again.
 pub shortened_read : (header : PcapHeader) (n : ℕ) (stored : Stored) → IsBytes stored.text → IsStored header stored
     → IsStored header (record { packet = shortened n stored.packet; text = written_under header (shortened n stored.packet) })
-shortened_read header n stored fits is = changed_read header (record { snaplen = Some n; shift = None }) stored fits is
+shortened_read header n stored fits is = changed_read header (record { snaplen = Some n; shift = None; resolution = None }) stored fits is
 
 -- A packet that has no more bytes is written unchanged.
 pub short_stays : (header : PcapHeader) (n : ℕ) (stored : Stored) → IsBytes stored.text → IsStored header stored → stored.packet.header.incl_len ≤ n

@@ -20,7 +20,7 @@ use Rattle.pcapfile_cut.specs.declared.joining.Joined.TheVariants.{Unopened, Oth
 use Rattle.pcapfile_cut.specs.declared.opening.Opening.{Opening}
 use Rattle.pcapfile_cut.specs.declared.wanted.Wanted.{Wanted}
 use Rattle.pcapfile_cut.specs.declared.wanted.Wanted.TheVariants.{All, Numbers, Bytes, Selected}
-use Rattle.pcapfile_cut.specs.Changes.{written}
+use Rattle.pcapfile_cut.specs.Changes.{opening_for, written}
 use Rattle.pcapfile_cut.specs.Choice.{Stored, WantsMore, chosen, text_of}
 use Rattle.pcapfile_cut.specs.Cuts.{CutsBehind, Ends, EndsWhole, IsStored, LastIsWanted, OpensPart, PacketIsSaid, packets_under}
 use Rattle.pcapfile_cut.specs.Fronts.{CutsInto, HoldsPackets, IsJoined, JoinsOthers, TakesAll, packets_of}
@@ -47,6 +47,13 @@ written_all header (Numbers first last) packets is = refl
 written_all header (Bytes most) packets is = refl
 written_all header (Selected selection) packets is = absurd is
 
+-- Such a cut writes the opening with its bytes.
+opening_all : (wanted : Wanted) (opening : Opening) → TakesAll wanted → opening_for wanted opening ≡ bytes_of opening
+opening_all All opening is = refl
+opening_all (Numbers first last) opening is = refl
+opening_all (Bytes most) opening is = refl
+opening_all (Selected selection) opening is = absurd is
+
 none_fails : (P : PcapError → Type 0) (fault : Option PcapError) → fault ≡ None → IsSomeAnd fault P → ⊥
 none_fails P None fine is = is
 none_fails P (Some e) fine is = absurd cc
@@ -71,7 +78,8 @@ cut_part_is opening wanted s behind part outcome all opens fine =
     let header = header_of opening in
     let text = written header wanted (chosen wanted cuts.packets) in
     let picked : text ≡ text_of cuts.packets = written_all header wanted (chosen wanted cuts.packets) all ∙ ap text_of (chosen_all wanted cuts.packets all passes.needed) in
-    let went : Appends (Some []) cuts.mid (bytes_of opening ++ text) = Appends-trans (Some []) opens.behind cuts.mid (bytes_of opening) text opens.opened passes.went in
+    let opened : Appends (Some []) opens.behind (bytes_of opening) = subst (λ (t : List ℕ). Appends (Some []) opens.behind t) (opening_all wanted opening all) opens.opened in
+    let went : Appends (Some []) cuts.mid (bytes_of opening ++ text) = Appends-trans (Some []) opens.behind cuts.mid (bytes_of opening) text opened passes.went in
     let out : part ≡ bytes_of opening ++ text = Appends-kept (Some []) cuts.mid (Some part) (bytes_of opening ++ text) went end.went in
     (cuts.packets, out ∙ ap (λ (t : List ℕ). bytes_of opening ++ t) picked, took, passes.each)
 

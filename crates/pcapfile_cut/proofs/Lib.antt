@@ -7,4 +7,6 @@ mod FrontCuts
 mod JoinedParts
 mod Passing
 mod Repeating
+mod Resolutions
 mod ShortBlocks
+mod Steps

@@ -15,7 +15,7 @@ use Rattle.pcap_ng.specs.Reader.{lent_item, text_of}
 use Rattle.pcap_ng.specs.State.{State}
 use Rattle.pcap_file.specs.Placed.{is_packet}
 use Rattle.pcap_file.specs.Placing.{RefusesNext, Source, TakesNone, source_of}
-use Rattle.pcapfile_cut.specs.declared.blocks.Blocks.{Blocks}
+use Rattle.pcapfile_cut.specs.declared.blocks.BlockCutter.{BlockCutter}
 use Rattle.pcapfile_cut.specs.declared.cutting.Outcome.{Outcome}
 use Rattle.pcapfile_cut.specs.declared.wanted.Wanted.{Wanted}
 use Rattle.pcapfile_cut.specs.declared.wanted.Wanted.TheVariants as wants
@@ -52,7 +52,7 @@ abbrev pub pending_in : {R : Type 0} → PcapNgReader R → Option BlockHeader �
 pending_in reader None = []
 pending_in reader (Some header) = (record { item = lent_item reader header; text = text_of reader }) ∷ []
 
-abbrev pub place_of : {R : Type 0} → (R → Option (List ℕ)) → Blocks R → Place
+abbrev pub place_of : {R : Type 0} → (R → Option (List ℕ)) → BlockCutter R → Place
 place_of remaining blocks = record {
   source = source_of remaining blocks.reader;
   opening = opening_of blocks.repeated;
@@ -235,7 +235,7 @@ pub record CutsBlockPart (wanted : Wanted) (others_follow : Bool) (a now : Place
   pub told : outcome ≡ block_outcome new result now
 
 -- A capture was opened: its first block was read, and the first part begins with it. Or there is no memory, or the block is refused.
-abbrev pub Opens : {R : Type 0} → (R → Option (List ℕ)) → R → Result (Blocks R) PcapError → Type 0
+abbrev pub Opens : {R : Type 0} → (R → Option (List ℕ)) → R → Result (BlockCutter R) PcapError → Type 0
 Opens remaining stream (Ok blocks) =
     let place = place_of remaining blocks in
     TakesText OpeningSays (remaining stream) place.source.left place.opening place.source.state

@@ -15,9 +15,9 @@ use Rattle.pcap_classic.specs.PacketText.{Captured, packet_limit}
 use Rattle.pcapfile_cut.specs.declared.cutting.Outcome.{Outcome}
 use Rattle.pcapfile_cut.specs.declared.opening.Opening.{Opening}
 use Rattle.pcapfile_cut.specs.declared.wanted.Wanted.{Wanted}
-use Rattle.pcapfile_cut.specs.Changes.{is_unmoved, written, written_for}
+use Rattle.pcapfile_cut.specs.Changes.{is_unmoved, opening_for, written, written_for}
 use Rattle.pcapfile_cut.specs.Choice.{Stored, WantsMore, chosen, is_new, left_out, remembers, repeats, text_of}
-use Rattle.pcapfile_cut.specs.Openings.{bytes_of, header_of}
+use Rattle.pcapfile_cut.specs.Openings.{header_of}
 
 -- A saturated count: 2^64 - 1 for every number above it.
 abbrev pub counted : ℕ → ℕ
@@ -111,7 +111,7 @@ pub record CutsBehind (header : PcapHeader) (wanted : Wanted) (before now out ou
   pub ends : Ends header wanted packets left now mid out_now outcome
 
 -- A write failed in the opening, and the cut read and counted nothing.
-pub record TearsOpening (opening : Opening) (before now out out_now : Option (List ℕ)) (outcome : Outcome) : Type 0 where
+pub record TearsOpening (opening : Opening) (wanted : Wanted) (before now out out_now : Option (List ℕ)) (outcome : Outcome) : Type 0 where
   pub none : outcome.packets ≡ 0
   pub no_bytes : outcome.bytes ≡ 0
   pub no_duplicates : outcome.duplicates ≡ 0
@@ -120,17 +120,18 @@ pub record TearsOpening (opening : Opening) (before now out out_now : Option (Li
   pub no_read_failed : outcome.read_failed ≡ false
   pub write_failed : outcome.write_failed ≡ true
   pub taken : Keeps before now
-  pub went : AppendsPart out out_now (bytes_of opening)
+  pub went : AppendsPart out out_now (opening_for wanted opening)
 
 -- The cut wrote the opening, and then packets.
 pub record OpensPart (opening : Opening) (wanted : Wanted) (before now out out_now : Option (List ℕ)) (outcome : Outcome) : Type 0 where
   pub behind : Option (List ℕ)
-  pub opened : Appends out behind (bytes_of opening)
+  pub opened : Appends out behind (opening_for wanted opening)
   pub cuts : CutsBehind (header_of opening) wanted before now behind out_now outcome
 
 -- One part: a write failed in its opening, or packets follow the opening.
 abbrev pub CutsPart : Opening → Wanted → Option (List ℕ) → Option (List ℕ) → Option (List ℕ) → Option (List ℕ) → Outcome → Type 0
-CutsPart opening wanted before now out out_now outcome = TearsOpening opening before now out out_now outcome ⊎ OpensPart opening wanted before now out out_now outcome
+CutsPart opening wanted before now out out_now outcome =
+    TearsOpening opening wanted before now out out_now outcome ⊎ OpensPart opening wanted before now out out_now outcome
 
 -- What a cut reads, writes, counts and remembers.
 pub record Progress : Type 0 where

@@ -12,3 +12,4 @@ pub mod Openings
 pub mod Repeating
 pub mod Selections
 pub mod ShortBlocks
+pub mod Steps

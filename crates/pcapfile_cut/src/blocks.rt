@@ -17,7 +17,7 @@ use std::io::{Read, Write};
 
 /// A PcapNg capture that is read part by part.
 #[derive(Drop)]
-pub struct Blocks<R> {
+pub struct BlockCutter<R> {
     pub(crate) alloc: Global,
     pub(crate) reader: PcapNgReader<R>,
     pub(crate) repeated: Repeated,
@@ -25,7 +25,7 @@ pub struct Blocks<R> {
     pub(crate) pending: Option<BlockHeader>,
 }
 
-impl<R> Blocks<R> {
+impl<R> BlockCutter<R> {
     /// Returns the bytes with which a part begins here.
     pub fn opening(&self) -> &[u8]
         ensures { result.now ≡ (place_of (λ _. None) self.now).opening }
@@ -48,16 +48,16 @@ impl<R> Blocks<R> {
     }
 }
 
-impl<R: Read + Drop> Blocks<R> {
+impl<R: Read + Drop> BlockCutter<R> {
     /// Reads the first block of a capture, which must be a section header. The first part begins with it.
     ///
     /// The errors are those of `PcapNgReader::new`.
-    pub fn new(alloc: Global, input: R) -> ResultParsing<Blocks<R>>
+    pub fn new(alloc: Global, input: R) -> ResultParsing<BlockCutter<R>>
         ensures { Opens R.remaining input result }
     {
         let reader = PcapNgReader::new(alloc, input)?;
         let repeated = Repeated::new(alloc, reader.text())?;
-        Ok(Blocks {
+        Ok(BlockCutter {
             alloc,
             reader,
             repeated,

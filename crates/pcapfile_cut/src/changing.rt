@@ -1,11 +1,12 @@
-//! Packets that are written with another time, or with at most a number of their bytes.
+//! Packets that are written with another time, in another resolution, or with at most a number of their bytes.
 
 ghost use Rattle.std.specs.Prelude.{◌≡◌, drop, take, true, IsTrue, MatchResult};
 ghost use Rattle.pcap_core.specs.Codec.{number_bytes};
 ghost use Rattle.pcap_items.specs.Writing.{WritesAll};
 ghost use Rattle.pcap_classic.specs.Magic.{is_magic, order_of, resolution_of};
 ghost use Rattle.pcap_classic.specs.Written.{packet_header_bytes, written_under};
-ghost use Rattle.pcapfile_cut.specs.Changes.{bytes_within, changed, changed_head, head_behind, is_nothing, keeps_time, no_changes, stored_of, text_after};
+ghost use Rattle.pcapfile_cut.specs.Openings.{header_in};
+ghost use Rattle.pcapfile_cut.specs.Changes.{bytes_within, changed, changed_head, head_behind, header_after, is_nothing, keeps_time, moved_in, no_changes, stored_of, text_after};
 
 use crate::moving::{Shift, move_head};
 use byteorder::{BigEndian, LittleEndian};
@@ -22,6 +23,8 @@ pub struct Changes {
     pub snaplen: Option<u32>,
     /// The change of each packet's time, in nanoseconds. `None` if each packet keeps its time.
     pub shift: Option<Shift>,
+    /// The resolution of the output. Times are rounded down to it. `None` if it is that of the capture.
+    pub resolution: Option<TsResolution>,
 }
 
 // A packet that was read: the header of its capture, its own header, and all its bytes.
@@ -37,13 +40,14 @@ impl Changes {
     pub const NONE: Changes = Changes {
         snaplen: None,
         shift: None,
+        resolution: None,
     };
 
     // Returns whether nothing is changed.
     fn is_nothing(self) -> bool
         ensures { result ≡ is_nothing self }
     {
-        self.snaplen.is_none() && self.shift.is_none()
+        self.snaplen.is_none() && self.shift.is_none() && self.resolution.is_none()
     }
 
     // Returns the header of a packet with its time moved, if that is asked for and a packet can have the new time.
@@ -59,11 +63,21 @@ impl Changes {
         }
     }
 
+    // Returns the resolution of the times to which packets of a capture of this resolution are moved.
+    fn moved_in(self, ts_resolution: TsResolution) -> TsResolution
+        ensures { result ≡ moved_in self.resolution ts_resolution }
+    {
+        match self.resolution {
+            Some(TsResolution::NanoSecond) => TsResolution::NanoSecond,
+            Some(TsResolution::MicroSecond) | None => ts_resolution,
+        }
+    }
+
     // Returns the header of a packet after these changes.
     fn head_of(self, ts_resolution: TsResolution, head: PacketHeader) -> PacketHeader
         ensures { result ≡ changed_head ts_resolution self head }
     {
-        let head = self.head_behind(ts_resolution, head);
+        let head = self.head_behind(self.moved_in(ts_resolution), head);
         match self.snaplen {
             Some(most) => PacketHeader {
                 incl_len: most.min(head.incl_len),
@@ -85,13 +99,26 @@ impl Changes {
 
     // Returns whether a shift is asked for, and the packet keeps its time, because no packet can have the new one.
     pub(crate) fn keep_time(self, ts_resolution: TsResolution, head: &PacketHeader) -> bool
-        ensures { result ≡ keeps_time ts_resolution self.shift head.now }
+        ensures { result ≡ keeps_time (moved_in self.resolution ts_resolution) self.shift head.now }
     {
         match self.shift {
-            Some(shift) => move_head(ts_resolution, shift, head).is_none(),
+            Some(shift) => move_head(self.moved_in(ts_resolution), shift, head).is_none(),
             None => false,
         }
     }
+}
+
+// Returns the header of a capture in this resolution, if one is given.
+pub(crate) fn header_in(ts_resolution: Option<TsResolution>, header: &PcapHeader) -> PcapHeader
+    requires { IsTrue (is_magic header.now.magic_number) }
+    ensures header { result ≡ header_in ts_resolution header.now }
+    ensures valid { IsTrue (is_magic result.magic_number) }
+{
+    let mut header = *header;
+    if let Some(ts_resolution) = ts_resolution {
+        header.set_ts_resolution(ts_resolution);
+    }
+    header
 }
 
 // Returns the data of a packet, which is behind its header.
@@ -136,11 +163,12 @@ fn put_changed<W: Write>(
 ) -> ResultParsing<()>
     requires { IsTrue (is_magic found.header.now.magic_number) }
     ensures out { WritesAll (W.contents output.old) (W.contents output.new)
-        (written_under found.entry.header.now (changed (resolution_of found.entry.header.now.magic_number) changes (stored_of found.entry).packet)) result }
+        (written_under (header_after found.entry.header.now changes) (changed (resolution_of found.entry.header.now.magic_number) changes (stored_of found.entry).packet)) result }
     ensures told { MatchResult result (λ _. has_failed.new ≡ has_failed.old) (λ _. has_failed.new ≡ true) }
 {
     let head = changes.head_of(found.header.ts_resolution(), found.head);
-    put(output, has_failed, &bytes_under(found.header, &head))?;
+    let header = header_in(changes.resolution, found.header);
+    put(output, has_failed, &bytes_under(&header, &head))?;
     put(output, has_failed, changes.bytes_of(data_of(found.text)))
 }
 

@@ -9,6 +9,7 @@ ghost use Rattle.pcapfile_cut.specs.Changes.{is_unmoved, stored_of, written_for}
 ghost use Rattle.pcapfile_cut.specs.Choice.{dedup_of};
 ghost use Rattle.pcapfile_cut.specs.Cuts.{CutsBehind, CutsPart, IsNew, StepsCut, outcome_of, progress};
 ghost use Rattle.pcapfile_cut.specs.Duplicates.{most_remembered, remembered};
+ghost use Rattle.pcapfile_cut.specs.Openings.{header_of};
 
 use crate::changing::{Found, data_of, put_found};
 use crate::duplicates::Recent;
@@ -58,9 +59,9 @@ impl Outcome {
 
 // The header of the capture that is cut, and its packets that are written.
 #[derive(Clone, Copy)]
-struct Cut<'a> {
-    header: &'a PcapHeader,
-    wanted: Wanted<'a>,
+pub(crate) struct Cut<'a> {
+    pub(crate) header: &'a PcapHeader,
+    pub(crate) wanted: Wanted<'a>,
 }
 
 /// Writes one part of a capture: its opening, and the bytes of the wanted packets. The caller has read the opening, or an
@@ -85,6 +86,26 @@ pub fn cut_part<R: Read, W: Write>(
     outcome
 }
 
+/// Writes more of a part whose opening was written: the bytes of the wanted packets. The caller has read the opening, or earlier packets,
+/// from the input.
+///
+/// What the function reads and writes, and its errors, are those of `cut_part` after the opening. It counts only its own packets.
+pub fn cut_more<R: Read, W: Write>(
+    alloc: Global,
+    opening: &Opening,
+    input: &mut R,
+    output: &mut W,
+    wanted: Wanted<'_>,
+) -> Outcome
+    ensures { CutsBehind (header_of opening.now) wanted.entry (R.remaining input.old) (R.remaining input.new)
+        (W.contents output.old) (W.contents output.new) result }
+{
+    let mut outcome = Outcome::none();
+    let header = opening.header();
+    outcome.fault = cut_packets(alloc, header, input, output, wanted, &mut outcome).err();
+    outcome
+}
+
 // Writes the opening and the packets, and counts the packets.
 fn cut_under<R: Read, W: Write>(
     alloc: Global,
@@ -98,12 +119,13 @@ fn cut_under<R: Read, W: Write>(
     ensures { CutsPart opening.now wanted.entry (R.remaining input.old) (R.remaining input.new) (W.contents output.old) (W.contents output.new)
         (outcome_of outcome.new result) }
 {
-    put(output, &mut outcome.write_failed, opening.bytes())?;
+    let bytes = opening.bytes_in(wanted.changes().resolution);
+    put(output, &mut outcome.write_failed, &bytes)?;
     cut_packets(alloc, opening.header(), input, output, wanted, outcome)
 }
 
 // Writes the wanted packets, and counts all packets that it reads.
-pub(crate) fn cut_packets<R: Read, W: Write>(
+fn cut_packets<R: Read, W: Write>(
     alloc: Global,
     header: &PcapHeader,
     input: &mut R,
@@ -131,7 +153,7 @@ pub(crate) fn cut_packets<R: Read, W: Write>(
 }
 
 // Reads the next packet, writes it if it is wanted and no duplicate, and returns whether there was one.
-fn cut_next<R: Read, W: Write>(
+pub(crate) fn cut_next<R: Read, W: Write>(
     cut: Cut<'_>,
     input: &mut R,
     output: &mut W,

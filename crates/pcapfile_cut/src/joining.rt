@@ -2,7 +2,7 @@
 
 ghost use Rattle.pcapfile_cut.specs.Joins.{JoinsPart};
 
-use crate::cutting::{Outcome, cut_packets};
+use crate::cutting::{Outcome, cut_more};
 use crate::opening::Opening;
 use crate::wanted::Wanted;
 use pcap_core::PcapError;
@@ -32,15 +32,12 @@ pub fn join_part<R: Read, W: Write>(
 ) -> Joined
     ensures { JoinsPart first.now (R.remaining input.old) (R.remaining input.new) (W.contents output.old) (W.contents output.new) result }
 {
-    let mut outcome = Outcome::none();
-    let opening = match Opening::read(input, &mut outcome.read_failed) {
+    let opening = match Opening::read(input, &mut false) {
         Ok(opening) => opening,
         Err(error) => return Joined::Unopened(error),
     };
     if !first.is_same(&opening) {
         return Joined::OtherHeader;
     }
-    let header = first.header();
-    outcome.fault = cut_packets(alloc, header, input, output, Wanted::All, &mut outcome).err();
-    Joined::Packets(outcome)
+    Joined::Packets(cut_more(alloc, first, input, output, Wanted::All))
 }

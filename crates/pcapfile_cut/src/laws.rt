@@ -1,6 +1,6 @@
 //! Laws of captures that are cut and joined. The contract of each function says what is proved of it.
 
-ghost use Rattle.std.specs.Prelude.{◌≡◌, ◌≤◌, ◌<◌, ◌+◌, ◌^◌, ◌++◌, ℕ, List, ◌∷◌, length, false, true, Option, None, Some, []};
+ghost use Rattle.std.specs.Prelude.{◌≡◌, ◌≤◌, ◌<◌, ◌+◌, ◌*◌, ◌/◌, ◌^◌, ◌++◌, ℕ, List, ◌∷◌, length, false, true, Option, None, Some, IsTrue, []};
 ghost use Rattle.pcap_blocks.specs.EnhancedPacket.{Enhanced, EnhancedText};
 ghost use Rattle.pcap_core.specs.declared.common.Endianness.{Endianness};
 ghost use Rattle.pcap_core.specs.Answer.{number_in};
@@ -9,7 +9,10 @@ ghost use Rattle.pcap_core.specs.Codec.{number_bytes};
 ghost use Rattle.pcap_classic.specs.declared.common.TsResolution.{TsResolution};
 ghost use Rattle.pcap_classic.specs.declared.pcap.header.PcapHeader.{PcapHeader};
 ghost use Rattle.pcap_classic.specs.declared.pcap.packet.PacketHeader.{PacketHeader};
-ghost use Rattle.pcap_classic.specs.Magic.{resolution_of};
+ghost use Rattle.pcap_classic.specs.declared.common.TsResolution.TheVariants.{MicroSecond, NanoSecond};
+ghost use Rattle.pcap_classic.specs.HeaderText.{HeaderText};
+ghost use Rattle.pcap_classic.specs.Magic.{is_magic, resolution_of};
+ghost use Rattle.pcap_classic.specs.PacketText.{Captured};
 ghost use Rattle.pcap_classic.specs.Written.{written_under};
 ghost use Rattle.pcapfile_cut.specs.declared.changing.Changes.{Changes};
 ghost use Rattle.pcapfile_cut.specs.declared.cutting.Outcome.{Outcome};
@@ -19,13 +22,13 @@ ghost use Rattle.pcapfile_cut.specs.declared.wanted.Wanted.{Wanted};
 ghost use Rattle.pcapfile_cut.specs.declared.wanted.Wanted.TheVariants.{All, Numbers, Selected};
 ghost use Rattle.pcapfile_cut.specs.BlockCuts.{Place};
 ghost use Rattle.pcapfile_cut.specs.BlockParts.{CutsEach, HasPacketNext, HoldsBlocks};
-ghost use Rattle.pcapfile_cut.specs.Changes.{changed, shortened};
+ghost use Rattle.pcapfile_cut.specs.Changes.{changed, header_after, no_changes, rounded, shortened, text_after};
 ghost use Rattle.pcapfile_cut.specs.Choice.{Stored, WantsMore, chosen};
 ghost use Rattle.pcapfile_cut.specs.Cuts.{CutsBehind, IsStored, OpensPart};
 ghost use Rattle.pcapfile_cut.specs.Duplicates.{message_with};
 ghost use Rattle.pcapfile_cut.specs.Fronts.{CutsFront, CutsInto, HoldsPackets, JoinsOthers};
 ghost use Rattle.pcapfile_cut.specs.Moves.{moved};
-ghost use Rattle.pcapfile_cut.specs.Openings.{bytes_of};
+ghost use Rattle.pcapfile_cut.specs.Openings.{bytes_in, bytes_of, header_in, header_of};
 ghost use Rattle.pcapfile_cut.specs.Repeating.{HasNoHeader, Typed, about_packets, is_header, opening_behind, texts_of};
 ghost use Rattle.pcapfile_cut.specs.Selections.{goes_behind, time_of};
 ghost use Rattle.pcapfile_cut.specs.ShortBlocks.{Parted, PartedText, first_bytes, short_body};
@@ -55,13 +58,33 @@ pub fn messages_tell_packets_apart()
     ensures { (n m : ℕ) (s t : List ℕ) → n < 2 ^ 32 → m < 2 ^ 32 → message_with n s ≡ message_with m t → (n ≡ m) × (s ≡ t) }
 {}
 
-/// A packet that is written after changes is read again, as it was changed.
+/// A packet that is written after changes is read again under the changed header: as it was changed, with its time rounded down.
 pub fn changed_packets_are_read()
     ensures { (header : PcapHeader) (changes : Changes) (stored : Stored) → IsBytes stored.text → IsStored header stored →
-        IsStored header (record {
-          packet = changed (resolution_of header.magic_number) changes stored.packet;
-          text = written_under header (changed (resolution_of header.magic_number) changes stored.packet);
+        IsStored (header_after header changes) (record {
+          packet = rounded changes.resolution (changed (resolution_of header.magic_number) changes stored.packet);
+          text = written_under (header_after header changes) (changed (resolution_of header.magic_number) changes stored.packet);
         }) }
+{}
+
+/// An opening with the magic number of another resolution is read again as the header with that magic number.
+pub fn changed_openings_are_read()
+    ensures { (resolution : Option TsResolution) (opening : Opening) → HeaderText (header_of opening) (bytes_of opening) [] →
+        HeaderText (header_in resolution (header_of opening)) (bytes_in resolution opening) [] }
+{}
+
+/// A packet keeps its time in nanoseconds, and has it rounded down in microseconds.
+pub fn resolutions_round_down()
+    ensures nanoseconds { (packet : Captured) → rounded (Some NanoSecond) packet ≡ packet }
+    ensures microseconds { (packet : Captured) → time_of (rounded (Some MicroSecond) packet).header ≡ 1000 * (time_of packet.header / 1000) }
+{}
+
+/// A capture that gets the resolution that it has keeps all bytes.
+pub fn same_resolutions_stay()
+    ensures opening { (opening : Opening) → IsBytes (bytes_of opening) → HeaderText (header_of opening) (bytes_of opening) [] →
+        bytes_in (Some (resolution_of (header_of opening).magic_number)) opening ≡ bytes_of opening }
+    ensures packets { (header : PcapHeader) (stored : Stored) → IsTrue (is_magic header.magic_number) → IsBytes stored.text → IsStored header stored →
+        text_after header (record no_changes { resolution = Some (resolution_of header.magic_number) }) stored ≡ stored.text }
 {}
 
 /// A packet whose time is moved is later or earlier by exactly so many nanoseconds.

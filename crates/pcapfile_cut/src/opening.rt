@@ -6,6 +6,9 @@ ghost use Rattle.pcap_classic.specs.HeaderText.{HeaderSays, HeaderText};
 ghost use Rattle.pcap_classic.specs.Magic.{is_magic};
 ghost use Rattle.pcap_items.specs.Reading.{ReadsTold};
 
+use crate::changing::header_in;
+use byteorder::{BigEndian, ByteOrder};
+use pcap_classic::TsResolution;
 use pcap_classic::pcap::PcapHeader;
 use pcap_core::ResultParsing;
 use pcap_items::stream::fill_array;
@@ -20,7 +23,7 @@ pub struct Opening {
 }
 
 impl Opening {
-    ghost use Rattle.pcapfile_cut.specs.Openings.{bytes_of, header_of};
+    ghost use Rattle.pcapfile_cut.specs.Openings.{bytes_in, bytes_of, header_of};
 
     /// Reads the header of a capture from a stream that hasn't failed, and sets `read_failed` if a read fails. On success it
     /// has read exactly 24 bytes.
@@ -51,6 +54,18 @@ impl Opening {
         ensures { result.now ≡ bytes_of self.now }
     {
         &self.bytes
+    }
+
+    // Returns the bytes of the header with the magic number of this resolution, if one is given.
+    pub(crate) fn bytes_in(&self, ts_resolution: Option<TsResolution>) -> [u8; 24]
+        ensures { result ≡ bytes_in ts_resolution self.now }
+    {
+        let mut bytes = self.bytes;
+        if ts_resolution.is_some() {
+            let header = header_in(ts_resolution, self.header());
+            BigEndian::write_u32(&mut bytes, header.magic_number);
+        }
+        bytes
     }
 
     /// Returns whether both openings have the same bytes.

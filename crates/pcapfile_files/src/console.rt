@@ -2,6 +2,7 @@
 
 ghost use Rattle.std.specs.Prelude.{None};
 
+use crate::digest::Hashing;
 use crate::foreign::Foreign;
 use crate::progress::Progress;
 use capcopy_run::Uninterrupted;
@@ -24,6 +25,8 @@ pub struct Console {
     has_fault: Cell<bool>,
     /// What the file is whose first bytes were read last, if it is not a sound capture and no message has reported that yet.
     foreign: Rc<Cell<Option<Foreign>>>,
+    /// The digest of the capture that is read.
+    hashing: Rc<Hashing>,
 }
 
 impl Console {
@@ -38,6 +41,7 @@ impl Console {
             progress,
             has_fault: Cell::new(false),
             foreign: Rc::new(rt.alloc(), Cell::new(None))?,
+            hashing: Rc::new(rt.alloc(), Hashing::idle())?,
         })
     }
 
@@ -75,6 +79,24 @@ impl Console {
     /// Returns the shared place that records what a file is that is not a capture.
     pub(crate) fn foreign(&self) -> Result<Rc<Cell<Option<Foreign>>>, AllocError> {
         self.foreign.clone()
+    }
+
+    /// Begins the digest of the capture that is opened next.
+    pub fn begin_digest(&self) {
+        self.hashing.begin();
+    }
+
+    /// Returns the SHA-256 digest of the capture's bytes in hexadecimal digits, if one was begun and the capture was read to its end.
+    pub fn take_digest(&self) -> Result<Option<String>, AllocError> {
+        match self.hashing.end() {
+            Some(digest) => Ok(Some(hex::encode(self.alloc(), digest.as_slice())?)),
+            None => Ok(None),
+        }
+    }
+
+    /// Returns the shared digest of the capture that is read.
+    pub(crate) fn hashing(&self) -> Result<Rc<Hashing>, AllocError> {
+        self.hashing.clone()
     }
 
     /// Returns whether a capture was found truncated or malformed.

@@ -8,6 +8,9 @@ use std::fmt;
 /// The number of first bytes by which a text is recognized.
 const SAMPLE: usize = 512;
 
+/// The length of the magic number of a capture, in bytes.
+const MAGIC: usize = 4;
+
 /// The length of a record's header in an ERF file, in bytes.
 const ERF_HEADER: usize = 16;
 
@@ -52,6 +55,25 @@ pub(crate) enum Foreign {
     Variant(Further),
     /// It is something else.
     Unknown,
+}
+
+/// Returns whether a file with these first bytes is a capture of this program's formats, one of snoop, or one that a transfer changed. The
+/// first bytes of an ERF file are those of many other files too.
+pub(crate) fn is_capture(bytes: &[u8]) -> bool {
+    match Foreign::of_front(bytes) {
+        None => bytes.len() >= MAGIC,
+        Some(
+            Foreign::Snoop | Foreign::ChangedBlocks | Foreign::ChangedPackets | Foreign::Variant(_),
+        ) => true,
+        Some(
+            Foreign::Empty
+            | Foreign::Packed(_)
+            | Foreign::Erf
+            | Foreign::Page
+            | Foreign::Text
+            | Foreign::Unknown,
+        ) => false,
+    }
 }
 
 /// A way to compress files.

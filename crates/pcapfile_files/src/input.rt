@@ -3,6 +3,7 @@
 ghost use Rattle.std.specs.Prelude.{None};
 
 use crate::console::{Console, Shared};
+use crate::digest::Hashing;
 use crate::foreign::Foreign;
 use crate::walk::Walk;
 use capcopy_run::Uninterrupted;
@@ -56,6 +57,8 @@ pub struct Watched {
     is_new: bool,
     /// The shared place that records what the file is if it doesn't begin like a capture.
     foreign: Rc<Cell<Option<Foreign>>>,
+    /// The digest of its bytes.
+    hashing: Rc<Hashing>,
 }
 
 impl Watched {
@@ -74,6 +77,7 @@ impl Read for Watched {
             self.is_new = false;
             self.foreign.set(Foreign::of_front(&buf[..came]));
         }
+        self.hashing.add(&buf[..came]);
         if let Some(progress) = &self.progress {
             let packets = self.walk.pass(&buf[..came]);
             let mut now = progress.get();
@@ -123,5 +127,6 @@ pub fn open_further(console: &Console, name: &str) -> io::Result<Watched> {
         progress: console.add_capture(length)?,
         is_new: true,
         foreign: console.foreign()?,
+        hashing: console.hashing()?,
     })
 }

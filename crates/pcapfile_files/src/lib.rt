@@ -3,13 +3,15 @@
 #![tactic(auto)]
 
 mod console;
+mod destination;
+mod digest;
+mod folders;
 mod foreign;
 mod identity;
 mod input;
 mod numbered;
 mod output;
 mod part;
-mod place;
 mod progress;
 mod shown;
 mod standard;
@@ -17,6 +19,7 @@ mod tell;
 mod walk;
 
 pub use console::{Console, Notes};
+pub use folders::{EachFile, Inputs, PCAP_EXTENSIONS, PCAPNG_EXTENSIONS, read_files};
 pub use input::{STANDARD, Watched, buffered, open_further, open_watched};
 pub use numbered::unnumbered;
 pub use output::{OUTPUT, Output, write_named};

@@ -3,11 +3,11 @@
 ghost use Rattle.std.specs.Prelude.{None};
 
 use crate::console::Console;
+use crate::destination::Destination;
 use crate::identity::Identity;
 use crate::input::STANDARD;
 use crate::part;
 use crate::part::{Refusal, part_path};
-use crate::place::Place;
 use crate::shown::Shown;
 use crate::tell::{FAILED, tell_io};
 use capcopy_run::Uninterrupted;
@@ -130,14 +130,14 @@ pub fn write_named<F: FnOnce(Uninterrupted<Output>) -> io::Result<u8>>(
 ) -> io::Result<u8>
     requires { F.IsAlwaysCallable write }
 {
-    let place = if name == STANDARD {
-        Ok(Place::Standard)
+    let destination = if name == STANDARD {
+        Ok(Destination::Standard)
     } else {
-        Place::of(console, name)
+        Destination::of(console, name)
     };
-    match place {
+    match destination {
         Err(error) => tell_io(console, name, &error),
-        Ok(Place::Standard) => {
+        Ok(Destination::Standard) => {
             if let Some(output) = Identity::of_standard_output(console) {
                 if output.is_among(console, read) {
                     return tell_read(console, name);
@@ -145,11 +145,11 @@ pub fn write_named<F: FnOnce(Uninterrupted<Output>) -> io::Result<u8>>(
             }
             write(Uninterrupted::new(Output::Standard(console.rt().stdout())))
         }
-        Ok(Place::Special) => match OpenOptions::new().write(true).open(console.rt(), name) {
+        Ok(Destination::Special) => match OpenOptions::new().write(true).open(console.rt(), name) {
             Ok(file) => write(Uninterrupted::new(Output::File(file))),
             Err(error) => tell_io(console, name, &error),
         },
-        Ok(Place::Regular(path, replaced)) => {
+        Ok(Destination::Regular(path, replaced)) => {
             let unfinished = Unfinished {
                 name,
                 path: path.as_str(),

@@ -12,7 +12,7 @@ use crate::summary::{Outcome, Summary, Tally};
 use crate::variants::LeftOutHeads;
 use capcopy_run::Exit;
 use pcap_file::{Endianness, PcapError, ResultParsing};
-use pcapfile_as_is::{BlockRepairs, Counted, Place, Repairs, Spot};
+use pcapfile_as_is::{BlockRepairs, Counted, Position, Repairs, Spot};
 use pcapfile_files::{Console, Watched};
 use pcapfile_run::Format;
 use std::alloc::{AllocError, Global};
@@ -35,14 +35,14 @@ const ENOUGH: usize = 65_536;
 
 /// The packets that are repaired.
 #[derive(Drop)]
-struct Packets {
+struct RepairedPackets {
     rows: PacketRows,
     repairs: NotedPackets<Repairs<Vec<u8>>>,
 }
 
 /// The blocks that are mended.
 #[derive(Drop)]
-struct Blocks {
+struct RepairedBlocks {
     rows: BlockRows,
     repairs: NotedBlocks<BlockRepairs<Vec<u8>>>,
 }
@@ -50,8 +50,8 @@ struct Blocks {
 /// The items that are repaired.
 #[derive(Drop)]
 enum Making {
-    Packets(Packets),
-    Blocks(Blocks),
+    Packets(RepairedPackets),
+    Blocks(RepairedBlocks),
 }
 
 /// A packet or block that was produced.
@@ -75,7 +75,7 @@ pub struct Repaired {
     /// The number of these bytes that were read.
     given: usize,
     /// The position in the original capture, and the number of left-out bytes that were reported.
-    place: Place,
+    position: Position,
     /// The number of changes that were reported.
     changed: u64,
     /// The number of packets of other link types that were counted.
@@ -83,17 +83,17 @@ pub struct Repaired {
     report: Report,
 }
 
-impl Packets {
+impl RepairedPackets {
     // Produces the next packet, if one follows in its row.
     fn make(
         self,
         alloc: Global,
         made: &mut Vec<u8>,
         counted: &mut Counted,
-    ) -> Result<Packets, Exit> {
-        let Packets { rows, mut repairs } = self;
+    ) -> Result<RepairedPackets, Exit> {
+        let RepairedPackets { rows, mut repairs } = self;
         match rows.tell(alloc, &mut repairs, made, 1, counted) {
-            Ok(rows) => Ok(Packets { rows, repairs }),
+            Ok(rows) => Ok(RepairedPackets { rows, repairs }),
             Err(stop) => Err(exit_of(stop)),
         }
     }
@@ -116,17 +116,17 @@ impl Packets {
     }
 }
 
-impl Blocks {
+impl RepairedBlocks {
     // Produces the next block, if one follows in its row.
     fn make(
         self,
         alloc: Global,
         made: &mut Vec<u8>,
         counted: &mut Counted,
-    ) -> Result<Blocks, Exit> {
-        let Blocks { rows, mut repairs } = self;
+    ) -> Result<RepairedBlocks, Exit> {
+        let RepairedBlocks { rows, mut repairs } = self;
         match rows.tell(alloc, &mut repairs, made, 1, counted) {
-            Ok(rows) => Ok(Blocks { rows, repairs }),
+            Ok(rows) => Ok(RepairedBlocks { rows, repairs }),
             Err(stop) => Err(exit_of(stop)),
         }
     }
@@ -152,10 +152,10 @@ impl Blocks {
     }
 }
 
-impl Blocks {
+impl RepairedBlocks {
     // Produces a section header that is no block of the capture.
-    fn make_header(self, alloc: Global, made: &mut Vec<u8>) -> io::Result<Blocks> {
-        let mut uncounted = Place::new(0).counted;
+    fn make_header(self, alloc: Global, made: &mut Vec<u8>) -> io::Result<RepairedBlocks> {
+        let mut uncounted = Position::new(0).counted;
         match self.make(alloc, made, &mut uncounted) {
             Ok(blocks) => Ok(blocks),
             Err(exit) => Err(io_error(exit)),
@@ -175,7 +175,7 @@ impl Making {
             teller,
             flaws: None,
         };
-        Ok(Making::Packets(Packets { rows, repairs }))
+        Ok(Making::Packets(RepairedPackets { rows, repairs }))
     }
 
     // Returns the blocks of these rows, and the header of their section if it is written.
@@ -195,7 +195,7 @@ impl Making {
             rule: Ok(None),
             is_sound_section: false,
         };
-        let mut blocks = Blocks { rows, repairs };
+        let mut blocks = RepairedBlocks { rows, repairs };
         let mut made = Vec::new(alloc);
         if let FirstSection::Written(_) = section {
             blocks = blocks.make_header(alloc, &mut made)?;
@@ -279,7 +279,7 @@ impl Repaired {
             making: Some(making),
             made,
             given: 0,
-            place: Place::new(bytes),
+            position: Position::new(bytes),
             changed: 0,
             others: 0,
             report,
@@ -333,7 +333,7 @@ impl Repaired {
 
     // Reports what was left out or changed before the next item.
     fn tell_row(&mut self, rows: &Rows) -> Result<(), AllocError> {
-        if let Some(gap) = self.place.pass(rows.left_out()) {
+        if let Some(gap) = self.position.pass(rows.left_out()) {
             self.report.tell_gap(&gap);
         }
         let others = rows.others();
@@ -345,7 +345,7 @@ impl Repaired {
         if changed.count > self.changed {
             self.changed = changed.count;
             if let Some(change) = changed.last {
-                self.report.tell_change(change, &self.place.counted);
+                self.report.tell_change(change, &self.position.counted);
             }
             self.made.extend_from_slice(rows.descriptions())?;
         }
@@ -354,14 +354,14 @@ impl Repaired {
 
     // Produces the next packet or block, if one follows in its row, and reports what became of it.
     fn make_item(&mut self, making: Making) -> io::Result<Making> {
-        let before = self.place.counted;
+        let before = self.position.counted;
         let len = self.made.len();
-        let counted = &mut self.place.counted;
+        let counted = &mut self.position.counted;
         let mut making = match making.make(self.alloc, &mut self.made, counted) {
             Ok(making) => making,
             Err(exit) => return Err(io_error(exit)),
         };
-        let now = self.place.counted;
+        let now = self.position.counted;
         if now.items > before.items {
             let at = Spot {
                 number: before.items.saturating_add(1),

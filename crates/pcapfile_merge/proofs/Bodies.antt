@@ -28,7 +28,7 @@ use Rattle.pcapfile_run.specs.BlockPackets.{HoldsPacket, InBlock, packet_in as p
 use Rattle.pcapfile_merge.specs.declared.made.Made.{Made}
 use Rattle.pcapfile_merge.specs.declared.packet.Pending.{Pending}
 use Rattle.pcapfile_merge.specs.BufferedBlocks.{lent_by}
-use Rattle.pcapfile_merge.specs.Keeping.{CarriedBy, IsNumbered, carried_with, first_number, gives, is_carried, is_interface, is_statistics, with_number}
+use Rattle.pcapfile_merge.specs.Keeping.{CarriedBy, IsNumbered, carried_with, first_number, gives, is_carried, is_interface, is_statistics, little_of, with_number}
 use Rattle.pcapfile_merge.specs.Making.{DescribesText, IsMade, KeepsText, MakesText, PutsNumbered, PutsText, PutsWhole, made_as}
 use Rattle.pcapfile_merge.specs.Packets.{Packet, plain_text}
 use Rattle.pcapfile_merge.specs.Passing.{IsSaid, TellsBody, TellsIfPacket, TellsPending, TellsStored, bytes_within, start_of}
@@ -203,7 +203,7 @@ pub kept_or_ends : (numbers : List ℕ) (interfaces : List Interface) (block : F
 kept_or_ends numbers interfaces block made (Err e) is why = block_unkept is why
 kept_or_ends numbers interfaces block made (Ok pending) is keeps = inr (inr (is, subst (λ (q : Packet). CarriedBy block.type_ numbers block q) (sym (made_packet keeps.0 made pending block.body keeps.2)) keeps.1))
 
-whole_kept : (type : BlockType) (numbers : List ℕ) (block : Framed) → is_statistics type ≡ false → CarriedBy type numbers block (carried_with block.body block)
+whole_kept : (type : BlockType) (numbers : List ℕ) (block : Framed) → is_statistics type ≡ false → CarriedBy type numbers block (carried_with (little_of block) block)
 whole_kept types.InterfaceStatistics numbers block is = absurd (true≢false is)
 whole_kept types.SectionHeader numbers block is = refl
 whole_kept types.InterfaceDescription numbers block is = refl
@@ -228,7 +228,7 @@ numbered_kept (types.Unknown n) numbers block own number is first numbered = abs
 
 -- The text of a block that is kept as it is was made.
 pub puts_whole : (numbers : List ℕ) (block : Framed) (made : Made) (result : Result (Unit {0}) PcapError) → is_statistics block.type_ ≡ false → PutsWhole block made result → PutsText numbers block made result
-puts_whole numbers block made (Ok done) is puts = (carried_with block.body block, whole_kept block.type_ numbers block is, puts.0, puts.1, puts.2)
+puts_whole numbers block made (Ok done) is puts = (carried_with (little_of block) block, whole_kept block.type_ numbers block is, puts.0, puts.1, puts.2)
 puts_whole numbers block made (Err e) is puts = inl puts
 
 -- The text of statistics was made.

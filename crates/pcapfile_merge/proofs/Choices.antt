@@ -37,7 +37,7 @@ module _ {S P : Type 0} (IsEarlier : P → P → Type 0) (pending : S → List P
   ended_later : (p : P) (held : List P) → held ≡ [] → ComesLater IsEarlier p held
   ended_later p held none = subst (ComesLater IsEarlier p) (sym none) tt
 
-  pub chosen_first : (xs : List S) (x : S) (p : P) → AllEnded IsEarlier pending xs → pending x ≡ p ∷ [] → Choice IsEarlier pending (xs ++ x ∷ []) (length xs) p
+  pub chosen_first : (xs : List S) (x : S) (p : P) → AllEnded pending xs → pending x ≡ p ∷ [] → Choice IsEarlier pending (xs ++ x ∷ []) (length xs) p
   chosen_first xs x p ended holds = chosen_last xs x p holds (all_become (λ s. pending s ≡ []) (λ s. ComesLater IsEarlier p (pending s)) (λ s none. ended_later p (pending s) none) xs ended)
 
   module _ (through : (a b c : P) → IsEarlier a b → (IsEarlier c b → ⊥) → IsEarlier a c) (transitive : (a b c : P) → IsEarlier a b → IsEarlier b c → IsEarlier a c) where

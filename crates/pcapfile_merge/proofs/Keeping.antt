@@ -8,35 +8,39 @@ use Rattle.byteorder.specs.Endian.{little_number}
 use Rattle.pcap_core.specs.declared.common.Endianness.TheVariants.{Little}
 use Rattle.pcap_core.specs.Codec.{number_bytes}
 use Rattle.pcap_core.proofs.Codec.{codec}
+use Rattle.pcap_blocks.specs.declared.block_type.BlockType.{BlockType}
 use Rattle.pcap_blocks.specs.BlockType.{type_number}
 use Rattle.pcap_ng.specs.Frames.{Framed}
 use Rattle.pcapfile_merge.specs.Keeping.{carried_with, first_number, with_number}
+use Rattle.pcapfile_merge.specs.Little.{raw_little, turned_body}
+use Rattle.pcapfile_merge.proofs.LittleOptions.{turned_length}
 
 -- The text of a block has 12 bytes around the body.
-pub body_length : (block : Framed) (body : List ℕ) → length (carried_with body block).text ≡ length body + 12
-body_length block body =
-    let write = number_bytes block.endianness in
-    let wide = (codec block.endianness).wide in
-    let number = write 4 (type_number block.type_) in
+pub raw_length : (type : BlockType) (body : List ℕ) → length (raw_little type body) ≡ length body + 12
+raw_length type body =
+    let write = number_bytes Little in
+    let wide = (codec Little).wide in
+    let number = write 4 (type_number type) in
     let len = write 4 (length body + 12) in
     omega (
       arith,
-      wide 4 (type_number block.type_),
+      wide 4 (type_number type),
       wide 4 (length body + 12),
       length-append number (len ++ (body ++ len)),
       length-append len (body ++ len),
       length-append body len,
     )
 
-pub kept_length : (block : Framed) → length (carried_with block.body block).text ≡ length block.body + 12
-kept_length block = body_length block block.body
+-- So has that of a block whose body turned.
+pub turned_text : (type : BlockType) (body : List ℕ) → length (raw_little type (turned_body type body)) ≡ length body + 12
+turned_text type body = raw_length type (turned_body type body) ∙ ap (λ (n : ℕ). n + 12) (turned_length type body)
 
 -- Statistics with another interface number are as long as before.
 pub same_length : (number : ℕ) (body : List ℕ) → 4 ≤ length body → length (with_number number body) ≡ length body
 same_length number body long = omega (arith, (codec Little).wide 4 number, length-append (number_bytes Little 4 number) (drop 4 body), length-drop 4 body, long)
 
 pub numbered_length : (block : Framed) (number : ℕ) → 4 ≤ length block.body → length (carried_with (with_number number block.body) block).text ≡ length block.body + 12
-numbered_length block number long = body_length block (with_number number block.body) ∙ ap (λ (n : ℕ). n + 12) (same_length number block.body long)
+numbered_length block number long = raw_length block.type_ (with_number number block.body) ∙ ap (λ (n : ℕ). n + 12) (same_length number block.body long)
 
 long_by : (body : List ℕ) (own : ℕ) (b : Bool) → (length (take 4 body) == 4) ≡ b → (if b then Some (little_number 4 (take 4 body)) else None) ≡ Some own → 4 ≤ length body
 long_by body own true is some = let four : length (take 4 body) ≡ 4 = grind (arith, is) in omega (arith, four, length-take 4 body)

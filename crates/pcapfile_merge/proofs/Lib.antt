@@ -4,6 +4,7 @@ pub mod Choices
 pub mod FrontsGiven
 pub mod Given
 pub mod Keeping
+pub mod LittleOptions
 pub mod Lying
 pub mod MergeLaws
 pub mod Merges
@@ -13,4 +14,5 @@ pub mod ShownTaken
 pub mod Steps
 pub mod StoredGiven
 pub mod Times
+pub mod TurnedOptions
 pub mod Turning

@@ -1,7 +1,7 @@
 -- Proofs of the laws of merges.
 use Rattle.std.proofs.Common.{◌≡◌, ◌≢◌, ◌==◌, ℕ, zero, suc, Bool, true, false, List, [], ◌∷◌, ◌++◌, map, length, get_or, if◌then◌else◌, refl, sym, ap, ◌∙◌, subst, arith}
 use Rattle.std.specs.List.{AllByRecursion}
-use Rattle.pcapfile_merge.specs.Merges.{ComesLater, IsNotBefore, Gives, Merges, IsSorted, given_by}
+use Rattle.pcapfile_merge.specs.Merges.{ComesLater, IsNotBefore, Gives, Merges, IsSorted, given_by, in_a_row}
 
 -- What holds of all items of a joined list holds of all items of its parts.
 all_split : {S : Type 0} (Q : S → Type 0) (xs : List S) (x : S) (ys : List S) → AllByRecursion Q (xs ++ x ∷ ys) → AllByRecursion Q xs × Q x × AllByRecursion Q ys
@@ -72,3 +72,19 @@ module _ {P : Type 0} (IsEarlier : P → P → Type 0) where
   merges_keep place inputs [] left merges = ap (λ l. get_or l place []) merges
   merges_keep place inputs (o ∷ out) left merges =
       given_here place (o.0 == place) o out inputs merges.0 (get_or left place []) refl merges.1 (merges_keep place merges.0 out left merges.2)
+
+module _ {P : Type 0} (IsEarlier : P → P → Type 0) (never : (a b : P) → IsEarlier a b → ⊥) where
+  -- If no packet is earlier than another, the inputs before the one that gives a packet have none.
+  row_behind : (p : P) (front more : List (List P)) → AllByRecursion (ComesLater IsEarlier p) front → in_a_row (front ++ more) ≡ in_a_row more
+  row_behind p [] more all = refl
+  row_behind p ([] ∷ front) more all = row_behind p front more all.1
+  row_behind p ((q ∷ qs) ∷ front) more all = absurd (never p q all.0)
+
+  -- The packets that the inputs gave, and then those left in them, are those of one input after another.
+  pub merges_in_a_row : (inputs : List (List P)) (out : List (ℕ × P)) (left : List (List P)) → Merges IsEarlier inputs out left → in_a_row inputs ≡ map (λ (o : ℕ × P). o.1) out ++ in_a_row left
+  merges_in_a_row inputs [] left merges = ap in_a_row merges
+  merges_in_a_row inputs (o ∷ out) left merges =
+      let gives = merges.1 in
+      let old : in_a_row inputs ≡ o.1 ∷ (gives.rest ++ in_a_row gives.back) = ap in_a_row gives.inputs_are ∙ row_behind o.1 gives.front ((o.1 ∷ gives.rest) ∷ gives.back) gives.later in
+      let new : in_a_row merges.0 ≡ gives.rest ++ in_a_row gives.back = ap in_a_row gives.left_are ∙ row_behind o.1 gives.front (gives.rest ∷ gives.back) gives.later in
+      old ∙ ap (λ l. o.1 ∷ l) (sym new ∙ merges_in_a_row merges.0 out left merges.2)

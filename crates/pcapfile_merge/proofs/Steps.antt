@@ -12,26 +12,27 @@ use Rattle.std.proofs.lemmas.List.{map-append, append-nil, length-append, set-ge
 use Rattle.pcap_core.specs.declared.errors.PcapError.{PcapError}
 use Rattle.pcap_core.specs.Errors.{IsMemory}
 use Rattle.pcap_items.specs.Writing.{AppendsPart, WritesAll}
+use Rattle.pcapfile_merge.specs.declared.choice.PacketOrder.{PacketOrder}
 use Rattle.pcapfile_merge.specs.declared.packet.Pending.{Pending}
 use Rattle.pcapfile_merge.specs.declared.reader.Reader.{Reader}
 use Rattle.pcapfile_merge.specs.declared.source.Source.{Source}
 use Rattle.pcapfile_merge.specs.Choosing.{Chooses, IsFirst}
 use Rattle.pcapfile_merge.specs.Merges.{ComesLater, IsNotBefore}
-use Rattle.pcapfile_merge.specs.Merging.{AllHaveNumbers, EndsMerge, HasNumbers, Input, Merging, MergesAt, MergesRun, Output, held_of, next_after, next_after_all, next_number, numbers_given, packets_in}
-use Rattle.pcapfile_merge.specs.Packets.{Packet, IsEarlier, left_out_with, text_of, texts}
+use Rattle.pcapfile_merge.specs.Merging.{AllHaveNumbers, EndsMerge, HasNumbers, Input, Merging, MergesAt, MergesRun, Output, asked_of, held_of, next_after, next_after_all, next_number, numbers_given, packets_in}
+use Rattle.pcapfile_merge.specs.Packets.{Packet, IsEarlierIn, left_out_with, text_of, texts}
 use Rattle.pcapfile_merge.specs.Holding.{Holds, TakesNext, bytes_in, held_by, holds_interface}
 use Rattle.pcapfile_merge.specs.Sources.{Advances, AdvancesTo, Gave, GaveBy, LacksMemory, numbers_of, numbers_with, pending_of}
 use Rattle.pcapfile_merge.specs.Taking.{packet_in, text_by}
 use Rattle.pcapfile_merge.proofs.Given.{gave_more, gave_unnumbered, left_out_both, left_out_held}
 use Rattle.pcapfile_merge.proofs.Merges.{GoesOn, all_of_map, goes_next, goes_none, goes_so_far, map_join, map_split}
 
--- A merge that has written n packets so far.
-pub record Going {R : Type 0} (remaining : R → Option (List ℕ)) (starts nows : List (Source R)) (before now : Output) (n : ℕ) : Type 0 where
+-- A merge in this order that has written n packets so far.
+pub record Going {R : Type 0} (remaining : R → Option (List ℕ)) (order : PacketOrder) (starts nows : List (Source R)) (before now : Output) (n : ℕ) : Type 0 where
   pub inputs : List (Input remaining)
   pub starts_are : map (λ (input : Input remaining). input.start) inputs ≡ starts
   pub nows_are : map (λ (input : Input remaining). input.now) inputs ≡ nows
   pub out : List (ℕ × Packet)
-  pub goes : GoesOn IsEarlier (λ (input : Input remaining). input.gone) held_of inputs out
+  pub goes : GoesOn (IsEarlierIn order) (λ (input : Input remaining). input.gone) held_of inputs out
   pub count : length out ≡ n
   pub went_out : Appends before.bytes now.bytes (texts (packets_in out))
   pub next : now.next ≡ next_after_all (packets_in out) before.next
@@ -43,16 +44,16 @@ some_held source None p is holds = absurd (let no : ⊥ = cc (ap (held_by source
 some_held source (Some n) p is holds = (n, is)
 
 -- The source at the chosen index is the chosen source.
-old_there : {R : Type 0} (nows : List (Source R)) (place : ℕ) (p : Packet) (x : Source R) (first : IsFirst nows place p) → x ≡ get_or nows place x → x ≡ first.source
-old_there nows place p x first is =
+pub old_there : {R : Type 0} (order : PacketOrder) (nows : List (Source R)) (place : ℕ) (p : Packet) (x : Source R) (first : IsFirst order nows place p) → x ≡ get_or nows place x → x ≡ first.source
+old_there order nows place p x first is =
     is ∙ ap (λ (l : List (Source _)). get_or l place x) first.sources_are ∙ ap (λ (k : ℕ). get_or (first.front ++ first.source ∷ first.back) k x) first.place_is ∙ get_or-append_seam first.front first.source first.back x
 
-pub chosen_within : {R : Type 0} (nows : List (Source R)) (place : ℕ) (p : Packet) → IsFirst nows place p → place < length nows
-chosen_within nows place p first = omega (arith, ap length first.sources_are, length-append first.front (first.source ∷ first.back), first.place_is)
+pub chosen_within : {R : Type 0} (order : PacketOrder) (nows : List (Source R)) (place : ℕ) (p : Packet) → IsFirst order nows place p → place < length nows
+chosen_within order nows place p first = omega (arith, ap length first.sources_are, length-append first.front (first.source ∷ first.back), first.place_is)
 
 -- The chosen source holds a packet.
-pub chosen_holds : {R : Type 0} (nows : List (Source R)) (place : ℕ) (p : Packet) (x : Source R) → IsFirst nows place p → x ≡ get_or nows place x → Holds x.taken.next
-chosen_holds nows place p x first is = some_held x x.taken.next p refl (ap pending_of (old_there nows place p x first is) ∙ first.holds)
+pub chosen_holds : {R : Type 0} (order : PacketOrder) (nows : List (Source R)) (place : ℕ) (p : Packet) (x : Source R) → IsFirst order nows place p → x ≡ get_or nows place x → Holds x.taken.next
+chosen_holds order nows place p x first is = some_held x x.taken.next p refl (ap pending_of (old_there order nows place p x first is) ∙ first.holds)
 
 -- The number that a packet takes, if it is an interface.
 abbrev taken_by : Bool → ℕ → List ℕ
@@ -110,7 +111,7 @@ next_held reader (Some n) number = refl
 none_or_some : {X : Type 0} (o : Option X) (x : X) → o ≡ Some x → o ≡ None → ⊥
 none_or_some o x some none = let no : ⊥ = cc (some, none) in no
 
-module _ {R : Type 0} (remaining : R → Option (List ℕ)) where
+module _ {R : Type 0} (remaining : R → Option (List ℕ)) (order : PacketOrder) where
   fresh : Source R → Input remaining
   fresh source = record {
     start = source;
@@ -140,13 +141,13 @@ module _ {R : Type 0} (remaining : R → Option (List ℕ)) where
   fresh_numbers k next [] = tt
   fresh_numbers k next (s ∷ sources) = (inl (sym (append-nil (numbers_of s))), fresh_numbers (k + 1) next sources)
 
-  pub going_none : (sources : List (Source R)) (before : Output) → Going remaining sources sources before before 0
+  pub going_none : (sources : List (Source R)) (before : Output) → Going remaining order sources sources before before 0
   going_none sources before = record {
     inputs = map fresh sources;
     starts_are = fresh_starts sources;
     nows_are = fresh_nows sources;
     out = [];
-    goes = goes_none IsEarlier (λ (input : Input remaining). input.gone) held_of (map fresh sources) (fresh_gone sources);
+    goes = goes_none (IsEarlierIn order) (λ (input : Input remaining). input.gone) held_of (map fresh sources) (fresh_gone sources);
     count = refl;
     went_out = Appends-nil before.bytes;
     next = refl;
@@ -247,8 +248,8 @@ module _ {R : Type 0} (remaining : R → Option (List ℕ)) where
       (subst (HasNumbers f) (sym stays) all.0, numbers_on (first + 1) next place out p F s t B (omega (arith, is)) step all.1)
 
   -- The merge goes on by one packet.
-  pub going_more : (starts nows : List (Source R)) (before mid now : Output) (n place : ℕ) (p : Packet) (old new : Source R) → Going remaining starts nows before mid n → IsFirst nows place p → old ≡ get_or nows place old
-      → Advances remaining mid.next old new → Appends mid.bytes now.bytes (texts (pending_of old)) → now.next ≡ next_after_all (pending_of old) mid.next → Going remaining starts (set nows place new) before now (n + 1)
+  pub going_more : (starts nows : List (Source R)) (before mid now : Output) (n place : ℕ) (p : Packet) (old new : Source R) → Going remaining order starts nows before mid n → IsFirst order nows place p → old ≡ get_or nows place old
+      → Advances remaining mid.next old new → Appends mid.bytes now.bytes (texts (pending_of old)) → now.next ≡ next_after_all (pending_of old) mid.next → Going remaining order starts (set nows place new) before now (n + 1)
   unfolding Follows
   going_more starts nows before mid now n place p old new so_far first old_is advances out counts =
       let there : old ≡ first.source = old_is ∙ ap (λ (l : List (Source R)). get_or l place old) first.sources_are ∙ ap (λ (k : ℕ). get_or (first.front ++ first.source ∷ first.back) k old) first.place_is ∙ get_or-append_seam first.front first.source first.back old in
@@ -260,12 +261,12 @@ module _ {R : Type 0} (remaining : R → Option (List ℕ)) where
       let some = some_held s.now s.now.taken.next p refl holds in
       let next = next_input mid.next s new some.0 some.1 (subst (λ (x : Source R). Advances remaining mid.next x new) (there ∙ sym parts.5) advances) in
       let t = next.0 in
-      let later : AllByRecursion (λ (input : Input remaining). ComesLater IsEarlier p (held_of input)) F =
-      all_of_map (λ (input : Input remaining). input.now) (λ (x : Source R). ComesLater IsEarlier p (pending_of x)) F (subst (AllByRecursion (λ (x : Source R). ComesLater IsEarlier p (pending_of x))) (sym parts.4) first.later) in
-      let not_before : AllByRecursion (λ (input : Input remaining). IsNotBefore IsEarlier p (held_of input)) B =
-      all_of_map (λ (input : Input remaining). input.now) (λ (x : Source R). IsNotBefore IsEarlier p (pending_of x)) B (subst (AllByRecursion (λ (x : Source R). IsNotBefore IsEarlier p (pending_of x))) (sym parts.6) first.not_before) in
-      let goes = goes_next IsEarlier (λ (input : Input remaining). input.gone) held_of F s t B p so_far.out holds (next.1.2 ∙ ap (λ (l : List Packet). s.gone ++ l) holds) later not_before
-      (subst (λ (l : List (Input remaining)). GoesOn IsEarlier (λ (input : Input remaining). input.gone) held_of l so_far.out) parts.3 so_far.goes) in
+      let later : AllByRecursion (λ (input : Input remaining). ComesLater (IsEarlierIn order) p (held_of input)) F =
+      all_of_map (λ (input : Input remaining). input.now) (λ (x : Source R). ComesLater (IsEarlierIn order) p (pending_of x)) F (subst (AllByRecursion (λ (x : Source R). ComesLater (IsEarlierIn order) p (pending_of x))) (sym parts.4) first.later) in
+      let not_before : AllByRecursion (λ (input : Input remaining). IsNotBefore (IsEarlierIn order) p (held_of input)) B =
+      all_of_map (λ (input : Input remaining). input.now) (λ (x : Source R). IsNotBefore (IsEarlierIn order) p (pending_of x)) B (subst (AllByRecursion (λ (x : Source R). IsNotBefore (IsEarlierIn order) p (pending_of x))) (sym parts.6) first.not_before) in
+      let goes = goes_next (IsEarlierIn order) (λ (input : Input remaining). input.gone) held_of F s t B p so_far.out holds (next.1.2 ∙ ap (λ (l : List Packet). s.gone ++ l) holds) later not_before
+      (subst (λ (l : List (Input remaining)). GoesOn (IsEarlierIn order) (λ (input : Input remaining). input.gone) held_of l so_far.out) parts.3 so_far.goes) in
       let given : ℕ × Packet = (length F, p) in
       let held_p : pending_of old ≡ p ∷ [] = ap pending_of there ∙ first.holds in
       let listed : packets_in (so_far.out ++ given ∷ []) ≡ packets_in so_far.out ++ p ∷ [] = map-append (λ (o : ℕ × Packet). o.1) so_far.out (given ∷ []) in
@@ -299,25 +300,25 @@ module _ {R : Type 0} (remaining : R → Option (List ℕ)) where
         numbers = numbers_on 0 before.next (length F) so_far.out p F s t B (omega arith) step (subst (AllHaveNumbers 0 before.next so_far.out) parts.3 so_far.numbers);
       }
 
-  merging_so_far : (starts nows : List (Source R)) (before now : Output) (n : ℕ) (so_far : Going remaining starts nows before now n) → Merging remaining starts nows before.next so_far.out
+  merging_so_far : (starts nows : List (Source R)) (before now : Output) (n : ℕ) (so_far : Going remaining order starts nows before now n) → Merging remaining order starts nows before.next so_far.out
   merging_so_far starts nows before now n so_far = record {
     inputs = so_far.inputs;
     starts_are = so_far.starts_are;
     nows_are = so_far.nows_are;
-    merges = goes_so_far IsEarlier (λ (input : Input remaining). input.gone) held_of so_far.inputs so_far.out so_far.goes;
+    merges = goes_so_far (IsEarlierIn order) (λ (input : Input remaining). input.gone) held_of so_far.inputs so_far.out so_far.goes;
     numbers = so_far.numbers;
   }
 
   -- The merge goes on by one packet of the source at an index.
-  pub going_step : (starts nows news : List (Source R)) (before mid now : Output) (n place : ℕ) (done : Unit {0}) → Going remaining starts nows before mid n → Chooses nows (Some place)
-      → MergesAt remaining place nows news mid now (Ok done) → Going remaining starts news before now (n + 1)
+  pub going_step : (starts nows news : List (Source R)) (before mid now : Output) (n place : ℕ) (done : Unit {0}) → Going remaining order starts nows before mid n → Chooses order nows (Some place)
+      → MergesAt remaining place nows news mid now (Ok done) → Going remaining order starts news before now (n + 1)
   going_step starts nows news before mid now n place done so_far chosen merged =
-      subst (λ (l : List (Source R)). Going remaining starts l before now (n + 1)) (sym merged.3)
+      subst (λ (l : List (Source R)). Going remaining order starts l before now (n + 1)) (sym merged.3)
       (going_more starts nows before mid now n place chosen.0 merged.0 merged.1 so_far chosen.1 merged.2 merged.4.0 merged.4.1 merged.4.2)
 
   -- The merge ends.
-  pub ends_merge : (starts nows : List (Source R)) (before mid now : Output) (n most : ℕ) (fault : Option PcapError) → Going remaining starts nows before mid n → now.next ≡ mid.next → EndsMerge nows mid.bytes now.bytes most n fault
-      → MergesRun remaining starts nows before now most (record { packets = n; interfaces = now.next; fault = fault })
+  pub ends_merge : (starts nows : List (Source R)) (before mid now : Output) (n most : ℕ) (fault : Option PcapError) → Going remaining order starts nows before mid n → now.next ≡ mid.next → EndsMerge (asked_of order most) nows mid.bytes now.bytes n fault
+      → MergesRun remaining starts nows before now (asked_of order most) (record { packets = n; interfaces = now.next; fault = fault })
   ends_merge starts nows before mid now n most fault so_far same ends = record {
     out = so_far.out;
     mid = mid.bytes;
@@ -329,15 +330,15 @@ module _ {R : Type 0} (remaining : R → Option (List ℕ)) where
   }
 
   -- The merge ends because a write of the next packet failed.
-  pub ends_failed : (starts nows news : List (Source R)) (before mid now : Output) (n place most : ℕ) (e : PcapError) → n < most → Going remaining starts nows before mid n → Chooses nows (Some place)
-      → MergesAt remaining place nows news mid now (Err e) → MergesRun remaining starts news before now most (record { packets = n; interfaces = now.next; fault = Some e })
+  pub ends_failed : (starts nows news : List (Source R)) (before mid now : Output) (n place most : ℕ) (e : PcapError) → n < most → Going remaining order starts nows before mid n → Chooses order nows (Some place)
+      → MergesAt remaining place nows news mid now (Err e) → MergesRun remaining starts news before now (asked_of order most) (record { packets = n; interfaces = now.next; fault = Some e })
   ends_failed starts nows news before mid now n place most e fewer so_far chosen merged =
       let old = merged.0 in
       let first = chosen.1 in
       let stays : news ≡ nows = merged.3 ∙ ap (λ (x : Source R). set nows place x) (merged.4.0 ∙ merged.2) ∙ set-get_or nows place old in
-      let there : old ≡ first.source = old_there nows place chosen.0 old first merged.2 in
+      let there : old ≡ first.source = old_there order nows place chosen.0 old first merged.2 in
       let text : texts (pending_of old) ≡ text_of chosen.0 = ap texts (ap pending_of there ∙ first.holds) ∙ append-nil (text_of chosen.0) in
-      subst (λ (l : List (Source R)). MergesRun remaining starts l before now most (record { packets = n; interfaces = now.next; fault = Some e })) (sym stays)
+      subst (λ (l : List (Source R)). MergesRun remaining starts l before now (asked_of order most) (record { packets = n; interfaces = now.next; fault = Some e })) (sym stays)
       (ends_merge starts nows before mid now n most (Some e) so_far merged.4.3 (fewer, merged.4.1, place, chosen.0, first, subst (λ (t : List ℕ). AppendsPart mid.bytes now.bytes t) text merged.4.2))
 
 -- The packet that a source holds was written.

@@ -15,6 +15,6 @@ module _ {S P : Type 0} (IsEarlier : P → P → Type 0) (pending : S → List P
     pub later : AllByRecursion (λ (s : S). ComesLater IsEarlier p (pending s)) front
     pub not_before : AllByRecursion (λ (s : S). IsNotBefore IsEarlier p (pending s)) back
 
-  -- No source holds a packet.
-  abbrev pub AllEnded : List S → Type 0
-  AllEnded = AllByRecursion (λ (s : S). pending s ≡ [])
+-- No source holds a packet.
+abbrev pub AllEnded : {S P : Type 0} → (S → List P) → List S → Type 0
+AllEnded {S} pending = AllByRecursion (λ (s : S). pending s ≡ [])

@@ -10,7 +10,6 @@ use Rattle.pcap_core.specs.Errors.{IsMemory}
 use Rattle.pcap_blocks.specs.declared.block_type.BlockType.{BlockType}
 use Rattle.pcap_blocks.specs.declared.block_type.BlockType.TheVariants as types
 use Rattle.pcap_blocks.specs.InterfaceDescription.{Interface}
-use Rattle.pcap_written.specs.Raw.{raw_text}
 use Rattle.pcap_file.specs.Placed.{is_packet}
 use Rattle.pcap_file.specs.Placing.{HasMessage, Source}
 use Rattle.pcap_ng.specs.Blocks.{Item}
@@ -20,6 +19,7 @@ use Rattle.pcapfile_run.specs.Passing.{counted}
 use Rattle.pcapfile_merge.specs.declared.kept.Kept.{Kept}
 use Rattle.pcapfile_merge.specs.declared.left_out.LeftOut.{LeftOut}
 use Rattle.pcapfile_merge.specs.LeavingOut.{options_at, with_block}
+use Rattle.pcapfile_merge.specs.Little.{can_turn, little_body, raw_little}
 use Rattle.pcapfile_merge.specs.Packets.{Packet}
 
 -- Whether there is a value.
@@ -45,9 +45,9 @@ is_copied interfaces types.InterfaceStatistics body = is_among interfaces (first
 is_copied interfaces (types.Unknown number) body = not (number == 0x40000BAD)
 is_copied interfaces _ body = false
 
--- The output is little-endian, so only blocks of little-endian sections can be copied.
+-- The output is little-endian. Of big-endian sections it gets the blocks whose bodies a merge turns.
 abbrev pub carried_in : Endianness → List Interface → Framed → Bool
-carried_in Big interfaces block = false
+carried_in Big interfaces block = can_turn block.type_ block.body
 carried_in Little interfaces block = is_copied interfaces block.type_ block.body
 
 -- A merge keeps this block without a packet, whose section has these interfaces so far.
@@ -70,7 +70,11 @@ gives interfaces block = is_packet block.type_ || (is_interface block.type_ || i
 
 -- A kept block with this body, as the output has it. It goes before the next packet, since it has no time.
 abbrev pub carried_with : List ℕ → Framed → Packet
-carried_with body block = record { time = None; text = raw_text (record { type_ = block.type_; endianness = block.endianness; body = body }); is_interface = false; left_out = 0 }
+carried_with body block = record { time = None; text = raw_little block.type_ body; is_interface = false; left_out = 0 }
+
+-- The body of a kept block, as a little-endian section has it.
+abbrev pub little_of : Framed → List ℕ
+little_of block = little_body block.endianness block.type_ block.body
 
 -- The interface of a section that has the index `own` has this number in the output.
 abbrev pub IsNumbered : List ℕ → ℕ → ℕ → Type 0
@@ -80,11 +84,12 @@ IsNumbered numbers own number = (slice_get numbers own ≡ Some number) × (numb
 abbrev pub with_number : ℕ → List ℕ → List ℕ
 with_number number body = number_bytes Little 4 number ++ drop 4 body
 
--- A kept block of this type becomes this one. Statistics get the output's number of their interface, and all other blocks stay as they are.
+-- A kept block of this type becomes this one. Statistics get the output's number of their interface. All other blocks stay as they are, or
+-- turn into little-endian order.
 abbrev pub CarriedBy : BlockType → List ℕ → Framed → Packet → Type 0
 CarriedBy types.InterfaceStatistics numbers block p =
     (own : ℕ) × (first_number block.body ≡ Some own) × (number : ℕ) × IsNumbered numbers own number × (p ≡ carried_with (with_number number block.body) block)
-CarriedBy _ numbers block p = p ≡ carried_with block.body block
+CarriedBy _ numbers block p = p ≡ carried_with (little_of block) block
 
 -- A block is kept as this one, where the interfaces of its section have these numbers in the output.
 abbrev pub IsKeptAs : List ℕ → List Interface → Framed → Packet → Type 0

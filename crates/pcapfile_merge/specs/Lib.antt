@@ -3,10 +3,10 @@ pub mod BufferedBlocks
 pub mod Choices
 pub mod Choosing
 pub mod Fronts
-pub mod Headers
 pub mod Holding
 pub mod Keeping
 pub mod LeavingOut
+pub mod Little
 pub mod Making
 pub mod Merges
 pub mod Merging

@@ -8,7 +8,7 @@ use Rattle.pcap_file.specs.Converted.{little_text}
 use Rattle.pcap_ng.specs.Frames.{Framed}
 use Rattle.pcapfile_merge.specs.declared.made.Made.{Made}
 use Rattle.pcapfile_merge.specs.declared.packet.Pending.{Pending}
-use Rattle.pcapfile_merge.specs.Keeping.{CarriedBy, IsNumbered, IsUnkept, carried_with, first_number, with_number}
+use Rattle.pcapfile_merge.specs.Keeping.{CarriedBy, IsNumbered, IsUnkept, carried_with, first_number, little_of, with_number}
 use Rattle.pcapfile_merge.specs.Packets.{Packet}
 use Rattle.pcapfile_merge.specs.TakingBlocks.{IsUnkeptUnder, IsUnmade, IsUnwritten, described_as, numbered}
 
@@ -55,9 +55,9 @@ PutsNumbered numbers block made (Ok done) =
     × (made.text.items ≡ (carried_with (with_number number block.body) block).text) × (length made.text.items ≤ 4294967260)
 PutsNumbered numbers block made (Err e) = IsUnkeptUnder numbers block e
 
--- PutsWhole block made result: the text of this block is lent, or the call returned why it is not.
+-- PutsWhole block made result: the text of this block, in little-endian order, is lent, or the call returned why it is not.
 abbrev pub PutsWhole : Framed → Made → Result (Unit {0}) PcapError → Type 0
-PutsWhole block made (Ok done) = (made.is_lent ≡ true) × (made.text.items ≡ (carried_with block.body block).text) × (length made.text.items ≤ 4294967260)
+PutsWhole block made (Ok done) = (made.is_lent ≡ true) × (made.text.items ≡ (carried_with (little_of block) block).text) × (length made.text.items ≤ 4294967260)
 PutsWhole block made (Err e) = IsUnkept block e
 
 -- PutsText numbers block made result: the text of this block is lent, or the call returned why it is not.

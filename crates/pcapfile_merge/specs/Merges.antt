@@ -1,7 +1,8 @@
--- Merges, by time, of the packets of several inputs.
+-- Merges of the packets of several inputs.
 use Rattle.std.specs.Prelude.{⊤, ◌≡◌, ◌==◌, if◌then◌else◌, ℕ, List, [], ◌∷◌, ◌++◌, length}
-use Rattle.std.specs.List.{AllByRecursion}
+use Rattle.std.specs.List.{AllByRecursion, flat_map}
 
+-- The order of a merge says which packets are earlier than others.
 module _ {P : Type 0} (IsEarlier : P → P → Type 0) where
   -- ComesLater p packets: the first of these packets, if there is one, is later than p.
   abbrev pub ComesLater : P → List P → Type 0
@@ -38,3 +39,7 @@ module _ {P : Type 0} (IsEarlier : P → P → Type 0) where
 abbrev pub given_by : {P : Type 0} → ℕ → List (ℕ × P) → List P
 given_by place [] = []
 given_by place (given ∷ out) = if given.0 == place then given.1 ∷ given_by place out else given_by place out
+
+-- The packets of these inputs, one input after another.
+abbrev pub in_a_row : {P : Type 0} → List (List P) → List P
+in_a_row {P} inputs = flat_map (λ (packets : List P). packets) inputs

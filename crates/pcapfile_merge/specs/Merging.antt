@@ -8,12 +8,13 @@ use Rattle.pcap_core.specs.declared.errors.PcapError.{PcapError}
 use Rattle.pcap_core.specs.Errors.{IsIo, IsMemory}
 use Rattle.pcap_items.specs.Writing.{AppendsPart}
 use Rattle.pcapfile_run.specs.Passing.{counted}
+use Rattle.pcapfile_merge.specs.declared.choice.PacketOrder.{PacketOrder}
 use Rattle.pcapfile_merge.specs.declared.merging.Merged.{Merged}
 use Rattle.pcapfile_merge.specs.declared.reader.Reader.{Reader}
 use Rattle.pcapfile_merge.specs.declared.source.Source.{Source}
 use Rattle.pcapfile_merge.specs.Choosing.{HaveEnded, IsFirst}
 use Rattle.pcapfile_merge.specs.Merges.{Merges}
-use Rattle.pcapfile_merge.specs.Packets.{Packet, IsEarlier, text_of, texts}
+use Rattle.pcapfile_merge.specs.Packets.{Packet, IsEarlierIn, text_of, texts}
 use Rattle.pcapfile_merge.specs.Sources.{Advances, Gave, numbers_of, pending_of}
 
 -- The packets that were written, without the indexes of their inputs.
@@ -27,6 +28,14 @@ pub record Output : Type 0 where
 
 abbrev pub output_of : Option (List ℕ) → ℕ → Output
 output_of bytes next = record { bytes = bytes; next = next }
+
+-- What a merge is asked for: the order of the packets, and the most packets and other blocks that it may write.
+pub record Asked : Type 0 where
+  pub order : PacketOrder
+  pub most : ℕ
+
+abbrev pub asked_of : PacketOrder → ℕ → Asked
+asked_of order most = record { order = order; most = most }
 
 -- The number of the output's next interface, after one more interface with this number, or after something else.
 abbrev pub next_number : Bool → ℕ → ℕ
@@ -86,29 +95,30 @@ module _ {R : Type 0} {remaining : R → Option (List ℕ)} where
   AllHaveNumbers first next out [] = ⊤
   AllHaveNumbers first next out (input ∷ inputs) = HasNumbers input (numbers_given first next out) × AllHaveNumbers (first + 1) next out inputs
 
--- These sources were merged: the packets written are a merge of theirs, and each source holds the packet that it did not give. The
--- interfaces among the packets have the numbers from `next` on.
-pub record Merging {R : Type 0} (remaining : R → Option (List ℕ)) (starts nows : List (Source R)) (next : ℕ) (out : List (ℕ × Packet)) : Type 0 where
+-- These sources were merged in this order: the packets written are a merge of theirs, and each source holds the packet that it did not give.
+-- The interfaces among the packets have the numbers from `next` on.
+pub record Merging {R : Type 0} (remaining : R → Option (List ℕ)) (order : PacketOrder) (starts nows : List (Source R)) (next : ℕ) (out : List (ℕ × Packet)) : Type 0 where
   pub inputs : List (Input remaining)
   pub starts_are : map (λ (input : Input remaining). input.start) inputs ≡ starts
   pub nows_are : map (λ (input : Input remaining). input.now) inputs ≡ nows
-  pub merges : Merges IsEarlier (map packets_of inputs) out (map held_of inputs)
+  pub merges : Merges (IsEarlierIn order) (map packets_of inputs) out (map held_of inputs)
   pub numbers : AllHaveNumbers 0 next out inputs
 
 -- The merge ended after all packets, or after the most that it may write, or with a write that failed in the next one.
-abbrev pub EndsMerge : {R : Type 0} → List (Source R) → Option (List ℕ) → Option (List ℕ) → ℕ → ℕ → Option PcapError → Type 0
-EndsMerge nows mid now most count None = (now ≡ mid) × (HaveEnded nows ⊎ (count ≡ most))
-EndsMerge nows mid now most count (Some e) = (count < most) × IsIo e × (place : ℕ) × (p : Packet) × IsFirst nows place p × AppendsPart mid now (text_of p)
+abbrev pub EndsMerge : {R : Type 0} → Asked → List (Source R) → Option (List ℕ) → Option (List ℕ) → ℕ → Option PcapError → Type 0
+EndsMerge asked nows mid now count None = (now ≡ mid) × (HaveEnded nows ⊎ (count ≡ asked.most))
+EndsMerge asked nows mid now count (Some e) =
+    (count < asked.most) × IsIo e × (place : ℕ) × (p : Packet) × IsFirst asked.order nows place p × AppendsPart mid now (text_of p)
 
 -- One run of a merge.
-pub record MergesRun {R : Type 0} (remaining : R → Option (List ℕ)) (starts nows : List (Source R)) (before now : Output) (most : ℕ) (merged : Merged) : Type 0 where
+pub record MergesRun {R : Type 0} (remaining : R → Option (List ℕ)) (starts nows : List (Source R)) (before now : Output) (asked : Asked) (merged : Merged) : Type 0 where
   pub out : List (ℕ × Packet)
   pub mid : Option (List ℕ)
-  pub merging : Merging remaining starts nows before.next out
+  pub merging : Merging remaining asked.order starts nows before.next out
   pub count : length out ≡ merged.packets
   pub went_out : Appends before.bytes mid (texts (packets_in out))
   pub next : now.next ≡ next_after_all (packets_in out) before.next
-  pub ends : EndsMerge nows mid now.bytes most merged.packets merged.fault
+  pub ends : EndsMerge asked nows mid now.bytes merged.packets merged.fault
 
 -- The outcome of a merge that wrote this many packets, with the number of the next interface.
 abbrev pub outcome_of : ℕ → ℕ → Result (Unit {0}) PcapError → Merged

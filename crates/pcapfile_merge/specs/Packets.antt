@@ -8,6 +8,8 @@ use Rattle.pcap_blocks.specs.ParsedBlock.{EnhancedBody}
 use Rattle.pcap_written.specs.Plain.{plain_packet}
 use Rattle.pcap_file.specs.Converted.{little_text, time_of}
 use Rattle.pcapfile_run.specs.Passing.{counted}
+use Rattle.pcapfile_merge.specs.declared.choice.PacketOrder.{PacketOrder}
+use Rattle.pcapfile_merge.specs.declared.choice.PacketOrder.TheVariants.{ByTime, ByFile}
 
 -- A packet that is merged, or another block: its time, if it has one, the text of the block that is written, whether it describes an
 -- interface, and how many options of its block in the capture are left out.
@@ -52,6 +54,20 @@ TellsBefore t u false = IsBefore t u → ⊥
 -- A packet is earlier than another if its time is earlier, or if it has no time and the other has one.
 abbrev pub IsEarlier : Packet → Packet → Type 0
 IsEarlier p q = IsBefore p.time q.time
+
+-- In this order, a packet with the first time goes before one with the second, although its input comes later: by time if the time is before
+-- the other one, by file never.
+abbrev pub IsBeforeIn : PacketOrder → Option Timestamp → Option Timestamp → Type 0
+IsBeforeIn ByTime t u = IsBefore t u
+IsBeforeIn ByFile t u = ⊥
+
+abbrev pub TellsBeforeIn : PacketOrder → Option Timestamp → Option Timestamp → Bool → Type 0
+TellsBeforeIn order t u true = IsBeforeIn order t u
+TellsBeforeIn order t u false = IsBeforeIn order t u → ⊥
+
+-- In this order, a packet is earlier than another. By file none is, so the first input that has a packet left gives the next one.
+abbrev pub IsEarlierIn : PacketOrder → Packet → Packet → Type 0
+IsEarlierIn order p q = IsBeforeIn order p.time q.time
 
 -- The packet of a classic capture whose interface has this number: its units are nanoseconds.
 abbrev pub packet_of : ℕ → Captured → Packet

@@ -6,14 +6,14 @@ ghost use Rattle.pcap_blocks.specs.InterfaceDescription.{interface_of};
 ghost use Rattle.pcap_ng.specs.Frames.{framed_of};
 ghost use Rattle.pcapfile_merge.specs.LeavingOut.{nothing, with_section};
 ghost use Rattle.pcapfile_merge.specs.Keeping as keeping;
-ghost use Rattle.pcapfile_merge.specs.Keeping.{IsUnkept, carried_with, kept_with, with_number};
+ghost use Rattle.pcapfile_merge.specs.Keeping.{IsUnkept, carried_with, kept_with, little_of, with_number};
 
 use crate::left_out::LeftOut;
+use crate::little::{can_turn, put_text, put_turned};
 use crate::parts::{behind, front};
 use byteorder::{ByteOrder, LittleEndian};
 use pcap_file::pcapng::{Block, BlockType, InterfaceDescriptionBlock};
 use pcap_file::{Endianness, PcapError, ResultParsing};
-use pcap_written::{RawBlock, RawPcapNgBlock, frame};
 use pcapfile_run::interface_at;
 
 /// The most bytes of a body that is kept.
@@ -70,18 +70,21 @@ impl Kept {
     }
 }
 
-// Replaces `text` by the text of a block that is kept as it is.
-#[tactic(auto, using(crate::proofs::Keeping::kept_length))]
-pub(crate) fn put_kept(block: &Block, text: &mut Vec<u8>) -> ResultParsing<()>
-    ensures put { MatchResult result (λ done. text.new.items ≡ (carried_with (framed_of block.now).body (framed_of block.now)).text)
+// Replaces `text` by the text of a block that is kept, in little-endian order. The function uses `body` as a buffer.
+#[tactic(auto, using(crate::proofs::Keeping::raw_length, crate::proofs::Keeping::turned_text))]
+pub(crate) fn put_kept(block: &Block, body: &mut Vec<u8>, text: &mut Vec<u8>) -> ResultParsing<()>
+    ensures put { MatchResult result (λ done. text.new.items ≡ (carried_with (little_of (framed_of block.now)) (framed_of block.now)).text)
         (IsUnkept (framed_of block.now)) }
     ensures few { IfOk result (λ done. length text.new.items ≤ 4294967260) }
 {
-    if block.body.as_slice().len() > LONGEST {
+    let old = block.body.as_slice();
+    if old.len() > LONGEST {
         return Err(PcapError::InvalidField("Block: a block that is too long"));
     }
-    frame(text, block.raw())?;
-    Ok(())
+    match block.endianness() {
+        Endianness::Big => put_turned(block.type_, old, body, text),
+        Endianness::Little => put_text(block.type_, old, text),
+    }
 }
 
 // Replaces `text` by the text of statistics that are kept, with another interface number. The function uses `body` as a buffer.
@@ -102,12 +105,7 @@ pub(crate) fn put_statistics(
         return Err(PcapError::InvalidField("Block: a block that is too long"));
     }
     put_number(number, old, body)?;
-    let raw = RawBlock {
-        type_: block.type_,
-        endianness: block.endianness(),
-        body: body.as_slice(),
-    };
-    frame(text, raw)?;
+    put_text(block.type_, body.as_slice(), text)?;
     Ok(())
 }
 
@@ -128,7 +126,7 @@ pub(crate) fn is_carried(interfaces: &[InterfaceDescriptionBlock<'static>], bloc
     ensures { result ≡ keeping.is_carried (map interface_of interfaces.now) (framed_of block.now) }
 {
     match block.endianness() {
-        Endianness::Big => false,
+        Endianness::Big => can_turn(block.type_, block.body.as_slice()),
         Endianness::Little => is_copied(interfaces, block.type_, block.body.as_slice()),
     }
 }

@@ -1,25 +1,48 @@
 //! Laws of merges: each contract states one.
 
-ghost use Rattle.std.specs.Prelude.{◌≡◌, ◌++◌, ℕ, List, [], map, Some};
+ghost use Rattle.std.specs.Prelude.{◌≡◌, ◌++◌, ℕ, List, [], map, true, Some};
+ghost use Rattle.byteorder.specs.Endian.{big_number, little_number};
+ghost use Rattle.pcapfile_merge.specs.declared.choice.PacketOrder.{PacketOrder};
+ghost use Rattle.pcapfile_merge.specs.declared.choice.PacketOrder.TheVariants.{ByTime, ByFile};
 ghost use Rattle.std.specs.List.{AllByRecursion, slice_index_or};
+ghost use Rattle.pcap_options.specs.Options.{OptionList, may_end_with_body};
+ghost use Rattle.pcap_options.specs.Values.{Entry};
 ghost use Rattle.pcap_file.specs.Placing.{TakesNone};
 ghost use Rattle.pcapfile_merge.specs.Fronts.{AreOfAll, AreOfFirst};
 ghost use Rattle.pcapfile_merge.specs.Keeping.{Progress};
-ghost use Rattle.pcapfile_merge.specs.Merges.{IsSorted, Merges, given_by};
-ghost use Rattle.pcapfile_merge.specs.Packets.{Packet, IsEarlier};
+ghost use Rattle.pcapfile_merge.specs.Little.{are_options, numbered_kind, turned_all};
+ghost use Rattle.pcapfile_merge.specs.Merges.{IsSorted, Merges, given_by, in_a_row};
+ghost use Rattle.pcapfile_merge.specs.Packets.{Packet, IsEarlier, IsEarlierIn};
 ghost use Rattle.pcapfile_merge.specs.Sources.{BlocksGave};
+
+/// A merge takes exactly those bytes for big-endian options that are a list of them. It makes of them the little-endian list of the same
+/// options, before the same bytes.
+pub fn kept_options_are_the_same()
+    ensures kept { (options : List Entry) (s rest : List ℕ) → OptionList may_end_with_body big_number numbered_kind options s rest → are_options s ≡ true }
+    ensures same { (options : List Entry) (s rest : List ℕ) → OptionList may_end_with_body big_number numbered_kind options s rest
+        → OptionList may_end_with_body little_number numbered_kind options (turned_all s) rest }
+    ensures only { (s : List ℕ) → are_options s ≡ true
+        → (options : List Entry) × ((rest : List ℕ) × OptionList may_end_with_body big_number numbered_kind options s rest) }
+{}
 
 /// The packets that an input gave and those left in it are its packets in order: none is lost, and none is given twice.
 pub fn merges_keep_each_input()
-    ensures { (place : ℕ) (inputs : List (List Packet)) (out : List (ℕ × Packet)) (left : List (List Packet)) → Merges IsEarlier inputs out left →
+    ensures { (order : PacketOrder) (place : ℕ) (inputs : List (List Packet)) (out : List (ℕ × Packet)) (left : List (List Packet))
+        → Merges (IsEarlierIn order) inputs out left →
         slice_index_or inputs place [] ≡ given_by place out ++ slice_index_or left place [] }
 {}
 
-/// If each input is sorted by time, so is the output of the merge.
+/// If each input is sorted by time, so is the output of a merge by time.
 pub fn merges_of_sorted_inputs_are_sorted()
     ensures { (inputs : List (List Packet)) (out : List (ℕ × Packet)) (left : List (List Packet)) → AllByRecursion (IsSorted IsEarlier) inputs
-        → Merges IsEarlier inputs out left →
+        → Merges (IsEarlierIn ByTime) inputs out left →
         IsSorted IsEarlier (map (λ (given : ℕ × Packet). given.1) out) }
+{}
+
+/// In a merge by file, the packets that the inputs gave and then those left in them are the packets of all inputs, one input after another.
+pub fn merges_by_file_are_in_a_row()
+    ensures { (inputs : List (List Packet)) (out : List (ℕ × Packet)) (left : List (List Packet)) → Merges (IsEarlierIn ByFile) inputs out left →
+        in_a_row inputs ≡ map (λ (given : ℕ × Packet). given.1) out ++ in_a_row left }
 {}
 
 /// If the bytes of the stream are known, the packets, interfaces and kept blocks that a source of blocks gave are those of the first

@@ -7,7 +7,7 @@ ghost use Rattle.pcapfile_merge.specs.LeavingOut.{nothing, with_block, with_sect
 use pcap_file::pcapng::{BlockType, SectionHeaderBlock};
 
 /// The block type of decryption secrets.
-const SECRETS: u32 = 10;
+pub(crate) const SECRETS: u32 = 10;
 
 /// How many blocks without a packet a merge left out of a capture, by kind, and how many options of section headers.
 #[derive(Clone, Copy, Debug, PartialEq, Eq)]

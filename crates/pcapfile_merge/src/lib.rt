@@ -1,13 +1,13 @@
-//! Merges captures by time.
+//! Merges captures by time, or one after another.
 #![tactic(auto)]
 
 mod buffered;
 mod buffered_blocks;
 mod choice;
-mod headers;
 mod kept;
 pub mod laws;
 mod left_out;
+mod little;
 mod made;
 mod merging;
 mod numbers;
@@ -21,7 +21,7 @@ mod stored;
 
 pub use buffered::BufferedPackets;
 pub use buffered_blocks::BufferedBlocks;
-pub use headers::have_same_options;
+pub use choice::{PacketOrder, next_source};
 pub use left_out::LeftOut;
 pub use merging::{Merged, merge_packets};
 pub use reader::Reader;

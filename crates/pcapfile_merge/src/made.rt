@@ -112,7 +112,7 @@ impl Made {
     fn put_whole(&mut self, block: &Block) -> ResultParsing<()>
         ensures { PutsWhole (framed_of block.now) self.new result }
     {
-        put_kept(block, &mut self.text)?;
+        put_kept(block, &mut self.body, &mut self.text)?;
         self.is_lent = true;
         Ok(())
     }

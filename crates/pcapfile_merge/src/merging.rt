@@ -1,14 +1,14 @@
 //! The merge of the packets of several captures.
 
-ghost use Rattle.std.specs.Prelude.{◌≡◌, ◌≤◌, ◌<◌, length, Some};
+ghost use Rattle.std.specs.Prelude.{◌≡◌, ◌≤◌, ◌<◌, length};
 ghost use Rattle.pcap_items.specs.Writing.{WritesAll};
-ghost use Rattle.pcapfile_merge.specs.Choosing.{Chooses};
+ghost use Rattle.pcapfile_merge.specs.Choosing.{IsChosen};
 ghost use Rattle.pcapfile_merge.specs.Holding.{Holds};
-ghost use Rattle.pcapfile_merge.specs.Merging.{MergesAt, MergesNext, MergesRun, next_number, outcome_of, output_of};
+ghost use Rattle.pcapfile_merge.specs.Merging.{MergesAt, MergesNext, MergesRun, asked_of, next_number, outcome_of, output_of};
 ghost use Rattle.pcapfile_merge.specs.Packets.{texts};
 ghost use Rattle.pcapfile_merge.specs.Sources.{pending_of};
 
-use crate::choice::earliest;
+use crate::choice::{PacketOrder, choose};
 use crate::source::Source;
 use byteorder::LittleEndian;
 use pcap_file::{PcapError, ResultParsing};
@@ -27,21 +27,22 @@ pub struct Merged {
     pub fault: Option<PcapError>,
 }
 
-/// Writes the packets and the other blocks of the sources, merged by time, and at most `most` of them. The interfaces among them get the
-/// numbers from `interfaces` on, in the order of the output.
+/// Writes the packets and the other blocks of the sources, merged in this order, and at most `most` of them. The interfaces among them get
+/// the numbers from `interfaces` on, in the order of the output.
 pub fn merge_packets<R: Read + Drop, W: Write>(
     sources: &mut [Source<R>],
+    order: PacketOrder,
     writer: &mut W,
     most: u64,
     interfaces: u64,
 ) -> Merged
     ensures most { result.packets ≤ most }
     ensures run { MergesRun R.remaining sources.old sources.new (output_of (W.contents writer.old) interfaces)
-        (output_of (W.contents writer.new) result.interfaces) most result }
+        (output_of (W.contents writer.new) result.interfaces) (asked_of order most) result }
 {
     let mut packets = 0;
     let mut next = interfaces;
-    let ended = merge_sources(sources, writer, most, &mut packets, &mut next);
+    let ended = merge_sources(sources, order, writer, most, &mut packets, &mut next);
     Merged {
         packets,
         interfaces: next,
@@ -49,9 +50,10 @@ pub fn merge_packets<R: Read + Drop, W: Write>(
     }
 }
 
-// Writes what the sources give, merged by time, counts it, and numbers the interfaces.
+// Writes what the sources give, merged in this order, counts it, and numbers the interfaces.
 fn merge_sources<R: Read + Drop, W: Write>(
     sources: &mut [Source<R>],
+    order: PacketOrder,
     writer: &mut W,
     most: u64,
     packets: &mut u64,
@@ -60,10 +62,10 @@ fn merge_sources<R: Read + Drop, W: Write>(
     requires { packets.old ≡ 0 }
     ensures most { packets.new ≤ most }
     ensures run { MergesRun R.remaining sources.old sources.new (output_of (W.contents writer.old) interfaces.old)
-        (output_of (W.contents writer.new) interfaces.new) most (outcome_of packets.new interfaces.new result) }
+        (output_of (W.contents writer.new) interfaces.new) (asked_of order most) (outcome_of packets.new interfaces.new result) }
 {
     while *packets < most {
-        let place = match earliest(sources) {
+        let place = match choose(sources, order) {
             None => return Ok(()),
             Some(place) => place,
         };
@@ -81,7 +83,7 @@ fn merge_at<R: Read + Drop, W: Write>(
     writer: &mut W,
     interfaces: &mut u64,
 ) -> ResultParsing<()>
-    requires chosen { Chooses sources.old (Some place) }
+    requires chosen { IsChosen sources.old place }
     requires within { place < length sources.old }
     ensures { MergesAt R.remaining place sources.old sources.new (output_of (W.contents writer.old) interfaces.old)
         (output_of (W.contents writer.new) interfaces.new) result }

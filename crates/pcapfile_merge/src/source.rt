@@ -107,9 +107,9 @@ impl<R> Source<R> {
         self.taken.next
     }
 
-    // Returns whether the source gives an interface next.
+    /// Returns whether the source gives an interface next.
     #[inline(always)]
-    pub(crate) fn holds_interface(&self) -> bool
+    pub fn holds_interface(&self) -> bool
         ensures { result ≡ holds_interface self.now.taken.next }
     {
         match self.taken.next {

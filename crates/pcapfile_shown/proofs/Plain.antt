@@ -31,7 +31,7 @@ use Rattle.pcapfile_info.specs.declared.tally.Tally.{Tally}
 use Rattle.pcapfile_info.specs.Tallies.{tally_of}
 use Rattle.pcapfile_shown.specs.Json.{hundredths_data, number_data, order_data, or_null, resolution_data, seconds_data, text_data, text_or_null}
 use Rattle.pcapfile_shown.specs.Json.{TellsCheck, TellsFile, TellsHeader, TellsInterface, TellsSpread, TellsWhole}
-use Rattle.pcapfile_shown.specs.Json.{link_of_header, with_description, with_device, with_figures, with_kind, with_link, with_link_field, with_machine, with_opened}
+use Rattle.pcapfile_shown.specs.Json.{link_of_header, with_description, with_device, with_digest, with_figures, with_kind, with_link, with_link_field, with_machine, with_opened}
 use Rattle.pcapfile_shown.specs.Json.{duration_in, in_order_data, instant_in, numbers_data, others_data, rate_in, texts_data, version_data}
 use Rattle.pcapfile_shown.specs.Sums.{total_members}
 use Rattle.pcapfile_shown.specs.Texts.{average_of}
@@ -249,9 +249,14 @@ kinds others =
 others_plain : (others : Others) → has_float (others_data others) ≡ false
 others_plain others = puts_plain (kinds others) no_members (refl, (refl, (refl, (refl, (refl, (refl, tt)))))) refl
 
+digest_plain : (digest : Option (List ℕ)) (ms : Members) → IsPlain ms → IsPlain (with_digest digest ms)
+digest_plain None ms plain = plain
+digest_plain (Some digest) ms plain = put_plain (codes "sha256") (string digest) ms refl plain
+
 -- The members on the capture as a whole have no float.
-pub whole_plain : (name : List ℕ) (told : Information) (members : Members) → TellsWhole name told members → members_have_float members ≡ false
-whole_plain name told members (file, spread, tells_file, tells_spread, is) =
+pub whole_plain : (name : List ℕ) (digest : Option (List ℕ)) (told : Information) (members : Members) → TellsWhole name digest told members → members_have_float members ≡ false
+whole_plain name digest told members (file, spread, tells_file, tells_spread, is) =
+    let begun : Members = with_digest digest file in
     let others : List (List ℕ × Data) =
     (codes "blocks", others_data told.totals.others)
     ∷ (codes "refused", number_data told.totals.refused)
@@ -260,9 +265,9 @@ whole_plain name told members (file, spread, tells_file, tells_spread, is) =
     ∷ (codes "comments", texts_data told.comments.items)
     ∷ [] in
     ap members_have_float is
-    ∙ figures_plain told.totals.all (puts others (with_machine told.machine file))
-    (puts_plain others (with_machine told.machine file) (others_plain told.totals.others, (refl, (refl, (spread_plain told.totals.all.spread spread tells_spread, (texts_plain told.comments.items, tt)))))
-    (machine_plain told.machine file (file_plain name told file tells_file)))
+    ∙ figures_plain told.totals.all (puts others (with_machine told.machine begun))
+    (puts_plain others (with_machine told.machine begun) (others_plain told.totals.others, (refl, (refl, (spread_plain told.totals.all.spread spread tells_spread, (texts_plain told.comments.items, tt)))))
+    (machine_plain told.machine begun (digest_plain digest file (file_plain name told file tells_file))))
 
 -- The members of totals have no float.
 pub total_plain : (total : Total) (status : ℕ) (members : Members) → members ≡ total_members total status → members_have_float members ≡ false

@@ -254,23 +254,28 @@ others_data others = object
     (put (codes "statistics") (number_data others.statistics)
     (put (codes "names") (number_data others.names) no_members))))))
 
--- The members on the capture of this name, except its interfaces: its file, comments, the spread of its packets, and all counts.
-abbrev pub TellsWhole : List ℕ → Information → Members → Type 0
-TellsWhole name told members =
+-- The member on the digest of a file's bytes, if the digest is given.
+abbrev pub with_digest : Option (List ℕ) → Members → Members
+with_digest None members = members
+with_digest (Some digest) members = put (codes "sha256") (string digest) members
+
+-- The members on the capture of this name and digest, except its interfaces: its file, comments, the spread of its packets, and all counts.
+abbrev pub TellsWhole : List ℕ → Option (List ℕ) → Information → Members → Type 0
+TellsWhole name digest told members =
     (file : Members) × (spread : Data) × TellsFile name told no_members file × TellsSpread told.totals.all.spread spread
     × (members ≡ with_figures told.totals.all
     (put (codes "blocks") (others_data told.totals.others)
     (put (codes "refused") (number_data told.totals.refused)
     (put (codes "sections") (number_data (counted (told.totals.sections + 1)))
     (put (codes "over_time") spread
-    (put (codes "comments") (texts_data told.comments.items) (with_machine told.machine file)))))))
+    (put (codes "comments") (texts_data told.comments.items) (with_machine told.machine (with_digest digest file))))))))
 
 -- The values show the interfaces, in order.
 abbrev pub TellsInterfaces : Information → List Data → Type 0
 TellsInterfaces told = AllZip TellsInterface (zip told.described.items told.totals.interfaces.items)
 
--- The value shows the capture of this name: the capture as a whole, and its interfaces.
-abbrev pub Tells : List ℕ → Information → Data → Type 0
-Tells name told shown =
-    (members : Members) × (interfaces : List Data) × TellsWhole name told members × TellsInterfaces told interfaces
+-- The value shows the capture of this name and digest: the capture as a whole, and its interfaces.
+abbrev pub Tells : List ℕ → Option (List ℕ) → Information → Data → Type 0
+Tells name digest told shown =
+    (members : Members) × (interfaces : List Data) × TellsWhole name digest told members × TellsInterfaces told interfaces
     × (shown ≡ object (put (codes "interfaces") (array (items_of interfaces)) members))

@@ -17,6 +17,8 @@ use std::fmt;
 pub struct Report<'a> {
     /// The capture's name.
     pub name: &'a str,
+    /// The digest of the capture's bytes, if it is to be shown.
+    pub digest: Option<&'a str>,
     /// The information on the capture.
     pub information: &'a Information,
 }
@@ -133,6 +135,9 @@ impl fmt::Display for Report<'_> {
         let told = self.information;
         let checked = &told.checked;
         writeln!(f, "{name}: {checked}")?;
+        if let Some(digest) = self.digest {
+            writeln!(f, "  SHA-256:           {digest}")?;
+        }
         if let Some(header) = &told.header {
             let header = Header(header);
             write!(f, "{header}")?;

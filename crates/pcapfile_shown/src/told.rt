@@ -1,6 +1,6 @@
 //! The JSON report on a capture.
 
-ghost use Rattle.std.specs.Prelude.{◌≡◌, ℕ, List, false, IfOk, OnOk};
+ghost use Rattle.std.specs.Prelude.{◌≡◌, ℕ, List, false, option_map, IfOk, OnOk};
 ghost use Rattle.std.specs.Fmt.{WritesInCalls};
 ghost use Rattle.serde_json.specs.Data.{Data};
 ghost use Rattle.serde_json.specs.View.{items_of, members_view, view};
@@ -8,7 +8,7 @@ ghost use Rattle.serde_json.specs.Written.{compact_text};
 ghost use Rattle.pcap_core.specs.Link.{link_number};
 ghost use Rattle.pcapfile_run.specs.Lines.{format_name};
 ghost use Rattle.pcapfile_shown.specs.Json.{number_data, or_null, Tells, TellsCheck, TellsFile, TellsHeader, TellsInterface, TellsInterfaces, TellsWhole, text_or_null};
-ghost use Rattle.pcapfile_shown.specs.Json.{texts_data, with_description, with_device, with_kind, with_machine, with_no_texts, with_link, with_link_field, with_opened, with_texts};
+ghost use Rattle.pcapfile_shown.specs.Json.{texts_data, with_description, with_device, with_digest, with_kind, with_machine, with_no_texts, with_link, with_link_field, with_opened, with_texts};
 ghost use Rattle.pcapfile_shown.specs.Pieces.{items_inside};
 
 use crate::members::{put_figures, spread_or_null};
@@ -282,15 +282,35 @@ fn put_file(
     put_opened(map, alloc, told.opened)
 }
 
-// Returns the members of the JSON report on the capture of this name, except its interfaces.
-fn told_of(alloc: Global, name: &str, told: &Information) -> Result<Map<String, Value>, AllocError>
-    ensures { IfOk result (λ map. TellsWhole name.now told.now (members_view map.entries)) }
+// Puts the digest of a file's bytes, if it is given.
+fn put_digest(
+    map: &mut Map<String, Value>,
+    alloc: Global,
+    digest: Option<&str>,
+) -> Result<(), AllocError>
+    ensures { OnOk result (members_view map.new.entries ≡ with_digest (option_map (λ text. text.now) digest.entry) (members_view map.old.entries)) }
+{
+    let Some(digest) = digest else {
+        return Ok(());
+    };
+    put(map, alloc, "sha256", Value::try_from_str(alloc, digest)?)
+}
+
+// Returns the members of the JSON report on the capture of this name and digest, except its interfaces.
+fn told_of(
+    alloc: Global,
+    name: &str,
+    digest: Option<&str>,
+    told: &Information,
+) -> Result<Map<String, Value>, AllocError>
+    ensures { IfOk result (λ map. TellsWhole name.now (option_map (λ text. text.now) digest.entry) told.now (members_view map.entries)) }
 {
     let comments = texts(alloc, told.comments.as_slice())?;
     let over_time = spread_or_null(alloc, &told.totals.all.spread)?;
     let blocks = by_kind(alloc, &told.totals.others)?;
     let mut map = Map::new(alloc);
     put_file(&mut map, alloc, name, told)?;
+    put_digest(&mut map, alloc, digest)?;
     put_machine(&mut map, alloc, &told.machine)?;
     put(&mut map, alloc, "comments", comments)?;
     put(&mut map, alloc, "over_time", over_time)?;
@@ -302,17 +322,19 @@ fn told_of(alloc: Global, name: &str, told: &Information) -> Result<Map<String, 
     Ok(map)
 }
 
-/// Writes the JSON report on the capture of this name in one line: each member once, in the order of their names. In memory are
-/// one interface and the other members.
+/// Writes the JSON report on the capture of this name in one line: each member once, in the order of their names. If the digest of its
+/// bytes is given, it is the member `sha256`. In memory are one interface and the other members.
 pub fn write_json<W: fmt::Write>(
     alloc: Global,
     name: &str,
+    digest: Option<&str>,
     told: &Information,
     output: &mut W,
 ) -> Result<(), Unwritten>
-    ensures { OnOk result ((shown : Data) × Tells name.now told.now shown × WritesInCalls W.write_str_gives output.old (compact_text shown) output.new) }
+    ensures { OnOk result ((shown : Data) × Tells name.now (option_map (λ text. text.now) digest.entry) told.now shown
+        × WritesInCalls W.write_str_gives output.old (compact_text shown) output.new) }
 {
-    let text = text_around(alloc, told_of(alloc, name, told)?)?;
+    let text = text_around(alloc, told_of(alloc, name, digest, told)?)?;
     write_before(text.front.as_str(), "]}", output)?;
     write_interfaces(alloc, told, output)?;
     write_behind(text.back.as_str(), "{\"interfaces\":[", output)?;

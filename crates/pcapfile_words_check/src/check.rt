@@ -1,7 +1,10 @@
 //! The word `check`.
 
 use pcap_file::PcapError;
-use pcapfile_files::{AT_FAULT, Console, Shown, buffered, open_watched, tell_foreign, tell_io};
+use pcapfile_files::{
+    AT_FAULT, Console, EachFile, Inputs, Shown, buffered, open_watched, read_files, tell_foreign,
+    tell_io,
+};
 use pcapfile_run::{Checked, End, Format, check_blocks, check_bodies, check_packets, format_of};
 use std::io;
 use std::io::ErrorKind;
@@ -10,18 +13,29 @@ use std::io::ErrorKind;
 #[derive(Clone, Copy)]
 pub struct Checking<'a> {
     /// The names of the captures.
-    pub names: &'a [&'a str],
+    pub inputs: Inputs<'a>,
     /// Whether the body of each PcapNg block is checked too.
     pub bodies: bool,
 }
 
+/// A check of one capture after another.
+#[derive(Drop)]
+struct Checker {
+    bodies: bool,
+}
+
+impl EachFile for Checker {
+    fn read_file(&mut self, console: &Console, name: &str) -> io::Result<u8> {
+        check_file(console, name, self.bodies)
+    }
+}
+
 /// Writes a line on each capture, and returns the worst exit status.
 pub fn check_files(console: &Console, asked: Checking<'_>) -> io::Result<u8> {
-    let mut status = 0;
-    for name in asked.names {
-        status = check_file(console, name, asked.bodies)?.max(status);
-    }
-    Ok(status)
+    let mut checker = Checker {
+        bodies: asked.bodies,
+    };
+    read_files(console, asked.inputs, &mut checker)
 }
 
 // Writes the line on a capture. If the file is no capture or can't be read, or memory runs out, a line goes to standard error.

@@ -10,10 +10,13 @@ use pcap_file::run::{
 use pcap_file::{DataLink, PcapError, PcapNgReader, PcapReader, PcapWriter, ResultParsing};
 use pcapfile_files::{Console, OUTPUT, Shown, buffered, tell_error, tell_io, write_named};
 use pcapfile_lenient::{Captured, tell_fault};
+use pcapfile_reading::{Reading, tell_account};
 use pcapfile_run::{Format, format_of};
+use pcapfile_selected::{Account, Choice, Tests, load_filter};
 use std::alloc::Global;
 use std::io;
 use std::io::{BufRead, BufWriter, Read, Write};
+use std::rc::Rc;
 
 /// The magic number of a little-endian classic capture with nanoseconds.
 const LITTLE_NANOSECONDS: u32 = 0x4D3C_B2A1;
@@ -32,6 +35,8 @@ pub struct Conversion<'a> {
     pub out: &'a str,
     /// Whether the program converts what `repair` would write.
     pub as_is: bool,
+    /// The packets that are converted.
+    pub choice: Choice<'a>,
 }
 
 /// The outcome of a conversion.
@@ -61,9 +66,24 @@ impl Ended {
 
 /// Converts a capture, and returns the exit status.
 pub fn convert_file(console: &Console, asked: &Conversion) -> io::Result<u8> {
-    write_named(console, asked.out, &[asked.from], |output| {
-        let ended = open_and_convert(console, asked, output);
-        tell_ended(console, asked, &ended)
+    let filter = match load_filter(console, asked.choice.bpf, &[asked.from])? {
+        Ok(filter) => filter,
+        Err(status) => return Ok(status),
+    };
+    let filter = filter.as_ref();
+    let tests = match asked
+        .choice
+        .tests(console, asked.from, asked.as_is, filter)?
+    {
+        Ok(tests) => tests,
+        Err(status) => return Ok(status),
+    };
+    let read = [asked.from, asked.choice.bpf.unwrap_or(asked.from)];
+    let account = Rc::new(console.alloc(), Account::new())?;
+    write_named(console, asked.out, &read, |output| {
+        let ended = open_and_convert(console, asked, tests, &account, output);
+        let status = tell_ended(console, asked, &ended)?;
+        Ok(tell_account(console, asked.from, &account)?.max(status))
     })
 }
 
@@ -97,12 +117,24 @@ pub(crate) fn tell_lost_bits(console: &Console, name: &str) -> io::Result<()> {
 fn open_and_convert<W: Write + Drop>(
     console: &Console,
     asked: &Conversion,
+    tests: Option<Tests<'_>>,
+    account: &Rc<Account>,
     output: W,
 ) -> io::Result<Ended> {
-    match Captured::open(console, asked.from, asked.as_is) {
+    match open_reading(console, asked, tests, account) {
         Ok(capture) => convert_stream(console, capture, asked.to, output),
         Err(error) => Ok(Ended::whole(Some(error), false)),
     }
+}
+
+fn open_reading<'a>(
+    console: &Console,
+    asked: &Conversion,
+    tests: Option<Tests<'a>>,
+    account: &Rc<Account>,
+) -> ResultParsing<Reading<'a>> {
+    let capture = Captured::open(console, asked.from, asked.as_is)?;
+    Reading::new(console, capture, tests, account)
 }
 
 fn convert_stream<R: Read + Drop, W: Write + Drop>(

@@ -5,7 +5,7 @@ ghost use Rattle.pcapfile_merge.specs.Holding.{IsReady};
 
 use crate::convert::{WHOLE_PACKETS, tell_lost_bits};
 use crate::left_out::LeftOut;
-use crate::opening::{Opened, Openings, have_untimed, put_opening};
+use crate::opening::{Joining, Opened, Openings, put_opening};
 use crate::placing::Placing;
 use crate::with_fcs::has_reserved_bits;
 use capcopy_run::Uninterrupted;
@@ -16,7 +16,9 @@ use pcapfile_files::{
     write_named,
 };
 use pcapfile_lenient::{Captured, Count, tell_fault, tell_unopened};
-use pcapfile_merge::{BufferedBlocks, BufferedPackets, Reader, Source, merge_packets};
+use pcapfile_merge::{
+    BufferedBlocks, BufferedPackets, PacketOrder, Reader, Source, merge_packets, next_source,
+};
 use pcapfile_run::{Format, format_of};
 use std::alloc::Global;
 use std::io;
@@ -30,6 +32,8 @@ type Input = Uninterrupted<Captured>;
 pub struct Merge<'a> {
     /// The names of the captures to merge.
     pub names: &'a [&'a str],
+    /// The order of the packets.
+    pub order: PacketOrder,
     /// The format of the merged capture.
     pub to: Format,
     /// The name of the merged capture.
@@ -94,9 +98,14 @@ fn merge_to<W: Write + Drop>(console: &Console, asked: &Merge, output: W) -> io:
     }
     let output = BufWriter::with_capacity(console.alloc(), OUTPUT, output)?;
     let mut sources = Vec::new(console.alloc());
+    let joining = Joining {
+        alloc: console.alloc(),
+        order: asked.order,
+        names: opened.as_slice(),
+    };
     let written = match asked.to {
-        Format::Pcap => write_placed(console.alloc(), readers, &mut sources, output),
-        Format::PcapNg => write_merged(console.alloc(), readers, &mut sources, output),
+        Format::Pcap => write_placed(joining, readers, &mut sources, output),
+        Format::PcapNg => write_merged(joining, readers, &mut sources, output),
     };
     let left_out = match written {
         Ok(left_out) => left_out,
@@ -219,13 +228,14 @@ fn open_reader(
 
 // Writes the merge as a PcapNg capture, from which nothing is left out.
 fn write_merged<W: Write + Drop>(
-    alloc: Global,
+    joining: Joining<'_>,
     readers: Vec<Opened<Input>>,
     sources: &mut Vec<Source<Input>>,
     output: W,
 ) -> ResultParsing<LeftOut> {
-    let (mut output, interfaces) = put_opening(alloc, readers, sources, output)?;
-    let merged = merge_packets(sources.as_mut_slice(), &mut output, u64::MAX, interfaces);
+    let (mut output, interfaces) = put_opening(joining, readers, sources, output)?;
+    let all = sources.as_mut_slice();
+    let merged = merge_packets(all, joining.order, &mut output, u64::MAX, interfaces);
     if let Some(error) = merged.fault {
         return Err(error);
     }
@@ -235,26 +245,35 @@ fn write_merged<W: Write + Drop>(
 
 // Writes the merge as a classic capture, and returns what was left out.
 fn write_placed<R: Read + Drop, W: Write + Drop>(
-    alloc: Global,
+    joining: Joining<'_>,
     readers: Vec<Opened<R>>,
     sources: &mut Vec<Source<R>>,
     output: W,
 ) -> ResultParsing<LeftOut> {
     let snaplen = most_stored(readers.as_slice());
-    let (mut openings, mut writer) = Openings::begin(alloc, readers, Vec::new(alloc))?;
+    let Joining { alloc, order, .. } = joining;
+    let (mut openings, mut writer) = Openings::begin(joining, readers, Vec::new(alloc))?;
     let section = writer.get_ref().as_slice();
     let mut placing = Placing::after(alloc, section, output, snaplen)?;
     for _ in 0..u64::MAX {
         writer.get_mut().clear();
-        // What has no time comes before all else.
-        let have_no_time = have_untimed(sources.as_slice());
+        // A packet that is written now is the next one of the merge.
+        let has_no_time = is_untimed_next(sources.as_slice(), order);
         let goes_on = put_next(&mut openings, sources, &mut writer)?;
-        placing.place(writer.get_ref().as_slice(), have_no_time)?;
+        placing.place(writer.get_ref().as_slice(), has_no_time)?;
         if !goes_on {
             break;
         }
     }
     placing.end(openings.of_headers)
+}
+
+// Returns whether the next packet or block of a merge in this order has no time.
+fn is_untimed_next<R>(sources: &[Source<R>], order: PacketOrder) -> bool {
+    match next_source(sources, order) {
+        None => false,
+        Some(source) => source.is_untimed(),
+    }
 }
 
 // Writes the next block of an opening, or else the blocks up to the next packet. Returns false if no packet is left.
@@ -268,6 +287,7 @@ fn put_next<R: Read + Drop>(
     }
     let merged = merge_packets(
         sources.as_mut_slice(),
+        openings.order,
         writer.get_mut(),
         1,
         openings.interfaces,

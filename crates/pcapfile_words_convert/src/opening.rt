@@ -2,17 +2,28 @@
 
 ghost use Rattle.pcapfile_merge.specs.Holding.{IsReady};
 
+use crate::sections::add_options;
 use pcap_file::pcap::PcapHeader;
 use pcap_file::pcapng::{
     InterfaceDescriptionBlock, InterfaceDescriptionOption, PcapNgWriter, SectionHeaderBlock,
 };
 use pcap_file::{LinkField, PcapError, ResultParsing};
-use pcapfile_merge::{Reader, Source, have_same_options, merge_packets};
+use pcapfile_merge::{PacketOrder, Reader, Source, merge_packets};
 use std::alloc::Global;
 use std::io::{Read, Write};
 
 /// The magic number of a little-endian section, high byte first.
 const LITTLE: u32 = 0x4D3C2B1A;
+
+/// How captures are merged.
+#[derive(Clone, Copy)]
+pub(crate) struct Joining<'a> {
+    pub(crate) alloc: Global,
+    /// The order of the packets.
+    pub(crate) order: PacketOrder,
+    /// The names of the captures.
+    pub(crate) names: &'a [&'a str],
+}
 
 /// A reader of a capture that has returned no error.
 #[derive(Drop)]
@@ -29,7 +40,7 @@ impl<R> Opened<R> {
         Opened { reader }
     }
 
-    // Takes the options of the first section header, which the output has, away from what is left out.
+    // Takes the options of the first section header, which the output has or comments on, away from what is left out.
     fn keep_options(&mut self) {
         if let Reader::Blocks(blocks) = &mut self.reader {
             blocks.keep_options();
@@ -47,15 +58,15 @@ impl<R: Read + Drop> Opened<R> {
     }
 }
 
-/// The captures whose openings are not written yet. The opening of a capture is what it gives before its first packet with a time: its
-/// interfaces and other blocks.
+/// The captures whose openings are not written yet. In a merge by time, the opening of a capture is what it gives before its first packet
+/// with a time: its interfaces and other blocks. In a merge by file, it is the interfaces at the beginning.
 #[derive(Drop)]
 pub(crate) struct Openings<R> {
     alloc: Global,
+    /// The order of the packets.
+    pub(crate) order: PacketOrder,
     /// The captures, the last one first.
     waiting: Vec<Opened<R>>,
-    /// Whether the section header has the options of the captures' first section headers.
-    has_options: bool,
     /// The number of the output's next interface.
     pub(crate) interfaces: u64,
     /// How many interfaces after the first one are made of the header of a classic capture.
@@ -65,18 +76,18 @@ pub(crate) struct Openings<R> {
 impl<R: Read + Drop> Openings<R> {
     /// Writes a section header for these captures, and returns their openings and the writer.
     pub(crate) fn begin<W: Write + Drop>(
-        alloc: Global,
+        joining: Joining<'_>,
         readers: Vec<Opened<R>>,
         output: W,
     ) -> ResultParsing<(Openings<R>, PcapNgWriter<W>)> {
-        let header = header_of(alloc, readers.as_slice())?;
-        let writer = put_header(alloc, header.as_slice(), output)?;
+        let Joining { alloc, order, .. } = joining;
+        let writer = put_header(joining, readers.as_slice(), output)?;
         let mut waiting = readers;
         waiting.reverse();
         let openings = Openings {
             alloc,
+            order,
             waiting,
-            has_options: !header.is_empty(),
             interfaces: 0,
             of_headers: 0,
         };
@@ -89,13 +100,11 @@ impl<R: Read + Drop> Openings<R> {
         sources: &mut Vec<Source<R>>,
         writer: &mut PcapNgWriter<W>,
     ) -> ResultParsing<bool> {
-        if have_untimed(sources.as_slice()) {
-            let merged = merge_packets(
-                sources.as_mut_slice(),
-                writer.get_mut(),
-                1,
-                self.interfaces,
-            );
+        // Only the source that was made last can be in its opening.
+        let others = sources.len().saturating_sub(1);
+        let last = sources.as_mut_slice().get_mut(others..).unwrap_or_default();
+        if are_in_opening(last, self.order) {
+            let merged = merge_packets(last, self.order, writer.get_mut(), 1, self.interfaces);
             self.interfaces = merged.interfaces;
             return match merged.fault {
                 None => Ok(true),
@@ -119,9 +128,7 @@ impl<R: Read + Drop> Openings<R> {
         writer: &mut PcapNgWriter<W>,
     ) -> ResultParsing<()> {
         let mut opened = opened;
-        if self.has_options {
-            opened.keep_options();
-        }
+        opened.keep_options();
         let Ok(base) = u32::try_from(self.interfaces) else {
             return Err(PcapError::InvalidField("Block: too many interfaces"));
         };
@@ -141,12 +148,12 @@ impl<R: Read + Drop> Openings<R> {
 /// Writes a section header, and the openings of the captures, which become sources. Returns the output and the number of its next
 /// interface.
 pub(crate) fn put_opening<R: Read + Drop, W: Write + Drop>(
-    alloc: Global,
+    joining: Joining<'_>,
     readers: Vec<Opened<R>>,
     sources: &mut Vec<Source<R>>,
     output: W,
 ) -> ResultParsing<(W, u64)> {
-    let (mut openings, mut writer) = Openings::begin(alloc, readers, output)?;
+    let (mut openings, mut writer) = Openings::begin(joining, readers, output)?;
     for _ in 0..u64::MAX {
         if !openings.put_next(sources, &mut writer)? {
             break;
@@ -155,46 +162,40 @@ pub(crate) fn put_opening<R: Read + Drop, W: Write + Drop>(
     Ok((writer.into_writer(), openings.interfaces))
 }
 
-// Returns the body of a section header with the options that all captures' first section headers with options have. It is empty if two
-// of them differ, or none has options.
-fn header_of<R: Read + Drop>(alloc: Global, readers: &[Opened<R>]) -> ResultParsing<Vec<u8>> {
-    let mut first: &[u8] = &[];
-    for opened in readers {
-        if let Some(body) = opened.header() {
-            if first.is_empty() {
-                first = body;
-            } else if !have_same_options(first, body) {
-                return Ok(Vec::new(alloc));
-            }
-        }
-    }
-    Ok(Vec::from_slice(alloc, first)?)
-}
-
-// Writes a little-endian section header with the options of the header with this body, or without options if it is empty.
-fn put_header<W: Write + Drop>(
-    alloc: Global,
-    body: &[u8],
+// Writes a little-endian section header with the options of the captures' first section headers.
+fn put_header<R: Read + Drop, W: Write + Drop>(
+    joining: Joining<'_>,
+    readers: &[Opened<R>],
     output: W,
 ) -> ResultParsing<PcapNgWriter<W>> {
-    if body.is_empty() {
+    let Joining { alloc, names, .. } = joining;
+    let mut options = Vec::new(alloc);
+    for (opened, name) in readers.iter().zip(names) {
+        if let Some(body) = opened.header() {
+            add_options(alloc, name, body, &mut options)?;
+        }
+    }
+    if options.is_empty() {
         return PcapNgWriter::new(alloc, output);
     }
-    let (_, section) = SectionHeaderBlock::from_slice(alloc, body)?;
     let section = SectionHeaderBlock {
         magic: LITTLE,
         major_version: 1,
         minor_version: 0,
         section_length: -1,
-        options: section.options,
+        options,
     };
     PcapNgWriter::with_section_header(alloc, &section, output)
 }
 
-/// Returns whether a source gives something without a time next.
-pub(crate) fn have_untimed<R>(sources: &[Source<R>]) -> bool {
+// Returns whether one of these sources gives something of its opening next.
+fn are_in_opening<R>(sources: &[Source<R>], order: PacketOrder) -> bool {
     for source in sources {
-        if source.is_untimed() {
+        let is_in_opening = match order {
+            PacketOrder::ByTime => source.is_untimed(),
+            PacketOrder::ByFile => source.holds_interface(),
+        };
+        if is_in_opening {
             return true;
         }
     }

@@ -84,8 +84,8 @@ impl<W: Write + Drop> Placing<W> {
     }
 
     /// Places the packets of the next blocks. A packet without a time has no place.
-    pub(crate) fn place(&mut self, blocks: &[u8], have_no_time: bool) -> ResultParsing<()> {
-        if have_no_time && is_packet(blocks) {
+    pub(crate) fn place(&mut self, blocks: &[u8], has_no_time: bool) -> ResultParsing<()> {
+        if has_no_time && is_packet(blocks) {
             self.left_out.add_packets(1);
             return Ok(());
         }

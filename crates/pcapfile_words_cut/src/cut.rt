@@ -1,18 +1,18 @@
 //! The word `cut`.
 
-use crate::blocks::Blocks;
-use crate::filters::load;
-use crate::selecting::{Selecting, Tests};
-use crate::source::{Exceptions, Packets, Source, flushed};
-use crate::tell::tell_outcome;
 use pcap_filter::Filter;
 use pcap_parts::to_next_end;
 use pcapfile_cut::{Outcome, Wanted};
 use pcapfile_files::{
     Console, OUTPUT, STANDARD, Shown, USAGE, buffered, tell_io, unnumbered, write_named,
 };
-use pcapfile_lenient::{Captured, Count, tell_unopened};
+use pcapfile_lenient::{Captured, tell_unopened};
+use pcapfile_reading::tell_exceptions;
 use pcapfile_run::{Format, format_of};
+use pcapfile_selected::{
+    BlockSource, PacketSource, Selecting, Source, Spans, Tests, flushed, load_filter, tell_outcome,
+    tests_of,
+};
 use std::alloc::Global;
 use std::io;
 use std::io::{BufWriter, Read, Write};
@@ -45,30 +45,43 @@ pub enum Way {
     Parts(u64),
     /// Parts that each end with the packet at which they have this many bytes.
     Bytes(u64),
+    /// Parts of this many seconds each, from the first packet that has a time.
+    Seconds(u64),
 }
 
 /// A position in the capture.
 #[derive(Clone, Copy)]
-struct Place {
+struct CutProgress {
     /// The length of the opening, in bytes.
     opening: u64,
     /// The number of bytes after the opening that were read.
     passed: u64,
     /// The number of bytes after the opening; 0 if that isn't known.
     length: u64,
+    /// The spans of time of the parts, if these end by time.
+    spans: Option<Spans>,
 }
 
 impl Way {
-    // Returns which of the next packets make a part whose opening has this many bytes. Each part gets at least one packet.
-    fn wanted<'a>(self, opening: u64, place: Place) -> Wanted<'a> {
+    // Returns which of the next packets make a part whose opening has this many bytes, if it does not end by time. Each part gets at least
+    // one packet.
+    fn wanted<'a>(self, opening: u64, progress: CutProgress) -> Wanted<'a> {
         match self {
-            Way::One => Wanted::All,
+            Way::One | Way::Seconds(_) => Wanted::All,
             Way::Every(packets) => Wanted::Numbers {
                 first: 1,
                 last: packets.max(1),
             },
             Way::Bytes(bytes) => Wanted::Bytes(bytes.saturating_sub(opening).max(1)),
-            Way::Parts(parts) => next_share(place, parts),
+            Way::Parts(parts) => next_share(progress, parts),
+        }
+    }
+
+    // Returns the spans of time of the parts, if these end by time.
+    fn spans(self) -> Option<Spans> {
+        match self {
+            Way::Seconds(seconds) => Some(Spans::new(seconds)),
+            Way::One | Way::Every(_) | Way::Parts(_) | Way::Bytes(_) => None,
         }
     }
 
@@ -78,8 +91,12 @@ impl Way {
 }
 
 // Returns the packets up to the end of the next of `parts` nearly equal shares, or all packets for the last share.
-fn next_share<'a>(place: Place, parts: u64) -> Wanted<'a> {
-    match to_next_end(place.passed as usize, place.length as usize, parts as usize) {
+fn next_share<'a>(progress: CutProgress, parts: u64) -> Wanted<'a> {
+    match to_next_end(
+        progress.passed as usize,
+        progress.length as usize,
+        parts as usize,
+    ) {
         Some(bytes) => Wanted::Bytes(bytes as u64),
         None => Wanted::All,
     }
@@ -97,25 +114,16 @@ pub fn cut_file(console: &Console, asked: &Cutting) -> io::Result<u8> {
             return Ok(USAGE);
         }
     }
-    let Some(bpf) = asked.bpf else {
-        return cut_capture(console, asked, None);
-    };
-    if (asked.from, bpf) == (STANDARD, STANDARD) {
-        eprintln!(console.for_line();
-            "error: the capture and the filter can't both be standard input"
-        )?;
-        return Ok(USAGE);
-    }
-    match load(console, bpf)? {
-        Ok(filter) => cut_capture(console, asked, Some(&filter)),
+    match load_filter(console, asked.bpf, &[asked.from])? {
+        Ok(filter) => cut_capture(console, asked, filter.as_ref()),
         Err(status) => Ok(status),
     }
 }
 
 fn cut_capture(console: &Console, asked: &Cutting, filter: Option<&Filter>) -> io::Result<u8> {
-    let tests = Tests {
-        asked: &asked.selecting,
-        filter,
+    let tests = match tests_of(console, asked.from, asked.as_is, &asked.selecting, filter)? {
+        Ok(tests) => tests,
+        Err(status) => return Ok(status),
     };
     match Captured::open(console, asked.from, asked.as_is) {
         Ok(capture) => match (capture.length(), asked.way) {
@@ -126,57 +134,19 @@ fn cut_capture(console: &Console, asked: &Cutting, filter: Option<&Filter>) -> i
     }
 }
 
-// Reports how many packets are left out because a test doesn't apply to them or as duplicates, and how many are not compared, shortened
-// or moved.
-fn tell_exceptions(console: &Console, from: &str, packets: Exceptions) -> io::Result<()> {
-    let Exceptions {
-        malformed,
-        without_time,
-        duplicates,
-        uncompared,
-        whole_malformed,
-        whole_simple,
-        unmoved_malformed,
-        unmoved,
-    } = packets;
-    let (left_out, whole, still) = ("left out", "did not shorten", "did not move");
-    let with_malformed = "with a malformed body";
-    tell_packets(console, from, left_out, malformed, with_malformed)?;
-    tell_packets(console, from, left_out, without_time, "without a time")?;
-    let as_duplicates = if duplicates == 1 {
-        "as a duplicate"
-    } else {
-        "as duplicates"
-    };
-    tell_packets(console, from, left_out, duplicates, as_duplicates)?;
-    tell_packets(console, from, "did not compare", uncompared, with_malformed)?;
-    tell_packets(console, from, whole, whole_malformed, with_malformed)?;
-    tell_packets(console, from, whole, whole_simple, "in a simple block")?;
-    tell_packets(console, from, still, unmoved_malformed, with_malformed)?;
-    let to_time = "to a time that the capture can't state";
-    tell_packets(console, from, still, unmoved, to_time)
-}
-
-// Reports what was done with this many packets of this kind, if there are any.
-fn tell_packets(
-    console: &Console,
-    from: &str,
-    done: &str,
-    count: u64,
-    kind: &str,
-) -> io::Result<()> {
-    if count == 0 {
-        return Ok(());
-    }
-    let (from, packets) = (Shown(from), Count(count, "packet", "packets"));
-    eprintln!(console.for_line(); "pcapfile: {from}: {done} {packets} {kind}")?;
-    Ok(())
-}
-
 // Reports that `--parts` needs a file with a known length, and returns the exit status.
 fn tell_no_length(console: &Console) -> io::Result<u8> {
     eprintln!(console.for_line();
         "error: --parts needs a file, because it needs the length of the input"
+    )?;
+    Ok(USAGE)
+}
+
+// Reports that a PcapNg capture has no resolution that can be changed, and returns the exit status.
+fn tell_no_resolution(console: &Console, from: &str) -> io::Result<u8> {
+    let from = Shown(from);
+    eprintln!(console.for_line();
+        "error: --nanoseconds and --microseconds are for classic captures, and {from} is PcapNg; 'pcapfile convert' writes it in nanoseconds"
     )?;
     Ok(USAGE)
 }
@@ -191,11 +161,14 @@ fn cut_stream<R: Read + Drop>(
     let mut input = buffered(console.alloc(), stream)?;
     match format_of(&mut input) {
         Err(error) => tell_io(console, asked.from, &error),
-        Ok(Format::Pcap) => match Packets::new(input) {
+        Ok(Format::Pcap) => match PacketSource::new(input) {
             Ok(mut packets) => cut_source(console, asked, tests, &mut packets, length),
             Err(error) => tell_unopened(console, asked.from, &error),
         },
-        Ok(Format::PcapNg) => match Blocks::new(console.alloc(), input) {
+        Ok(Format::PcapNg) if asked.selecting.changes.resolution.is_some() => {
+            tell_no_resolution(console, asked.from)
+        }
+        Ok(Format::PcapNg) => match BlockSource::new(console.alloc(), input) {
             Ok(mut blocks) => cut_source(console, asked, tests, &mut blocks, length),
             Err(error) => tell_unopened(console, asked.from, &error),
         },
@@ -210,19 +183,20 @@ fn cut_source<S: Source>(
     length: u64,
 ) -> io::Result<u8> {
     let opening = source.opening_len();
-    let mut place = Place {
+    let mut progress = CutProgress {
         opening,
         passed: 0,
         length: length.saturating_sub(opening),
+        spans: asked.way.spans(),
     };
     if !asked.way.is_many() {
-        let status = write_selected(console, asked, tests, source, place)?;
+        let status = write_selected(console, asked, tests, source, progress)?;
         tell_exceptions(console, asked.from, source.exceptions())?;
         return Ok(status);
     }
     for number in 1..u64::MAX {
         let name = part_name(console.alloc(), asked.out, number)?;
-        let status = write_part(console, asked, name.as_str(), source, &mut place)?;
+        let status = write_part(console, asked, name.as_str(), source, &mut progress)?;
         if status != 0 {
             return Ok(status);
         }
@@ -259,12 +233,12 @@ fn write_selected<S: Source>(
     asked: &Cutting,
     tests: Tests<'_>,
     source: &mut S,
-    place: Place,
+    progress: CutProgress,
 ) -> io::Result<u8> {
     let read = [asked.from, asked.bpf.unwrap_or(asked.from)];
     write_named(console, asked.out, &read, |output| {
         let written = select_to(console.alloc(), tests, source, output);
-        tell_written(console, asked, asked.out, place, &written)
+        tell_written(console, asked, asked.out, progress, &written)
     })
 }
 
@@ -285,13 +259,13 @@ fn write_part<S: Source>(
     asked: &Cutting,
     name: &str,
     source: &mut S,
-    place: &mut Place,
+    progress: &mut CutProgress,
 ) -> io::Result<u8> {
     write_named(console, name, &[asked.from], |output| {
-        let written = write_to(console.alloc(), asked.way, source, *place, output);
-        let told = tell_written(console, asked, name, *place, &written);
+        let written = write_to(console.alloc(), asked.way, source, progress, output);
+        let told = tell_written(console, asked, name, *progress, &written);
         if let Ok(outcome) = &written {
-            place.passed = place.passed.saturating_add(outcome.bytes);
+            progress.passed = progress.passed.saturating_add(outcome.bytes);
         }
         told
     })
@@ -301,12 +275,18 @@ fn write_to<S: Source, W: Write + Drop>(
     alloc: Global,
     way: Way,
     source: &mut S,
-    place: Place,
+    progress: &mut CutProgress,
     output: W,
 ) -> io::Result<Outcome> {
     let mut output = BufWriter::with_capacity(alloc, OUTPUT, output)?;
-    let wanted = way.wanted(source.opening_len(), place);
-    let outcome = source.write_part(alloc, &mut output, wanted, way.is_many());
+    let wanted = way.wanted(source.opening_len(), *progress);
+    let outcome = match &mut progress.spans {
+        Some(spans) => {
+            spans.begin();
+            source.write_span(alloc, &mut output, spans)
+        }
+        None => source.write_part(alloc, &mut output, wanted, way.is_many()),
+    };
     Ok(flushed(&mut output, outcome))
 }
 
@@ -314,12 +294,12 @@ fn tell_written(
     console: &Console,
     asked: &Cutting,
     name: &str,
-    place: Place,
+    progress: CutProgress,
     written: &io::Result<Outcome>,
 ) -> io::Result<u8> {
     match written {
         Ok(outcome) => {
-            let byte = place.opening.saturating_add(place.passed);
+            let byte = progress.opening.saturating_add(progress.passed);
             tell_outcome(console, asked.from, byte, name, outcome)
         }
         Err(error) => tell_io(console, name, error),

@@ -1,8 +1,5 @@
 //! The word `join`.
 
-use crate::blocks::{Blocks, join_blocks};
-use crate::source::{Packets, Source};
-use crate::tell::tell_outcome;
 use capcopy_run::Uninterrupted;
 use pcapfile_cut::{Joined, Opening, Wanted, join_part};
 use pcapfile_files::{
@@ -11,6 +8,7 @@ use pcapfile_files::{
 };
 use pcapfile_lenient::tell_unopened;
 use pcapfile_run::{Format, format_of};
+use pcapfile_selected::{BlockSource, PacketSource, Source, join_blocks, tell_outcome};
 use std::io;
 use std::io::{BufReader, BufWriter, Write};
 
@@ -53,7 +51,7 @@ fn join_parts<W: Write>(console: &Console, asked: &Joining, output: &mut W) -> i
         Err(error) => return tell_io(console, first, &error),
     };
     match format {
-        Format::Pcap => match Packets::new(input) {
+        Format::Pcap => match PacketSource::new(input) {
             Ok(mut packets) => {
                 let opening = *packets.opening();
                 let status = write_first(console, asked, first, &mut packets, output)?;
@@ -61,7 +59,7 @@ fn join_parts<W: Write>(console: &Console, asked: &Joining, output: &mut W) -> i
             }
             Err(error) => tell_unopened(console, first, &error),
         },
-        Format::PcapNg => match Blocks::new(console.alloc(), input) {
+        Format::PcapNg => match BlockSource::new(console.alloc(), input) {
             Ok(mut blocks) => {
                 let status = write_first(console, asked, first, &mut blocks, output)?;
                 join_others(console, asked, others, blocks, status, output)
@@ -153,7 +151,7 @@ fn join_others<W: Write>(
     console: &Console,
     asked: &Joining,
     others: &[&str],
-    first: Blocks<Input>,
+    first: BlockSource<Input>,
     written: u8,
     output: &mut W,
 ) -> io::Result<u8> {
@@ -168,7 +166,7 @@ fn join_others<W: Write>(
             Ok((Format::Pcap, _)) => return tell_other_format(console, part),
             Err(error) => return tell_io(console, part, &error),
         };
-        let mut blocks = match Blocks::new(console.alloc(), input) {
+        let mut blocks = match BlockSource::new(console.alloc(), input) {
             Ok(blocks) => blocks,
             Err(error) => return tell_unopened(console, part, &error),
         };

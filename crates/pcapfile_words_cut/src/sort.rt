@@ -2,8 +2,6 @@
 
 ghost use Rattle.std.specs.Prelude.{None};
 
-use crate::source::nothing;
-use crate::tell::tell_outcome;
 use capcopy_run::{Exit, Uninterrupted};
 use pcapfile_files::{
     AT_FAULT, Console, FAILED, OUTPUT, STANDARD, Shown, USAGE, Watched, buffered, open_watched,
@@ -11,6 +9,7 @@ use pcapfile_files::{
 };
 use pcapfile_lenient::tell_unopened;
 use pcapfile_run::{Format, format_of};
+use pcapfile_selected::{nothing, tell_outcome};
 use pcapfile_sort::{ReadAgain, Refusal, Sorted, sort_capture};
 use std::fs::File;
 use std::io;

@@ -2,7 +2,7 @@
 
 use capcopy_run::Exit;
 use pcap_file::{PcapError, ResultParsing};
-use pcapfile_as_is::{BlockPacketLines, Counted, Gap, LeftOut, Place, Scrap, Teller};
+use pcapfile_as_is::{BlockPacketLines, Counted, Gap, LeftOut, Position, Scrap, Teller};
 use pcapfile_files::{Console, Shown, open_watched, tell_changed};
 use pcapfile_lenient::{Change, HEADER, LeftOutHeads, Named, Rows, Standing, Stop};
 use pcapfile_run::Format;
@@ -20,7 +20,7 @@ pub(crate) struct Telling {
     /// The capture's format.
     pub(crate) format: Format,
     /// The position up to which the capture has been reported.
-    pub(crate) place: Place,
+    pub(crate) position: Position,
     /// The error that ended the capture early: `IncompleteBuffer` if it is truncated there.
     pub(crate) fault: Option<PcapError>,
     /// The number of packets or blocks whose length or end was changed.
@@ -65,7 +65,7 @@ impl Telling {
         Ok(Telling {
             standing: Some(standing),
             format,
-            place: Place::new(bytes),
+            position: Position::new(bytes),
             fault: None,
             changed: 0,
             completed: None,
@@ -85,7 +85,7 @@ impl Telling {
             Format::PcapNg if counts_blocks => Named::Block,
             Format::PcapNg => Named::AnyBlock,
         };
-        change.text(alloc, named, &self.place.counted)
+        change.text(alloc, named, &self.position.counted)
     }
 
     /// Reports the packets or blocks before the next gap or report, and returns that. `None` after the end. It returns
@@ -144,10 +144,10 @@ impl Telling {
 
     // Counts a gap and returns it. `None` for a truncated packet or block, which is no gap and ends the capture.
     fn pass(&mut self, left_out: LeftOut) -> Option<Gap> {
-        let before = self.place;
-        let gap = self.place.pass(left_out)?;
+        let before = self.position;
+        let gap = self.position.pass(left_out)?;
         if let Scrap::PacketFront | Scrap::BlockFront = gap.scrap {
-            self.place = before;
+            self.position = before;
             self.fault = Some(PcapError::IncompleteBuffer(1));
             return None;
         }
@@ -163,7 +163,7 @@ impl Telling {
         blocks: BlockLines<'_>,
         output: &mut W,
     ) -> Result<Option<Standing>, Exit> {
-        let counted = &mut self.place.counted;
+        let counted = &mut self.position.counted;
         match tell(alloc, standing, packets, blocks, output, counted) {
             Ok(standing) => Ok(Some(standing)),
             Err(Stop::Untold(exit)) => Err(exit),

@@ -4,22 +4,34 @@ use crate::as_is::{Between, BlockLines, MOST, Telling};
 use capcopy_run::{Exit, Uninterrupted, put_line};
 use pcap_file::PcapError;
 use pcapfile_as_is::{CheckedAsIs, FlawLines, put_gap};
-use pcapfile_files::{Console, OUTPUT, Shown, tell_changed, tell_error, tell_unwritten};
+use pcapfile_files::{
+    Console, EachFile, Inputs, OUTPUT, Shown, read_files, tell_changed, tell_error, tell_unwritten,
+};
 use pcapfile_lenient::Change;
 use pcapfile_run::{Checked, End, end_of};
 use std::alloc::Global;
 use std::io;
 use std::io::{BufWriter, ErrorKind, Write};
 
-/// Writes a line for each flaw, one for each gap, and one for each capture, and returns the worst exit status.
-pub fn check_files_as_is(console: &Console, names: &[&str]) -> io::Result<u8> {
-    let stdout = Uninterrupted::new(console.rt().stdout());
-    let mut output = BufWriter::with_capacity(console.alloc(), OUTPUT, stdout)?;
-    let mut status = 0;
-    for name in names {
-        status = check_file(console, name, &mut output)?.max(status);
+/// A lenient check of one capture after another.
+#[derive(Drop)]
+struct LenientChecker<W> {
+    output: W,
+}
+
+impl<W: Write> EachFile for LenientChecker<W> {
+    fn read_file(&mut self, console: &Console, name: &str) -> io::Result<u8> {
+        check_file(console, name, &mut self.output)
     }
-    Ok(status)
+}
+
+/// Writes a line for each flaw, one for each gap, and one for each capture, and returns the worst exit status.
+pub fn check_files_as_is(console: &Console, inputs: Inputs<'_>) -> io::Result<u8> {
+    let stdout = Uninterrupted::new(console.rt().stdout());
+    let mut checker = LenientChecker {
+        output: BufWriter::with_capacity(console.alloc(), OUTPUT, stdout)?,
+    };
+    read_files(console, inputs, &mut checker)
 }
 
 fn check_file<W: Write>(console: &Console, name: &str, output: &mut W) -> io::Result<u8> {
@@ -112,27 +124,27 @@ fn tell_checked<W: Write>(
 fn checked_of(telling: Telling) -> CheckedAsIs {
     let Telling {
         format,
-        place,
+        position,
         fault,
         changed,
         completed,
         ..
     } = telling;
-    let items = place.counted.items;
+    let items = position.counted.items;
     let (present, whole) = completed.unwrap_or((0, 0));
     CheckedAsIs {
         checked: Checked {
             format,
             items,
-            bytes: place
+            bytes: position
                 .counted
                 .bytes
                 .saturating_sub(whole)
                 .saturating_add(present),
             end: end_behind(fault, items),
         },
-        flawed: place.counted.flawed.saturating_add(changed),
-        left_out: place.left_out,
+        flawed: position.counted.flawed.saturating_add(changed),
+        left_out: position.left_out,
     }
 }
 

@@ -42,17 +42,17 @@ fn list_file<W: Write>(
         return tell_unwritten(console, name, exit);
     }
     let Telling {
-        place,
+        position,
         fault,
         changed,
         ..
     } = telling;
-    let is_sound = place.counted.flawed == 0 && place.left_out == 0 && changed == 0;
+    let is_sound = position.counted.flawed == 0 && position.left_out == 0 && changed == 0;
     let status = if is_sound { 0 } else { AT_FAULT };
     Ok(match fault {
         None => status,
         Some(PcapError::IncompleteBuffer(_)) => {
-            tell_cut_short(console, name, place.counted.bytes)?.max(status)
+            tell_cut_short(console, name, position.counted.bytes)?.max(status)
         }
         Some(error) => tell_exit(console, name, &Exit::from(error))?.max(status),
     })

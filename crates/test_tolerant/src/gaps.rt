@@ -1,7 +1,7 @@
 //! Messages about skipped bytes.
 
 use pcap_core::rules::Rule;
-use pcapfile_as_is::{Gap, LeftOut, Place, Scrap, put_gap};
+use pcapfile_as_is::{Gap, LeftOut, Position, Scrap, put_gap};
 use std::alloc::Global;
 use test_support::writers::Narrow;
 
@@ -30,11 +30,11 @@ fn has_line(alloc: Global, scrap: Scrap, rule: Option<Rule>, line: &str) -> bool
         scrap,
         rule,
     };
-    let mut place = Place::new(24);
-    let Some(gap) = place.pass(left_out) else {
+    let mut position = Position::new(24);
+    let Some(gap) = position.pass(left_out) else {
         return false;
     };
-    let is_once = place.pass(left_out).is_none();
+    let is_once = position.pass(left_out).is_none();
     is_once && line_of(alloc, &gap).as_slice() == line.as_bytes()
 }
 

@@ -9,7 +9,7 @@ use Rattle.pcap_classic.specs.declared.pcap.header.PcapHeader.{PcapHeader}
 use Rattle.pcap_classic.specs.declared.pcap.packet.PacketHeader.{PacketHeader}
 use Rattle.pcap_classic.specs.Magic.{order_of, resolution_of}
 use Rattle.pcap_classic.specs.Written.{packet_header_bytes}
-use Rattle.pcapfile_cut.specs.Changes.{bytes_within, changed_head}
+use Rattle.pcapfile_cut.specs.Changes.{bytes_within, changed_head, header_after}
 use Rattle.pcapfile_cut.proofs.changing.put_changed.Goals as goal
 
 -- The bytes of a packet's header under a capture's header.
@@ -25,9 +25,11 @@ returns-in_err-put-clause-out g c =
     let found = c.args.found in
     let changes = c.args.changes in
     let header = found.header.now in
-    let first = head_bytes header (changed_head (resolution_of header.magic_number) changes found.head) in
+    let new = header_after header changes in
+    let first = head_bytes new (changed_head (resolution_of header.magic_number) changes found.head) in
     let resolved = c.head_of-head.ensures ∙ ap (λ (r : TsResolution). changed_head r changes found.head) c.ts_resolution.ensures in
-    let head : c.bytes_under.result ≡ first = c.bytes_under.ensures ∙ ap (head_bytes header) resolved in
+    let head : c.bytes_under.result ≡ first =
+    c.bytes_under.ensures ∙ ap (λ (h : PcapHeader). head_bytes h c.head_of-head.result) c.header_in-header.ensures.header ∙ ap (head_bytes new) resolved in
     let out : WritesAll before after first (Err e) = subst (λ (bytes : List ℕ). WritesAll before after bytes (Err e)) head c.in_err-put.ensures.out in
     rw (p.1, p.2) (first_fails first (bytes_within changes.snaplen (drop 16 found.text.now)) before after e out)
 
@@ -39,10 +41,12 @@ returns-clause-out g c =
     let found = c.args.found in
     let changes = c.args.changes in
     let header = found.header.now in
-    let first = head_bytes header (changed_head (resolution_of header.magic_number) changes found.head) in
+    let new = header_after header changes in
+    let first = head_bytes new (changed_head (resolution_of header.magic_number) changes found.head) in
     let second = bytes_within changes.snaplen (drop 16 found.text.now) in
     let resolved = c.head_of-head.ensures ∙ ap (λ (r : TsResolution). changed_head r changes found.head) c.ts_resolution.ensures in
-    let head : c.bytes_under.result ≡ first = c.bytes_under.ensures ∙ ap (head_bytes header) resolved in
+    let head : c.bytes_under.result ≡ first =
+    c.bytes_under.ensures ∙ ap (λ (h : PcapHeader). head_bytes h c.head_of-head.result) c.header_in-header.ensures.header ∙ ap (head_bytes new) resolved in
     let shorter : c.bytes_of.result.now ≡ second = c.bytes_of.ensures ∙ ap (bytes_within changes.snaplen) c.data_of.ensures in
     let first_out : Appends before mid first = subst (λ (bytes : List ℕ). Appends before mid bytes) head c.in_ok-put.ensures.out in
     let second_out : WritesAll mid after second c.put-2.result = subst (λ (bytes : List ℕ). WritesAll mid after bytes c.put-2.result) shorter c.put-2.ensures.out in

@@ -6,7 +6,8 @@ pub merge_next-requires : goal.merge_next-requires
 merge_next-requires g c =
     let sources = c.args.sources.now in
     let place = c.args.place in
-    chosen_holds sources place c.requires.chosen.0 (get_or sources place c.index-sources-place.result) c.requires.chosen.1 (ap (λ d. get_or sources place d) c.index-sources-place.is)
+    let chosen = c.requires.chosen in
+    chosen_holds chosen.0 sources place chosen.1.0 (get_or sources place c.index-sources-place.result) chosen.1.1 (ap (λ d. get_or sources place d) c.index-sources-place.is)
 
 pub returns : goal.returns
 returns g c =

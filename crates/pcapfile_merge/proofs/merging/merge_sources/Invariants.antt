@@ -5,7 +5,7 @@ use Rattle.pcapfile_merge.proofs.merging.merge_sources.Given as goal
 
 abbrev pub invariant-loop-packets : goal.invariant-loop-packets
 invariant-loop-packets g l = record {
-  so_far : Going (g.R.Read.remaining) l.fn.sources l.sources (output_of (g.W.Write.contents l.fn.writer) l.fn.interfaces) (output_of (g.W.Write.contents l.writer) l.interfaces) l.packets;
+  so_far : Going (g.R.Read.remaining) l.order l.fn.sources l.sources (output_of (g.W.Write.contents l.fn.writer) l.fn.interfaces) (output_of (g.W.Write.contents l.writer) l.interfaces) l.packets;
   within : l.packets ≤ l.most;
 }
 

@@ -1,0 +1,5 @@
+//! The command line of the program `pcapfile`.
+#![tactic(auto)]
+
+mod rows;
+pub mod words;

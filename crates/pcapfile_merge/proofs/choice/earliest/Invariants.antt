@@ -1,6 +1,0 @@
-use Rattle.std.proofs.Common.{take}
-use Rattle.pcapfile_merge.specs.Choosing.{IsBest}
-use Rattle.pcapfile_merge.proofs.choice.earliest.Given as goal
-
-abbrev pub invariant-loop-place : goal.invariant-loop-place
-invariant-loop-place g l = IsBest (take l.place l.sources) l.best

@@ -1,0 +1,14 @@
+use Rattle.std.proofs.Common.{◌≡◌, ◌≤◌, length}
+use Rattle.pcapfile_merge.specs.Little.{option_size}
+use Rattle.pcapfile_merge.proofs.LittleOptions.{Walked}
+use Rattle.pcapfile_merge.proofs.little.after_options.Given as goal
+
+abbrev pub invariant-loop-size : goal.invariant-loop-size
+invariant-loop-size l = record {
+  walked : Walked l.fn.options l.left;
+  size : l.size ≡ option_size l.left;
+  within : l.size ≤ length l.left;
+}
+
+abbrev pub decreases-loop-size : goal.decreases-loop-size
+decreases-loop-size l = length l.left

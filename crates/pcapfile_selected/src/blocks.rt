@@ -1,0 +1,192 @@
+//! PcapNg captures that are read part by part.
+
+mod changed;
+mod selected;
+
+use crate::selecting::Tests;
+use crate::source::{Exceptions, Source, nothing};
+use crate::spans::Spans;
+use pcap_file::pcapng::Timestamp;
+use pcap_file::{PcapNgReader, ResultParsing};
+use pcap_items::stream::put;
+use pcapfile_cut::{Outcome, Wanted};
+use pcapfile_run::holds_packet;
+pub(crate) use selected::Choosing;
+use std::alloc::Global;
+use std::io;
+use std::io::{Read, Write};
+
+/// A PcapNg capture that is read part by part.
+#[derive(Drop)]
+pub struct BlockSource<R> {
+    blocks: pcapfile_cut::BlockCutter<R>,
+    /// How many packets were left out or treated otherwise than the user asked.
+    exceptions: Exceptions,
+    /// The time of the first packet that has one, if a test depends on it and that packet was read.
+    first: Option<Timestamp>,
+}
+
+impl<R: Read + Drop> BlockSource<R> {
+    /// Reads the first section header.
+    pub fn new(alloc: Global, input: R) -> ResultParsing<BlockSource<R>> {
+        Ok(BlockSource {
+            blocks: pcapfile_cut::BlockCutter::new(alloc, input)?,
+            exceptions: Exceptions::default(),
+            first: None,
+        })
+    }
+
+    /// Returns the reader, which lends the block that was read last.
+    pub(crate) fn reader(&self) -> &PcapNgReader<R> {
+        self.blocks.reader()
+    }
+
+    /// Returns the bytes of the blocks with which a part at this position begins.
+    pub fn in_force(&self) -> &[u8] {
+        self.blocks.opening()
+    }
+
+    // Writes the opening at this position, and the blocks before the first packet that the spans don't take.
+    fn put_span<W: Write>(
+        &mut self,
+        alloc: Global,
+        output: &mut W,
+        spans: &mut Spans,
+        outcome: &mut Outcome,
+    ) -> ResultParsing<()> {
+        put(output, &mut outcome.write_failed, self.in_force())?;
+        for _ in 0..u64::MAX {
+            let Some(header) = self.blocks.peek()? else {
+                break;
+            };
+            if holds_packet(header.type_) {
+                if !spans.takes(self.lent_time(alloc, header)?) {
+                    break;
+                }
+                outcome.packets = outcome.packets.saturating_add(1);
+            }
+            self.put_block(output, outcome)?;
+            let _ = self.blocks.pass()?;
+        }
+        Ok(())
+    }
+
+    fn put_block<W: Write>(&self, output: &mut W, outcome: &mut Outcome) -> ResultParsing<()> {
+        let text = self.blocks.reader().text();
+        put(output, &mut outcome.write_failed, text)?;
+        pass_text(text, outcome);
+        Ok(())
+    }
+}
+
+impl<R: Read + Drop> Source for BlockSource<R> {
+    fn write_part<W: Write>(
+        &mut self,
+        alloc: Global,
+        output: &mut W,
+        wanted: Wanted<'_>,
+        others_follow: bool,
+    ) -> Outcome {
+        self.blocks.cut(output, wanted, others_follow)
+    }
+
+    fn write_span<W: Write>(
+        &mut self,
+        alloc: Global,
+        output: &mut W,
+        spans: &mut Spans,
+    ) -> Outcome {
+        let mut outcome = nothing();
+        let done = self.put_span(alloc, output, spans, &mut outcome);
+        outcome.fault = done.err();
+        outcome.read_failed = self.blocks.reader().failed();
+        outcome
+    }
+
+    fn write_selected<W: Write>(
+        &mut self,
+        alloc: Global,
+        output: &mut W,
+        tests: Tests<'_>,
+    ) -> Outcome {
+        let mut outcome = nothing();
+        let done = self.put_selected(alloc, output, tests, &mut outcome);
+        outcome.fault = done.err();
+        outcome.read_failed = self.blocks.reader().failed();
+        self.exceptions.duplicates = outcome.duplicates;
+        outcome
+    }
+
+    fn is_at_end(&mut self) -> io::Result<bool> {
+        Ok(self.blocks.is_all_in_parts())
+    }
+
+    fn exceptions(&self) -> Exceptions {
+        self.exceptions
+    }
+
+    fn opening_len(&self) -> u64 {
+        self.in_force().len() as u64
+    }
+}
+
+// Counts the bytes of a block.
+fn pass_text(text: &[u8], outcome: &mut Outcome) {
+    outcome.bytes = outcome.bytes.saturating_add(text.len() as u64);
+}
+
+/// Appends the blocks of a further part to those that have these texts in force. The part's opening is left out if it is the
+/// same.
+pub fn join_blocks<R: Read + Drop, W: Write>(
+    alloc: Global,
+    part: &mut BlockSource<R>,
+    in_force: &[u8],
+    output: &mut W,
+) -> Outcome {
+    let mut outcome = nothing();
+    outcome.fault = put_behind(alloc, part, in_force, output, &mut outcome).err();
+    outcome.read_failed = part.blocks.reader().failed();
+    outcome
+}
+
+fn put_behind<R: Read + Drop, W: Write>(
+    alloc: Global,
+    part: &mut BlockSource<R>,
+    in_force: &[u8],
+    output: &mut W,
+    outcome: &mut Outcome,
+) -> ResultParsing<()> {
+    let lead = lead_of(alloc, part, in_force, outcome)?;
+    if lead.as_slice() != in_force {
+        put(output, &mut outcome.write_failed, lead.as_slice())?;
+    }
+    for _ in 0..u64::MAX {
+        let Some(_) = part.blocks.pass()? else {
+            break;
+        };
+        part.put_block(output, outcome)?;
+    }
+    Ok(())
+}
+
+// Returns the texts of the part's first blocks, for as long as they match the texts in force.
+fn lead_of<R: Read + Drop>(
+    alloc: Global,
+    part: &mut BlockSource<R>,
+    in_force: &[u8],
+    outcome: &mut Outcome,
+) -> ResultParsing<Vec<u8>> {
+    let mut lead = Vec::from_slice(alloc, part.in_force())?;
+    for _ in 0..u64::MAX {
+        if lead.len() >= in_force.len() || !in_force.starts_with(lead.as_slice()) {
+            break;
+        }
+        let Some(_) = part.blocks.pass()? else {
+            break;
+        };
+        let text = part.blocks.reader().text();
+        pass_text(text, outcome);
+        lead.extend_from_slice(text)?;
+    }
+    Ok(lead)
+}
