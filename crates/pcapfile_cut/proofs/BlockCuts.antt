@@ -42,7 +42,7 @@ follow_more : (q m n : State) (xs ys : List Lent) → Follow q xs m → Follow m
 follow_more q m n [] ys same more = subst (λ (s : State). Follow s ys n) same more
 follow_more q m n (x ∷ xs) ys first more = (first.0, follow_more x.item.after m n xs ys first.1 more)
 
-bytes_more : (xs ys : List Lent) → bytes_in (xs ++ ys) ≡ bytes_in xs ++ bytes_in ys
+pub bytes_more : (xs ys : List Lent) → bytes_in (xs ++ ys) ≡ bytes_in xs ++ bytes_in ys
 bytes_more [] ys = refl
 bytes_more (x ∷ xs) ys = ap (λ (l : List ℕ). x.text ++ l) (bytes_more xs ys) ∙ sym (append_assoc x.text (bytes_in xs) (bytes_in ys))
 
@@ -78,14 +78,14 @@ between_none a = record {
   all = append-nil a.pending;
 }
 
-one_packet : (block : Lent) (with_packet : Bool) → with_packet ≡ has_packet block → packets_in (block ∷ []) ≡ (if with_packet then 1 else 0)
+pub one_packet : (block : Lent) (with_packet : Bool) → with_packet ≡ has_packet block → packets_in (block ∷ []) ≡ (if with_packet then 1 else 0)
 one_packet block true is = ap (λ (b : Bool). length (if b then block ∷ [] else [])) (sym is)
 one_packet block false is = ap (λ (b : Bool). length (if b then block ∷ [] else [])) (sym is)
 
-counted_more : (a b c m n k : ℕ) → b ≡ counted (a + m) → c ≡ counted (b + n) → k ≡ m + n → c ≡ counted (a + k)
+pub counted_more : (a b c m n k : ℕ) → b ≡ counted (a + m) → c ≡ counted (b + n) → k ≡ m + n → c ≡ counted (a + k)
 counted_more a b c m n k first second sum = omega (arith, first, second, sum)
 
-counted_same : (n : ℕ) → n ≤ 2 ^ 64 - 1 → n ≡ counted (n + 0)
+pub counted_same : (n : ℕ) → n ≤ 2 ^ 64 - 1 → n ≡ counted (n + 0)
 counted_same n le = omega (arith, le)
 
 needed_by : (wanted : Wanted) (packets bytes p b : ℕ) (xs : List Lent) (x : Lent) (with_packet : Bool) → with_packet ≡ has_packet x

@@ -1,5 +1,5 @@
 mod Behind
-mod BlockCuts
+pub mod BlockCuts
 mod BlockParts
 mod ChangedPackets
 mod Chosen

@@ -48,9 +48,13 @@ pub record Place : Type 0 where
   pub opening : List ℕ
   pub pending : List Lent
 
+-- The block with this header that a reader lends.
+abbrev pub lent_with : {R : Type 0} → PcapNgReader R → BlockHeader → Lent
+lent_with reader header = record { item = lent_item reader header; text = text_of reader }
+
 abbrev pub pending_in : {R : Type 0} → PcapNgReader R → Option BlockHeader → List Lent
 pending_in reader None = []
-pending_in reader (Some header) = (record { item = lent_item reader header; text = text_of reader }) ∷ []
+pending_in reader (Some header) = lent_with reader header ∷ []
 
 abbrev pub place_of : {R : Type 0} → (R → Option (List ℕ)) → BlockCutter R → Place
 place_of remaining blocks = record {
@@ -242,17 +246,22 @@ Opens remaining stream (Ok blocks) =
     × (place.pending ≡ []) × (place.source.done ≡ false) × (place.source.failed ≡ false)
 Opens remaining stream (Err e) = RefusesOpening (remaining stream) e ⊎ IsMemory e
 
--- The next block was read, and is in no later part.
-abbrev pub PassesNext : Place → Place → Result (Option BlockHeader) PcapError → Type 0
-PassesNext a b (Ok (Some header)) = (block : Lent) × Between a b (block ∷ []) × (block.item.block.type_ ≡ header.type_)
-PassesNext a b (Ok None) = IsDone a b
-PassesNext a b (Err e) = Refuses a b e
+-- The block with this header that the reader of a capture lends.
+abbrev pub lent_by : {R : Type 0} → BlockCutter R → BlockHeader → Lent
+lent_by blocks header = lent_with blocks.reader header
 
--- The next block was read unless one was pending before, and is in no part yet.
-abbrev pub PeeksNext : Place → Place → Result (Option BlockHeader) PcapError → Type 0
-PeeksNext a b (Ok (Some header)) = (block : Lent) × Between a b [] × (b.pending ≡ block ∷ []) × (block.item.block.type_ ≡ header.type_)
-PeeksNext a b (Ok None) = IsDone a b
-PeeksNext a b (Err e) = Refuses a b e
+-- The next block was read, and is in no later part. `lent` is the block with each header that the reader lends now.
+abbrev pub PassesNext : (BlockHeader → Lent) → Place → Place → Result (Option BlockHeader) PcapError → Type 0
+PassesNext lent a b (Ok (Some header)) = Between a b (lent header ∷ [])
+PassesNext lent a b (Ok None) = IsDone a b
+PassesNext lent a b (Err e) = Refuses a b e
+
+-- The next block was read unless one was pending before, and is in no part yet. `lent` is the block with each header that the reader
+-- lends now.
+abbrev pub PeeksNext : (BlockHeader → Lent) → Place → Place → Result (Option BlockHeader) PcapError → Type 0
+PeeksNext lent a b (Ok (Some header)) = Between a b [] × (b.pending ≡ lent header ∷ [])
+PeeksNext lent a b (Ok None) = IsDone a b
+PeeksNext lent a b (Err e) = Refuses a b e
 
 -- A position in a capture, what was written before it, and what is counted.
 pub record Point : Type 0 where

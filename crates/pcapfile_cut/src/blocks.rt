@@ -2,7 +2,7 @@
 
 ghost use Rattle.std.specs.Prelude.{◌≡◌, ◌≤◌, ◌↔◌, ◌-◌, ◌^◌, [], false, None, IfOk, IsTrue};
 ghost use Rattle.pcapfile_cut.specs.Cuts.{IsNew};
-ghost use Rattle.pcapfile_cut.specs.BlockCuts.{Counts, CutsBlockPart, CutsFrom, CutsPartFrom, LendsNext, Opens, PassesNext, PeeksNext, Skips, StepsFrom, is_enough as enough, place_of, point};
+ghost use Rattle.pcapfile_cut.specs.BlockCuts.{Counts, CutsBlockPart, CutsFrom, CutsPartFrom, LendsNext, Opens, PassesNext, PeeksNext, Skips, StepsFrom, is_enough as enough, lent_by, place_of, point};
 
 use crate::cutting::Outcome;
 use crate::repeated::Repeated;
@@ -65,11 +65,11 @@ impl<R: Read + Drop> BlockCutter<R> {
         })
     }
 
-    /// Reads the next block, and returns its header. The block is in no later part, except where parts repeat it.
+    /// Reads the next block, and returns its header. The block, which `reader` lends, is in no later part, except where parts repeat it.
     ///
     /// The errors are those of `PcapNgReader`, and `OutOfMemory` if the bytes of a block that parts repeat can't be held.
     pub fn pass(&mut self) -> ResultParsing<Option<BlockHeader>>
-        ensures { PassesNext (place_of R.remaining self.old) (place_of R.remaining self.new) result }
+        ensures { PassesNext (lent_by self.new) (place_of R.remaining self.old) (place_of R.remaining self.new) result }
     {
         let Some(header) = self.lend()? else {
             return Ok(None);
@@ -78,12 +78,12 @@ impl<R: Read + Drop> BlockCutter<R> {
         Ok(Some(header))
     }
 
-    /// Reads the next block unless the last one that this call returned was not passed or cut yet, and returns its header. Returns None
-    /// at the end of the capture.
+    /// Reads the next block unless the last one that this call returned was not passed or cut yet, and returns its header. `reader` lends
+    /// the block. Returns None at the end of the capture.
     ///
     /// The errors are those of `pass`.
     pub fn peek(&mut self) -> ResultParsing<Option<BlockHeader>>
-        ensures { PeeksNext (place_of R.remaining self.old) (place_of R.remaining self.new) result }
+        ensures { PeeksNext (lent_by self.new) (place_of R.remaining self.old) (place_of R.remaining self.new) result }
     {
         self.lend()
     }

@@ -1,17 +1,26 @@
 //! PcapNg captures that are read part by part.
 
+ghost use Rattle.std.specs.Prelude.{◌≡◌, length};
+ghost use Rattle.pcapfile_selected.specs.SelectedBlocks.{CountsBlock, CountsBytes, TriesPart, WritesSelected, place_of};
+ghost use Rattle.pcapfile_cut.specs.Cuts.{IsNew};
+
 mod changed;
+mod deciding;
+mod judging;
 mod selected;
 
 use crate::selecting::Tests;
 use crate::source::{Exceptions, Source, nothing};
 use crate::spans::Spans;
-use pcap_file::pcapng::Timestamp;
+use changed::lent_block;
+pub(crate) use judging::{BlockTests, Times};
+use pcap_file::pcapng::{BlockHeader, Timestamp};
 use pcap_file::{PcapNgReader, ResultParsing};
 use pcap_items::stream::put;
 use pcapfile_cut::{Outcome, Wanted};
 use pcapfile_run::holds_packet;
 pub(crate) use selected::Choosing;
+use selected::lent_time;
 use std::alloc::Global;
 use std::io;
 use std::io::{Read, Write};
@@ -19,11 +28,9 @@ use std::io::{Read, Write};
 /// A PcapNg capture that is read part by part.
 #[derive(Drop)]
 pub struct BlockSource<R> {
-    blocks: pcapfile_cut::BlockCutter<R>,
+    pub(crate) blocks: pcapfile_cut::BlockCutter<R>,
     /// How many packets were left out or treated otherwise than the user asked.
     exceptions: Exceptions,
-    /// The time of the first packet that has one, if a test depends on it and that packet was read.
-    first: Option<Timestamp>,
 }
 
 impl<R: Read + Drop> BlockSource<R> {
@@ -32,7 +39,6 @@ impl<R: Read + Drop> BlockSource<R> {
         Ok(BlockSource {
             blocks: pcapfile_cut::BlockCutter::new(alloc, input)?,
             exceptions: Exceptions::default(),
-            first: None,
         })
     }
 
@@ -42,7 +48,9 @@ impl<R: Read + Drop> BlockSource<R> {
     }
 
     /// Returns the bytes of the blocks with which a part at this position begins.
-    pub fn in_force(&self) -> &[u8] {
+    pub fn in_force(&self) -> &[u8]
+        ensures { result.now ≡ (place_of R.remaining self.now).opening }
+    {
         self.blocks.opening()
     }
 
@@ -69,6 +77,54 @@ impl<R: Read + Drop> BlockSource<R> {
             let _ = self.blocks.pass()?;
         }
         Ok(())
+    }
+
+    /// Writes one part: the opening at this position, and all blocks after it up to the last wanted number, except packets that fail a test
+    /// or are duplicates. The packets are changed as the user asks. The opening is that before the packet of the first wanted number.
+    ///
+    /// Without an error, no block is left, or no further packet is wanted. For a truncated or malformed block the error is that of
+    /// `PcapNgReader`, and the blocks before it were written. `IoError` also if a write failed. `OutOfMemory` also if a block's options or
+    /// a changed block can't be held.
+    pub fn cut_selected<W: Write>(
+        &mut self,
+        alloc: Global,
+        output: &mut W,
+        tests: Tests<'_>,
+    ) -> Outcome
+        ensures { WritesSelected tests.entry (place_of R.remaining self.old) (place_of R.remaining self.new) (W.contents output.old)
+            (W.contents output.new) result }
+    {
+        let mut outcome = nothing();
+        outcome.fault = self.put_tested(alloc, output, tests, &mut outcome).err();
+        outcome.read_failed = self.blocks.reader().failed();
+        self.exceptions.duplicates = outcome.duplicates;
+        outcome
+    }
+
+    // Writes the opening at this position, and the packets after it that pass the tests.
+    fn put_tested<W: Write>(
+        &mut self,
+        alloc: Global,
+        output: &mut W,
+        tests: Tests<'_>,
+        outcome: &mut Outcome,
+    ) -> ResultParsing<()>
+        requires { IsNew outcome.old }
+        ensures { TriesPart tests.entry (place_of R.remaining self.old) (place_of R.remaining self.new) (W.contents output.old)
+            (W.contents output.new) outcome.new result }
+    {
+        let mut choosing = Choosing::new(alloc, tests)?;
+        let done = self.put_selected(alloc, output, tests.first(), &mut choosing, outcome);
+        self.exceptions = choosing.exceptions();
+        done
+    }
+
+    // Returns the time of the packet in the lent block, if it has one.
+    fn lent_time(&self, alloc: Global, header: BlockHeader) -> ResultParsing<Option<Timestamp>> {
+        let reader = self.blocks.reader();
+        let block = reader.block(header);
+        let lent = lent_block(reader, &block);
+        lent_time(alloc, lent)
     }
 
     fn put_block<W: Write>(&self, output: &mut W, outcome: &mut Outcome) -> ResultParsing<()> {
@@ -109,12 +165,7 @@ impl<R: Read + Drop> Source for BlockSource<R> {
         output: &mut W,
         tests: Tests<'_>,
     ) -> Outcome {
-        let mut outcome = nothing();
-        let done = self.put_selected(alloc, output, tests, &mut outcome);
-        outcome.fault = done.err();
-        outcome.read_failed = self.blocks.reader().failed();
-        self.exceptions.duplicates = outcome.duplicates;
-        outcome
+        self.cut_selected(alloc, output, tests)
     }
 
     fn is_at_end(&mut self) -> io::Result<bool> {
@@ -131,8 +182,18 @@ impl<R: Read + Drop> Source for BlockSource<R> {
 }
 
 // Counts the bytes of a block.
-fn pass_text(text: &[u8], outcome: &mut Outcome) {
+fn pass_text(text: &[u8], outcome: &mut Outcome)
+    ensures { CountsBytes (length text.now) outcome.old outcome.new }
+{
     outcome.bytes = outcome.bytes.saturating_add(text.len() as u64);
+}
+
+// Counts a block, and its packet if it holds one.
+fn count_block(has_packet: bool, text: &[u8], outcome: &mut Outcome)
+    ensures { CountsBlock has_packet (length text.now) outcome.old outcome.new }
+{
+    outcome.packets = outcome.packets.saturating_add(u64::from(has_packet));
+    pass_text(text, outcome);
 }
 
 /// Appends the blocks of a further part to those that have these texts in force. The part's opening is left out if it is the

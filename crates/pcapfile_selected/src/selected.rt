@@ -107,9 +107,11 @@ impl<'a, R: Read + Drop> SelectedBlocks<'a, R> {
     ) -> ResultParsing<(u64, SelectedBlocks<'a, R>)> {
         let mut source = BlockSource::new(alloc, input)?;
         let place = source.opening_len();
-        let choosing = Choosing::new(alloc, tests)?;
+        let mut choosing = Choosing::new(alloc, tests)?;
         let mut outcome = nothing();
-        let fault = source.pass_to(alloc, tests, &mut outcome).err();
+        let fault = source
+            .pass_to(alloc, tests.first(), &mut choosing, &mut outcome)
+            .err();
         made.extend_from_slice(source.in_force())?;
         let blocks = SelectedBlocks {
             source,
@@ -174,7 +176,7 @@ impl<R: Read + Drop> Items<'_, R> {
     fn exceptions(&self) -> Exceptions {
         match self {
             Items::Packets(packets) => packets.source.exceptions(),
-            Items::Blocks(blocks) => blocks.source.exceptions(),
+            Items::Blocks(blocks) => blocks.choosing.exceptions(),
         }
     }
 

@@ -1,5 +1,9 @@
 //! The packets that a user selects.
 
+ghost use Rattle.std.specs.Prelude.{◌≡◌, ◌||◌, is_some};
+ghost use Rattle.pcapfile_selected.specs.Asked.{AreAsked, IsLeastFirst, IsLesser};
+
+use crate::blocks::{BlockTests, Times};
 use crate::times::{Moment, nanoseconds_of};
 use pcap_file::pcapng::Timestamp;
 use pcap_filter::Filter;
@@ -54,17 +58,11 @@ impl<'a> Tests<'a> {
             .any(|moment| matches!(moment, Some(Moment::AfterFirst(_))))
     }
 
-    /// Returns whether a test depends on a packet's time.
-    pub(crate) fn has_times(self) -> bool {
+    // Returns whether a test depends on a packet's time.
+    fn has_times(self) -> bool
+        ensures { result ≡ is_some self.entry.asked.now.from || is_some self.entry.asked.now.until }
+    {
         self.asked.from.is_some() || self.asked.until.is_some()
-    }
-
-    /// Returns whether a test depends on more than a packet's number.
-    pub(crate) fn reads_packets(self) -> bool {
-        self.has_times()
-            || self.filter.is_some()
-            || self.asked.interface.is_some()
-            || self.asked.lengths != Range::ALL
     }
 
     /// Returns whether packets of this interface may be selected. All packets of a classic capture are of interface 0.
@@ -73,26 +71,42 @@ impl<'a> Tests<'a> {
     }
 
     /// Returns the first number of the ranges, or 1 if there are none.
-    pub(crate) fn first(self) -> u64 {
-        self.asked
-            .numbers
-            .as_slice()
-            .iter()
-            .map(|range| range.first)
-            .min()
-            .unwrap_or(1)
+    pub(crate) fn first(self) -> u64
+        ensures { IsLeastFirst self.entry.asked.now.numbers.items result }
+    {
+        least_first(self.asked.numbers.as_slice())
     }
 
-    /// Returns whether this time is selected if the first packet has the time `first`.
-    pub(crate) fn has_time(self, time: Timestamp, first: Timestamp) -> bool {
-        let Selecting { from, until, .. } = self.asked;
+    /// Returns the tests of packets in blocks if the first packet with a time has the time `first`.
+    pub(crate) fn in_blocks(self, first: Timestamp) -> BlockTests<'a>
+        ensures { AreAsked self.entry result }
+    {
+        let Selecting {
+            from,
+            until,
+            interface,
+            ..
+        } = self.asked;
         let latest = self.latest.unwrap_or(first);
-        from.is_none_or(|from| from.time(first, latest) <= time)
-            && until.is_none_or(|until| time < until.time(first, latest))
+        let times = Times {
+            from: from.map(|from| from.time(first, latest)),
+            until: until.map(|until| until.time(first, latest)),
+        };
+        BlockTests {
+            selection: self.selection(first),
+            interface: *interface,
+            times: if self.has_times() { Some(times) } else { None },
+        }
     }
 
     /// Returns the tests of a classic capture's packets if the first one has this time.
-    pub(crate) fn selection(self, first: Timestamp) -> Selection<'a> {
+    pub(crate) fn selection(self, first: Timestamp) -> Selection<'a>
+        ensures numbers { result.numbers.now ≡ self.entry.asked.now.numbers.items }
+        ensures lengths { result.lengths ≡ self.entry.asked.now.lengths }
+        ensures filter { result.filter ≡ self.entry.filter }
+        ensures dedup { result.dedup ≡ self.entry.asked.now.dedup }
+        ensures changes { result.changes ≡ self.entry.asked.now.changes }
+    {
         let Selecting {
             numbers,
             from,
@@ -112,5 +126,30 @@ impl<'a> Tests<'a> {
             dedup: *dedup,
             changes: *changes,
         }
+    }
+}
+
+// Returns the least first number of these ranges, or 1 if there are none.
+fn least_first(ranges: &[Range]) -> u64
+    ensures { IsLeastFirst ranges.now result }
+{
+    let mut least = None;
+    for place in 0..ranges.len() {
+        let range = &ranges[place];
+        least = Some(lesser(least, range.first));
+    }
+    match least {
+        None => 1,
+        Some(least) => least,
+    }
+}
+
+// Returns the lesser one of a known number, if there is one, and another.
+fn lesser(known: Option<u64>, n: u64) -> u64
+    ensures { IsLesser known n result }
+{
+    match known {
+        Some(known) if known <= n => known,
+        _ => n,
     }
 }

@@ -1,5 +1,7 @@
 //! Captures of either format that are read part by part.
 
+ghost use Rattle.pcapfile_cut.specs.Cuts.{IsNew};
+
 use crate::selecting::Tests;
 use crate::spans::Spans;
 use crate::times::sum;
@@ -314,7 +316,9 @@ fn unread(error: io::Error) -> Outcome {
 }
 
 /// Returns the outcome of a part of which nothing is written.
-pub fn nothing() -> Outcome {
+pub fn nothing() -> Outcome
+    ensures { IsNew result }
+{
     Outcome {
         packets: 0,
         bytes: 0,

@@ -1,26 +1,76 @@
 //! The packets of a PcapNg capture that are written after changes.
 
-use super::selected::parsed_in;
-use super::{BlockSource, pass_text};
-use crate::source::Exceptions;
-use pcap_file::ResultParsing;
-use pcap_file::pcapng::{BlockHeader, BlockType, RawBlock};
+ghost use Rattle.std.specs.Prelude.{◌≡◌, IfErr, IfOk, map, option_map};
+ghost use Rattle.std.specs.List.{slice_get};
+ghost use Rattle.pcap_core.specs.Errors.{IsMemory};
+ghost use Rattle.pcap_blocks.specs.InterfaceDescription.{interface_of};
+ghost use Rattle.pcap_blocks.specs.ParsedBlock.{body_of};
+ghost use Rattle.pcap_ng.specs.Frames.{framed_of};
+ghost use Rattle.pcap_ng.specs.Lent.{body_in};
+ghost use Rattle.pcap_ng.specs.RawBlocks.{raw_in};
+ghost use Rattle.pcap_ng.specs.Reader.{interfaces_in_force, text_of as text_in};
+ghost use Rattle.pcap_written.specs.Raw.{raw_of};
+ghost use Rattle.pcapfile_run.specs.BlockPackets.{packet_in};
+ghost use Rattle.pcapfile_cut.specs.MovedBlocks.{text_of};
+ghost use Rattle.pcapfile_selected.specs.Changing.{AsksSame, IsShiftOn, MovesBlock, MovesHeld, MovesIf, PutsChanged, PutsWithin, most_in, raw_behind, text_moved};
+
+use super::judging::parsed_in;
+use pcap_file::pcapng::{
+    Block, BlockType, InterfaceDescriptionBlock, ParsedBlock, RawBlock, RawPcapNgBlock,
+};
+use pcap_file::{PcapNgReader, ResultParsing};
 use pcap_items::stream::put;
-use pcapfile_cut::{Changes, Moved, Moving, Outcome, Shift, Shortened, Shortening};
+use pcapfile_cut::{Changes, Moved, Moving, Shift, Shortened, Shortening};
 use pcapfile_run::{holds_packet, interface_at, packet_in_body};
 use std::alloc::Global;
-use std::io::{Read, Write};
+use std::io::Write;
+
+/// A block that a reader lends.
+#[derive(Clone, Copy)]
+pub(crate) struct Lent<'a> {
+    /// The interfaces of its section.
+    pub(crate) interfaces: &'a [InterfaceDescriptionBlock<'static>],
+    /// The block.
+    pub(crate) block: &'a Block<'a>,
+    /// All bytes of the block.
+    pub(crate) text: &'a [u8],
+}
+
+/// Returns a block that this reader lends.
+pub(crate) fn lent_block<'a, R>(reader: &'a PcapNgReader<R>, block: &'a Block<'a>) -> Lent<'a>
+    ensures interfaces { map interface_of result.interfaces.now ≡ interfaces_in_force reader.now }
+    ensures block { result.block.now ≡ block.now }
+    ensures text { result.text.now ≡ text_in reader.now }
+{
+    Lent {
+        interfaces: reader.interfaces(),
+        block,
+        text: reader.text(),
+    }
+}
 
 /// The changes of the blocks that are written.
 #[derive(Drop)]
-pub(super) struct Changing {
-    shift: Option<Shift>,
-    moving: Moving,
-    shortening: Option<Shortening>,
+pub(crate) struct Changing {
+    pub(crate) shift: Option<Shift>,
+    pub(crate) moving: Moving,
+    pub(crate) shortening: Option<Shortening>,
+}
+
+/// What the changes did to a block.
+#[derive(Clone, Copy)]
+pub(crate) struct Changed {
+    pub(crate) moved: Moved,
+    /// `None` if no number of bytes is given.
+    pub(crate) shortened: Option<Shortened>,
 }
 
 impl Changing {
-    pub(super) fn new(alloc: Global, changes: Changes) -> Changing {
+    /// Returns these changes, before any block.
+    pub(crate) fn new(alloc: Global, changes: Changes) -> Changing
+        ensures shift { result.shift ≡ changes.shift }
+        ensures most { most_in result.shortening ≡ changes.snaplen }
+    {
         let Changes { snaplen, shift, .. } = changes;
         Changing {
             shift,
@@ -31,155 +81,169 @@ impl Changing {
             },
         }
     }
-}
 
-impl<R: Read + Drop> BlockSource<R> {
-    // Writes the lent block after the changes that are asked for.
-    pub(super) fn put_kept<W: Write>(
+    /// Writes a lent block after the changes.
+    ///
+    /// `OutOfMemory` if there is no memory for the changed block or for its options. `IoError` if a write failed; then a beginning of
+    /// the changed block was written.
+    pub(crate) fn put<W: Write>(
         &mut self,
         alloc: Global,
-        header: BlockHeader,
-        changing: &mut Changing,
+        lent: Lent<'_>,
         output: &mut W,
-        outcome: &mut Outcome,
-    ) -> ResultParsing<()> {
-        let moved = match changing.shift {
-            Some(shift) => self.move_packet(alloc, header, shift, &mut changing.moving)?,
-            None => Moved::Untimed,
-        };
-        self.exceptions.add_moved(moved);
-        let failed = &mut outcome.write_failed;
-        let shortening = &mut changing.shortening;
-        let shortened = match moved {
-            Moved::Changed => {
-                put_text(header, changing.moving.text(), shortening, output, failed)?
-            }
-            Moved::Unstated | Moved::Malformed | Moved::Untimed => {
-                let text = self.blocks.reader().text();
-                put_text(header, text, shortening, output, failed)?
-            }
-        };
-        pass_text(self.blocks.reader().text(), outcome);
-        self.note_shortened(alloc, header, changing, shortened)
+        has_failed: &mut bool,
+    ) -> ResultParsing<Changed>
+        ensures puts { PutsChanged self.old (map interface_of lent.entry.interfaces.now) (framed_of lent.entry.block.now) lent.entry.text.now
+            (W.contents output.old) (W.contents output.new) result }
+        ensures asks { AsksSame self.old self.new }
+    {
+        let moved = self.move_packet(alloc, lent)?;
+        let Changing {
+            moving,
+            shortening,
+            ..
+        } = self;
+        let text = text_after(moved, lent.text, moving.text());
+        let block = raw_in_text(lent.block, text);
+        let shortened = put_within(shortening, block, text, output, has_failed)?;
+        Ok(Changed { moved, shortened })
     }
 
-    // Moves the time of the lent block's packet.
-    fn move_packet(
-        &self,
-        alloc: Global,
-        header: BlockHeader,
-        shift: Shift,
-        moving: &mut Moving,
-    ) -> ResultParsing<Moved> {
-        let reader = self.blocks.reader();
-        let block = reader.block(header);
-        if !holds_packet(header.type_) {
+    /// Returns whether a lent block is a simple packet with more stored bytes than are written of other packets.
+    ///
+    /// `OutOfMemory` if there is no memory for the options of the block.
+    pub(crate) fn leaves_longer(&self, alloc: Global, lent: Lent<'_>) -> ResultParsing<bool>
+        ensures memory { IfErr result IsMemory }
+    {
+        let Some(shortening) = &self.shortening else {
+            return Ok(false);
+        };
+        if lent.block.type_ != BlockType::SimplePacket {
+            return Ok(false);
+        }
+        let Some(parsed) = parsed_in(alloc, lent.block)? else {
+            return Ok(false);
+        };
+        let most = shortening.most() as usize;
+        let packet = packet_in_body(lent.interfaces, &parsed);
+        Ok(packet.is_some_and(|packet| packet.bytes.len() > most))
+    }
+
+    // Moves the time of a lent block's packet, if that is asked for.
+    fn move_packet(&mut self, alloc: Global, lent: Lent<'_>) -> ResultParsing<Moved>
+        ensures moves { IfOk result (λ moved. MovesIf self.old.shift (map interface_of lent.entry.interfaces.now) (framed_of lent.entry.block.now)
+            (text_of self.new.moving) moved) }
+        ensures shift { self.new.shift ≡ self.old.shift }
+        ensures shortening { self.new.shortening ≡ self.old.shortening }
+        ensures memory { IfErr result IsMemory }
+    {
+        let Some(shift) = self.shift else {
+            return Ok(Moved::Untimed);
+        };
+        if !holds_packet(lent.block.type_) {
             return Ok(Moved::Untimed);
         }
-        let interfaces = reader.interfaces();
-        let Some(parsed) = parsed_in(alloc, &block)? else {
-            return Ok(Moved::Malformed);
-        };
-        let Some(packet) = packet_in_body(interfaces, &parsed) else {
-            return Ok(Moved::Malformed);
-        };
-        let units = match interface_at(interfaces, packet.interface) {
-            Some(interface) => shift.in_units(interface.clock().unit),
-            None => None,
-        };
-        Ok(moving.pass(raw(header, reader.text()), units)?)
-    }
-
-    // Counts a packet that was not shortened.
-    fn note_shortened(
-        &mut self,
-        alloc: Global,
-        header: BlockHeader,
-        changing: &Changing,
-        shortened: Shortened,
-    ) -> ResultParsing<()> {
-        let Some(shortening) = &changing.shortening else {
-            return Ok(());
-        };
-        match shortened {
-            Shortened::Changed => {}
-            Shortened::Malformed => self.exceptions.add_whole_malformed(),
-            Shortened::Stays => {
-                if self.is_longer_simple(alloc, header, shortening.most())? {
-                    self.exceptions.add_whole_simple();
-                }
-            }
-        }
-        Ok(())
-    }
-
-    // Returns whether the lent block is a simple packet with more than this many stored bytes.
-    fn is_longer_simple(
-        &self,
-        alloc: Global,
-        header: BlockHeader,
-        most: u32,
-    ) -> ResultParsing<bool> {
-        if header.type_ != BlockType::SimplePacket {
-            return Ok(false);
-        }
-        let reader = self.blocks.reader();
-        let block = reader.block(header);
-        let Some(parsed) = parsed_in(alloc, &block)? else {
-            return Ok(false);
-        };
-        let packet = packet_in_body(reader.interfaces(), &parsed);
-        Ok(packet.is_some_and(|packet| packet.bytes.len() > most as usize))
+        move_block(alloc, lent, shift, &mut self.moving)
     }
 }
 
-impl Exceptions {
-    // Counts a packet whose time is not moved.
-    fn add_moved(&mut self, moved: Moved) {
-        match moved {
-            Moved::Malformed => {
-                self.unmoved_malformed = self.unmoved_malformed.saturating_add(1);
-            }
-            Moved::Unstated => self.unmoved = self.unmoved.saturating_add(1),
-            Moved::Changed | Moved::Untimed => {}
-        }
-    }
-
-    // Counts a packet with a malformed body that is not shortened.
-    fn add_whole_malformed(&mut self) {
-        self.whole_malformed = self.whole_malformed.saturating_add(1);
-    }
-
-    // Counts a simple packet that is not shortened.
-    fn add_whole_simple(&mut self) {
-        self.whole_simple = self.whole_simple.saturating_add(1);
+// Moves the time of a lent block's packet.
+fn move_block(
+    alloc: Global,
+    lent: Lent<'_>,
+    shift: Shift,
+    moving: &mut Moving,
+) -> ResultParsing<Moved>
+    ensures moves { IfOk result (λ moved. MovesBlock shift (map interface_of lent.entry.interfaces.now) (framed_of lent.entry.block.now)
+        (text_of moving.new) moved) }
+    ensures memory { IfErr result IsMemory }
+{
+    match parsed_in(alloc, lent.block)? {
+        None => Ok(Moved::Malformed),
+        Some(parsed) => move_body(lent, &parsed, shift, moving),
     }
 }
 
-// Writes a block, with at most so many bytes of its packet if that is asked for, and returns the result.
-fn put_text<W: Write>(
-    header: BlockHeader,
-    text: &[u8],
+// Moves the time of the packet in a lent block's body.
+fn move_body(
+    lent: Lent<'_>,
+    parsed: &ParsedBlock<'_>,
+    shift: Shift,
+    moving: &mut Moving,
+) -> ResultParsing<Moved>
+    ensures moves { IfOk result (λ moved. MovesHeld shift (map interface_of lent.entry.interfaces.now)
+        (packet_in (map interface_of lent.entry.interfaces.now) (body_of parsed.now)) (raw_in (framed_of lent.entry.block.now)) (text_of moving.new) moved) }
+    ensures memory { IfErr result IsMemory }
+{
+    let Some(packet) = packet_in_body(lent.interfaces, parsed) else {
+        return Ok(Moved::Malformed);
+    };
+    let units = shift_on(shift, interface_at(lent.interfaces, packet.interface));
+    Ok(moving.pass(lent.block.raw(), units)?)
+}
+
+// Returns a change of times in units of an interface's clock, if it is a whole number of units and the interface is described.
+fn shift_on(shift: Shift, interface: Option<&InterfaceDescriptionBlock<'static>>) -> Option<Shift>
+    ensures { IsShiftOn shift (option_map (λ i. interface_of i.now) interface.entry) result }
+{
+    match interface {
+        None => None,
+        Some(interface) => shift.in_units(interface.clock().unit),
+    }
+}
+
+// Returns the bytes of a block after its time was moved: the new ones if it has another time, or else its own.
+fn text_after<'a>(moved: Moved, text: &'a [u8], new: &'a [u8]) -> &'a [u8]
+    ensures { result.now ≡ text_moved text.now new.now moved }
+{
+    match moved {
+        Moved::Changed => new,
+        Moved::Unstated | Moved::Malformed | Moved::Untimed => text,
+    }
+}
+
+// Returns the block of this one's type and byte order in these bytes.
+fn raw_in_text<'a>(block: &Block<'_>, text: &'a [u8]) -> RawBlock<'a>
+    ensures { raw_of result ≡ raw_behind (framed_of block.now) text.now }
+{
+    RawBlock {
+        type_: block.type_,
+        endianness: block.endianness(),
+        body: body_in_text(text),
+    }
+}
+
+// Returns the body of the block in these bytes.
+fn body_in_text(text: &[u8]) -> &[u8]
+    ensures { result.now ≡ body_in text.now }
+{
+    if text.len() < 12 {
+        return &[];
+    }
+    let (_head, after) = text.split_at(8);
+    let (body, _len) = after.split_at(text.len() - 12);
+    body
+}
+
+// Writes a block, with at most so many bytes of its packet if a number is given, and returns the result in that case.
+fn put_within<W: Write>(
     shortening: &mut Option<Shortening>,
+    block: RawBlock<'_>,
+    text: &[u8],
     output: &mut W,
     has_failed: &mut bool,
-) -> ResultParsing<Shortened> {
+) -> ResultParsing<Option<Shortened>>
+    ensures puts { PutsWithin (most_in shortening.old) (raw_of block.entry) text.now (W.contents output.old) (W.contents output.new) result }
+    ensures most { most_in shortening.new ≡ most_in shortening.old }
+{
     match shortening {
-        Some(shortening) => shortening.put(output, has_failed, raw(header, text), text),
+        Some(shortening) => {
+            let shortened = shortening.put(output, has_failed, block, text)?;
+            Ok(Some(shortened))
+        }
         None => {
             put(output, has_failed, text)?;
-            Ok(Shortened::Changed)
+            Ok(None)
         }
-    }
-}
-
-// Returns the block with this header and these bytes.
-fn raw(header: BlockHeader, text: &[u8]) -> RawBlock<'_> {
-    RawBlock {
-        type_: header.type_,
-        endianness: header.endianness,
-        body: text
-            .get(8..text.len().saturating_sub(4))
-            .unwrap_or_default(),
     }
 }

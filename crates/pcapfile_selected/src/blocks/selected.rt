@@ -1,69 +1,200 @@
 //! The selected packets of a PcapNg capture.
 
-use super::changed::Changing;
-use super::{BlockSource, pass_text};
+ghost use Rattle.std.specs.Prelude.{◌≡◌, IfErr, IfOk};
+ghost use Rattle.pcap_core.specs.Errors.{IsMemory};
+ghost use Rattle.pcapfile_selected.specs.Asked.{AreAsked, has_reached};
+
+use super::changed::{Changed, Changing, Lent, lent_block};
+use super::deciding::{Decision, Sieve};
+use super::judging::{parsed_in, time_of};
+use super::{BlockSource, count_block, pass_text};
 use crate::selecting::Tests;
 use crate::source::Exceptions;
-use pcap_file::pcapng::{Block, BlockHeader, InterfaceDescriptionBlock, ParsedBlock, Timestamp};
-use pcap_file::{PcapError, ResultParsing};
+use pcap_file::ResultParsing;
+use pcap_file::pcapng::{BlockHeader, Timestamp};
 use pcap_items::stream::put;
-use pcapfile_cut::{Outcome, Recent, Selection};
-use pcapfile_run::{BlockPacket, holds_packet, interface_at, packet_in_body};
+use pcapfile_cut::{Moved, Outcome, Recent, Shortened};
+use pcapfile_run::{holds_packet, packet_in_body};
 use std::alloc::Global;
 use std::io::{Read, Write};
 
-/// The time of the first packet in tests that depend on no time.
+/// The time of the first packet in tests that depend on no time, and before a packet with a time was read.
 const NO_TIME: Timestamp = Timestamp {
     seconds: 0,
     nanoseconds: 0,
 };
 
-/// Whether a packet is selected, or why no test applies to it.
-#[derive(Clone, Copy)]
-enum Verdict {
-    Selected,
-    Rejected,
-    Malformed,
-    WithoutTime,
-}
-
-/// The tests of the blocks that are written, the packets that they are compared with, and their changes.
+/// The tests and the changes of blocks, and what was done with the blocks before.
 #[derive(Drop)]
 pub(crate) struct Choosing<'a> {
-    tests: Tests<'a>,
-    changing: Changing,
-    recent: Recent,
+    pub(crate) asked: Tests<'a>,
+    pub(crate) sieve: Sieve<'a>,
+    pub(crate) changing: Changing,
+    /// The time of the first packet that has one, if a test depends on it and that packet was read.
+    pub(crate) first: Option<Timestamp>,
+    /// How many packets were left out or treated otherwise than the user asked.
+    pub(crate) exceptions: Exceptions,
+    ghost tests: { AreAsked asked sieve.tests },
 }
 
 impl<'a> Choosing<'a> {
-    /// Returns the tests before the first block.
-    pub(crate) fn new(alloc: Global, tests: Tests<'a>) -> ResultParsing<Choosing<'a>> {
-        let selection = tests.selection(NO_TIME);
+    ghost use Rattle.std.specs.Prelude.{OnOk, length, map};
+    ghost use Rattle.pcap_blocks.specs.InterfaceDescription.{interface_of};
+    ghost use Rattle.pcap_ng.specs.Frames.{framed_of};
+    ghost use Rattle.pcapfile_selected.specs.Changing.{AsksSame};
+    ghost use Rattle.pcapfile_selected.specs.SelectedBlocks.{Begins, ChoosesPacket, CountsBytes, PutsLent, PutsText, run};
+
+    /// Returns the tests and the changes before the first block.
+    ///
+    /// `OutOfMemory` if there is no memory for the digests of the packets that duplicates are compared with.
+    pub(crate) fn new(alloc: Global, asked: Tests<'a>) -> ResultParsing<Choosing<'a>>
+        ensures begins { IfOk result (λ choosing. Begins asked.entry choosing) }
+        ensures memory { IfErr result IsMemory }
+    {
+        let tests = asked.in_blocks(NO_TIME);
+        let recent = Recent::new(alloc, tests.selection.dedup)?;
         Ok(Choosing {
-            tests,
-            changing: Changing::new(alloc, selection.changes),
-            recent: Recent::new(alloc, selection.dedup)?,
+            asked,
+            sieve: Sieve { tests, recent },
+            changing: Changing::new(alloc, tests.selection.changes),
+            first: None,
+            exceptions: Exceptions::default(),
         })
+    }
+
+    /// Returns how many packets were left out or treated otherwise than the user asked.
+    pub(crate) fn exceptions(&self) -> Exceptions {
+        self.exceptions
+    }
+
+    // Keeps the time of the packet in a lent block, if a test depends on the first time and this is the first one.
+    fn note_first(&mut self, alloc: Global, lent: Lent<'_>) -> ResultParsing<()>
+        ensures recent { self.new.sieve.recent ≡ self.old.sieve.recent }
+        ensures changing { self.new.changing ≡ self.old.changing }
+        ensures memory { IfErr result IsMemory }
+    {
+        if self.first.is_some() || !self.asked.is_relative() {
+            return Ok(());
+        }
+        if let Some(time) = lent_time(alloc, lent)? {
+            self.first = Some(time);
+            self.sieve.tests = self.asked.in_blocks(time);
+        }
+        Ok(())
+    }
+
+    /// Writes a lent block after the changes unless it holds a packet that is not selected, and counts it.
+    pub(crate) fn put<W: Write>(
+        &mut self,
+        alloc: Global,
+        lent: Lent<'_>,
+        output: &mut W,
+        outcome: &mut Outcome,
+    ) -> ResultParsing<()>
+        ensures { PutsLent (run self.old (W.contents output.old) outcome.old) (run self.new (W.contents output.new) outcome.new)
+            (map interface_of lent.entry.interfaces.now) (framed_of lent.entry.block.now) lent.entry.text.now result }
+    {
+        if !holds_packet(lent.block.type_) {
+            return self.put_changed(alloc, lent, output, outcome);
+        }
+        if self.choose(alloc, lent, outcome)? {
+            return self.put_changed(alloc, lent, output, outcome);
+        }
+        pass_text(lent.text, outcome);
+        Ok(())
+    }
+
+    // Returns whether the packet in a lent block is written, and counts it.
+    fn choose(
+        &mut self,
+        alloc: Global,
+        lent: Lent<'_>,
+        outcome: &mut Outcome,
+    ) -> ResultParsing<bool>
+        ensures chooses { IfOk result (λ is_written. ChoosesPacket self.old self.new (map interface_of lent.entry.interfaces.now)
+            (framed_of lent.entry.block.now) outcome.old outcome.new is_written) }
+        ensures memory { IfErr result IsMemory }
+        ensures changing { self.new.changing ≡ self.old.changing }
+    {
+        outcome.packets = outcome.packets.saturating_add(1);
+        self.note_first(alloc, lent)?;
+        let Lent {
+            interfaces,
+            block,
+            ..
+        } = lent;
+        let decision = self
+            .sieve
+            .decide(alloc, interfaces, outcome.packets, block)?;
+        self.exceptions.add(decision);
+        decision.count(outcome);
+        Ok(decision.is_written())
+    }
+
+    // Writes a lent block after the changes, and counts its bytes.
+    fn put_changed<W: Write>(
+        &mut self,
+        alloc: Global,
+        lent: Lent<'_>,
+        output: &mut W,
+        outcome: &mut Outcome,
+    ) -> ResultParsing<()>
+        ensures puts { PutsText self.old.changing (map interface_of lent.entry.interfaces.now) (framed_of lent.entry.block.now) lent.entry.text.now
+            (W.contents output.old) (W.contents output.new) result }
+        ensures asks { AsksSame self.old.changing self.new.changing }
+        ensures sieve { self.new.sieve ≡ self.old.sieve }
+        ensures counts { OnOk result (CountsBytes (length lent.entry.text.now) outcome.old outcome.new) }
+    {
+        let is_longer_simple = self.changing.leaves_longer(alloc, lent)?;
+        let failed = &mut outcome.write_failed;
+        let changed = self.changing.put(alloc, lent, output, failed)?;
+        self.exceptions.add_changed(changed, is_longer_simple);
+        pass_text(lent.text, outcome);
+        Ok(())
     }
 }
 
 impl<R: Read + Drop> BlockSource<R> {
-    // Writes the section header and the interfaces in force before the first number, and then all blocks up to the last number,
-    // except packets that are not selected.
+    ghost use Rattle.std.specs.Prelude.{◌≤◌, ◌-◌, ◌^◌};
+    ghost use Rattle.pcapfile_selected.specs.SelectedBlocks.{ChoosesSame, Passes, PassesBlock, SelectsBlocks, SelectsNext, SelectsPart, place_of, run, spot};
+
+    // Writes the section header and the interfaces in force before the packet of the first number, and then all blocks up to the last
+    // number, except packets that are not selected.
     pub(super) fn put_selected<W: Write>(
         &mut self,
         alloc: Global,
         output: &mut W,
-        tests: Tests<'_>,
+        first: u64,
+        choosing: &mut Choosing<'_>,
         outcome: &mut Outcome,
-    ) -> ResultParsing<()> {
-        let mut choosing = Choosing::new(alloc, tests)?;
-        self.pass_to(alloc, tests, outcome)?;
+    ) -> ResultParsing<()>
+        requires within { outcome.old.packets ≤ 2 ^ 64 - 1 }
+        requires within_bytes { outcome.old.bytes ≤ 2 ^ 64 - 1 }
+        ensures { SelectsPart first (run choosing.old (W.contents output.old) outcome.old) (run choosing.new (W.contents output.new) outcome.new)
+            (place_of R.remaining self.old) (place_of R.remaining self.new) result }
+    {
+        self.pass_to(alloc, first, choosing, outcome)?;
         put(output, &mut outcome.write_failed, self.in_force())?;
-        for _ in 0..u64::MAX {
-            if !self.put_next(alloc, output, &mut choosing, outcome)? {
-                break;
+        self.put_blocks(alloc, output, choosing, outcome)
+    }
+
+    // Reads blocks until no further packet is wanted, and writes those that are selected.
+    fn put_blocks<W: Write>(
+        &mut self,
+        alloc: Global,
+        output: &mut W,
+        choosing: &mut Choosing<'_>,
+        outcome: &mut Outcome,
+    ) -> ResultParsing<()>
+        ensures { SelectsBlocks (run choosing.old (W.contents output.old) outcome.old) (run choosing.new (W.contents output.new) outcome.new)
+            (place_of R.remaining self.old) (place_of R.remaining self.new) result }
+    {
+        let mut blocks: u64 = 0;
+        while blocks < u64::MAX {
+            if !self.put_next(alloc, output, choosing, outcome)? {
+                return Ok(());
             }
+            blocks += 1;
         }
         Ok(())
     }
@@ -76,19 +207,20 @@ impl<R: Read + Drop> BlockSource<R> {
         output: &mut W,
         choosing: &mut Choosing<'_>,
         outcome: &mut Outcome,
-    ) -> ResultParsing<bool> {
-        let tests = choosing.tests;
-        if !tests.selection(NO_TIME).has_more(outcome.packets) {
+    ) -> ResultParsing<bool>
+        ensures { SelectsNext (run choosing.old (W.contents output.old) outcome.old) (run choosing.new (W.contents output.new) outcome.new)
+            (place_of R.remaining self.old) (place_of R.remaining self.new) result }
+    {
+        if !choosing.sieve.tests.selection.has_more(outcome.packets) {
             return Ok(false);
         }
         let Some(header) = self.blocks.pass()? else {
             return Ok(false);
         };
-        if self.is_kept(alloc, header, tests, &mut choosing.recent, outcome)? {
-            self.put_kept(alloc, header, &mut choosing.changing, output, outcome)?;
-        } else {
-            pass_text(self.blocks.reader().text(), outcome);
-        }
+        let reader = self.blocks.reader();
+        let block = reader.block(header);
+        let lent = lent_block(reader, &block);
+        choosing.put(alloc, lent, output, outcome)?;
         Ok(true)
     }
 
@@ -96,207 +228,117 @@ impl<R: Read + Drop> BlockSource<R> {
     pub(crate) fn pass_to(
         &mut self,
         alloc: Global,
-        tests: Tests<'_>,
+        first: u64,
+        choosing: &mut Choosing<'_>,
         outcome: &mut Outcome,
-    ) -> ResultParsing<()> {
-        if tests.first() <= 1 {
+    ) -> ResultParsing<()>
+        requires within { outcome.old.packets ≤ 2 ^ 64 - 1 }
+        requires within_bytes { outcome.old.bytes ≤ 2 ^ 64 - 1 }
+        ensures passes { Passes first (spot (place_of R.remaining self.old) outcome.old) (spot (place_of R.remaining self.new) outcome.new) result }
+        ensures chooses { ChoosesSame choosing.old choosing.new }
+    {
+        if first <= 1 {
             return Ok(());
         }
-        for _ in 0..u64::MAX {
-            let Some(header) = self.blocks.peek()? else {
-                break;
-            };
-            if holds_packet(header.type_) {
-                if outcome.packets.saturating_add(1) >= tests.first() {
-                    break;
-                }
-                self.note_first(alloc, header, tests)?;
-                outcome.packets = outcome.packets.saturating_add(1);
+        let mut blocks: u64 = 0;
+        while blocks < u64::MAX {
+            if !self.pass_next(alloc, first, choosing, outcome)? {
+                return Ok(());
             }
-            pass_text(self.blocks.reader().text(), outcome);
-            let _ = self.blocks.pass()?;
+            blocks += 1;
         }
         Ok(())
     }
 
-    // Returns whether the lent block is written: it holds no packet, or a selected one that is no duplicate. Counts its packet.
-    fn is_kept(
+    // Reads the next block and counts it, unless it is a packet of the first number or above.
+    fn pass_next(
         &mut self,
         alloc: Global,
-        header: BlockHeader,
-        tests: Tests<'_>,
-        recent: &mut Recent,
+        first: u64,
+        choosing: &mut Choosing<'_>,
         outcome: &mut Outcome,
-    ) -> ResultParsing<bool> {
-        if !holds_packet(header.type_) {
-            return Ok(true);
-        }
-        outcome.packets = outcome.packets.saturating_add(1);
-        self.note_first(alloc, header, tests)?;
-        let selection = tests.selection(NO_TIME);
-        if !selection.has_number(outcome.packets) {
+    ) -> ResultParsing<bool>
+        ensures passes { PassesBlock first (spot (place_of R.remaining self.old) outcome.old) (spot (place_of R.remaining self.new) outcome.new) result }
+        ensures chooses { ChoosesSame choosing.old choosing.new }
+    {
+        let Some(header) = self.blocks.peek()? else {
+            return Ok(false);
+        };
+        let has_packet = holds_packet(header.type_);
+        if has_reached(first, has_packet, outcome.packets) {
             return Ok(false);
         }
-        if tests.reads_packets() {
-            let verdict = self.verdict(alloc, header, tests, &selection)?;
-            self.exceptions.add(verdict);
-            if !matches!(verdict, Verdict::Selected) {
-                return Ok(false);
-            }
-        }
-        if selection.dedup > 0 && self.repeats(alloc, header, recent)? {
-            outcome.duplicates = outcome.duplicates.saturating_add(1);
-            return Ok(false);
-        }
+        self.note_passed(alloc, header, has_packet, choosing)?;
+        count_block(has_packet, self.blocks.reader().text(), outcome);
+        let _ = self.blocks.pass()?;
         Ok(true)
     }
 
-    // Returns whether the packet of the lent block is a duplicate of one of the recent packets. If its body is malformed, it is none.
-    fn repeats(
-        &mut self,
-        alloc: Global,
-        header: BlockHeader,
-        recent: &mut Recent,
-    ) -> ResultParsing<bool> {
-        match self.compared(alloc, header, recent)? {
-            Some(is_duplicate) => Ok(is_duplicate),
-            None => {
-                self.exceptions.add_uncompared();
-                Ok(false)
-            }
-        }
-    }
-
-    // Compares the packet of the lent block with the recent ones. Returns None if its body is malformed.
-    fn compared(
+    // Keeps the time of the lent block's packet, if it holds one and a test depends on the first time.
+    fn note_passed(
         &self,
         alloc: Global,
         header: BlockHeader,
-        recent: &mut Recent,
-    ) -> ResultParsing<Option<bool>> {
+        has_packet: bool,
+        choosing: &mut Choosing<'_>,
+    ) -> ResultParsing<()>
+        ensures chooses { ChoosesSame choosing.old choosing.new }
+        ensures memory { IfErr result IsMemory }
+    {
+        if !has_packet {
+            return Ok(());
+        }
         let reader = self.blocks.reader();
         let block = reader.block(header);
-        let Some(parsed) = parsed_in(alloc, &block)? else {
-            return Ok(None);
-        };
-        let Some(packet) = packet_in_body(reader.interfaces(), &parsed) else {
-            return Ok(None);
-        };
-        Ok(Some(recent.repeats(packet.original_len, packet.bytes)))
+        choosing.note_first(alloc, lent_block(reader, &block))
     }
+}
 
-    // Keeps the time of the packet in the lent block, if a test depends on the first time and this is the first one.
-    fn note_first(
-        &mut self,
-        alloc: Global,
-        header: BlockHeader,
-        tests: Tests<'_>,
-    ) -> ResultParsing<()> {
-        if self.first.is_none() && tests.is_relative() {
-            self.first = self.lent_time(alloc, header)?;
-        }
-        Ok(())
-    }
-
-    // Returns the time of the packet in the lent block, if it has one.
-    pub(super) fn lent_time(
-        &self,
-        alloc: Global,
-        header: BlockHeader,
-    ) -> ResultParsing<Option<Timestamp>> {
-        let reader = self.blocks.reader();
-        let block = reader.block(header);
-        match parsed_in(alloc, &block)? {
-            Some(parsed) => Ok(time_in(reader.interfaces(), &parsed)),
-            None => Ok(None),
-        }
-    }
-
-    // Returns whether the packet of the lent block passes all tests except that of its number.
-    fn verdict(
-        &self,
-        alloc: Global,
-        header: BlockHeader,
-        tests: Tests<'_>,
-        selection: &Selection<'_>,
-    ) -> ResultParsing<Verdict> {
-        let reader = self.blocks.reader();
-        let block = reader.block(header);
-        let Some(parsed) = parsed_in(alloc, &block)? else {
-            return Ok(Verdict::Malformed);
-        };
-        let interfaces = reader.interfaces();
-        let Some(packet) = packet_in_body(interfaces, &parsed) else {
-            return Ok(Verdict::Malformed);
-        };
-        if !passes(&packet, tests, selection) {
-            return Ok(Verdict::Rejected);
-        }
-        Ok(time_verdict(time_of(interfaces, &packet), tests, self.first))
-    }
+// Returns whether the next block has the packet of this number or one above, if it holds a packet, and so many precede it.
+fn has_reached(first: u64, has_packet: bool, packets: u64) -> bool
+    ensures { result ≡ has_reached first has_packet packets }
+{
+    has_packet && first <= packets.saturating_add(1)
 }
 
 impl Exceptions {
     // Counts a packet to which a test doesn't apply.
-    fn add(&mut self, verdict: Verdict) {
-        match verdict {
-            Verdict::Malformed => self.malformed = self.malformed.saturating_add(1),
-            Verdict::WithoutTime => self.without_time = self.without_time.saturating_add(1),
-            Verdict::Selected | Verdict::Rejected => {}
+    fn add(&mut self, decision: Decision) {
+        match decision {
+            Decision::Malformed => self.malformed = self.malformed.saturating_add(1),
+            Decision::WithoutTime => self.without_time = self.without_time.saturating_add(1),
+            Decision::Uncompared => self.uncompared = self.uncompared.saturating_add(1),
+            Decision::Written | Decision::Rejected | Decision::Duplicate => {}
         }
     }
 
-    // Counts a packet with a malformed body that is not compared.
-    fn add_uncompared(&mut self) {
-        self.uncompared = self.uncompared.saturating_add(1);
+    // Counts what the changes left as it was in a packet.
+    fn add_changed(&mut self, changed: Changed, is_longer_simple: bool) {
+        match changed.moved {
+            Moved::Malformed => {
+                self.unmoved_malformed = self.unmoved_malformed.saturating_add(1);
+            }
+            Moved::Unstated => self.unmoved = self.unmoved.saturating_add(1),
+            Moved::Changed | Moved::Untimed => {}
+        }
+        if let Some(Shortened::Malformed) = changed.shortened {
+            self.whole_malformed = self.whole_malformed.saturating_add(1);
+        }
+        if is_longer_simple {
+            self.whole_simple = self.whole_simple.saturating_add(1);
+        }
     }
 }
 
-// Returns the parsed body of a block. Returns None if it is malformed.
-pub(super) fn parsed_in<'a>(
-    alloc: Global,
-    block: &'a Block<'_>,
-) -> ResultParsing<Option<ParsedBlock<'a>>> {
-    match block.parsed(alloc) {
-        Ok(parsed) => Ok(Some(parsed)),
-        Err(PcapError::OutOfMemory(error)) => Err(PcapError::OutOfMemory(error)),
-        Err(_) => Ok(None),
+/// Returns the time of the packet in a lent block, if it has one.
+pub(super) fn lent_time(alloc: Global, lent: Lent<'_>) -> ResultParsing<Option<Timestamp>>
+    ensures memory { IfErr result IsMemory }
+{
+    let Some(parsed) = parsed_in(alloc, lent.block)? else {
+        return Ok(None);
+    };
+    match packet_in_body(lent.interfaces, &parsed) {
+        None => Ok(None),
+        Some(packet) => Ok(time_of(lent.interfaces, packet)),
     }
-}
-
-// Returns whether the packet passes the tests of interface, length and bytes.
-fn passes(packet: &BlockPacket<'_>, tests: Tests<'_>, selection: &Selection<'_>) -> bool {
-    tests.has_interface(packet.interface)
-        && selection.lengths.holds(u64::from(packet.original_len))
-        && selection.accepts(packet.bytes, packet.original_len)
-}
-
-// Returns the verdict of the tests of time.
-fn time_verdict(time: Option<Timestamp>, tests: Tests<'_>, first: Option<Timestamp>) -> Verdict {
-    if !tests.has_times() {
-        return Verdict::Selected;
-    }
-    match time {
-        None => Verdict::WithoutTime,
-        Some(time) if tests.has_time(time, first.unwrap_or(time)) => Verdict::Selected,
-        Some(_) => Verdict::Rejected,
-    }
-}
-
-// Returns the time of the packet in a body, if it has one.
-fn time_in(
-    interfaces: &[InterfaceDescriptionBlock<'static>],
-    parsed: &ParsedBlock<'_>,
-) -> Option<Timestamp> {
-    let packet = packet_in_body(interfaces, parsed)?;
-    time_of(interfaces, &packet)
-}
-
-// Returns the time of a packet, if it has one.
-fn time_of(
-    interfaces: &[InterfaceDescriptionBlock<'static>],
-    packet: &BlockPacket<'_>,
-) -> Option<Timestamp> {
-    let interface = interface_at(interfaces, packet.interface)?;
-    Some(interface.timestamp(packet.units?))
 }

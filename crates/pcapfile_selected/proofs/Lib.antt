@@ -1,0 +1,3 @@
+mod LeastFirst
+mod PutBlocks
+mod PutPackets

@@ -1,0 +1,15 @@
+use Rattle.std.proofs.Common.{◌≡◌, ◌-◌, ◌^◌, List, length}
+use Rattle.pcapfile_cut.specs.BlockCuts.{Between, Lent}
+use Rattle.pcapfile_selected.specs.SelectedBlocks.{PutsAll, place_of, run}
+use Rattle.pcapfile_selected.proofs.blocks.BlockSource.put_blocks.Given as goal
+
+abbrev pub invariant-loop-blocks : goal.invariant-loop-blocks
+invariant-loop-blocks g l = record {
+  put : List Lent;
+  between : Between (place_of g.R.Read.remaining l.fn.self) (place_of g.R.Read.remaining l.self) put;
+  puts : PutsAll (run l.fn.choosing (g.W.Write.contents l.fn.output) l.fn.outcome) put (run l.choosing (g.W.Write.contents l.output) l.outcome);
+  count : length put ≡ l.blocks;
+}
+
+abbrev pub decreases-loop-blocks : goal.decreases-loop-blocks
+decreases-loop-blocks g l = 2 ^ 64 - l.blocks

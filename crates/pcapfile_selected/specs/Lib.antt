@@ -1,0 +1,5 @@
+pub mod Asked
+pub mod Changing
+pub mod Deciding
+pub mod Judging
+pub mod SelectedBlocks
