@@ -17,6 +17,13 @@ DESCRIBED = (
     " translator that wrote this file, nor the compiler that you use."
 )
 SUM = "Sources: sha256 "
+# Words of a licence, and its name.
+LICENCES = (("Permission is hereby granted", "MIT"), ("Redistribution and use in source and binary forms", "BSD with three clauses"))
+
+
+def kind_of(licence):
+    """Returns the name of the licence with this text."""
+    return next((name for words, name in LICENCES if words in licence), "Apache 2.0")
 
 
 def parts_of(text):
@@ -27,7 +34,7 @@ def parts_of(text):
         files = [f"{folder}/{file}" for file in ("LICENSE-MIT", "LICENSE") if os.path.isfile(f"{folder}/{file}")]
         if files:
             with open(files[0], encoding="utf-8") as it:
-                found[name] = "MIT" if "Permission is hereby granted" in it.read() else "Apache 2.0"
+                found[name] = kind_of(it.read())
         elif os.path.isdir(folder):
             found[name] = None
     return found

@@ -1,5 +1,5 @@
 """Checks which packets `pcapfile cut` selects, by tests that Python makes of the same words, and by tcpdump if that is installed. `list`,
-`info` and `convert` must read with the same words what Python selects."""
+`info`, `convert` and `merge` must read with the same words what Python selects."""
 import datetime
 import itertools
 import os
@@ -65,6 +65,7 @@ ASKS = "For a program, run 'tcpdump -ddd EXPRESSION'.\n"
 READING = (
     ["list", "in"], ["list", "in", "--csv"], ["list", "in", "--json"], ["list", "in", "--hex", "--utc"], ["list", "in", "in"], ["list", "in", "-n", "2"],
     ["info", "in"], ["info", "in", "in", "--json", "--total"], ["convert", "in", "-o", "out"], ["convert", "in", "--to", "pcapng", "-o", "-"],
+    ["merge", "in", "in", "-o", "out"], ["merge", "in", "--append", "in", "--to", "pcap", "-o", "-"],
 )
 # Each row of packets takes one of so many commands.
 EACH, TURNS = 4, itertools.count()
@@ -225,7 +226,7 @@ def try_not_twice(tally, help, capture):
     for name in ("from", "until"):
         option = f"--{name}=-1s"
         for words in (["in", "--repair"], ["-"], ["/dev/stdin"]):
-            for command, *others in (["cut", "-o", "out"], ["list"], ["info"], ["convert", "-o", "out"]):
+            for command, *others in (["cut", "-o", "out"], ["list"], ["info"], ["convert", "-o", "out"], ["merge", "in", "-o", "out"]):
                 if (command, "--repair") == ("list", words[-1]):
                     continue
                 with tempfile.TemporaryDirectory() as folder:
@@ -345,11 +346,12 @@ def try_both(tally, help):
     for words in (["list", "in", "--as-is", "--packets", "1"], ["info", "in", "--hash", "--bpf", "in"]):
         cutting.fails(tally, help, " ".join(words), {"in": b""}, words, USAGE, "error: ")
     both = "error: the capture and the filter can't both be standard input\n"
-    for words in (["list", "in", "-"], ["info", "-"], ["convert", "-", "-o", "out"]):
+    for words in (["list", "in", "-"], ["info", "-"], ["convert", "-", "-o", "out"], ["merge", "in", "-", "-o", "out"]):
         cutting.fails(tally, help, f"{words}, both from standard input", {"in": b""}, [*words, "--bpf", "-"], USAGE, both)
     held = {"in": sample(help)[1][0][0], "filter": FILTERS[0][0].encode()}
     said = "pcapfile: filter: is one of the inputs; choose another name for the output\n"
-    cutting.fails(tally, help, "convert, the filter itself", held, ["convert", "in", "--bpf", "filter", "-o", "filter"], FAILED, said)
+    for command in ("convert", "merge"):
+        cutting.fails(tally, help, f"{command}, the filter itself", held, [command, "in", "--bpf", "filter", "-o", "filter"], FAILED, said)
 
 
 def try_all(tally, help):

@@ -89,7 +89,7 @@ impl<'a> Task<'a> {
             Word::Convert => Task::Convert(conversion(rt, words)?),
             Word::Cut => Task::Cut(cutting(rt, words)?),
             Word::Join => Task::Join(joining(words)),
-            Word::Merge => Task::Merge(merging(words)),
+            Word::Merge => Task::Merge(merging(rt, words)?),
             Word::Sort => Task::Sort(sorting(words)),
             Word::Repair => Task::Repair(repairing(words)?),
         })
@@ -359,15 +359,16 @@ fn form(words: &ArgMatches) -> Option<Form> {
 }
 
 // Returns the arguments of the word `merge`.
-fn merging<'a>(words: &'a ArgMatches<'_>) -> Merge<'a> {
+fn merging<'a>(rt: &HostRuntime, words: &'a ArgMatches<'_>) -> Result<Merge<'a>, Refusal> {
     let out = words.get_str(words::OUT).unwrap_or_default();
-    Merge {
+    Ok(Merge {
         names: files(words),
         order: packet_order(words),
         to: format(words, out).unwrap_or(Format::PcapNg),
         out,
         as_is: is_repaired(words),
-    }
+        choice: choice(rt, words)?,
+    })
 }
 
 // Returns the order in which `merge` takes packets.

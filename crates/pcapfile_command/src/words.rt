@@ -147,7 +147,7 @@ it reads the bodies and options of all blocks.
 
 With --as-is the check goes on after an error. Each flaw of a packet, a section or an interface has a
 line with the index of the packet or block and the byte where it begins. Skipped bytes have a line too:
-the check skips corrupt bytes, such as blocks with a malformed frame, and packets or blocks of more than
+the check skips corrupt bytes, such as blocks with a malformed frame, and classic packets of more than
 16777216 bytes. It goes on where 'pcapfile repair' does.
 
 With --recursive FILE may be a folder. The command looks at each file in it, in the order of their names, and
@@ -260,7 +260,7 @@ A filter is a program of the classic BPF machine, as 'tcpdump -ddd EXPRESSION' p
 It sees the stored bytes of each packet, whatever its link type is. tcpdump makes programs for Ethernet
 unless -y names another link type.
 
-list, info and convert take the same tests: they read what cut would write of each capture.";
+list, info, convert and merge take the same tests: they read what cut would write of each capture.";
 
 const OUT_HELP: &str =
     "The output; - is standard output. A link is followed; a device or pipe is written to directly";
@@ -342,7 +342,10 @@ The output is written as OUT.part, and renamed to OUT when it is complete.
 
 A classic capture becomes what 'pcapfile convert' makes of that PcapNg capture: little-endian, with times in
 nanoseconds and the link type of the first interface. Packets without a place, other blocks and options are
-left out, and standard error says how many of each.";
+left out, and standard error says how many of each.
+
+With --packets, --from, --until, --min-len, --max-len, --interface or --bpf the command merges the captures
+that 'pcapfile cut' writes with the same tests. The tests apply to each capture by itself.";
 
 const APPEND_HELP: &str = "The captures one after another, and not ordered by time";
 
@@ -686,8 +689,8 @@ impl Word {
     // Returns the tests of packets that this word takes.
     fn tests<'a>(self) -> &'a [Row<'a>] {
         match self {
-            Word::Info | Word::List | Word::Convert | Word::Cut => TEST_ROWS,
-            Word::Check | Word::Join | Word::Merge | Word::Sort | Word::Repair => &[],
+            Word::Info | Word::List | Word::Convert | Word::Cut | Word::Merge => TEST_ROWS,
+            Word::Check | Word::Join | Word::Sort | Word::Repair => &[],
         }
     }
 
