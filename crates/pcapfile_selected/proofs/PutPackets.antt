@@ -38,9 +38,9 @@ counts_packet old mid interfaces block o0 o1 o2 len is_chosen chosen counts = re
 pub puts_packet : (old mid new : Choosing) (out out_now : Option (List ℕ)) (o0 o1 o2 : Outcome) (interfaces : List Interface) (block : Framed)
     (text : List ℕ) (result : Result (Unit {0}) PcapError) → is_packet block.type_ ≡ true → ChoosesPacket old mid interfaces block o0 o1 true
     → mid.changing ≡ old.changing → PutsText mid.changing interfaces block text out out_now result → AsksSame mid.changing new.changing
-    → new.sieve ≡ mid.sieve → OnOk result (CountsBytes (length text) o1 o2)
+    → new.sieve ≡ mid.sieve → new.asked ≡ mid.asked → OnOk result (CountsBytes (length text) o1 o2)
     → PutsLent (run old out o0) (run new out_now o2) interfaces block text result
-puts_packet old mid new out out_now o0 o1 o2 interfaces block text (Ok u) is chosen changing puts asks sieve counts =
+puts_packet old mid new out out_now o0 o1 o2 interfaces block text (Ok u) is chosen changing puts asks sieve asked counts =
     let wrote : WritesLent (run old out o0) (run new out_now o2) interfaces block text true =
     subst (λ (c : Changing). PutsText c interfaces block text out out_now (Ok u)) changing puts in
     record {
@@ -49,8 +49,9 @@ puts_packet old mid new out out_now o0 o1 o2 interfaces block text (Ok u) is cho
       wrote = subst (λ (b : Bool). WritesLent (run old out o0) (run new out_now o2) interfaces block text b) chosen.chosen wrote;
       counts = counts_packet old mid interfaces block o0 o1 o2 (length text) true chosen counts;
       asks = subst (λ (c : Changing). AsksSame c new.changing) changing asks;
+      asked = asked ∙ chosen.asked;
     }
-puts_packet old mid new out out_now o0 o1 o2 interfaces block text (Err e) is chosen changing puts asks sieve counts =
+puts_packet old mid new out out_now o0 o1 o2 interfaces block text (Err e) is chosen changing puts asks sieve asked counts =
     inr (subst (λ (c : Changing). PutsChanged c interfaces block text out out_now (Err e)) changing puts)
 
 -- A packet that was not chosen was left out.
@@ -63,4 +64,5 @@ leaves_packet old new out o0 o1 o2 interfaces block text is chosen changing coun
   wrote = subst (λ (b : Bool). WritesLent (run old out o0) (run new out o2) interfaces block text b) chosen.chosen (Keeps-refl out);
   counts = counts_packet old new interfaces block o0 o1 o2 (length text) false chosen counts;
   asks = subst (λ (c : Changing). AsksSame c new.changing) changing (record { shift = refl; most = refl });
+  asked = chosen.asked;
 }

@@ -76,6 +76,7 @@ pub record ChoosesPacket (old new : Choosing) (interfaces : List Interface) (blo
   pub decision : Decision
   pub decides : Decides new.sieve.tests old.sieve.recent new.sieve.recent interfaces (counted (before.packets + 1)) block decision
   pub chosen : is_chosen ≡ is_written decision
+  pub asked : new.asked ≡ old.asked
   pub packets : after.packets ≡ counted (before.packets + 1)
   pub bytes : after.bytes ≡ before.bytes
   pub duplicates : after.duplicates ≡ duplicates_after decision before.duplicates
@@ -92,6 +93,7 @@ pub record HandlesLent (old new : Run) (interfaces : List Interface) (block : Fr
   pub wrote : WritesLent old new interfaces block text (writes decision)
   pub counts : CountsLent decision (length text) old.outcome new.outcome
   pub asks : AsksSame old.choosing.changing new.choosing.changing
+  pub asked : new.choosing.asked ≡ old.choosing.asked
 
 -- A block was handled. Or memory ran out before it was written, or a write failed in it.
 abbrev pub PutsLent : Run → Run → List Interface → Framed → List ℕ → Result (Unit {0}) PcapError → Type 0
@@ -171,10 +173,11 @@ PassesBlock first a b (Ok true) =
 PassesBlock first a b (Ok false) = (b.outcome ≡ a.outcome) × (IsDone a.place b.place ⊎ HasReached first a b.place)
 PassesBlock first a b (Err e) = FailsAt a.place b.place e
 
--- The selection compares with the same packets, and makes the same changes.
+-- The selection has the same tests, compares with the same packets, and makes the same changes.
 pub record ChoosesSame (old new : Choosing) : Type 0 where
   pub recent : new.sieve.recent ≡ old.sieve.recent
   pub changing : new.changing ≡ old.changing
+  pub asked : new.asked ≡ old.asked
 
 -- The end of skipping before the packet of this number.
 abbrev pub EndsPassing : ℕ → Spot → Spot → ℕ → Result (Unit {0}) PcapError → Type 0

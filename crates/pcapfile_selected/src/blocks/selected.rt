@@ -71,6 +71,7 @@ impl<'a> Choosing<'a> {
     fn note_first(&mut self, alloc: Global, lent: Lent<'_>) -> ResultParsing<()>
         ensures recent { self.new.sieve.recent ≡ self.old.sieve.recent }
         ensures changing { self.new.changing ≡ self.old.changing }
+        ensures asked { self.new.asked ≡ self.old.asked }
         ensures memory { IfErr result IsMemory }
     {
         if self.first.is_some() || !self.asked.is_relative() {
@@ -143,6 +144,7 @@ impl<'a> Choosing<'a> {
             (W.contents output.old) (W.contents output.new) result }
         ensures asks { AsksSame self.old.changing self.new.changing }
         ensures sieve { self.new.sieve ≡ self.old.sieve }
+        ensures asked { self.new.asked ≡ self.old.asked }
         ensures counts { OnOk result (CountsBytes (length lent.entry.text.now) outcome.old outcome.new) }
     {
         let is_longer_simple = self.changing.leaves_longer(alloc, lent)?;

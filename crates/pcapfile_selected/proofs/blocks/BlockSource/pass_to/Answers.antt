@@ -9,7 +9,7 @@ loop-blocks-init g c = record {
   between = between_none _;
   counts = counts_none _ c.requires.within c.requires.within_bytes;
   below = inl refl;
-  same = record { recent = refl; changing = refl };
+  same = record { recent = refl; changing = refl; asked = refl };
   count = refl;
 }
 
@@ -23,7 +23,7 @@ loop-blocks-preserved g c =
       between = between_more _ _ _ i.passed (one.0 ∷ []) i.between one.1;
       counts = counts_more _ _ _ i.passed one.0 i.counts one.2;
       below = below_more _ _ _ i.passed one.0 i.below one.2 one.3;
-      same = record { recent = same.recent ∙ i.same.recent; changing = same.changing ∙ i.same.changing };
+      same = record { recent = same.recent ∙ i.same.recent; changing = same.changing ∙ i.same.changing; asked = same.asked ∙ i.same.asked };
       count = omega (arith, length-append i.passed (one.0 ∷ []), i.count);
     }
 

@@ -8,6 +8,7 @@ returns-clause-chooses c = record {
   decision = c.in_ok-decision.decision;
   decides = decided _ _ _ _ _ _ _ _ (framed_of c.args.lent.block.now) _ c.in_ok-decision.ensures.tests c.in_ok-note_first.ensures.recent (search rules) c.in_ok-decision.ensures.decides;
   chosen = search rules;
+  asked = search rules;
   packets = search rules;
   bytes = search rules;
   duplicates = search rules;
