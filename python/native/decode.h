@@ -131,7 +131,7 @@ static int decode_group(const OfRows *of, const pcapfile_row *rows, size_t count
     for (size_t i = 0; i < count; i++) {
         const uint8_t *bytes = bytes_of(of, &rows[i]);
         if (!bytes) return -2;
-        decode_packet(bytes, rows[i].len, rows[i].link, &group[i].decoded);
+        decode_packet(bytes, rows[i].len, pcapfile_link_type(rows[i].link), &group[i].decoded);
         Address source = source_of(&group[i].decoded), destination = destination_of(&group[i].decoded);
         fetch_slot(of->addresses[0], group[i].source = hash_of(of->addresses[0], &source));
         fetch_slot(of->addresses[1], group[i].destination = hash_of(of->addresses[1], &destination));

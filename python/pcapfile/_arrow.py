@@ -191,9 +191,10 @@ class _Batches:
         """Moves a struct to the address `to`, where the consumer owns it. Returns 0, or EIO if making the struct fails."""
         try:
             struct = made()
-        except Exception as error:
+        except BaseException as error:
+            # Also a KeyboardInterrupt: ctypes drops what a callback raises, and returns 0 to the consumer.
             self._arrow.error = error
-            self._said = ctypes.create_string_buffer(str(error).encode("utf-8", "replace"))
+            self._said = ctypes.create_string_buffer((str(error) or type(error).__name__).encode("utf-8", "replace"))
             return _EIO
         ctypes.memmove(to, ctypes.addressof(struct), ctypes.sizeof(struct))
         return 0
@@ -247,7 +248,7 @@ class Arrow:
 
     def __init__(self, begin: Callable[[], Iterator[Any]], columns: List[Column]) -> None:
         self.begin, self.columns = begin, columns
-        self.error: Optional[Exception] = None
+        self.error: Optional[BaseException] = None
 
     def schema(self) -> _Schema:
         children = [_schema(it.format, it.name, _NULLABLE if it.missing is not None or it.format == "u" else 0, []) for it in self.columns]

@@ -120,7 +120,7 @@ def _read(data: Any, begin: Any, rows: Any) -> Any:
     end = begin + rows["len"]
     for link in numpy.unique(rows["link"]).tolist():
         here = numpy.flatnonzero(rows["link"] == link)
-        kinds, places = _third_layer(link, data, begin[here], end[here])
+        kinds, places = _third_layer(link & 0xFFFF, data, begin[here], end[here])
         _read_ipv4(told, here, kinds, places, end[here], data)
         _read_ipv6(told, here, kinds, places, end[here], data)
     return told

@@ -10,7 +10,7 @@ from typing import Any, Callable, Iterator, NamedTuple, Optional
 
 from . import _columns, _library
 from ._common import Packets
-from ._errors import CaptureWarning, error_of, flaw_of
+from ._errors import CaptureError, CaptureWarning, error_of, flaw_of
 from ._extras import Wanted
 from ._rules import Rule
 from ._source import Source, Stretch
@@ -73,11 +73,22 @@ class Search:
         self._rule: Optional[Rule] = None
         self._text = ""
         self._has_ended = False
+        # Why the bytes end: the compressed ones are damaged or end early, or the file has become shorter.
+        self._refusal: Optional[CaptureError] = None
 
     def more(self, missing: int) -> bool:
         """Reads more bytes, as the window does. After the end it reads nothing."""
-        self._has_ended = self._has_ended or not self._window.more(missing)
+        if not self._has_ended:
+            try:
+                self._has_ended = not self._window.more(missing)
+            except CaptureError as error:
+                self._has_ended, self._refusal = True, error
         return not self._has_ended
+
+    def check_end(self) -> None:
+        """Raises the error with which the bytes ended, after everything before it was returned."""
+        if self._refusal is not None:
+            raise self._refusal
 
     def reach(self, length: int) -> bool:
         """Reads until so many bytes are left, and returns whether there are as many."""

@@ -136,7 +136,9 @@ class Indexed(Sequence[Any]):
             if packet is not None:
                 return packet
         # A walk raises the error if the bytes have changed.
-        return next(self._between(number, number + 1))
+        for packet in self._between(number, number + 1):
+            return packet
+        raise ValueError(f"packet {number} is no longer there: the file has changed")
 
     def _between(self, begin: int, end: int) -> Iterator[Any]:
         """Iterates over the packets from number `begin` to at least `end`."""

@@ -4,7 +4,7 @@ import os
 import stat
 import weakref
 from builtins import open as _open
-from typing import Any, Callable, Optional, Union
+from typing import Any, Callable, Dict, Optional, Tuple, Union
 
 from . import _arguments
 from ._as_is import CaptureAsIs
@@ -73,13 +73,15 @@ def open(
         if not _arguments.is_name(file):
             raise _arguments.wrong_type("file", file, "the name of a file if follow=True is given")
         file = Growing(file)
-    if not _arguments.is_name(file) and not isinstance(file, int):
+    if isinstance(file, int):
+        return _of_descriptor(file, strict, gaps)
+    if not _arguments.is_name(file):
         wanted = "a name, the number of a descriptor, or an object with `readinto` or `read`"
         return _of_stream(_arguments.stream("file", file, ("readinto", "read"), wanted), strict, gaps)
     stream = _open(file, "rb", buffering=0)
     status = os.fstat(stream.fileno())
     try:
-        if stat.S_ISREG(status.st_mode) and status.st_size > 0 and not isinstance(file, int):
+        if stat.S_ISREG(status.st_mode) and status.st_size > 0:
             return capture_of(File(stream), strict=strict, gaps=gaps)
         return capture_of(Stream(stream), strict=strict, gaps=gaps)
     except BaseException:
@@ -90,12 +92,34 @@ def open(
 # The streams that had too few bytes to show their format, and the bytes that were read from each.
 _BEGUN: "weakref.WeakKeyDictionary[Any, bytes]" = weakref.WeakKeyDictionary()
 
+# The same of descriptors, by their numbers and by the device and number of the file that each one is.
+_BEGUN_BY_NUMBER: Dict[Tuple[int, int, int], bytes] = {}
+
 
 def _decompressed(made: Callable[[Any], Any], source: Source) -> Stream:
     """Returns a stream of the decompressed bytes of a source. Closing it closes the source."""
     if isinstance(source, Stream):
         return Stream(Decompressed(made, bytes(source.data), source.into, source.close))
     return Stream(Decompressed(made, b"", source.raw().readinto, source.close))
+
+
+def _of_descriptor(number: int, strict: bool, gaps: bool) -> Union[Capture, BlockCapture]:
+    """Returns the capture in a descriptor, which belongs to the capture then. If the descriptor has no bytes yet, it stays open, and
+    the same call goes on with the bytes that this one read. After any other error it is closed."""
+    lent = _open(number, "rb", buffering=0, closefd=False)
+    status = os.fstat(number)
+    place = number, status.st_dev, status.st_ino
+    begun = Stream(lent, _BEGUN_BY_NUMBER.pop(place, b""))
+    try:
+        capture = capture_of(begun, strict=strict, gaps=gaps)
+    except BlockingIOError:
+        _BEGUN_BY_NUMBER[place] = bytes(begun.data)
+        raise
+    except BaseException:
+        os.close(number)
+        raise
+    begun.own(_open(number, "rb", buffering=0))
+    return capture
 
 
 def _of_stream(stream: Any, strict: bool, gaps: bool) -> Union[Capture, BlockCapture]:

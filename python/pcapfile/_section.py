@@ -3,7 +3,9 @@
 from typing import Any, Dict, Iterable, Iterator, Literal, Optional, Tuple, Union
 
 from . import _arguments, _library
+from ._columns import NO_LINK
 from ._interfaces import Interface, described
+from ._links import fcs_len, link_type
 from ._options import Block, Option
 from ._output import Output
 from ._rules import Rule
@@ -15,6 +17,9 @@ MAGICS = {"big": 0x1A2B3C4D, "little": 0x4D3C2B1A}
 
 # The codes of the options that describe an interface's clock, and the length of a section header's body without options.
 CLOCK, _HEAD = (9, 14), 16
+
+# The code of the option with the length of an interface's frame check sequences, in bits.
+FCS_LEN = 13
 
 # The clock of the interfaces that the Writer adds: the base and the exponent of the unit, and the seconds since 1970.
 _NANOSECONDS = (10, 9, 0)
@@ -111,9 +116,14 @@ class Section:
         self._output.front(text)
 
     def of_link(self, link: int, snaplen: int) -> int:
-        """Returns the number of the interface for a link type. It describes the interface first if necessary."""
+        """Returns the number of the interface for a link type, or for the number in a classic header, which may also declare a length
+        of the frame check sequence. It describes the interface first if necessary."""
+        if link == NO_LINK:
+            raise Unwritable(Rule.LINK_TOO_LARGE)
         if link not in self._numbers:
-            self._numbers[link] = self.add(link, snaplen)
+            length = fcs_len(link)
+            options = [] if length is None else [(FCS_LEN, bytes([8 * length]))]
+            self._numbers[link] = self.add(link_type(link), snaplen, options_in(self.order, options))
         return self._numbers[link]
 
     def keep_clock(self, number: int, interface: Interface) -> None:

@@ -122,9 +122,11 @@ class Walk:
 
     @property
     def state(self) -> Any:
-        """The state that the packets depend on: the section's byte order, and its interfaces."""
+        """The state that the packets depend on: the section's byte order, and its interfaces with the bodies of their blocks, which
+        have the names."""
         interfaces = {number: known.interface for number, known in self.known.items()}
-        return self.section.magic_number, self.section.interfaces, interfaces
+        bodies = [interface.block and bytes(interface.block.body) for interface in interfaces.values()]
+        return self.section.magic_number, self.section.interfaces, interfaces, bodies
 
     def over(self, window: Window) -> "Walk":
         """Returns a walk over other bytes of the same capture, with a copy of this walk's section and interfaces."""

@@ -9,7 +9,7 @@ from typing import Any, BinaryIO, NamedTuple, Optional, Tuple, Union
 from . import _arguments
 from ._extension import Open
 from ._streams import Stream
-from ._windows import Descriptor, Lent, Pieces, Window, room_of
+from ._windows import Descriptor, Lent, Piece, Pieces, Window, room_of
 
 Data = Union[bytes, bytearray, memoryview, mmap.mmap]
 
@@ -124,7 +124,7 @@ class File:
 
     def piece(self, begin: int, end: int) -> Window:
         """Returns a window over the few bytes between two offsets, which it reads at once."""
-        return Window(self.open, self.view(begin, end), begin)
+        return Piece(self.open, self.view(begin, end), begin, end)
 
     def mapped(self) -> Memory:
         """Returns the whole file as a mapping, for functions that need it in memory. The file must not become shorter meanwhile."""

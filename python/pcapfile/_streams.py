@@ -27,6 +27,10 @@ class Stream(Window):
         self._kind: Any = None
         self._walk: Optional[Iterator[Any]] = None
 
+    def own(self, stream: Any) -> None:
+        """Closes this stream at the end, instead of the one that it reads."""
+        self._stream = stream
+
     def window(self) -> Window:
         return self
 

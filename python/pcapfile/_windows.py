@@ -60,6 +60,20 @@ class Window:
         return False
 
 
+class Piece(Window):
+    """A window over the bytes of a file up to the offset `end`, which were read at once."""
+
+    def __init__(self, open: Any, data: memoryview, begin: int, end: int) -> None:
+        super().__init__(open, data, begin)
+        self._end = end
+
+    def more(self, missing: int) -> bool:
+        """Returns False. It raises `Incomplete` if the file has become shorter and no bytes are left."""
+        if self.left.len == 0 and self.offset < self._end:
+            raise Incomplete(self._end - self.offset, self.offset)
+        return False
+
+
 class Descriptor:
     """A duplicate of a file's descriptor. Another thread may close the file, and open another one under the original number."""
 

@@ -1,7 +1,7 @@
 """Bytes of captures, which functions of the library make, and the rules that they keep."""
 
 import ctypes
-from typing import Callable
+from typing import Any, Callable, Tuple
 
 from . import _library
 from ._output import Output
@@ -31,6 +31,9 @@ class Unwritable(ValueError):
         self.rule = _library.rule_name(number)
         self.text = _library.rule_text(number)
         super().__init__(f"{self.rule}: {self.text}")
+
+    def __reduce__(self) -> Tuple[Any, ...]:
+        return type(self), (int(self.number),)
 
 
 def check_lengths(stored: int, original: int) -> None:

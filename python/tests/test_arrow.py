@@ -151,6 +151,22 @@ class Arrow(unittest.TestCase):
             self.assertEqual((got["len"], said), ([3], "1 bytes are missing (at byte 43)"))
             self.assertIsInstance(arrow.error, pcapfile.Incomplete)
 
+    def test_an_interrupt_is_an_error_too(self):
+        class Interrupted:
+            def __init__(self):
+                self.left = [HEADER + packet(1, 0, b"abc")]
+
+            def read(self, count):
+                if not self.left:
+                    raise KeyboardInterrupt
+                return self.left.pop()
+
+        for _ in self.each_way():
+            arrow = pcapfile.open(Interrupted()).to_arrow()
+            _, said = taken(arrow)
+            self.assertEqual(said, "KeyboardInterrupt")
+            self.assertIsInstance(arrow.error, KeyboardInterrupt)
+
     def test_schema(self):
         capsule = pcapfile.parse(HEADER).to_arrow(names=True, data=True).__arrow_c_schema__()
         _, _, _, fields = schema_of(pointer_of(capsule, b"arrow_schema"))

@@ -84,6 +84,20 @@ class Compressed(unittest.TestCase):
                 got.append(each.seconds)
         self.assertEqual(got, [1, 2])
 
+    def test_lenient_reading_gives_all_before_a_truncated_end(self):
+        # The capture is damaged near its beginning. The search for the next packet reaches the truncated end.
+        for front, one in (
+            (HEADER, lambda n: packet(n, 0, b"abc")),
+            (SECTION + INTERFACE, lambda n: enhanced(0, n * 10**6, b"abc")),
+        ):
+            data = front + one(0) + b"\xee" * 40 + b"".join(map(one, range(1, 100)))
+            for name, compress in KINDS.items():
+                got = []
+                with self.subTest(name), self.assertRaisesRegex(pcapfile.CaptureError, "end early"):
+                    for found in pcapfile.parse(compress(data)[:-4], strict=False, gaps=True):
+                        got.append(found.length if isinstance(found, pcapfile.Gap) else found.seconds)
+                self.assertEqual(got, [0, 40, *range(1, 100)])
+
     def test_they_come_once_and_have_neither_parts_nor_numbers(self):
         self.path.write_bytes(gzip.compress(CLASSIC))
         with pcapfile.open(self.path) as capture:

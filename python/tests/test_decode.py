@@ -91,6 +91,11 @@ class Decoded(unittest.TestCase):
                 self.assertEqual(told(frame), [wanted])
                 self.assertEqual(frame["len"].tolist(), [len(data)])
 
+    def test_a_header_that_declares_frame_check_sequences(self):
+        header = struct.pack("<IHHiIII", 0xA1B2C3D4, 2, 4, 0, 0, 65535, 0x24000001)
+        with pcapfile.parse(header + packet(5, 0, CASES[0][1] + bytes(4))) as capture:
+            self.assertEqual(told(capture.to_pandas(decode=True)), [CASES[0][2]])
+
     def test_all_at_once(self):
         """Decodes packets of many interfaces, in memory, in a file and from a stream. Other bytes follow each packet's data."""
         links = sorted({link for link, _, _ in CASES})

@@ -137,6 +137,13 @@ class Extras(unittest.TestCase):
         self.assertEqual(got[1], [bytes([n % 256]) * (n % 60) for n in chosen])
         self.assertEqual(got[2], [n * 10**9 for n in chosen])
 
+    @unittest.skipIf(_columns.numpy is None, "numpy is missing")
+    def test_threads_over_interfaces_that_differ_by_their_names(self):
+        packets = b"".join(enhanced(0, n, bytes(60)) for n in range(2000))
+        with pcapfile.parse(SECTION + ETH0 + packets + SECTION + WLAN + packets) as capture:
+            (names,) = told(capture.columns(threads=3, names=True), "interface_name")
+        self.assertEqual(names, ["eth0"] * 2000 + ["wlan"] * 2000)
+
     @unittest.skipIf(pandas is None, "pandas is missing")
     def test_pandas(self):
         for opened in (pcapfile.parse, lambda data: pcapfile.open(io.BytesIO(data))):

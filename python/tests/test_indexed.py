@@ -112,6 +112,14 @@ class Indexes(unittest.TestCase):
                 with self.assertRaises(pcapfile.Incomplete) as told:
                     indexed[5]
                 self.assertEqual((told.exception.offset, told.exception.missing), (begin + 5 * each, 2))
+                os.truncate(self.path, begin + 5 * each)
+                self.assertEqual(bytes(indexed[4]), b"abcd")
+                for number in (5, 9, slice(3, 8), slice(7, 9), slice(9, None, -17)):
+                    with self.subTest(number=number):
+                        got = []
+                        with self.assertRaises(pcapfile.Incomplete):
+                            got = indexed[number]
+                            raise AssertionError(f"{got}")
 
     def test_many_interfaces_take_no_more_than_their_bytes_do(self):
         """The index keeps its state once for each section, and not once for each interface."""

@@ -67,6 +67,23 @@ class Links(unittest.TestCase):
                 writer.write_packet(packet)
         self.assertEqual(written.getvalue(), text)
 
+    def test_a_pcapng_capture_has_the_length_as_an_option(self):
+        text = header("<", 0x24000001) + struct.pack("<IIII", 7, 8, 4, 4) + b"abcd"
+        for ways in ("packets", "rows"):
+            written = io.BytesIO()
+            with pcapfile.parse(text) as capture, pcapfile.Writer(written, "pcapng", link=None) as writer:
+                if ways == "packets":
+                    for packet in capture:
+                        writer.write(packet)
+                else:
+                    for rows in capture.columns():
+                        writer.write_rows(rows, capture)
+            with pcapfile.parse(written.getvalue()) as capture:
+                self.assertEqual([(packet.link, packet.time_ns, bytes(packet)) for packet in capture], [(1, 7_000_008_000, b"abcd")])
+                (interface,) = capture.interfaces
+            # 4 bytes are 32 bits, as `pcapfile convert` writes them.
+            self.assertEqual([(it.code, bytes(it.value)) for it in interface.block.options], [(9, b"\x09"), (13, b"\x20")])
+
 
 if __name__ == "__main__":
     unittest.main()

@@ -149,6 +149,18 @@ class Waiting(unittest.TestCase):
                     self.assertEqual(next(iter(capture)).seconds, n)
         os.close(reads), os.close(writes)
 
+    def test_a_descriptor_that_does_not_wait(self):
+        for data in (HEADER + packet(1, 0, b"abc"), SECTION + INTERFACE + enhanced(0, 10**6, b"abc")):
+            out, into = os.pipe()
+            os.set_blocking(out, False)
+            os.write(into, data[:10])
+            self.assertRaises(BlockingIOError, pcapfile.open, out)
+            os.write(into, data[10:])
+            os.close(into)
+            with pcapfile.open(out) as capture:
+                self.assertEqual([(p.seconds, bytes(p)) for p in capture], [(1, b"abc")])
+            self.assertRaises(OSError, os.fstat, out)
+
 
 class Streams(unittest.TestCase):
     def test_pieces_of_any_size(self):

@@ -4,6 +4,7 @@ import datetime
 import gzip
 import io
 import os
+import pickle
 import shutil
 import struct
 import subprocess
@@ -120,6 +121,22 @@ class Writers(unittest.TestCase):
         self.assertEqual(file.getvalue(), before)
         writer.write(b"a", 1)
         self.assertEqual(file.getvalue(), before + enhanced(0, 10**9, b"a", 1))
+
+    def test_refusals_can_be_pickled(self):
+        refused = pcapfile.Unwritable(pcapfile.Rule.LINK_TOO_LARGE)
+        again = pickle.loads(pickle.dumps(refused))
+        self.assertEqual((type(again), again.number, again.rule, str(again)), (type(refused), refused.number, refused.rule, str(refused)))
+
+    def test_a_wrong_argument_leaves_a_file_as_it_was(self):
+        with tempfile.TemporaryDirectory() as room:
+            name = os.path.join(room, "capture.pcapng")
+            with open(name, "wb") as file:
+                file.write(SECTION)
+            for words in ({"link": 65536}, {"link": -1}, {"snaplen": 1 << 32}, {"byteorder": "middle"}, {"link": 65536, "max_bytes": 9}):
+                self.assertRaises(ValueError, pcapfile.Writer, name, **words)
+            with open(name, "rb") as file:
+                self.assertEqual(file.read(), SECTION)
+            self.assertEqual(os.listdir(room), ["capture.pcapng"])
 
     def test_what_every_reader_refuses_is_not_written(self):
         file = io.BytesIO()
@@ -372,7 +389,7 @@ class Writers(unittest.TestCase):
                 writer.write(b"abc", TIME, interface=first, comment="seen", options=[(4, struct.pack(mark + "Q", 5)), (1, "again")])
                 writer.write(b"abcd", TIME, interface=writer.add_interface(1, options=iter([(2, memoryview(b"xlo")[1:])])))
             # Each value follows from the drafts' layout of an option: code, length, value and zeros up to a multiple of 4.
-            texts = [(9, b"\x09"), (2, b"eth0"), (3, b"the first"), (13, b"\x04"), (12, b"Linux"), (1, b"hm")]
+            texts = [(9, b"\x09"), (2, b"eth0"), (3, b"the first"), (13, b"\x20"), (12, b"Linux"), (1, b"hm")]
             padded = [struct.pack(mark + "HH", code, len(value)) + value + bytes(-len(value) % 4) for code, value in texts]
             body = struct.pack(mark + "HHI", 113, 0, 96) + b"".join(padded) + bytes(4)
             self.assertIn(struct.pack(mark + "II", 1, len(body) + 12) + body + struct.pack(mark + "I", len(body) + 12), file.getvalue())
@@ -394,7 +411,7 @@ class Writers(unittest.TestCase):
                 self.assertRaises(ValueError, writer.add_interface, 1, options=[(code, b"\x06")])
             for argument in ("name", "description"):
                 self.assertRaises((TypeError, ValueError), writer.add_interface, 1, **{argument: b"eth0"})
-            self.assertRaises(ValueError, writer.add_interface, 1, fcs_len=256)
+            self.assertRaises(ValueError, writer.add_interface, 1, fcs_len=32)
             self.assertEqual(file.getvalue(), before)
         self.assertRaisesRegex(ValueError, "no place for options", writer.write, b"a", 1, comment="a")
         self.assertRaisesRegex(ValueError, "no blocks", writer.write_block, 5, b"")

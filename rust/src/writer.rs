@@ -167,7 +167,7 @@ pub struct BlockWriter<W> {
     made: Vec<(u32, u32, u32)>,
 }
 
-/// The option of an interface that declares the length of frame check sequences.
+/// The option of an interface that declares the length of frame check sequences, in bits.
 const FCS_LEN: u16 = 13;
 const INTERFACE: u32 = 1;
 const NANOSECOND: i128 = 1_000_000_000;
@@ -309,7 +309,7 @@ impl<W: Write> BlockWriter<W> {
             Some(made) => made.2,
             None => {
                 self.check_options(&options)?;
-                let fcs_len = crate::fcs_len(number).map(|len| [len]);
+                let fcs_len = crate::fcs_len(number).map(|len| [8 * len]);
                 let option = fcs_len.as_ref().map(|value| BlockOption { code: FCS_LEN, value });
                 let interface_id = self.add_interface_with(&Interface::nanoseconds(crate::link_type(number), 0), option)?;
                 self.made.push((packet.interface_id, number, interface_id));

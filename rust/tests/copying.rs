@@ -9,9 +9,9 @@ const NANOSECONDS: Header =
 /// A little-endian classic capture in microseconds, Ethernet with 4 bytes of check sequence, and a packet of 7 seconds and 8 microseconds.
 const CLASSIC: &[u8] = b"\xd4\xc3\xb2\xa1\x02\0\x04\0\0\0\0\0\0\0\0\0\xff\xff\0\0\x01\0\0\x24\
     \x07\0\0\0\x08\0\0\0\x03\0\0\0\x05\0\0\0abc";
-/// The same as a section, an interface of nanoseconds with if_fcslen (13), and an enhanced packet of 7000008000 nanoseconds.
+/// The same as a section, an interface of nanoseconds with if_fcslen (13) of 32 bits, and an enhanced packet of 7000008000 nanoseconds.
 const SECTION: &[u8] = b"\x0a\x0d\x0d\x0a\x1c\0\0\0\x4d\x3c\x2b\x1a\x01\0\0\0\xff\xff\xff\xff\xff\xff\xff\xff\x1c\0\0\0";
-const INTERFACE: &[u8] = b"\x01\0\0\0\x28\0\0\0\x01\0\0\0\0\0\0\0\x09\0\x01\0\x09\0\0\0\x0d\0\x01\0\x04\0\0\0\0\0\0\0\x28\0\0\0";
+const INTERFACE: &[u8] = b"\x01\0\0\0\x28\0\0\0\x01\0\0\0\0\0\0\0\x09\0\x01\0\x09\0\0\0\x0d\0\x01\0\x20\0\0\0\0\0\0\0\x28\0\0\0";
 
 fn enhanced(interface_id: u32, timestamp: u64, options: &[u8]) -> Vec<u8> {
     let len = (36 + options.len() as u32).to_le_bytes();
@@ -48,7 +48,7 @@ fn options_are_written() {
     let comment = OwnedOption::comment("hello");
     let mut writer = BlockWriter::with_options(Vec::new(), Section::LITTLE_ENDIAN, [comment.as_option()]).unwrap();
     let interface = Interface { link: 1, snaplen: 0, ts_base: 10, ts_exponent: 9, ts_offset: 0 };
-    writer.add_interface_with(&interface, [BlockOption { code: 13, value: &[4] }]).unwrap();
+    writer.add_interface_with(&interface, [BlockOption { code: 13, value: &[32] }]).unwrap();
     let packet = BlockPacket { interface_id: 0, timestamp: 5, original_len: 5, data: b"abc" };
     writer.write_packet_with(&packet, [BlockOption { code: 2, value: &[1, 0, 0, 0] }, BlockOption { code: 1, value: b"" }]).unwrap();
     writer.write_packet(&packet).unwrap();

@@ -12,6 +12,7 @@
  *   open -k [BYTES] FILE   the blocks: type, magic number, version and interfaces of the section, and bytes; after an interface its line
  *   open -l [BYTES] FILE   the packets and gaps of lenient reading: `packet STATUS RULE` and then as above, or
  *                          `gap OFFSET LENGTH STATUS RULE MISSING`. Bytes that are in neither must be blocks of another kind.
+ *   open -a FILE           the packets; a refused one as lenient reading gives it
  *   open -g                counts the packets and gaps of standard input by lenient reading, and prints the KiB too
  *   open -t STATUS         the text of this status
  *   open -s FILE           the status after the last packet
@@ -68,7 +69,7 @@ static ssize_t test_read(int descriptor, void *room, size_t len) {
 
 enum { MOST_BATCH = 16, REFUSED = 1, USAGE = 2, ENDED_EARLY = 3, NO_MEMORY = 4, DIFFERS = 5 };
 static size_t batch;
-static enum { PACKETS, HEAD, BLOCKS, AS_IS } what;
+static enum { PACKETS, HEAD, BLOCKS, AS_IS, MIXED } what;
 
 static int status_of(int32_t status) {
     switch (status) {
@@ -117,6 +118,13 @@ static int32_t print_found(FILE *out, pcapfile_reader *reader, uint64_t *end, pc
     fprintf(out, "packet %" PRId32 " %" PRIu32 " ", found.status, found.error.rule);
     print_any(out, &found.packet);
     return status;
+}
+
+/* Prints the next packet. If it is refused, lenient reading gives it. */
+static int32_t print_either(FILE *out, pcapfile_reader *reader, pcapfile_error *error) {
+    int32_t status = next(out, reader, error);
+    uint64_t end = pcapfile_offset(reader);
+    return status == PCAPFILE_INVALID ? print_found(out, reader, &end, error) : status;
 }
 
 static void print_interface(FILE *out, const pcapfile_interface *it) {
@@ -182,6 +190,7 @@ static int32_t print_block(FILE *out, pcapfile_reader *reader, pcapfile_error *e
 /* Prints what comes next: the head once, and then packets; or a block; or what lenient reading finds, whose end is `*end`. */
 static int32_t print_next(FILE *out, pcapfile_reader *reader, int *has_head, uint64_t *end, pcapfile_error *error) {
     if (what == AS_IS) return print_found(out, reader, end, error);
+    if (what == MIXED) return print_either(out, reader, error);
     if (what == BLOCKS) return print_block(out, reader, error);
     if (what == PACKETS || *has_head) return next(out, reader, error);
     int32_t status = print_head(out, reader, error);
@@ -353,6 +362,7 @@ int main(int argc, char **argv) {
     if (!strcmp(way, "-h")) what = HEAD;
     if (!strcmp(way, "-k")) what = BLOCKS;
     if (!strcmp(way, "-l")) what = AS_IS;
+    if (!strcmp(way, "-a")) what = MIXED;
     if ((!strcmp(way, "-h") || !strcmp(way, "-k") || !strcmp(way, "-l")) && argc == 4) most_read = strtoul(argv[2], NULL, 10);
     return batch > MOST_BATCH ? USAGE : list_reader(pcapfile_open(file));
 }

@@ -1,5 +1,5 @@
 -- The digests by which packets are compared with the packets before them.
-use Rattle.std.specs.Prelude.{◌++◌, ℕ, List, Bool, nat_eq}
+use Rattle.std.specs.Prelude.{◌++◌, ℕ, List, [], Bool, nat_eq, None, Some}
 use Rattle.std.specs.Int.{w32, to_be_bytes}
 use Rattle.std.specs.List.{list_any}
 use Rattle.std.specs.Cmp.Lexicographic.{pointwise}
@@ -25,8 +25,8 @@ is_among digest digests = list_any (λ (other : List ℕ). pointwise nat_eq othe
 
 -- The digests that are remembered, the oldest first.
 abbrev pub remembered : Recent → List (List ℕ)
-remembered recent = recent.digests.items
+remembered recent = elim recent.digests [ None ↦ [] | Some digests ↦ digests.items ]
 
 -- The most digests that are remembered.
 abbrev pub most_remembered : Recent → ℕ
-most_remembered recent = recent.digests.capacity
+most_remembered recent = elim recent.digests [ None ↦ 0 | Some digests ↦ digests.capacity ]

@@ -1,5 +1,5 @@
 -- Blocks whose packets keep at most a number of their bytes.
-use Rattle.std.specs.Prelude.{◌≡◌, ◌<◌, ◌≤◌, ◌++◌, ◌⊎◌, ℕ, List, length, take, Option, Result, Ok, Err}
+use Rattle.std.specs.Prelude.{◌≡◌, ◌<◌, ◌≤◌, ◌++◌, ◌⊎◌, ℕ, List, length, take, Bool, true, Option, Result, Ok, Err}
 use Rattle.std.specs.Io.KnownBytes.{Appends, Keeps}
 use Rattle.pcap_core.specs.declared.errors.PcapError.{PcapError}
 use Rattle.pcap_core.specs.Errors.{IsIo, IsMemory}
@@ -101,6 +101,11 @@ PutsShortened n raw text out out_now (Ok shortened) = (short : List ℕ) × Shor
 PutsShortened n raw text out out_now (Err e) =
     (IsMemory e × Keeps out out_now)
     ⊎ (IsIo e × (short : List ℕ) × (shortened : Shortened) × Shortens n raw short shortened × AppendsPart out out_now (text_after text short shortened))
+
+-- The flag of failed writes after a call: a failed write sets it, and without one it stays.
+abbrev pub NotesFailure : {A : Type 0} → Bool → Bool → Result A PcapError → Type 0
+NotesFailure old new (Ok a) = new ≡ old
+NotesFailure old new (Err e) = (IsMemory e × (new ≡ old)) ⊎ (IsIo e × (new ≡ true))
 
 -- The enhanced packet with the first n of its bytes.
 abbrev pub first_bytes : ℕ → Enhanced → Enhanced

@@ -5,7 +5,7 @@ ghost use Rattle.pcap_core.specs.Answer.{number_in};
 ghost use Rattle.pcap_core.specs.Codec.{number_bytes};
 ghost use Rattle.pcap_written.specs.Raw.{raw_of};
 ghost use Rattle.pcap_written.specs.Text.{padding};
-ghost use Rattle.pcapfile_cut.specs.ShortBlocks.{HasNoRoom, PartedText, PutsShortened, Shortens, ShortensIn, parted, short_body};
+ghost use Rattle.pcapfile_cut.specs.ShortBlocks.{HasNoRoom, NotesFailure, PartedText, PutsShortened, Shortens, ShortensIn, parted, short_body};
 
 use crate::changing::front_of;
 use byteorder::{BigEndian, ByteOrder, LittleEndian};
@@ -196,6 +196,7 @@ impl Shortening {
     ) -> ResultParsing<Shortened>
         ensures most { most_of self.new ≡ most_of self.old }
         ensures put { PutsShortened (most_of self.old) (raw_of block.entry) text.now (W.contents output.old) (W.contents output.new) result }
+        ensures noted { NotesFailure has_failed.old has_failed.new result }
     {
         let shortened = shorten(block, self.most, &mut self.body, &mut self.text)?;
         match shortened {

@@ -41,8 +41,8 @@ pub struct Outcome {
 }
 
 impl Outcome {
-    // Returns the outcome of a cut that has done nothing.
-    pub(crate) fn none() -> Outcome
+    /// Returns the outcome of a cut that has read and written nothing.
+    pub fn none() -> Outcome
         ensures { IsNew result }
     {
         Outcome {

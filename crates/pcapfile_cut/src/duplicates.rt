@@ -1,6 +1,6 @@
 //! Packets that have the length on the wire and the data of one of the packets before them.
 
-ghost use Rattle.std.specs.Prelude.{◌≡◌, ◌++◌, [], ◌∷◌, IfOk};
+ghost use Rattle.std.specs.Prelude.{◌≡◌, ◌<◌, ◌++◌, [], ◌∷◌, IfErr, IfOk};
 ghost use Rattle.circular_buffer.specs.Buffer.{keep_last};
 ghost use Rattle.pcapfile_cut.specs.Duplicates.{digest_with, is_among, most_remembered, remembered};
 
@@ -11,7 +11,8 @@ use std::alloc::{AllocError, Global};
 /// The SHA-256 digests of the last packets. Each takes 32 bytes.
 #[derive(Drop)]
 pub struct Recent {
-    pub(crate) digests: HeapCircularBuffer<[u8; 32]>,
+    /// `None` if no packet is remembered.
+    pub(crate) digests: Option<HeapCircularBuffer<[u8; 32]>>,
 }
 
 // Returns the digest of a packet with this length on the wire and this data.
@@ -25,13 +26,18 @@ fn digest_of(original_len: u32, bytes: &[u8]) -> [u8; 32]
 }
 
 impl Recent {
-    /// Returns a memory of at most this many packets, which has none yet.
+    /// Returns a memory of at most this many packets, which has none yet. That of no packet needs no memory.
     pub fn new(alloc: Global, most: u32) -> Result<Recent, AllocError>
         ensures none { IfOk result (λ recent. remembered recent ≡ []) }
         ensures most { IfOk result (λ recent. most_remembered recent ≡ most) }
+        ensures needed { IfErr result (λ _. 0 < most) }
     {
+        if most == 0 {
+            return Ok(Recent { digests: None });
+        }
+        let digests = HeapCircularBuffer::with_capacity(alloc, most as usize)?;
         Ok(Recent {
-            digests: HeapCircularBuffer::with_capacity(alloc, most as usize)?,
+            digests: Some(digests),
         })
     }
 
@@ -42,13 +48,13 @@ impl Recent {
         ensures next { remembered self.new ≡ keep_last (most_remembered self.old) (remembered self.old ++ digest_with original_len bytes.now ∷ []) }
         ensures most { most_remembered self.new ≡ most_remembered self.old }
     {
-        if self.digests.capacity() == 0 {
+        let Some(digests) = &mut self.digests else {
             return false;
-        }
+        };
         let digest = digest_of(original_len, bytes);
-        let (front, back) = self.digests.as_slices();
+        let (front, back) = digests.as_slices();
         let is_known = front.contains(&digest) || back.contains(&digest);
-        self.digests.push_back(digest);
+        digests.push_back(digest);
         is_known
     }
 }

@@ -34,7 +34,7 @@ pub struct PacketCutter<'a> {
 }
 
 impl<'a> PacketCutter<'a> {
-    ghost use Rattle.std.specs.Prelude.{IfErr, IfOk};
+    ghost use Rattle.std.specs.Prelude.{◌<◌, IfErr, IfOk};
     ghost use Rattle.pcap_core.specs.Errors.{IsMemory};
     ghost use Rattle.pcapfile_cut.specs.Steps.{Begins, StaysThat, StepsOnce, progress_of};
 
@@ -47,7 +47,7 @@ impl<'a> PacketCutter<'a> {
         selection: Selection<'a>,
     ) -> ResultParsing<PacketCutter<'a>>
         ensures begins { IfOk result (λ cutter. Begins opening.now selection.entry cutter) }
-        ensures memory { IfErr result IsMemory }
+        ensures memory { IfErr result (λ e. IsMemory e × (0 < selection.entry.dedup)) }
     {
         let recent = Recent::new(alloc, selection.dedup)?;
         Ok(PacketCutter {

@@ -1,3 +1,6 @@
+mod HeadTimes
 mod LeastFirst
 mod PutBlocks
 mod PutPackets
+mod Reading
+mod Spanning

@@ -1,11 +1,12 @@
 -- The blocks that a selection writes after changes.
-use Rattle.std.specs.Prelude.{◌≡◌, ◌⊎◌, ℕ, List, true, false, Option, None, Some, Result, Ok, Err, MatchOption, option_map}
+use Rattle.std.specs.Prelude.{◌≡◌, ◌≢◌, ◌+◌, ◌⊎◌, ℕ, List, length, nat_lt, Bool, true, false, Option, None, Some, Result, Ok, Err, MatchOption, option_map}
 use Rattle.std.specs.List.{slice_get}
 use Rattle.std.specs.Io.KnownBytes.{Appends, Keeps}
 use Rattle.pcap_core.specs.declared.errors.PcapError.{PcapError}
 use Rattle.pcap_core.specs.Errors.{IsIo, IsMemory}
 use Rattle.pcap_items.specs.Writing.{AppendsPart}
 use Rattle.pcap_times.specs.declared.clock.Clock.{Clock}
+use Rattle.pcap_blocks.specs.declared.block_type.BlockType.TheVariants as types
 use Rattle.pcap_blocks.specs.InterfaceDescription.{Interface}
 use Rattle.pcap_blocks.specs.InterfaceTimes.{IsClockOf}
 use Rattle.pcap_ng.specs.Frames.{Framed}
@@ -19,10 +20,13 @@ use Rattle.pcapfile_cut.specs.declared.block_moving.Moved.TheVariants as moves
 use Rattle.pcapfile_cut.specs.declared.block_shortening.Shortened.{Shortened}
 use Rattle.pcapfile_cut.specs.declared.block_shortening.Shortening.{Shortening}
 use Rattle.pcapfile_cut.specs.declared.moving.Shift.{Shift}
+use Rattle.pcapfile_cut.specs.declared.block_shortening.Shortened.TheVariants as shortens
+use Rattle.pcapfile_cut.specs.Cuts.{counted}
 use Rattle.pcapfile_cut.specs.MovedBlocks.{HasNoUnits, IsInUnits, Moves}
 use Rattle.pcapfile_cut.specs.ShortBlocks.{PutsShortened, most_of}
 use Rattle.pcapfile_selected.specs.declared.blocks.changed.Changed.{Changed}
 use Rattle.pcapfile_selected.specs.declared.blocks.changed.Changing.{Changing}
+use Rattle.pcapfile_selected.specs.declared.source.Exceptions.{Exceptions}
 use Rattle.pcapfile_selected.specs.Judging.{IsPacketOf}
 
 -- A change of times in units of an interface's clock, or none if it is no whole number of units that fits 64 bits.
@@ -89,3 +93,35 @@ PutsChanged changing interfaces block text out out_now (Err e) =
 pub record AsksSame (old new : Changing) : Type 0 where
   pub shift : new.shift ≡ old.shift
   pub most : most_in new.shortening ≡ most_in old.shortening
+
+-- A packet has more than so many bytes.
+abbrev pub is_longer : ℕ → Option InBlock → Bool
+is_longer most packet = elim packet [ None ↦ false | Some it ↦ nat_lt most (length it.bytes) ]
+
+-- The block is a simple packet with more bytes than are written of other packets, if a number is given.
+abbrev pub IsLongerSimple : Option ℕ → List Interface → Framed → Bool → Type 0
+IsLongerSimple None interfaces block is = is ≡ false
+IsLongerSimple (Some most) interfaces block is =
+    ((block.type_ ≢ types.SimplePacket) × (is ≡ false))
+    ⊎ ((block.type_ ≡ types.SimplePacket) × (packet : Option InBlock) × IsPacketOf interfaces block packet × (is ≡ is_longer most packet))
+
+-- The counts of packets whose time was not moved, after a block.
+abbrev pub exceptions_moved : Moved → Exceptions → Exceptions
+exceptions_moved moves.Malformed old = record old { unmoved_malformed = counted (old.unmoved_malformed + 1) }
+exceptions_moved moves.Unstated old = record old { unmoved = counted (old.unmoved + 1) }
+exceptions_moved _ old = old
+
+-- The count of packets with a malformed body that were not shortened, after a block.
+abbrev pub exceptions_shortened : Option Shortened → Exceptions → Exceptions
+exceptions_shortened (Some shortens.Malformed) old = record old { whole_malformed = counted (old.whole_malformed + 1) }
+exceptions_shortened _ old = old
+
+-- The count of longer simple packets after a block.
+abbrev pub exceptions_simple : Bool → Exceptions → Exceptions
+exceptions_simple true old = record old { whole_simple = counted (old.whole_simple + 1) }
+exceptions_simple false old = old
+
+-- The counts of packets that were not changed as the user asks, after a block.
+abbrev pub exceptions_changed : Changed → Bool → Exceptions → Exceptions
+exceptions_changed changed is_longer_simple old =
+    exceptions_simple is_longer_simple (exceptions_shortened changed.shortened (exceptions_moved changed.moved old))

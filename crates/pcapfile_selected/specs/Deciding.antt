@@ -13,6 +13,7 @@ use Rattle.pcapfile_cut.specs.Selections.{is_in}
 use Rattle.pcapfile_selected.specs.declared.blocks.deciding.Decision.{Decision}
 use Rattle.pcapfile_selected.specs.declared.blocks.deciding.Decision.TheVariants as to
 use Rattle.pcapfile_selected.specs.declared.blocks.judging.BlockTests.{BlockTests}
+use Rattle.pcapfile_selected.specs.declared.source.Exceptions.{Exceptions}
 use Rattle.pcapfile_selected.specs.declared.blocks.judging.Verdict.{Verdict}
 use Rattle.pcapfile_selected.specs.declared.blocks.judging.Verdict.TheVariants as verdicts
 use Rattle.pcapfile_selected.specs.Judging.{IsPacketOf, Judges}
@@ -82,3 +83,11 @@ pub record CountsDecision (decision : Decision) (old new : Outcome) : Type 0 whe
   pub packets : new.packets ≡ old.packets
   pub bytes : new.bytes ≡ old.bytes
   pub duplicates : new.duplicates ≡ duplicates_after decision old.duplicates
+  pub write_failed : new.write_failed ≡ old.write_failed
+
+-- The counts of packets to which a test did not apply, or that were not compared, after a packet.
+abbrev pub exceptions_after : Decision → Exceptions → Exceptions
+exceptions_after to.Malformed old = record old { malformed = counted (old.malformed + 1) }
+exceptions_after to.WithoutTime old = record old { without_time = counted (old.without_time + 1) }
+exceptions_after to.Uncompared old = record old { uncompared = counted (old.uncompared + 1) }
+exceptions_after _ old = old

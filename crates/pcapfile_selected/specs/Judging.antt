@@ -83,3 +83,12 @@ IsPacketOf interfaces block packet =
 -- The verdict on the packet in a block.
 abbrev pub Judges : BlockTests → List Interface → Framed → Verdict → Type 0
 Judges tests interfaces block verdict = (packet : Option InBlock) × IsPacketOf interfaces block packet × JudgesHeld tests interfaces packet verdict
+
+-- The time of the packet that a body holds. There is none if the body holds no packet, or one without a time.
+abbrev pub IsHeldTime : List Interface → Option InBlock → Option Timestamp → Type 0
+IsHeldTime interfaces None time = time ≡ None
+IsHeldTime interfaces (Some packet) time = IsTimeIn interfaces packet.interface packet.units time
+
+-- The time of the packet in a block. There is none if the body is malformed, or holds no packet with a time.
+abbrev pub IsBlockTime : List Interface → Framed → Option Timestamp → Type 0
+IsBlockTime interfaces block time = (packet : Option InBlock) × IsPacketOf interfaces block packet × IsHeldTime interfaces packet time

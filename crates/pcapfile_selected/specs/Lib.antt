@@ -1,5 +1,11 @@
+pub mod Ahead
 pub mod Asked
 pub mod Changing
 pub mod Deciding
 pub mod Judging
+pub mod Moments
+pub mod PacketTimes
 pub mod SelectedBlocks
+pub mod SpanBlocks
+pub mod SpanPackets
+pub mod Spans

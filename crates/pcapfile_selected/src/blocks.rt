@@ -1,26 +1,24 @@
 //! PcapNg captures that are read part by part.
 
 ghost use Rattle.std.specs.Prelude.{◌≡◌, length};
-ghost use Rattle.pcapfile_selected.specs.SelectedBlocks.{CountsBlock, CountsBytes, TriesPart, WritesSelected, place_of};
+ghost use Rattle.pcapfile_selected.specs.SelectedBlocks.{CountsBlock, CountsBytes, OpensBlocks, TriesPart, WritesSelected, exceptions_of, place_of, report};
+ghost use Rattle.pcapfile_selected.specs.SpanBlocks.{WritesSpan};
 ghost use Rattle.pcapfile_cut.specs.Cuts.{IsNew};
 
 mod changed;
 mod deciding;
 mod judging;
 mod selected;
+mod spanned;
 
 use crate::selecting::Tests;
-use crate::source::{Exceptions, Source, nothing};
+use crate::source::{Exceptions, Source};
 use crate::spans::Spans;
-use changed::lent_block;
 pub(crate) use judging::{BlockTests, Times};
-use pcap_file::pcapng::{BlockHeader, Timestamp};
 use pcap_file::{PcapNgReader, ResultParsing};
 use pcap_items::stream::put;
 use pcapfile_cut::{Outcome, Wanted};
-use pcapfile_run::holds_packet;
 pub(crate) use selected::Choosing;
-use selected::lent_time;
 use std::alloc::Global;
 use std::io;
 use std::io::{Read, Write};
@@ -35,7 +33,11 @@ pub struct BlockSource<R> {
 
 impl<R: Read + Drop> BlockSource<R> {
     /// Reads the first section header.
-    pub fn new(alloc: Global, input: R) -> ResultParsing<BlockSource<R>> {
+    ///
+    /// The errors are those of `PcapNgReader::new`.
+    pub fn new(alloc: Global, input: R) -> ResultParsing<BlockSource<R>>
+        ensures { OpensBlocks R.remaining input result }
+    {
         Ok(BlockSource {
             blocks: pcapfile_cut::BlockCutter::new(alloc, input)?,
             exceptions: Exceptions::default(),
@@ -54,31 +56,6 @@ impl<R: Read + Drop> BlockSource<R> {
         self.blocks.opening()
     }
 
-    // Writes the opening at this position, and the blocks before the first packet that the spans don't take.
-    fn put_span<W: Write>(
-        &mut self,
-        alloc: Global,
-        output: &mut W,
-        spans: &mut Spans,
-        outcome: &mut Outcome,
-    ) -> ResultParsing<()> {
-        put(output, &mut outcome.write_failed, self.in_force())?;
-        for _ in 0..u64::MAX {
-            let Some(header) = self.blocks.peek()? else {
-                break;
-            };
-            if holds_packet(header.type_) {
-                if !spans.takes(self.lent_time(alloc, header)?) {
-                    break;
-                }
-                outcome.packets = outcome.packets.saturating_add(1);
-            }
-            self.put_block(output, outcome)?;
-            let _ = self.blocks.pass()?;
-        }
-        Ok(())
-    }
-
     /// Writes one part: the opening at this position, and all blocks after it up to the last wanted number, except packets that fail a test
     /// or are duplicates. The packets are changed as the user asks. The opening is that before the packet of the first wanted number.
     ///
@@ -92,9 +69,9 @@ impl<R: Read + Drop> BlockSource<R> {
         tests: Tests<'_>,
     ) -> Outcome
         ensures { WritesSelected tests.entry (place_of R.remaining self.old) (place_of R.remaining self.new) (W.contents output.old)
-            (W.contents output.new) result }
+            (W.contents output.new) (report result (exceptions_of self.new)) }
     {
-        let mut outcome = nothing();
+        let mut outcome = Outcome::none();
         outcome.fault = self.put_tested(alloc, output, tests, &mut outcome).err();
         outcome.read_failed = self.blocks.reader().failed();
         self.exceptions.duplicates = outcome.duplicates;
@@ -111,20 +88,12 @@ impl<R: Read + Drop> BlockSource<R> {
     ) -> ResultParsing<()>
         requires { IsNew outcome.old }
         ensures { TriesPart tests.entry (place_of R.remaining self.old) (place_of R.remaining self.new) (W.contents output.old)
-            (W.contents output.new) outcome.new result }
+            (W.contents output.new) (report outcome.new (exceptions_of self.new)) result }
     {
         let mut choosing = Choosing::new(alloc, tests)?;
         let done = self.put_selected(alloc, output, tests.first(), &mut choosing, outcome);
         self.exceptions = choosing.exceptions();
         done
-    }
-
-    // Returns the time of the packet in the lent block, if it has one.
-    fn lent_time(&self, alloc: Global, header: BlockHeader) -> ResultParsing<Option<Timestamp>> {
-        let reader = self.blocks.reader();
-        let block = reader.block(header);
-        let lent = lent_block(reader, &block);
-        lent_time(alloc, lent)
     }
 
     fn put_block<W: Write>(&self, output: &mut W, outcome: &mut Outcome) -> ResultParsing<()> {
@@ -146,13 +115,11 @@ impl<R: Read + Drop> Source for BlockSource<R> {
         self.blocks.cut(output, wanted, others_follow)
     }
 
-    fn write_span<W: Write>(
-        &mut self,
-        alloc: Global,
-        output: &mut W,
-        spans: &mut Spans,
-    ) -> Outcome {
-        let mut outcome = nothing();
+    fn write_span<W: Write>(&mut self, alloc: Global, output: &mut W, spans: &mut Spans) -> Outcome
+        ensures { WritesSpan spans.old spans.new (place_of R.remaining self.old) (place_of R.remaining self.new) (W.contents output.old)
+            (W.contents output.new) result }
+    {
+        let mut outcome = Outcome::none();
         let done = self.put_span(alloc, output, spans, &mut outcome);
         outcome.fault = done.err();
         outcome.read_failed = self.blocks.reader().failed();
@@ -204,7 +171,7 @@ pub fn join_blocks<R: Read + Drop, W: Write>(
     in_force: &[u8],
     output: &mut W,
 ) -> Outcome {
-    let mut outcome = nothing();
+    let mut outcome = Outcome::none();
     outcome.fault = put_behind(alloc, part, in_force, output, &mut outcome).err();
     outcome.read_failed = part.blocks.reader().failed();
     outcome

@@ -2,6 +2,7 @@
 #![tactic(auto)]
 
 mod account;
+mod ahead;
 mod blocks;
 mod choice;
 mod filters;
@@ -19,7 +20,7 @@ pub use blocks::{BlockSource, join_blocks};
 pub use choice::{Choice, load_filter, tests_of};
 pub use selected::Selected;
 pub use selecting::{Selecting, Tests};
-pub use source::{Exceptions, PacketSource, Source, flushed, nothing};
+pub use source::{Exceptions, PacketSource, Source, flushed};
 pub use spans::Spans;
 pub use tell::tell_outcome;
 pub use times::{Moment, Zone, shift_of_text};

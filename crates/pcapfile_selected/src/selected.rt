@@ -5,7 +5,7 @@ ghost use Rattle.std.specs.Prelude.{None};
 use crate::account::Account;
 use crate::blocks::{BlockSource, Choosing};
 use crate::selecting::Tests;
-use crate::source::{Exceptions, PacketSource, Source, nothing};
+use crate::source::{Exceptions, PacketSource, Source};
 use capcopy_run::{Exit, Uninterrupted};
 use pcap_file::{PcapError, ResultParsing};
 use pcapfile_cut::{Outcome, PacketCutter};
@@ -108,7 +108,7 @@ impl<'a, R: Read + Drop> SelectedBlocks<'a, R> {
         let mut source = BlockSource::new(alloc, input)?;
         let place = source.opening_len();
         let mut choosing = Choosing::new(alloc, tests)?;
-        let mut outcome = nothing();
+        let mut outcome = Outcome::none();
         let fault = source
             .pass_to(alloc, tests.first(), &mut choosing, &mut outcome)
             .err();
@@ -138,7 +138,7 @@ impl<'a, R: Read + Drop> SelectedBlocks<'a, R> {
 
     // Returns the counts of the blocks that were read.
     fn outcome(&self) -> Outcome {
-        let mut outcome = nothing();
+        let mut outcome = Outcome::none();
         outcome.packets = self.outcome.packets;
         outcome.bytes = self.outcome.bytes;
         outcome.duplicates = self.outcome.duplicates;

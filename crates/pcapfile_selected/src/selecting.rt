@@ -1,10 +1,10 @@
 //! The packets that a user selects.
 
-ghost use Rattle.std.specs.Prelude.{◌≡◌, ◌||◌, is_some};
-ghost use Rattle.pcapfile_selected.specs.Asked.{AreAsked, IsLeastFirst, IsLesser};
+ghost use Rattle.std.specs.Prelude.{◌≡◌};
+ghost use Rattle.pcapfile_selected.specs.Asked.{AreAsked, AreAskedOfPackets, AreAskedWith, IsLeastFirst, IsLesser, from_nanoseconds, has_interface, is_latest_moment, is_relative, is_relative_moment, latest_of, needs_latest, time_of, times_asked, until_nanoseconds};
 
 use crate::blocks::{BlockTests, Times};
-use crate::times::{Moment, nanoseconds_of};
+use crate::times::{Moment, nanoseconds_since};
 use pcap_file::pcapng::Timestamp;
 use pcap_filter::Filter;
 use pcapfile_cut::{Changes, Range, Selection};
@@ -31,10 +31,10 @@ pub struct Selecting {
 
 impl Selecting {
     /// Returns whether a test depends on the latest time of a packet.
-    pub(crate) fn needs_latest(&self) -> bool {
-        [self.from, self.until]
-            .iter()
-            .any(|moment| matches!(moment, Some(Moment::BeforeLatest(_))))
+    pub(crate) fn needs_latest(&self) -> bool
+        ensures { result ≡ needs_latest self.now }
+    {
+        is_before_latest(self.from) || is_before_latest(self.until)
     }
 }
 
@@ -51,23 +51,53 @@ pub struct Tests<'a> {
 
 impl<'a> Tests<'a> {
     /// Returns whether a test depends on the time of the first packet.
-    pub(crate) fn is_relative(self) -> bool {
-        let Selecting { from, until, .. } = self.asked;
-        [*from, *until]
-            .iter()
-            .any(|moment| matches!(moment, Some(Moment::AfterFirst(_))))
-    }
-
-    // Returns whether a test depends on a packet's time.
-    fn has_times(self) -> bool
-        ensures { result ≡ is_some self.entry.asked.now.from || is_some self.entry.asked.now.until }
+    pub(crate) fn is_relative(self) -> bool
+        ensures { result ≡ is_relative self.entry }
     {
-        self.asked.from.is_some() || self.asked.until.is_some()
+        is_relative(self.asked.from) || is_relative(self.asked.until)
     }
 
-    /// Returns whether packets of this interface may be selected. All packets of a classic capture are of interface 0.
-    pub(crate) fn has_interface(self, number: u32) -> bool {
-        self.asked.interface.is_none_or(|it| it == number)
+    // Returns the times that are tested, if the user names one, given the first time.
+    fn times(self, first: Timestamp) -> Option<Times>
+        ensures { result ≡ times_asked self.entry first }
+    {
+        if self.asked.from.is_none() && self.asked.until.is_none() {
+            return None;
+        }
+        Some(Times {
+            from: self.time_of(self.asked.from, first),
+            until: self.time_of(self.asked.until, first),
+        })
+    }
+
+    // Returns the time of a moment, if the user names one, given the first time.
+    fn time_of(self, moment: Option<Moment>, first: Timestamp) -> Option<Timestamp>
+        ensures { result ≡ time_of self.entry moment first }
+    {
+        match moment {
+            None => None,
+            Some(moment) => Some(moment.time(first, self.latest(first))),
+        }
+    }
+
+    // Returns the latest time of a packet, or the first time if none is known.
+    fn latest(self, first: Timestamp) -> Timestamp
+        ensures { result ≡ latest_of self.entry first }
+    {
+        match self.latest {
+            None => first,
+            Some(latest) => latest,
+        }
+    }
+
+    // Returns whether packets of the interface with this number may be selected.
+    fn has_interface(self, number: u32) -> bool
+        ensures { result ≡ has_interface self.entry number }
+    {
+        match self.asked.interface {
+            None => true,
+            Some(wanted) => wanted == number,
+        }
     }
 
     /// Returns the first number of the ranges, or 1 if there are none.
@@ -79,53 +109,86 @@ impl<'a> Tests<'a> {
 
     /// Returns the tests of packets in blocks if the first packet with a time has the time `first`.
     pub(crate) fn in_blocks(self, first: Timestamp) -> BlockTests<'a>
-        ensures { AreAsked self.entry result }
+        ensures { AreAsked self.entry first result }
     {
-        let Selecting {
-            from,
-            until,
-            interface,
-            ..
-        } = self.asked;
-        let latest = self.latest.unwrap_or(first);
-        let times = Times {
-            from: from.map(|from| from.time(first, latest)),
-            until: until.map(|until| until.time(first, latest)),
-        };
         BlockTests {
             selection: self.selection(first),
-            interface: *interface,
-            times: if self.has_times() { Some(times) } else { None },
+            interface: self.asked.interface,
+            times: self.times(first),
         }
     }
 
-    /// Returns the tests of a classic capture's packets if the first one has this time.
-    pub(crate) fn selection(self, first: Timestamp) -> Selection<'a>
-        ensures numbers { result.numbers.now ≡ self.entry.asked.now.numbers.items }
-        ensures lengths { result.lengths ≡ self.entry.asked.now.lengths }
-        ensures filter { result.filter ≡ self.entry.filter }
-        ensures dedup { result.dedup ≡ self.entry.asked.now.dedup }
-        ensures changes { result.changes ≡ self.entry.asked.now.changes }
+    /// Returns the tests of a classic capture's packets if the first one has this time. All its packets are of interface 0.
+    pub(crate) fn of_packets(self, first: Timestamp) -> Selection<'a>
+        ensures { AreAskedOfPackets self.entry first result }
+    {
+        let mut selection = self.selection(first);
+        if !self.has_interface(0) {
+            selection.numbers = &[];
+        }
+        selection
+    }
+
+    // Returns the tests of packets of all interfaces if the first packet has this time.
+    fn selection(self, first: Timestamp) -> Selection<'a>
+        ensures { AreAskedWith self.entry.asked.now.numbers.items self.entry first result }
     {
         let Selecting {
             numbers,
-            from,
-            until,
             lengths,
             dedup,
             changes,
             ..
         } = self.asked;
-        let latest = self.latest.unwrap_or(first);
         Selection {
             numbers: numbers.as_slice(),
-            from: from.map_or(0, |from| nanoseconds_of(from.time(first, latest))),
-            until: until.map_or(u64::MAX, |until| nanoseconds_of(until.time(first, latest))),
+            from: from_nanoseconds(self.time_of(self.asked.from, first)),
+            until: until_nanoseconds(self.time_of(self.asked.until, first)),
             lengths: *lengths,
             filter: self.filter,
             dedup: *dedup,
             changes: *changes,
         }
+    }
+}
+
+// Returns whether a moment is one before the latest packet.
+fn is_before_latest(moment: Option<Moment>) -> bool
+    ensures { result ≡ is_latest_moment moment }
+{
+    match moment {
+        Some(Moment::BeforeLatest(_)) => true,
+        _ => false,
+    }
+}
+
+// Returns whether a moment is one after the first packet.
+fn is_relative(moment: Option<Moment>) -> bool
+    ensures { result ≡ is_relative_moment moment }
+{
+    match moment {
+        None => false,
+        Some(moment) => moment.is_after_first(),
+    }
+}
+
+// Returns the nanoseconds since 1970 from which packets are selected.
+fn from_nanoseconds(from: Option<Timestamp>) -> u64
+    ensures { result ≡ from_nanoseconds from }
+{
+    match from {
+        None => 0,
+        Some(time) => nanoseconds_since(time),
+    }
+}
+
+// Returns the nanoseconds since 1970 before which packets are selected.
+fn until_nanoseconds(until: Option<Timestamp>) -> u64
+    ensures { result ≡ until_nanoseconds until }
+{
+    match until {
+        None => u64::MAX,
+        Some(time) => nanoseconds_since(time),
     }
 }
 

@@ -1,22 +1,26 @@
 //! Captures of either format that are read part by part.
 
-ghost use Rattle.pcapfile_cut.specs.Cuts.{IsNew};
+ghost use Rattle.std.specs.Prelude.{◌≡◌};
+ghost use Rattle.std.specs.Io.KnownBytes.{Keeps};
+ghost use Rattle.pcap_classic.specs.Magic.{is_magic};
+ghost use Rattle.pcapfile_cut.specs.Cuts.{CutsPart};
+ghost use Rattle.pcapfile_cut.specs.Openings.{header_of};
+ghost use Rattle.pcapfile_selected.specs.PacketTimes.{IsFlushed, IsHeadTime, IsTimeUnder, unread};
+ghost use Rattle.pcapfile_selected.specs.SpanPackets.{joined};
 
+use crate::ahead::Ahead;
 use crate::selecting::Tests;
 use crate::spans::Spans;
-use crate::times::sum;
-use byteorder::{BigEndian, LittleEndian};
+use crate::times::time_with;
+use byteorder::{BigEndian, ByteOrder, LittleEndian};
 use pcap_file::pcap::PacketHeader;
 use pcap_file::pcapng::Timestamp;
-use pcap_file::{Endianness, PcapError, ResultParsing};
+use pcap_file::{Endianness, PcapError, ResultParsing, TsResolution};
 use pcap_items::stream::put;
 use pcapfile_cut::{Opening, Outcome, PacketCutter, Selection, Wanted, cut_more, cut_part};
 use std::alloc::Global;
 use std::io;
 use std::io::{BufRead, Read, Write};
-
-/// The length of a packet's header in a classic capture, in bytes.
-const HEAD: usize = 16;
 
 /// No packet.
 const NO_PACKET: Wanted = Wanted::Numbers { first: 1, last: 0 };
@@ -89,106 +93,194 @@ pub trait Source {
 #[derive(Drop)]
 pub struct PacketSource<R> {
     opening: Opening,
-    input: Rest<R>,
+    input: Ahead<R>,
     /// How many packets were left out or treated otherwise than the user asked.
     exceptions: Exceptions,
 }
 
 impl<R: BufRead + Drop> PacketSource<R> {
+    ghost use Rattle.std.specs.Prelude.{IfErr, IfOk, IfSome, IsTrue, OnOk, take};
+    ghost use Rattle.pcapfile_selected.specs.Ahead.{held_in};
+    ghost use Rattle.pcapfile_selected.specs.Asked.{is_relative};
+    ghost use Rattle.pcapfile_cut.specs.Steps.{StaysThat, StepsOnce, progress_of};
+    ghost use Rattle.pcapfile_selected.specs.PacketTimes.{BeginsAsked, IsNextTime, OpensPackets, SelectsAsked, input_of, opening_of};
+
     /// Reads the header.
-    pub fn new(mut input: R) -> ResultParsing<PacketSource<R>> {
+    ///
+    /// `InvalidField` if the magic number is none of the four. `IoError` if a read failed, or the stream ended early.
+    pub fn new(mut input: R) -> ResultParsing<PacketSource<R>>
+        ensures { OpensPackets R.remaining input result }
+    {
         let opening = Opening::read(&mut input, &mut false)?;
-        let input = Rest {
-            head: [0; HEAD],
-            next: 0,
-            end: 0,
-            input,
-        };
         Ok(PacketSource {
             opening,
-            input,
+            input: Ahead::new(input),
             exceptions: Exceptions::default(),
         })
     }
 
     /// Returns the capture's header.
-    pub fn opening(&self) -> &Opening {
+    pub fn opening(&self) -> &Opening
+        ensures { result.now ≡ opening_of self.now }
+    {
         &self.opening
     }
 
     // Returns the tests of the packets. If they depend on the time of the first packet, its header is read ahead.
-    fn selection<'a>(&mut self, tests: Tests<'a>) -> io::Result<Selection<'a>> {
-        if tests.is_relative() {
-            self.input.read_ahead()?;
-        }
-        let first = time_in(&self.opening, self.input.ahead()).unwrap_or(NO_TIME);
-        let mut selection = tests.selection(first);
-        if !tests.has_interface(0) {
-            selection.numbers = &[];
-        }
-        Ok(selection)
+    fn selection<'a>(&mut self, tests: Tests<'a>) -> io::Result<Selection<'a>>
+        ensures kept { Keeps (input_of R.remaining self.old) (input_of R.remaining self.new) }
+        ensures opening { opening_of self.new ≡ opening_of self.old }
+        ensures exceptions { self.new.exceptions ≡ self.old.exceptions }
+        ensures selects { IfOk result (λ selection. SelectsAsked tests.entry (header_of (opening_of self.old)) (input_of R.remaining self.old) selection) }
+        ensures needed { IfErr result (λ _. IsTrue (is_relative tests.entry)) }
+    {
+        let first = if tests.is_relative() {
+            self.next_time()?.unwrap_or(NO_TIME)
+        } else {
+            NO_TIME
+        };
+        Ok(tests.of_packets(first))
+    }
+
+    // Returns the time in the header of the next packet, which is read ahead. Returns None if the header is truncated or malformed.
+    fn next_time(&mut self) -> io::Result<Option<Timestamp>>
+        ensures kept { Keeps (input_of R.remaining self.old) (input_of R.remaining self.new) }
+        ensures opening { opening_of self.new ≡ opening_of self.old }
+        ensures exceptions { self.new.exceptions ≡ self.old.exceptions }
+        ensures time { IfOk result (λ time. IsNextTime (header_of (opening_of self.old)) (input_of R.remaining self.old) time) }
+        ensures ahead { OnOk result (IfSome (input_of R.remaining self.old) (λ bytes. held_in self.new.input ≡ take 16 bytes)) }
+    {
+        self.input.read_ahead()?;
+        Ok(time_in(&self.opening, self.input.held()))
     }
 
     /// Writes the opening, and returns a cut of the selected packets after it.
+    ///
+    /// `IoError` if the header of the first packet could not be read ahead, or a write failed. `OutOfMemory` if there is no memory for the
+    /// digests of the packets that duplicates are compared with.
     pub(crate) fn begin<'a, W: Write>(
         &mut self,
         alloc: Global,
         output: &mut W,
         tests: Tests<'a>,
-    ) -> ResultParsing<PacketCutter<'a>> {
+    ) -> ResultParsing<PacketCutter<'a>>
+        ensures begins { IfOk result (λ cutter. BeginsAsked tests.entry (opening_of self.old) (input_of R.remaining self.old) (W.contents output.old)
+            (W.contents output.new) cutter) }
+        ensures kept { Keeps (input_of R.remaining self.old) (input_of R.remaining self.new) }
+        ensures opening { opening_of self.new ≡ opening_of self.old }
+    {
         let selection = self.selection(tests)?;
         put(output, &mut false, self.opening.bytes())?;
         PacketCutter::new(alloc, &self.opening, selection)
     }
 
     /// Reads the next packet, and writes it if it is selected. Returns false if no further packet is wanted, or there is none.
+    ///
+    /// The errors are those of `PacketCutter`.
     pub(crate) fn put_next<W: Write>(
         &mut self,
         output: &mut W,
         cutter: &mut PacketCutter<'_>,
-    ) -> ResultParsing<bool> {
+    ) -> ResultParsing<bool>
+        ensures that { StaysThat cutter.old cutter.new }
+        ensures steps { StepsOnce cutter.old cutter.new (progress_of cutter.old (input_of R.remaining self.old) (W.contents output.old))
+            (progress_of cutter.new (input_of R.remaining self.new) (W.contents output.new)) result }
+        ensures opening { opening_of self.new ≡ opening_of self.old }
+    {
         cutter.put_next(&mut self.input, output)
     }
 
     /// Returns the input after the bytes that were read ahead.
     pub(crate) fn input(&self) -> &R {
-        &self.input.input
+        self.input.input()
+    }
+}
+
+impl<R: BufRead + Drop> PacketSource<R> {
+    ghost use Rattle.std.specs.Prelude.{◌<◌, ◌-◌, ◌^◌};
+    ghost use Rattle.pcapfile_selected.specs.PacketTimes.{input_of, opening_of};
+    ghost use Rattle.pcapfile_selected.specs.SpanPackets.{CutsPackets, StepsTaken, packet_run};
+
+    // Cuts packets until the part's span does not take the next one.
+    fn cut_all_taken<W: Write>(
+        &mut self,
+        alloc: Global,
+        output: &mut W,
+        spans: &mut Spans,
+        outcome: &mut Outcome,
+    )
+        ensures cuts { CutsPackets (header_of (opening_of self.old)) (packet_run spans.old (input_of R.remaining self.old) (W.contents output.old) outcome.old)
+            (packet_run spans.new (input_of R.remaining self.new) (W.contents output.new) outcome.new) }
+        ensures opening { opening_of self.new ≡ opening_of self.old }
+    {
+        let mut packets: u64 = 0;
+        while packets < u64::MAX {
+            if outcome.fault.is_some() {
+                return;
+            }
+            if !self.cut_taken(alloc, output, spans, outcome) {
+                return;
+            }
+            packets += 1;
+        }
+    }
+
+    // Reads the next packet, and writes it if the part's span takes it. Returns false if there is none, or the span does not take it.
+    fn cut_taken<W: Write>(
+        &mut self,
+        alloc: Global,
+        output: &mut W,
+        spans: &mut Spans,
+        outcome: &mut Outcome,
+    ) -> bool
+        ensures steps { StepsTaken (header_of (opening_of self.old)) (packet_run spans.old (input_of R.remaining self.old) (W.contents output.old) outcome.old)
+            (packet_run spans.new (input_of R.remaining self.new) (W.contents output.new) outcome.new) result }
+        ensures opening { opening_of self.new ≡ opening_of self.old }
+    {
+        let time = match self.next_time() {
+            Ok(time) => time,
+            Err(error) => {
+                *outcome = joined(outcome, unread(error));
+                return false;
+            }
+        };
+        if self.input.held().is_empty() {
+            return false;
+        }
+        if !spans.takes(time) {
+            return false;
+        }
+        let next = cut_more(alloc, &self.opening, &mut self.input, output, NEXT_PACKET);
+        *outcome = joined(outcome, next);
+        true
     }
 }
 
 impl<R: BufRead + Drop> Source for PacketSource<R> {
+    ghost use Rattle.std.specs.Prelude.{IfOk, IsTrue};
+    ghost use Rattle.std.specs.Io.KnownBytes.{IsAtEnd};
+    ghost use Rattle.pcapfile_selected.specs.PacketTimes.{WritesAsked, input_of, opening_of};
+    ghost use Rattle.pcapfile_selected.specs.SpanPackets.{WritesPacketSpan, packet_run};
+
     fn write_part<W: Write>(
         &mut self,
         alloc: Global,
         output: &mut W,
         wanted: Wanted<'_>,
         _others_follow: bool,
-    ) -> Outcome {
+    ) -> Outcome
+        ensures { CutsPart (opening_of self.old) wanted.entry (input_of R.remaining self.old) (input_of R.remaining self.new) (W.contents output.old)
+            (W.contents output.new) result }
+    {
         cut_part(alloc, &self.opening, &mut self.input, output, wanted)
     }
 
-    fn write_span<W: Write>(
-        &mut self,
-        alloc: Global,
-        output: &mut W,
-        spans: &mut Spans,
-    ) -> Outcome {
-        let (opening, input) = (&self.opening, &mut self.input);
-        let mut outcome = cut_part(alloc, opening, input, output, NO_PACKET);
-        for _ in 0..u64::MAX {
-            if outcome.fault.is_some() {
-                break;
-            }
-            if let Err(error) = input.read_ahead() {
-                return after(&outcome, unread(error));
-            }
-            let bytes = input.ahead();
-            if bytes.is_empty() || !spans.takes(time_in(opening, bytes)) {
-                break;
-            }
-            let next = cut_more(alloc, opening, input, output, NEXT_PACKET);
-            outcome = after(&outcome, next);
-        }
+    fn write_span<W: Write>(&mut self, alloc: Global, output: &mut W, spans: &mut Spans) -> Outcome
+        ensures { (begun : Outcome) × WritesPacketSpan (opening_of self.old) (packet_run spans.old (input_of R.remaining self.old) (W.contents output.old) begun)
+            (packet_run spans.new (input_of R.remaining self.new) (W.contents output.new) result) }
+    {
+        let mut outcome = cut_part(alloc, &self.opening, &mut self.input, output, NO_PACKET);
+        self.cut_all_taken(alloc, output, spans, &mut outcome);
         outcome
     }
 
@@ -197,7 +289,10 @@ impl<R: BufRead + Drop> Source for PacketSource<R> {
         alloc: Global,
         output: &mut W,
         tests: Tests<'_>,
-    ) -> Outcome {
+    ) -> Outcome
+        ensures { WritesAsked tests.entry (opening_of self.old) (input_of R.remaining self.old) (input_of R.remaining self.new) (W.contents output.old)
+            (W.contents output.new) result }
+    {
         let selection = match self.selection(tests) {
             Ok(selection) => selection,
             Err(error) => return unread(error),
@@ -209,8 +304,10 @@ impl<R: BufRead + Drop> Source for PacketSource<R> {
         outcome
     }
 
-    fn is_at_end(&mut self) -> io::Result<bool> {
-        Ok(self.input.ahead().is_empty() && self.input.input.fill_buf()?.is_empty())
+    fn is_at_end(&mut self) -> io::Result<bool>
+        ensures end { IfOk result (λ is. IsTrue is → IsAtEnd (input_of R.remaining self.old)) }
+    {
+        self.input.is_at_end()
     }
 
     fn exceptions(&self) -> Exceptions {
@@ -222,116 +319,52 @@ impl<R: BufRead + Drop> Source for PacketSource<R> {
     }
 }
 
-/// The bytes of the first packet's header that were read ahead, and then the rest of the input.
-#[derive(Drop)]
-struct Rest<R> {
-    head: [u8; HEAD],
-    /// The place of the next of these bytes.
-    next: usize,
-    /// The place where these bytes end.
-    end: usize,
-    input: R,
-}
-
-impl<R: Read> Rest<R> {
-    // Reads the header of the next packet ahead, or as much of it as there is, unless bytes of it were read before.
-    fn read_ahead(&mut self) -> io::Result<()> {
-        if self.ahead().is_empty() {
-            self.next = 0;
-            self.end = 0;
-            self.end = read_front(&mut self.input, &mut self.head)?;
-        }
-        Ok(())
-    }
-
-    // Returns the bytes that were read ahead and not taken.
-    fn ahead(&self) -> &[u8] {
-        self.head.get(self.next..self.end).unwrap_or_default()
-    }
-}
-
-impl<R: Read> Read for Rest<R> {
-    ghost use Rattle.std.specs.Prelude.{None};
-
-    ghost remaining = { λ stream. None };
-
-    fn read(&mut self, buf: &mut [u8]) -> io::Result<usize> {
-        let held = self.head.get(self.next..self.end).unwrap_or_default();
-        if held.is_empty() {
-            return self.input.read(buf);
-        }
-        let count = held.len().min(buf.len());
-        buf[..count].copy_from_slice(&held[..count]);
-        self.next = self.next.saturating_add(count);
-        Ok(count)
-    }
-}
-
-// Fills the buffer with the next bytes, and returns how many there are before the end.
-fn read_front<R: Read>(input: &mut R, buf: &mut [u8; HEAD]) -> io::Result<usize> {
-    let mut filled = 0;
-    for _ in 0..HEAD {
-        let came = input.read(buf.get_mut(filled..).unwrap_or_default())?;
-        if came == 0 {
-            break;
-        }
-        filled = filled.saturating_add(came);
-    }
-    Ok(filled)
-}
-
 // Returns the time in the header of a packet. Returns None if the header is truncated or malformed; a cut then stops there.
-fn time_in(opening: &Opening, bytes: &[u8]) -> Option<Timestamp> {
+fn time_in(opening: &Opening, bytes: &[u8]) -> Option<Timestamp>
+    ensures { IsHeadTime (header_of opening.now) bytes.now result }
+{
     let header = opening.header();
     let resolution = header.ts_resolution();
-    let head = match header.endianness() {
-        Endianness::Big => PacketHeader::from_slice::<BigEndian>(bytes, resolution),
-        Endianness::Little => PacketHeader::from_slice::<LittleEndian>(bytes, resolution),
-    };
-    let (_, head) = head.ok()?;
-    let seconds = Timestamp {
-        seconds: i128::from(head.ts_sec),
-        nanoseconds: 0,
-    };
-    let fraction = Timestamp {
-        seconds: 0,
-        nanoseconds: head.ts_nsec,
-    };
-    Some(sum(seconds, fraction))
+    match header.endianness() {
+        Endianness::Big => time_under::<BigEndian>(resolution, bytes),
+        Endianness::Little => time_under::<LittleEndian>(resolution, bytes),
+    }
+}
+
+// Returns the time in the header of a packet in this byte order. Returns None if the header is truncated or malformed.
+fn time_under<B: ByteOrder>(resolution: TsResolution, bytes: &[u8]) -> Option<Timestamp>
+    ensures { IsTimeUnder B.number_of resolution bytes.now result }
+{
+    match PacketHeader::from_slice::<B>(bytes, resolution) {
+        Ok((_, head)) => Some(time_with(i128::from(head.ts_sec), i64::from(head.ts_nsec))),
+        Err(_) => None,
+    }
 }
 
 // Returns the outcome of a part that this outcome of its first packets precedes.
-fn after(before: &Outcome, mut outcome: Outcome) -> Outcome {
-    outcome.packets = outcome.packets.saturating_add(before.packets);
-    outcome.bytes = outcome.bytes.saturating_add(before.bytes);
+fn joined(first: &Outcome, mut outcome: Outcome) -> Outcome
+    ensures { result ≡ joined first.now outcome }
+{
+    outcome.packets = outcome.packets.saturating_add(first.packets);
+    outcome.bytes = outcome.bytes.saturating_add(first.bytes);
     outcome
 }
 
 // Returns the outcome of a part whose first packet can't be read.
-fn unread(error: io::Error) -> Outcome {
-    let mut outcome = nothing();
+fn unread(error: io::Error) -> Outcome
+    ensures { result ≡ unread error }
+{
+    let mut outcome = Outcome::none();
     outcome.fault = Some(PcapError::IoError(error));
     outcome.read_failed = true;
     outcome
 }
 
-/// Returns the outcome of a part of which nothing is written.
-pub fn nothing() -> Outcome
-    ensures { IsNew result }
+/// Flushes the output, and returns the outcome of the part. It has the error of a failed call, unless it has another one.
+pub fn flushed<W: Write>(output: &mut W, mut outcome: Outcome) -> Outcome
+    ensures outcome { IsFlushed outcome result }
+    ensures kept { Keeps (W.contents output.old) (W.contents output.new) }
 {
-    Outcome {
-        packets: 0,
-        bytes: 0,
-        duplicates: 0,
-        unmoved: 0,
-        fault: None,
-        read_failed: false,
-        write_failed: false,
-    }
-}
-
-/// Flushes the output, and returns the outcome of the part.
-pub fn flushed<W: Write>(output: &mut W, mut outcome: Outcome) -> Outcome {
     if outcome.fault.is_none() {
         if let Err(error) = output.flush() {
             outcome.fault = Some(PcapError::IoError(error));

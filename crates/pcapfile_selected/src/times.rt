@@ -1,5 +1,8 @@
 //! The times that users give as arguments.
 
+ghost use Rattle.std.specs.Prelude.{◌≡◌, pos, ◌-ℤ◌};
+ghost use Rattle.pcapfile_selected.specs.Moments.{earlier, is_after_first, later, nanoseconds_since, time_at, time_with};
+
 use crate::ranges::number;
 use jiff::civil::DateTime;
 use jiff::tz::{SystemTimeZone, TimeZone, TimeZoneDatabase};
@@ -93,11 +96,23 @@ impl Moment {
     }
 
     /// Returns the time, if the first packet with a time has the time `first`, and the latest time of a packet is `latest`.
-    pub(crate) fn time(self, first: Timestamp, latest: Timestamp) -> Timestamp {
+    pub(crate) fn time(self, first: Timestamp, latest: Timestamp) -> Timestamp
+        ensures { result ≡ time_at self first latest }
+    {
         match self {
             Moment::At(time) => time,
-            Moment::AfterFirst(duration) => sum(first, duration),
-            Moment::BeforeLatest(duration) => difference(latest, duration),
+            Moment::AfterFirst(duration) => later(first, duration),
+            Moment::BeforeLatest(duration) => earlier(latest, duration),
+        }
+    }
+
+    /// Returns whether the moment depends on the time of the first packet.
+    pub(crate) fn is_after_first(self) -> bool
+        ensures { result ≡ is_after_first self }
+    {
+        match self {
+            Moment::AfterFirst(_) => true,
+            Moment::At(_) | Moment::BeforeLatest(_) => false,
         }
     }
 }
@@ -122,8 +137,10 @@ fn nanoseconds_in(text: &str) -> Option<u64> {
     nanoseconds.checked_add(u64::from(duration.nanoseconds))
 }
 
-/// Returns a time as nanoseconds since 1970: 0 for an earlier time, and the largest number for a time that is too late.
-pub(crate) fn nanoseconds_of(time: Timestamp) -> u64 {
+/// Returns a time as nanoseconds since 1970: 0 for an earlier time, and 2^64 - 1 for a time that is too late.
+pub(crate) fn nanoseconds_since(time: Timestamp) -> u64
+    ensures { result ≡ nanoseconds_since time }
+{
     if time.seconds < 0 {
         return 0;
     }
@@ -149,32 +166,32 @@ fn stamp(time: Instant) -> Timestamp {
     }
 }
 
-/// Returns the time that is later by this duration.
-pub(crate) fn sum(first: Timestamp, duration: Timestamp) -> Timestamp {
-    let nanoseconds = u64::from(first.nanoseconds).saturating_add(u64::from(duration.nanoseconds));
-    let carried = i128::from(nanoseconds / SECOND);
+/// Returns the time of so many seconds and nanoseconds. The nanoseconds may be negative, or a second and more.
+pub(crate) fn time_with(seconds: i128, nanoseconds: i64) -> Timestamp
+    ensures { result ≡ time_with seconds nanoseconds }
+{
+    let carried = nanoseconds.div_euclid(SECOND as i64);
+    let rest = nanoseconds.rem_euclid(SECOND as i64);
     Timestamp {
-        seconds: first
-            .seconds
-            .saturating_add(duration.seconds)
-            .saturating_add(carried),
-        nanoseconds: (nanoseconds % SECOND) as u32,
+        seconds: seconds.saturating_add(i128::from(carried)),
+        nanoseconds: rest.unsigned_abs() as u32,
     }
 }
 
-fn difference(latest: Timestamp, duration: Timestamp) -> Timestamp {
-    let seconds = latest.seconds.saturating_sub(duration.seconds);
-    if duration.nanoseconds <= latest.nanoseconds {
-        return Timestamp {
-            seconds,
-            nanoseconds: latest.nanoseconds.saturating_sub(duration.nanoseconds),
-        };
-    }
-    let above = latest.nanoseconds.saturating_add(SECOND as u32);
-    Timestamp {
-        seconds: seconds.saturating_sub(1),
-        nanoseconds: above.saturating_sub(duration.nanoseconds),
-    }
+// Returns the time that is later than this one by a duration.
+fn later(time: Timestamp, duration: Timestamp) -> Timestamp
+    ensures { result ≡ later time duration }
+{
+    let nanoseconds = i64::from(time.nanoseconds) + i64::from(duration.nanoseconds);
+    time_with(time.seconds.saturating_add(duration.seconds), nanoseconds)
+}
+
+// Returns the time that is earlier than this one by a duration.
+fn earlier(time: Timestamp, duration: Timestamp) -> Timestamp
+    ensures { result ≡ earlier time duration }
+{
+    let nanoseconds = i64::from(time.nanoseconds) - i64::from(duration.nanoseconds);
+    time_with(time.seconds.saturating_sub(duration.seconds), nanoseconds)
 }
 
 // Returns a duration: seconds with at most nine decimal places, or numbers with units such as `1h 30m`.

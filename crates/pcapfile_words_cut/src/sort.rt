@@ -3,13 +3,14 @@
 ghost use Rattle.std.specs.Prelude.{None};
 
 use capcopy_run::{Exit, Uninterrupted};
+use pcapfile_cut::Outcome;
 use pcapfile_files::{
     AT_FAULT, Console, FAILED, OUTPUT, STANDARD, Shown, USAGE, Watched, buffered, open_watched,
     tell_error, tell_exit, tell_io, tell_other_file, write_named,
 };
 use pcapfile_lenient::tell_unopened;
 use pcapfile_run::{Format, format_of};
-use pcapfile_selected::{nothing, tell_outcome};
+use pcapfile_selected::tell_outcome;
 use pcapfile_sort::{ReadAgain, Refusal, Sorted, sort_capture};
 use std::fs::File;
 use std::io;
@@ -145,7 +146,7 @@ fn tell_refused(console: &Console, asked: Sorting<'_>, refusal: Refusal) -> io::
         error,
         read_failed,
     } = refusal;
-    let mut outcome = nothing();
+    let mut outcome = Outcome::none();
     outcome.fault = Some(error);
     outcome.read_failed = read_failed;
     tell_outcome(console, asked.from, byte, asked.out, &outcome)

@@ -12,7 +12,8 @@ ghost use Rattle.pcap_ng.specs.Reader.{interfaces_in_force, text_of as text_in};
 ghost use Rattle.pcap_written.specs.Raw.{raw_of};
 ghost use Rattle.pcapfile_run.specs.BlockPackets.{packet_in};
 ghost use Rattle.pcapfile_cut.specs.MovedBlocks.{text_of};
-ghost use Rattle.pcapfile_selected.specs.Changing.{AsksSame, IsShiftOn, MovesBlock, MovesHeld, MovesIf, PutsChanged, PutsWithin, most_in, raw_behind, text_moved};
+ghost use Rattle.pcapfile_cut.specs.ShortBlocks.{NotesFailure};
+ghost use Rattle.pcapfile_selected.specs.Changing.{AsksSame, IsLongerSimple, IsShiftOn, MovesBlock, MovesHeld, MovesIf, PutsChanged, PutsWithin, is_longer, most_in, raw_behind, text_moved};
 
 use super::judging::parsed_in;
 use pcap_file::pcapng::{
@@ -96,6 +97,7 @@ impl Changing {
         ensures puts { PutsChanged self.old (map interface_of lent.entry.interfaces.now) (framed_of lent.entry.block.now) lent.entry.text.now
             (W.contents output.old) (W.contents output.new) result }
         ensures asks { AsksSame self.old self.new }
+        ensures noted { NotesFailure has_failed.old has_failed.new result }
     {
         let moved = self.move_packet(alloc, lent)?;
         let Changing {
@@ -113,6 +115,8 @@ impl Changing {
     ///
     /// `OutOfMemory` if there is no memory for the options of the block.
     pub(crate) fn leaves_longer(&self, alloc: Global, lent: Lent<'_>) -> ResultParsing<bool>
+        ensures leaves { IfOk result (λ is. IsLongerSimple (most_in self.now.shortening) (map interface_of lent.entry.interfaces.now)
+            (framed_of lent.entry.block.now) is) }
         ensures memory { IfErr result IsMemory }
     {
         let Some(shortening) = &self.shortening else {
@@ -121,12 +125,10 @@ impl Changing {
         if lent.block.type_ != BlockType::SimplePacket {
             return Ok(false);
         }
-        let Some(parsed) = parsed_in(alloc, lent.block)? else {
-            return Ok(false);
-        };
-        let most = shortening.most() as usize;
-        let packet = packet_in_body(lent.interfaces, &parsed);
-        Ok(packet.is_some_and(|packet| packet.bytes.len() > most))
+        match parsed_in(alloc, lent.block)? {
+            None => Ok(false),
+            Some(parsed) => Ok(is_longer(shortening.most(), lent.interfaces, &parsed)),
+        }
     }
 
     // Moves the time of a lent block's packet, if that is asked for.
@@ -144,6 +146,20 @@ impl Changing {
             return Ok(Moved::Untimed);
         }
         move_block(alloc, lent, shift, &mut self.moving)
+    }
+}
+
+// Returns whether the packet in a body has more than so many bytes.
+fn is_longer(
+    most: u32,
+    interfaces: &[InterfaceDescriptionBlock<'static>],
+    parsed: &ParsedBlock<'_>,
+) -> bool
+    ensures { result ≡ is_longer most (packet_in (map interface_of interfaces.now) (body_of parsed.now)) }
+{
+    match packet_in_body(interfaces, parsed) {
+        None => false,
+        Some(packet) => packet.bytes.len() > most as usize,
     }
 }
 
@@ -235,6 +251,7 @@ fn put_within<W: Write>(
 ) -> ResultParsing<Option<Shortened>>
     ensures puts { PutsWithin (most_in shortening.old) (raw_of block.entry) text.now (W.contents output.old) (W.contents output.new) result }
     ensures most { most_in shortening.new ≡ most_in shortening.old }
+    ensures noted { NotesFailure has_failed.old has_failed.new result }
 {
     match shortening {
         Some(shortening) => {

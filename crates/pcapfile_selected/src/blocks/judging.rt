@@ -7,7 +7,7 @@ ghost use Rattle.pcap_blocks.specs.ParsedBlock.{body_of};
 ghost use Rattle.pcap_ng.specs.Frames.{framed_of};
 ghost use Rattle.pcapfile_run.specs.BlockPackets.{in_block, packet_in};
 ghost use Rattle.pcapfile_run.specs.FormedLines.{IsClockTime, IsTimeIn};
-ghost use Rattle.pcapfile_selected.specs.Judging.{IsRead, IsWithin, Judges, JudgesHeld, JudgesPacket, passes, takes_interface};
+ghost use Rattle.pcapfile_selected.specs.Judging.{IsBlockTime, IsHeldTime, IsRead, IsWithin, Judges, JudgesHeld, JudgesPacket, passes, takes_interface};
 
 use pcap_file::pcapng::{Block, InterfaceDescriptionBlock, ParsedBlock, Timestamp};
 use pcap_file::{PcapError, ResultParsing};
@@ -166,8 +166,8 @@ fn time_by(interface: Option<&InterfaceDescriptionBlock<'static>>, units: u64) -
     }
 }
 
-/// Returns the time of a packet in a block, if it has one, given the interfaces of its section.
-pub(super) fn time_of(
+// Returns the time of a packet in a block, if it has one, given the interfaces of its section.
+fn time_of(
     interfaces: &[InterfaceDescriptionBlock<'static>],
     packet: BlockPacket<'_>,
 ) -> Option<Timestamp>
@@ -176,5 +176,35 @@ pub(super) fn time_of(
     match packet.units {
         None => None,
         Some(units) => time_by(interface_at(interfaces, packet.interface), units),
+    }
+}
+
+// Returns the time of the packet in a body, if it has one, given the interfaces of its section.
+fn body_time(
+    interfaces: &[InterfaceDescriptionBlock<'static>],
+    parsed: &ParsedBlock<'_>,
+) -> Option<Timestamp>
+    ensures { IsHeldTime (map interface_of interfaces.now) (packet_in (map interface_of interfaces.now) (body_of parsed.now)) result }
+{
+    match packet_in_body(interfaces, parsed) {
+        None => None,
+        Some(packet) => time_of(interfaces, packet),
+    }
+}
+
+/// Returns the time of the packet in a block, if it has one, given the interfaces of its section.
+///
+/// `OutOfMemory` if there is no memory for the options of the block.
+pub(super) fn block_time(
+    alloc: Global,
+    interfaces: &[InterfaceDescriptionBlock<'static>],
+    block: &Block<'_>,
+) -> ResultParsing<Option<Timestamp>>
+    ensures time { IfOk result (λ time. IsBlockTime (map interface_of interfaces.now) (framed_of block.now) time) }
+    ensures memory { IfErr result IsMemory }
+{
+    match parsed_in(alloc, block)? {
+        None => Ok(None),
+        Some(parsed) => Ok(body_time(interfaces, &parsed)),
     }
 }

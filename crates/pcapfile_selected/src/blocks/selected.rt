@@ -2,11 +2,13 @@
 
 ghost use Rattle.std.specs.Prelude.{◌≡◌, IfErr, IfOk};
 ghost use Rattle.pcap_core.specs.Errors.{IsMemory};
-ghost use Rattle.pcapfile_selected.specs.Asked.{AreAsked, has_reached};
+ghost use Rattle.pcapfile_selected.specs.Asked.{AreAsked, first_or_1970, has_reached};
+ghost use Rattle.pcapfile_selected.specs.Changing.{exceptions_changed, exceptions_moved, exceptions_shortened, exceptions_simple};
+ghost use Rattle.pcapfile_selected.specs.Deciding.{exceptions_after};
 
 use super::changed::{Changed, Changing, Lent, lent_block};
 use super::deciding::{Decision, Sieve};
-use super::judging::{parsed_in, time_of};
+use super::judging::block_time;
 use super::{BlockSource, count_block, pass_text};
 use crate::selecting::Tests;
 use crate::source::Exceptions;
@@ -14,7 +16,7 @@ use pcap_file::ResultParsing;
 use pcap_file::pcapng::{BlockHeader, Timestamp};
 use pcap_items::stream::put;
 use pcapfile_cut::{Moved, Outcome, Recent, Shortened};
-use pcapfile_run::{holds_packet, packet_in_body};
+use pcapfile_run::holds_packet;
 use std::alloc::Global;
 use std::io::{Read, Write};
 
@@ -34,22 +36,22 @@ pub(crate) struct Choosing<'a> {
     pub(crate) first: Option<Timestamp>,
     /// How many packets were left out or treated otherwise than the user asked.
     pub(crate) exceptions: Exceptions,
-    ghost tests: { AreAsked asked sieve.tests },
+    ghost tests: { AreAsked asked (first_or_1970 first) sieve.tests },
 }
 
 impl<'a> Choosing<'a> {
-    ghost use Rattle.std.specs.Prelude.{OnOk, length, map};
+    ghost use Rattle.std.specs.Prelude.{◌<◌, OnOk, length, map};
+    ghost use Rattle.pcapfile_selected.specs.Asked.{FindsFirst};
     ghost use Rattle.pcap_blocks.specs.InterfaceDescription.{interface_of};
     ghost use Rattle.pcap_ng.specs.Frames.{framed_of};
-    ghost use Rattle.pcapfile_selected.specs.Changing.{AsksSame};
-    ghost use Rattle.pcapfile_selected.specs.SelectedBlocks.{Begins, ChoosesPacket, CountsBytes, PutsLent, PutsText, run};
+    ghost use Rattle.pcapfile_selected.specs.SelectedBlocks.{Begins, ChangesOnly, ChoosesNone, ChoosesPacket, CountsText, PutsLent, PutsText, run};
 
     /// Returns the tests and the changes before the first block.
     ///
     /// `OutOfMemory` if there is no memory for the digests of the packets that duplicates are compared with.
     pub(crate) fn new(alloc: Global, asked: Tests<'a>) -> ResultParsing<Choosing<'a>>
         ensures begins { IfOk result (λ choosing. Begins asked.entry choosing) }
-        ensures memory { IfErr result IsMemory }
+        ensures memory { IfErr result (λ e. IsMemory e × (0 < asked.entry.asked.now.dedup)) }
     {
         let tests = asked.in_blocks(NO_TIME);
         let recent = Recent::new(alloc, tests.selection.dedup)?;
@@ -63,7 +65,9 @@ impl<'a> Choosing<'a> {
     }
 
     /// Returns how many packets were left out or treated otherwise than the user asked.
-    pub(crate) fn exceptions(&self) -> Exceptions {
+    pub(crate) fn exceptions(&self) -> Exceptions
+        ensures { result ≡ self.now.exceptions }
+    {
         self.exceptions
     }
 
@@ -72,12 +76,15 @@ impl<'a> Choosing<'a> {
         ensures recent { self.new.sieve.recent ≡ self.old.sieve.recent }
         ensures changing { self.new.changing ≡ self.old.changing }
         ensures asked { self.new.asked ≡ self.old.asked }
+        ensures exceptions { self.new.exceptions ≡ self.old.exceptions }
+        ensures finds { OnOk result (FindsFirst self.old.asked (map interface_of lent.entry.interfaces.now) (framed_of lent.entry.block.now)
+            self.old.first self.new.first) }
         ensures memory { IfErr result IsMemory }
     {
         if self.first.is_some() || !self.asked.is_relative() {
             return Ok(());
         }
-        if let Some(time) = lent_time(alloc, lent)? {
+        if let Some(time) = block_time(alloc, lent.interfaces, lent.block)? {
             self.first = Some(time);
             self.sieve.tests = self.asked.in_blocks(time);
         }
@@ -114,8 +121,7 @@ impl<'a> Choosing<'a> {
     ) -> ResultParsing<bool>
         ensures chooses { IfOk result (λ is_written. ChoosesPacket self.old self.new (map interface_of lent.entry.interfaces.now)
             (framed_of lent.entry.block.now) outcome.old outcome.new is_written) }
-        ensures memory { IfErr result IsMemory }
-        ensures changing { self.new.changing ≡ self.old.changing }
+        ensures fails { IfErr result (λ e. ChoosesNone self.old self.new outcome.old outcome.new e) }
     {
         outcome.packets = outcome.packets.saturating_add(1);
         self.note_first(alloc, lent)?;
@@ -140,12 +146,10 @@ impl<'a> Choosing<'a> {
         output: &mut W,
         outcome: &mut Outcome,
     ) -> ResultParsing<()>
-        ensures puts { PutsText self.old.changing (map interface_of lent.entry.interfaces.now) (framed_of lent.entry.block.now) lent.entry.text.now
-            (W.contents output.old) (W.contents output.new) result }
-        ensures asks { AsksSame self.old.changing self.new.changing }
-        ensures sieve { self.new.sieve ≡ self.old.sieve }
-        ensures asked { self.new.asked ≡ self.old.asked }
-        ensures counts { OnOk result (CountsBytes (length lent.entry.text.now) outcome.old outcome.new) }
+        ensures puts { PutsText (run self.old (W.contents output.old) outcome.old) (run self.new (W.contents output.new) outcome.new)
+            (map interface_of lent.entry.interfaces.now) (framed_of lent.entry.block.now) lent.entry.text.now result }
+        ensures keeps { ChangesOnly self.old self.new }
+        ensures counts { CountsText (length lent.entry.text.now) outcome.old outcome.new result }
     {
         let is_longer_simple = self.changing.leaves_longer(alloc, lent)?;
         let failed = &mut outcome.write_failed;
@@ -157,8 +161,10 @@ impl<'a> Choosing<'a> {
 }
 
 impl<R: Read + Drop> BlockSource<R> {
-    ghost use Rattle.std.specs.Prelude.{◌≤◌, ◌-◌, ◌^◌};
-    ghost use Rattle.pcapfile_selected.specs.SelectedBlocks.{ChoosesSame, Passes, PassesBlock, SelectsBlocks, SelectsNext, SelectsPart, place_of, run, spot};
+    ghost use Rattle.std.specs.Prelude.{◌≤◌, ◌-◌, ◌^◌, OnOk};
+    ghost use Rattle.pcap_file.specs.Placed.{is_packet};
+    ghost use Rattle.pcapfile_cut.specs.BlockCuts.{lent_by};
+    ghost use Rattle.pcapfile_selected.specs.SelectedBlocks.{ChoosesSame, NotesFirst, Passes, PassesBlock, SelectsBlocks, SelectsNext, SelectsPart, place_of, run, spot};
 
     // Writes the section header and the interfaces in force before the packet of the first number, and then all blocks up to the last
     // number, except packets that are not selected.
@@ -236,7 +242,8 @@ impl<R: Read + Drop> BlockSource<R> {
     ) -> ResultParsing<()>
         requires within { outcome.old.packets ≤ 2 ^ 64 - 1 }
         requires within_bytes { outcome.old.bytes ≤ 2 ^ 64 - 1 }
-        ensures passes { Passes first (spot (place_of R.remaining self.old) outcome.old) (spot (place_of R.remaining self.new) outcome.new) result }
+        ensures passes { Passes choosing.old.asked first (spot (place_of R.remaining self.old) outcome.old choosing.old.first)
+            (spot (place_of R.remaining self.new) outcome.new choosing.new.first) result }
         ensures chooses { ChoosesSame choosing.old choosing.new }
     {
         if first <= 1 {
@@ -260,7 +267,8 @@ impl<R: Read + Drop> BlockSource<R> {
         choosing: &mut Choosing<'_>,
         outcome: &mut Outcome,
     ) -> ResultParsing<bool>
-        ensures passes { PassesBlock first (spot (place_of R.remaining self.old) outcome.old) (spot (place_of R.remaining self.new) outcome.new) result }
+        ensures passes { PassesBlock choosing.old.asked first (spot (place_of R.remaining self.old) outcome.old choosing.old.first)
+            (spot (place_of R.remaining self.new) outcome.new choosing.new.first) result }
         ensures chooses { ChoosesSame choosing.old choosing.new }
     {
         let Some(header) = self.blocks.peek()? else {
@@ -284,6 +292,8 @@ impl<R: Read + Drop> BlockSource<R> {
         has_packet: bool,
         choosing: &mut Choosing<'_>,
     ) -> ResultParsing<()>
+        requires { has_packet ≡ is_packet header.type_ }
+        ensures first { OnOk result (NotesFirst choosing.old.asked (lent_by self.now.blocks header) choosing.old.first choosing.new.first) }
         ensures chooses { ChoosesSame choosing.old choosing.new }
         ensures memory { IfErr result IsMemory }
     {
@@ -304,8 +314,10 @@ fn has_reached(first: u64, has_packet: bool, packets: u64) -> bool
 }
 
 impl Exceptions {
-    // Counts a packet to which a test doesn't apply.
-    fn add(&mut self, decision: Decision) {
+    // Counts a packet to which a test doesn't apply, or that was not compared.
+    fn add(&mut self, decision: Decision)
+        ensures { self.new ≡ exceptions_after decision self.old }
+    {
         match decision {
             Decision::Malformed => self.malformed = self.malformed.saturating_add(1),
             Decision::WithoutTime => self.without_time = self.without_time.saturating_add(1),
@@ -315,32 +327,39 @@ impl Exceptions {
     }
 
     // Counts what the changes left as it was in a packet.
-    fn add_changed(&mut self, changed: Changed, is_longer_simple: bool) {
-        match changed.moved {
+    fn add_changed(&mut self, changed: Changed, is_longer_simple: bool)
+        ensures { self.new ≡ exceptions_changed changed is_longer_simple self.old }
+    {
+        self.add_moved(changed.moved);
+        self.add_shortened(changed.shortened);
+        self.add_simple(is_longer_simple);
+    }
+
+    fn add_moved(&mut self, moved: Moved)
+        ensures { self.new ≡ exceptions_moved moved self.old }
+    {
+        match moved {
             Moved::Malformed => {
                 self.unmoved_malformed = self.unmoved_malformed.saturating_add(1);
             }
             Moved::Unstated => self.unmoved = self.unmoved.saturating_add(1),
             Moved::Changed | Moved::Untimed => {}
         }
-        if let Some(Shortened::Malformed) = changed.shortened {
+    }
+
+    fn add_shortened(&mut self, shortened: Option<Shortened>)
+        ensures { self.new ≡ exceptions_shortened shortened self.old }
+    {
+        if let Some(Shortened::Malformed) = shortened {
             self.whole_malformed = self.whole_malformed.saturating_add(1);
         }
+    }
+
+    fn add_simple(&mut self, is_longer_simple: bool)
+        ensures { self.new ≡ exceptions_simple is_longer_simple self.old }
+    {
         if is_longer_simple {
             self.whole_simple = self.whole_simple.saturating_add(1);
         }
-    }
-}
-
-/// Returns the time of the packet in a lent block, if it has one.
-pub(super) fn lent_time(alloc: Global, lent: Lent<'_>) -> ResultParsing<Option<Timestamp>>
-    ensures memory { IfErr result IsMemory }
-{
-    let Some(parsed) = parsed_in(alloc, lent.block)? else {
-        return Ok(None);
-    };
-    match packet_in_body(lent.interfaces, &parsed) {
-        None => Ok(None),
-        Some(packet) => Ok(time_of(lent.interfaces, packet)),
     }
 }
