@@ -4,6 +4,7 @@ mod BlockParts
 mod ChangedPackets
 mod Chosen
 mod FrontCuts
+mod JoinedBlocks
 mod JoinedParts
 mod Passing
 mod Repeating

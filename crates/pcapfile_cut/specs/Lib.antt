@@ -5,6 +5,7 @@ pub mod Choice
 pub mod Cuts
 pub mod Duplicates
 pub mod Fronts
+pub mod JoinedBlocks
 pub mod Joins
 pub mod MovedBlocks
 pub mod Moves

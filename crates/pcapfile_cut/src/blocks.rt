@@ -1,7 +1,9 @@
 //! Cutting PcapNg captures.
 
-ghost use Rattle.std.specs.Prelude.{◌≡◌, ◌≤◌, ◌↔◌, ◌-◌, ◌^◌, [], false, None, IfOk, IsTrue};
+ghost use Rattle.std.specs.Prelude.{◌≡◌, ◌≤◌, ◌↔◌, ◌-◌, ◌^◌, [], false, true, None, IfErr, IfOk, IsTrue};
+ghost use Rattle.pcap_core.specs.Errors.{IsMemory};
 ghost use Rattle.pcapfile_cut.specs.Cuts.{IsNew};
+ghost use Rattle.pcapfile_cut.specs.JoinedBlocks.{JoinsBlocks, JoinsFrom, LosesLead, PutsLead, StepsLead, TakesLead, is_front};
 ghost use Rattle.pcapfile_cut.specs.BlockCuts.{Counts, CutsBlockPart, CutsFrom, CutsPartFrom, LendsNext, Opens, PassesNext, PeeksNext, Skips, StepsFrom, is_enough as enough, lent_by, place_of, point};
 
 use crate::cutting::Outcome;
@@ -112,6 +114,23 @@ impl<R: Read + Drop> BlockCutter<R> {
         outcome
     }
 
+    /// Appends this capture, which is a further part of another, to an output. `in_force` are the bytes with which a part would begin
+    /// behind that output. The blocks that the caller has already read or cut are not written.
+    ///
+    /// The lead is the opening, and the blocks after it for as long as `in_force` begins with it and has more. It is left out if it is
+    /// `in_force`. All blocks after it are written.
+    ///
+    /// The errors are those of `cut`, and `OutOfMemory` also if the lead can't be held.
+    pub fn join<W: Write>(&mut self, in_force: &[u8], output: &mut W) -> Outcome
+        ensures { JoinsBlocks in_force.now (place_of R.remaining self.old) (place_of R.remaining self.new) (W.contents output.old)
+            (W.contents output.new) result }
+    {
+        let mut outcome = Outcome::none();
+        outcome.fault = self.join_behind(in_force, output, &mut outcome).err();
+        outcome.read_failed = self.reader.failed();
+        outcome
+    }
+
     // Reads the next block unless one is pending, and returns its header. Returns None at the end of the capture.
     pub(crate) fn lend(&mut self) -> ResultParsing<Option<BlockHeader>>
         ensures next { LendsNext (place_of R.remaining self.old) (place_of R.remaining self.new) result }
@@ -217,6 +236,68 @@ impl<R: Read + Drop> BlockCutter<R> {
         put(output, &mut outcome.write_failed, self.repeated.opening())?;
         self.cut_blocks(output, wanted, others_follow, outcome)
     }
+
+    // Returns the bytes with which a part begins here.
+    fn copy_opening(&self) -> ResultParsing<Vec<u8>>
+        ensures bytes { IfOk result (λ opening. opening.items ≡ (place_of R.remaining self.now).opening) }
+        ensures memory { IfErr result IsMemory }
+    {
+        Ok(Vec::from_slice(self.alloc, self.repeated.opening())?)
+    }
+
+    // Appends the next block to the lead, and counts it. Returns false at the end of the capture.
+    fn lead_on(&mut self, lead: &mut Vec<u8>, outcome: &mut Outcome) -> ResultParsing<bool>
+        ensures { StepsLead lead.old.items lead.new.items (place_of R.remaining self.old) (place_of R.remaining self.new) outcome.old
+            outcome.new result }
+    {
+        let Some(header) = self.lend()? else {
+            return Ok(false);
+        };
+        lead.extend_from_slice(self.reader.text())?;
+        count(
+            outcome,
+            holds_packet(header.type_),
+            self.reader.text().len(),
+        );
+        self.pending = None;
+        Ok(true)
+    }
+
+    // Returns the bytes of the opening, and of the blocks after it for as long as `in_force` begins with them and has more.
+    fn read_lead(&mut self, in_force: &[u8], outcome: &mut Outcome) -> ResultParsing<Vec<u8>>
+        requires within { outcome.old.packets ≤ 2 ^ 64 - 1 }
+        requires within_bytes { outcome.old.bytes ≤ 2 ^ 64 - 1 }
+        ensures lead { IfOk result (λ lead. TakesLead in_force.now (place_of R.remaining self.old) (place_of R.remaining self.new) outcome.old
+            outcome.new lead.items) }
+        ensures fails { IfErr result (λ e. LosesLead in_force.now (place_of R.remaining self.old) (place_of R.remaining self.new) outcome.old
+            outcome.new e) }
+    {
+        let mut lead = self.copy_opening()?;
+        let mut blocks: u64 = 0;
+        while blocks < u64::MAX && begins_with(in_force, lead.as_slice()) {
+            if !self.lead_on(&mut lead, outcome)? {
+                return Ok(lead);
+            }
+            blocks += 1;
+        }
+        Ok(lead)
+    }
+
+    // Writes the lead unless it is `in_force`, and then all blocks after it.
+    fn join_behind<W: Write>(
+        &mut self,
+        in_force: &[u8],
+        output: &mut W,
+        outcome: &mut Outcome,
+    ) -> ResultParsing<()>
+        requires { IsNew outcome.old }
+        ensures { JoinsFrom in_force.now (point (place_of R.remaining self.old) (W.contents output.old) outcome.old)
+            (point (place_of R.remaining self.new) (W.contents output.new) outcome.new) result }
+    {
+        let lead = self.read_lead(in_force, outcome)?;
+        put_lead(in_force, lead.as_slice(), output, &mut outcome.write_failed)?;
+        self.cut_blocks(output, Wanted::All, false, outcome)
+    }
 }
 
 // Counts a block of this many bytes, and its packet if it has one.
@@ -236,4 +317,28 @@ fn is_enough(wanted: Wanted<'_>, packets: u64, bytes: u64) -> bool
         Wanted::Bytes(most) => 0 < packets && most <= bytes,
         Wanted::All | Wanted::Selected(_) => false,
     }
+}
+
+// Writes a lead unless it is `in_force`.
+fn put_lead<W: Write>(
+    in_force: &[u8],
+    lead: &[u8],
+    output: &mut W,
+    has_failed: &mut bool,
+) -> ResultParsing<()>
+    ensures wrote { PutsLead in_force.now lead.now (W.contents output.old) (W.contents output.new) result }
+    ensures told { IfOk result (λ done. has_failed.new ≡ has_failed.old) }
+    ensures failed { IfErr result (λ e. has_failed.new ≡ true) }
+{
+    if lead == in_force {
+        return Ok(());
+    }
+    put(output, has_failed, lead)
+}
+
+// Returns whether a text begins with these bytes, and has more.
+fn begins_with(text: &[u8], front: &[u8]) -> bool
+    ensures { result ≡ is_front text.now front.now }
+{
+    front.len() < text.len() && text.starts_with(front)
 }

@@ -10,6 +10,7 @@ pub mod MergeLaws
 pub mod Merges
 pub mod Renewing
 pub mod Reversing
+pub mod SectionOptions
 pub mod ShownTaken
 pub mod Steps
 pub mod StoredGiven

@@ -14,6 +14,7 @@ pub mod Packets
 pub mod Passing
 pub mod Renewing
 pub mod Reordered
+pub mod SectionOptions
 pub mod Sources
 pub mod Taking
 pub mod TakingBlocks

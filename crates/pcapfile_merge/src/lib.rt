@@ -16,6 +16,7 @@ mod parts;
 mod reader;
 mod renewed;
 mod reordered;
+mod section_options;
 mod source;
 mod stored;
 
@@ -25,4 +26,5 @@ pub use choice::{PacketOrder, next_source};
 pub use left_out::LeftOut;
 pub use merging::{Merged, merge_packets};
 pub use reader::Reader;
+pub use section_options::add_options;
 pub use source::Source;

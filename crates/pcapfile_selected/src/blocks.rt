@@ -16,7 +16,6 @@ use crate::source::{Exceptions, Source};
 use crate::spans::Spans;
 pub(crate) use judging::{BlockTests, Times};
 use pcap_file::{PcapNgReader, ResultParsing};
-use pcap_items::stream::put;
 use pcapfile_cut::{Outcome, Wanted};
 pub(crate) use selected::Choosing;
 use std::alloc::Global;
@@ -95,13 +94,6 @@ impl<R: Read + Drop> BlockSource<R> {
         self.exceptions = choosing.exceptions();
         done
     }
-
-    fn put_block<W: Write>(&self, output: &mut W, outcome: &mut Outcome) -> ResultParsing<()> {
-        let text = self.blocks.reader().text();
-        put(output, &mut outcome.write_failed, text)?;
-        pass_text(text, outcome);
-        Ok(())
-    }
 }
 
 impl<R: Read + Drop> Source for BlockSource<R> {
@@ -161,60 +153,4 @@ fn count_block(has_packet: bool, text: &[u8], outcome: &mut Outcome)
 {
     outcome.packets = outcome.packets.saturating_add(u64::from(has_packet));
     pass_text(text, outcome);
-}
-
-/// Appends the blocks of a further part to those that have these texts in force. The part's opening is left out if it is the
-/// same.
-pub fn join_blocks<R: Read + Drop, W: Write>(
-    alloc: Global,
-    part: &mut BlockSource<R>,
-    in_force: &[u8],
-    output: &mut W,
-) -> Outcome {
-    let mut outcome = Outcome::none();
-    outcome.fault = put_behind(alloc, part, in_force, output, &mut outcome).err();
-    outcome.read_failed = part.blocks.reader().failed();
-    outcome
-}
-
-fn put_behind<R: Read + Drop, W: Write>(
-    alloc: Global,
-    part: &mut BlockSource<R>,
-    in_force: &[u8],
-    output: &mut W,
-    outcome: &mut Outcome,
-) -> ResultParsing<()> {
-    let lead = lead_of(alloc, part, in_force, outcome)?;
-    if lead.as_slice() != in_force {
-        put(output, &mut outcome.write_failed, lead.as_slice())?;
-    }
-    for _ in 0..u64::MAX {
-        let Some(_) = part.blocks.pass()? else {
-            break;
-        };
-        part.put_block(output, outcome)?;
-    }
-    Ok(())
-}
-
-// Returns the texts of the part's first blocks, for as long as they match the texts in force.
-fn lead_of<R: Read + Drop>(
-    alloc: Global,
-    part: &mut BlockSource<R>,
-    in_force: &[u8],
-    outcome: &mut Outcome,
-) -> ResultParsing<Vec<u8>> {
-    let mut lead = Vec::from_slice(alloc, part.in_force())?;
-    for _ in 0..u64::MAX {
-        if lead.len() >= in_force.len() || !in_force.starts_with(lead.as_slice()) {
-            break;
-        }
-        let Some(_) = part.blocks.pass()? else {
-            break;
-        };
-        let text = part.blocks.reader().text();
-        pass_text(text, outcome);
-        lead.extend_from_slice(text)?;
-    }
-    Ok(lead)
 }

@@ -16,7 +16,7 @@ mod tell;
 mod times;
 
 pub use account::Account;
-pub use blocks::{BlockSource, join_blocks};
+pub use blocks::BlockSource;
 pub use choice::{Choice, load_filter, tests_of};
 pub use selected::Selected;
 pub use selecting::{Selecting, Tests};

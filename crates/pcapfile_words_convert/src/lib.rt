@@ -6,7 +6,6 @@ mod left_out;
 mod merge;
 mod opening;
 mod placing;
-mod sections;
 mod with_fcs;
 
 pub use convert::{Conversion, convert_file};

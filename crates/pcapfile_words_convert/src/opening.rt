@@ -2,13 +2,13 @@
 
 ghost use Rattle.pcapfile_merge.specs.Holding.{IsReady};
 
-use crate::sections::add_options;
 use pcap_file::pcap::PcapHeader;
 use pcap_file::pcapng::{
     InterfaceDescriptionBlock, InterfaceDescriptionOption, PcapNgWriter, SectionHeaderBlock,
 };
 use pcap_file::{LinkField, PcapError, ResultParsing};
-use pcapfile_merge::{PacketOrder, Reader, Source, merge_packets};
+use pcapfile_files::Shown;
+use pcapfile_merge::{PacketOrder, Reader, Source, add_options, merge_packets};
 use std::alloc::Global;
 use std::io::{Read, Write};
 
@@ -172,7 +172,10 @@ fn put_header<R: Read + Drop, W: Write + Drop>(
     let mut options = Vec::new(alloc);
     for (opened, name) in readers.iter().zip(names) {
         if let Some(body) = opened.header() {
-            add_options(alloc, name, body, &mut options)?;
+            let (_, section) = SectionHeaderBlock::from_slice(alloc, body)?;
+            let shown = Shown(name);
+            let name = format!(in alloc; "{shown}")?;
+            add_options(alloc, name.as_str(), section.options, &mut options)?;
         }
     }
     if options.is_empty() {

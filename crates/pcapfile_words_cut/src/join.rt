@@ -1,14 +1,14 @@
 //! The word `join`.
 
 use capcopy_run::Uninterrupted;
-use pcapfile_cut::{Joined, Opening, Wanted, join_part};
+use pcapfile_cut::{BlockCutter, Joined, Opening, Wanted, join_part};
 use pcapfile_files::{
     AT_FAULT, Console, OUTPUT, Shown, Watched, buffered, open_watched, tell_io, tell_other_file,
     write_named,
 };
 use pcapfile_lenient::tell_unopened;
 use pcapfile_run::{Format, format_of};
-use pcapfile_selected::{BlockSource, PacketSource, Source, join_blocks, tell_outcome};
+use pcapfile_selected::{PacketSource, Source, tell_outcome};
 use std::io;
 use std::io::{BufReader, BufWriter, Write};
 
@@ -54,14 +54,18 @@ fn join_parts<W: Write>(console: &Console, asked: &Joining, output: &mut W) -> i
         Format::Pcap => match PacketSource::new(input) {
             Ok(mut packets) => {
                 let opening = *packets.opening();
-                let status = write_first(console, asked, first, &mut packets, output)?;
+                let place = packets.opening_len();
+                let outcome = packets.write_part(console.alloc(), output, Wanted::All, false);
+                let status = tell_outcome(console, first, place, asked.out, &outcome)?;
                 join_packets(console, asked, others, &opening, status, output)
             }
             Err(error) => tell_unopened(console, first, &error),
         },
-        Format::PcapNg => match BlockSource::new(console.alloc(), input) {
+        Format::PcapNg => match BlockCutter::new(console.alloc(), input) {
             Ok(mut blocks) => {
-                let status = write_first(console, asked, first, &mut blocks, output)?;
+                let place = blocks.opening().len() as u64;
+                let outcome = blocks.cut(output, Wanted::All, false);
+                let status = tell_outcome(console, first, place, asked.out, &outcome)?;
                 join_others(console, asked, others, blocks, status, output)
             }
             Err(error) => tell_unopened(console, first, &error),
@@ -73,19 +77,6 @@ fn open(console: &Console, name: &str) -> io::Result<(Format, Input)> {
     let mut input = buffered(console.alloc(), open_watched(console, name)?)?;
     let format = format_of(&mut input)?;
     Ok((format, input))
-}
-
-// Writes the first part unchanged, and returns the exit status.
-fn write_first<S: Source, W: Write>(
-    console: &Console,
-    asked: &Joining,
-    name: &str,
-    source: &mut S,
-    output: &mut W,
-) -> io::Result<u8> {
-    let place = source.opening_len();
-    let outcome = source.write_part(console.alloc(), output, Wanted::All, false);
-    tell_outcome(console, name, place, asked.out, &outcome)
 }
 
 // Appends the packets of the other parts to the first, which was written with this status.
@@ -151,7 +142,7 @@ fn join_others<W: Write>(
     console: &Console,
     asked: &Joining,
     others: &[&str],
-    first: BlockSource<Input>,
+    first: BlockCutter<Input>,
     written: u8,
     output: &mut W,
 ) -> io::Result<u8> {
@@ -166,12 +157,12 @@ fn join_others<W: Write>(
             Ok((Format::Pcap, _)) => return tell_other_format(console, part),
             Err(error) => return tell_io(console, part, &error),
         };
-        let mut blocks = match BlockSource::new(console.alloc(), input) {
+        let mut blocks = match BlockCutter::new(console.alloc(), input) {
             Ok(blocks) => blocks,
             Err(error) => return tell_unopened(console, part, &error),
         };
-        let place = blocks.opening_len();
-        let outcome = join_blocks(console.alloc(), &mut blocks, before.in_force(), output);
+        let place = blocks.opening().len() as u64;
+        let outcome = blocks.join(before.opening(), output);
         status = tell_outcome(console, part, place, asked.out, &outcome)?;
         before = blocks;
     }
