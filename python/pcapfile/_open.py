@@ -56,7 +56,8 @@ def open(
     stream too.
 
     If a non-blocking stream has no bytes yet, reading raises a BlockingIOError. The same call or loop later goes on without
-    losing bytes.
+    losing bytes. A non-blocking named pipe or device must be given as an object, since another opening of it may get the same
+    number. For its number the call raises a ValueError, reads nothing, and leaves it open.
 
     With `follow=True` the capture is a file by its name that another process writes. At the end of the file, reading waits until
     it grows, so the capture ends only when another thread closes it. If the file becomes shorter, reading raises an OSError.
@@ -92,7 +93,7 @@ def open(
 # The streams that had too few bytes to show their format, and the bytes that were read from each.
 _BEGUN: "weakref.WeakKeyDictionary[Any, bytes]" = weakref.WeakKeyDictionary()
 
-# The same of descriptors, by their numbers and by the device and number of the file that each one is.
+# The same of sockets and of pipes without a name, by the number of the descriptor, and by the device and number of the file.
 _BEGUN_BY_NUMBER: Dict[Tuple[int, int, int], bytes] = {}
 
 
@@ -105,9 +106,13 @@ def _decompressed(made: Callable[[Any], Any], source: Source) -> Stream:
 
 def _of_descriptor(number: int, strict: bool, gaps: bool) -> Union[Capture, BlockCapture]:
     """Returns the capture in a descriptor, which belongs to the capture then. If the descriptor has no bytes yet, it stays open, and
-    the same call goes on with the bytes that this one read. After any other error it is closed."""
+    the same call goes on with the bytes that this one read. After any other error it is closed. It raises a ValueError, and leaves
+    the descriptor as it is, if the same call could not tell it from another opening of the file."""
     lent = _open(number, "rb", buffering=0, closefd=False)
     status = os.fstat(number)
+    if not (stat.S_ISREG(status.st_mode) or os.get_blocking(number) or _is_opened_once(status)):
+        wanted = f"give an object, for example os.fdopen({number}, 'rb', buffering=0)"
+        raise ValueError(f"file is {number}, the descriptor of a non-blocking named pipe or device; {wanted}")
     place = number, status.st_dev, status.st_ino
     begun = Stream(lent, _BEGUN_BY_NUMBER.pop(place, b""))
     try:
@@ -120,6 +125,19 @@ def _of_descriptor(number: int, strict: bool, gaps: bool) -> Union[Capture, Bloc
         raise
     begun.own(_open(number, "rb", buffering=0))
     return capture
+
+
+def _is_opened_once(status: os.stat_result) -> bool:
+    """Returns True for a socket, and for a pipe without a name: no later one gets the same device and number. All pipes without a
+    name are on one device, and a named pipe is on that of its folder."""
+    if not stat.S_ISFIFO(status.st_mode):
+        return stat.S_ISSOCK(status.st_mode)
+    ends = os.pipe()
+    try:
+        return status.st_dev == os.fstat(ends[0]).st_dev
+    finally:
+        for end in ends:
+            os.close(end)
 
 
 def _of_stream(stream: Any, strict: bool, gaps: bool) -> Union[Capture, BlockCapture]:

@@ -161,6 +161,92 @@ class Waiting(unittest.TestCase):
                 self.assertEqual([(p.seconds, bytes(p)) for p in capture], [(1, b"abc")])
             self.assertRaises(OSError, os.fstat, out)
 
+    def test_a_socket_by_its_number(self):
+        ours, theirs = socket.socketpair()
+        ours.setblocking(False)
+        number = ours.detach()
+        theirs.sendall(HEADER[:10])
+        self.assertRaises(BlockingIOError, pcapfile.open, number)
+        theirs.sendall(HEADER[10:] + packet(1, 0, b"abc"))
+        theirs.close()
+        with pcapfile.open(number) as capture:
+            self.assertEqual([bytes(p) for p in capture], [b"abc"])
+
+    def test_another_pipe_under_the_same_number(self):
+        out, into = os.pipe()
+        os.set_blocking(out, False)
+        os.write(into, HEADER[:10])
+        self.assertRaises(BlockingIOError, pcapfile.open, out)
+        os.close(out), os.close(into)
+        again, into = os.pipe()
+        self.assertEqual(again, out)
+        os.write(into, HEADER + packet(2, 0, b"def"))
+        os.close(into)
+        with pcapfile.open(again) as capture:
+            self.assertEqual([bytes(p) for p in capture], [b"def"])
+
+
+class NamedPipes(unittest.TestCase):
+    """A named pipe can be closed and opened again under the same number. The bytes of one opening never get into another one."""
+
+    def setUp(self):
+        room = tempfile.TemporaryDirectory()
+        self.addCleanup(room.cleanup)
+        self.path = os.path.join(room.name, "pipe")
+        os.mkfifo(self.path)
+
+    def ends(self):
+        """Opens the pipe, and returns the number of the end that is read without waiting, and that of the other end."""
+        return os.open(self.path, os.O_RDONLY | os.O_NONBLOCK), os.open(self.path, os.O_WRONLY)
+
+    def test_the_number_of_one_that_does_not_wait(self):
+        """The call refuses the number, reads nothing, and leaves the pipe open."""
+        out, into = self.ends()
+        os.write(into, HEADER[:10])
+        for _ in range(2):
+            self.assertRaisesRegex(ValueError, rf"file is {out}, .*os\.fdopen\({out}, ", pcapfile.open, out)
+        self.assertEqual(os.read(out, 100), HEADER[:10])
+        os.close(out), os.close(into)
+        again, into = self.ends()
+        self.assertEqual(again, out)
+        os.write(into, HEADER + packet(2, 0, b"def"))
+        os.close(into)
+        with pcapfile.open(os.fdopen(again, "rb", buffering=0)) as capture:
+            self.assertEqual([bytes(p) for p in capture], [b"def"])
+
+    def test_an_object_goes_on_and_another_one_begins_again(self):
+        for words in ({"buffering": 0}, {}):
+            out, into = self.ends()
+            given_up = os.fdopen(out, "rb", **words)
+            os.write(into, HEADER[:10])
+            self.assertRaises(BlockingIOError, pcapfile.open, given_up)
+            given_up.close(), os.close(into)
+            again, into = self.ends()
+            self.assertEqual(again, out)
+            stream, data = os.fdopen(again, "rb", **words), HEADER + packet(2, 0, b"def")
+            for begin in range(0, len(HEADER), 8):
+                self.assertRaises(BlockingIOError, pcapfile.open, stream)
+                os.write(into, data[begin : begin + 8])
+            os.write(into, data[len(HEADER) :])
+            os.close(into)
+            with pcapfile.open(stream) as capture:
+                self.assertEqual([bytes(p) for p in capture], [b"def"])
+
+    def test_the_number_of_one_that_waits(self):
+        out, into = self.ends()
+        os.set_blocking(out, True)
+        os.write(into, HEADER + packet(1, 0, b"abc"))
+        os.close(into)
+        with pcapfile.open(out) as capture:
+            self.assertEqual([bytes(p) for p in capture], [b"abc"])
+
+    def test_the_number_of_a_file_that_does_not_wait(self):
+        path = self.path + ".pcap"
+        with open(path, "wb") as file:
+            file.write(HEADER + packet(1, 0, b"abc"))
+        with pcapfile.open(os.open(path, os.O_RDONLY | os.O_NONBLOCK)) as capture:
+            self.assertEqual([bytes(p) for p in capture], [b"abc"])
+
 
 class Streams(unittest.TestCase):
     def test_pieces_of_any_size(self):
