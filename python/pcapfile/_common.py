@@ -195,11 +195,17 @@ class Packets(Tables):
         raise NotImplementedError
 
     def __repr__(self) -> str:
+        if self._is_closed:
+            return f"<{self.format} capture, closed>"
         return f"<{self.format} capture, {'a stream' if self.is_stream else f'{self._length} bytes'}>"
 
     def _repr_html_(self) -> str:
         """Returns what a notebook shows of the capture."""
         return shown_as_html(self)
+
+    @property
+    def _is_closed(self) -> bool:
+        return bool(self._source.open.is_closed)
 
     @property
     def _length(self) -> int:

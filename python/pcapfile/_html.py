@@ -12,10 +12,12 @@ _PACKETS, _INTERFACES, _BYTES = 5, 10, 16
 
 def shown_as_html(capture: Any) -> str:
     """Returns a description of the capture as HTML, with its first packets. It leaves out the packets of a stream, since they
-    come only once."""
+    come only once, and the interfaces and packets of a closed capture."""
     links = f", link type {capture.link}" if capture.format == "pcap" else ""
-    told = [f"<p>{html.escape(repr(capture)[1:-1] + links)}</p>", *_interfaces(capture)]
-    return "".join(told if capture.is_stream else told + _packets(capture))
+    told = [f"<p>{html.escape(repr(capture)[1:-1] + links)}</p>"]
+    if not capture._is_closed:
+        told += _interfaces(capture) + ([] if capture.is_stream else _packets(capture))
+    return "".join(told)
 
 
 def _interfaces(capture: Any) -> List[str]:

@@ -206,6 +206,19 @@ class Packets(unittest.TestCase):
         self.assertIn("a stream", stream._repr_html_())
         self.assertEqual(len(list(stream)), 1)
 
+    def test_what_a_closed_capture_shows(self):
+        classic, blocks = HEADER + packet(7, 0, b"abc"), SECTION + NAMED + COMMENTED
+        with tempfile.TemporaryDirectory() as room:
+            for data, wanted, link in ((classic, "pcap capture, closed", ", link type 1"), (blocks, "pcapng capture, closed", "")):
+                path = Path(room, "capture")
+                path.write_bytes(data)
+                for strict in (True, False):
+                    for opened, source in ((pcapfile.parse, data), (pcapfile.open, path), (pcapfile.open, io.BytesIO(data))):
+                        with opened(source, strict=strict) as capture:
+                            self.assertNotIn("closed", repr(capture) + capture._repr_html_())
+                        self.assertEqual(repr(capture), f"<{wanted}>")
+                        self.assertEqual(capture._repr_html_(), f"<p>{wanted}{link}</p>")
+
 
 if __name__ == "__main__":
     unittest.main()
