@@ -195,12 +195,15 @@ def _is_row_of_blocks(window: Window, section: _library.Section, left: memoryvie
     return True
 
 
+def message_of(gap: Gap) -> str:
+    return f"{gap.length} bytes at byte {gap.offset} are skipped: {gap.text}"
+
+
 def without_gaps(found: Iterator[Any]) -> Iterator[Any]:
     """Iterates over packets or blocks, and warns of each gap between them."""
     for item in found:
         if isinstance(item, Gap):
-            told = f"{item.length} bytes at byte {item.offset} are skipped: {item.text}"
-            warnings.warn(told, CaptureWarning, stacklevel=2)
+            warnings.warn(message_of(item), CaptureWarning, stacklevel=2)
         else:
             yield item
 

@@ -6,8 +6,11 @@ from typing import Any, List
 
 from ._errors import CaptureError
 
-# The number of packets, of interfaces, and of bytes of each packet, that a notebook shows.
+# The number of packets with the gaps between them, of interfaces, and of bytes of each packet, that a notebook shows.
 _PACKETS, _INTERFACES, _BYTES = 5, 10, 16
+
+# What a notebook shows of each packet.
+_COLUMNS = ("time", "stored", "on the wire", "link type", "first bytes")
 
 
 def shown_as_html(capture: Any) -> str:
@@ -28,12 +31,22 @@ def _interfaces(capture: Any) -> List[str]:
 
 
 def _packets(capture: Any) -> List[str]:
+    """Returns a table of the first packets, with the gaps between them if loops return gaps."""
     rows, refusal = [], ""
     try:
-        for packet in islice(iter(capture), _PACKETS):
-            cells = [packet.time, packet.length, packet.original_length, packet.link, bytes(packet.data[:_BYTES]).hex(" ")]
-            rows.append("".join(f"<td>{html.escape(str(cell))}</td>" for cell in cells))
+        for found in islice(iter(capture), _PACKETS):
+            rows.append(_row(found))
     except CaptureError as error:
         refusal = f"<p>{html.escape(str(error))}</p>"
-    head = "".join(f"<th>{name}</th>" for name in ("time", "stored", "on the wire", "link type", "first bytes"))
+    head = "".join(f"<th>{name}</th>" for name in _COLUMNS)
     return ["<table>", f"<tr>{head}</tr>", *(f"<tr>{row}</tr>" for row in rows), "</table>", refusal]
+
+
+def _row(found: Any) -> str:
+    """Returns the cells of a packet, or the one of a gap."""
+    from ._gaps import Gap, message_of
+
+    if isinstance(found, Gap):
+        return f'<td colspan="{len(_COLUMNS)}">{html.escape(message_of(found))}</td>'
+    cells = [found.time, found.length, found.original_length, found.link, bytes(found.data[:_BYTES]).hex(" ")]
+    return "".join(f"<td>{html.escape(str(cell))}</td>" for cell in cells)

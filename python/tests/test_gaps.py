@@ -2,6 +2,7 @@
 
 import io
 import pickle
+import re
 import tempfile
 import unittest
 import warnings
@@ -159,6 +160,29 @@ class Gaps(unittest.TestCase):
                 found = [it for it in read(source, strict=False, gaps=True)]
                 self.assertEqual([(it.offset, it.length) for it in found if isinstance(it, Gap)], [(begin, 5_000_000)])
                 self.assertEqual(len(found), 5 if begin == 43 else 3)
+
+    def test_a_notebook_shows_packets_and_gaps(self):
+        """It shows the first five packets and gaps: of the classic capture not the packet with "hi"."""
+        classic_rows = [
+            "<td>1600000000.000005</td><td>3</td><td>3</td><td>1</td><td>61 62 63</td>",
+            '<td colspan="5">41 bytes at byte 43 are skipped: PacketHeader incl_len &gt; 0x40000</td>',
+            "<td>1600000000.000005</td><td>1</td><td>1</td><td>1</td><td>64</td>",
+            "<td>1600000000.000005</td><td>2</td><td>2</td><td>1</td><td>65 66</td>",
+            "<td>1600000000.000005</td><td>1</td><td>1</td><td>1</td><td>67</td>",
+        ]
+        block_rows = [
+            "<td>1e-09</td><td>4</td><td>98</td><td>1</td><td>61 62 63 64</td>",
+            f'<td colspan="5">41 bytes at byte {AT + 36} are skipped: Block: (initial_len % 4) != 0</td>',
+            "<td>1e-09</td><td>4</td><td>98</td><td>1</td><td>65 66 67 68</td>",
+            "<td>1e-09</td><td>4</td><td>98</td><td>1</td><td>69 6a 6b 6c</td>",
+            f'<td colspan="5">35 bytes at byte {AT + 149} are skipped: 1 byte is missing</td>',
+        ]
+        blocks = CAPTURE + e(b"abcd") + CORRUPT + e(b"efgh") + e(b"ijkl") + e(b"mnop")[:-1]
+        for data, rows in ((classic(p(b"abc"), CORRUPT, p(b"d"), p(b"ef"), p(b"g"), p(b"hi")), classic_rows), (blocks, block_rows)):
+            with pcapfile.parse(data, strict=False, gaps=True) as capture:
+                self.assertEqual(re.findall("<tr>(<td.*?)</tr>", capture._repr_html_()), rows)
+            with pcapfile.parse(data, strict=False) as capture, self.assertWarns(pcapfile.CaptureWarning):
+                self.assertNotIn("skipped", capture._repr_html_())
 
     def test_gaps_can_be_pickled(self):
         gap = Gap(43, 41, Rule.INCLUDED_TOO_LONG, "text")
