@@ -100,7 +100,8 @@ class Packets(Tables):
         `until`.
 
         It raises a ValueError for a wrong expression. A PcapNg capture raises it at the first packet of a link type. It also
-        raises a ValueError for a datetime without a zone, and an ImportError if libpcap is missing.
+        raises a ValueError for an expression with a NUL byte and for a datetime without a zone, and an ImportError if libpcap is
+        missing.
 
         An expression skips packets of unknown interfaces. A range of times skips packets without a time, and those whose
         nanoseconds exceed 64 bits.

@@ -111,6 +111,8 @@ class Filter:
         self._programs: Dict[int, _Program] = {}
         if not isinstance(expression, (str, type(None))):
             raise _arguments.wrong_type("expression", expression, "a text")
+        if expression is not None and "\0" in expression:
+            raise ValueError(f"expression is {expression!r}, and has a NUL byte, where libpcap would end it")
         if expression is not None and Filter._pcap is None:
             Filter._pcap = _load()
         self.expression = expression

@@ -95,6 +95,14 @@ class Filters(unittest.TestCase):
         with self.assertRaisesRegex(ValueError, "udp prt 53"):
             list(pcapfile.parse(blocks).filter("udp prt 53"))
 
+    def test_an_expression_with_a_zero_byte(self):
+        """libpcap would take an expression only up to the zero byte, and accept the packets of "ip"."""
+        for data in (HEADER + packet(0, 0, FRAMES[0]), SECTION + interface(1) + enhanced(0, 0, FRAMES[0])):
+            for expression in ("ip\0..", "\0", "ip\0"):
+                self.assertRaisesRegex(ValueError, "expression .* NUL", pcapfile.parse(data).filter, expression)
+            self.assertEqual(len(list(pcapfile.parse(data).filter("ip"))), 1)
+        self.assertRaisesRegex(ValueError, "expression .* NUL", pcapfile.cut, "capture", "out", expression="ip\0..")
+
     def test_a_refusal_comes_behind(self):
         data = HEADER + packet(0, 0, FRAMES[0]) + packet(1, 0, FRAMES[1])[:-1]
         got = []
