@@ -9,6 +9,9 @@ from . import _arguments
 
 Name = Union[str, bytes, "os.PathLike[Any]"]
 
+# The length of a section that states none: -1, in both byte orders.
+UNSPECIFIED = b"\xff" * 8
+
 
 class Output:
     """A file that the Writer opened, or an object that has `write`. After a write has failed, each later one raises an OSError."""
@@ -72,6 +75,27 @@ class Output:
         self._has_failed = True
         if self._is_mine:
             self._file.close()
+
+
+class Continued(Output):
+    """A file that the Writer goes on with. If its last section states a length, `place` is the offset of that length. The first block
+    makes the length unspecified. A section header leaves it, because the last section ends there."""
+
+    def __init__(self, file: Any, place: Optional[int]) -> None:
+        super().__init__(file, True)
+        self._place = place
+
+    def section(self, text: bytes) -> None:
+        self._place = None
+        super().section(text)
+
+    def _write(self, text: Union[bytes, memoryview]) -> None:
+        self.check()
+        if self._place is not None:
+            self._has_failed = True
+            os.pwrite(self._file.fileno(), UNSPECIFIED, self._place)
+            self._place, self._has_failed = None, False
+        super()._write(text)
 
 
 class Numbered(Output):

@@ -7,7 +7,7 @@ from ._columns import NO_LINK
 from ._interfaces import Interface, described
 from ._links import fcs_len, link_type
 from ._options import Block, Option
-from ._output import Output
+from ._output import UNSPECIFIED, Output
 from ._rules import Rule
 from ._source import Data
 from ._written import Maker, Unwritable
@@ -99,7 +99,7 @@ class Section:
         if len(body) == _HEAD:
             self.begin()
         else:
-            self._output.front(self._block(block.type, body[: _HEAD - 8] + b"\xff" * 8 + body[_HEAD:]))
+            self._output.front(self._block(block.type, body[: _HEAD - 8] + UNSPECIFIED + body[_HEAD:]))
             self._is_begun = True
 
     def add(self, link: int, snaplen: int, options: bytes = b"") -> int:

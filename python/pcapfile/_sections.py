@@ -11,8 +11,8 @@ from ._interfaces import Interface, described
 from ._options import Block
 from ._windows import Window
 
-# The magic number of a section in big-endian byte order.
-_BIG = 0x1A2B3C4D
+# The magic number of a section in big-endian byte order, and the type of its header.
+_BIG, _HEADER = 0x1A2B3C4D, 0x0A0D0D0A
 
 
 class Unknown:
@@ -72,6 +72,8 @@ class Walk:
         self.section, self.error = _library.Section(), _library.Error()
         self.block: Any = _library.Block(0, _library.no_bytes())
         self.known: Dict[int, Known] = {}
+        # The offset of the current section's header.
+        self.header = 0
         # The interfaces of all sections so far.
         self.described: List[Interface] = []
         # The interfaces of the current section, for the extension.
@@ -86,6 +88,8 @@ class Walk:
         if self.section.interfaces == 0:
             self.known = {}
             self.clocks = None if native is None else native.clocks()
+            if self.block.type == _HEADER:
+                self.header = self.window.offset - self.block.body.len - 12
         elif self.section.interfaces != before:
             self._keep(before)
 

@@ -12,6 +12,7 @@ import tempfile
 import unittest
 from decimal import Decimal
 from fractions import Fraction
+from unittest import mock
 
 import pcapfile
 import test_pcapfile as given
@@ -38,6 +39,27 @@ def enhanced(number, time, data, original):
     length = 32 + len(data + padding)
     head = struct.pack("<IIIIIII", 6, length, number, time >> 32, time & 0xFFFFFFFF, len(data), original)
     return head + data + padding + struct.pack("<I", length)
+
+
+def section_of(order, length):
+    """Makes the header of a section that states a length, in a byte order."""
+    return struct.pack(order + "IIIHHqI", 0x0A0D0D0A, 28, 0x1A2B3C4D, 1, 0, length, 28)
+
+
+def commented_section_of(order, length):
+    """Makes such a header with a comment."""
+    return struct.pack(order + "IIIHHqHH4sHHI", 0x0A0D0D0A, 40, 0x1A2B3C4D, 1, 0, length, 1, 4, b"seen", 0, 0, 40)
+
+
+def nanoseconds(order):
+    """Makes an interface with a unit of time of a nanosecond, in a byte order."""
+    return struct.pack(order + "IIHHIHHBxxxHHI", 1, 32, 1, 0, 0, 9, 1, 9, 0, 0, 32)
+
+
+def three_bytes(order, seconds):
+    """Makes a packet of the first interface, in a byte order."""
+    time = seconds * 10**9
+    return struct.pack(order + "IIIIIII3sxI", 6, 36, 0, time >> 32, time & 0xFFFFFFFF, 3, 3, b"abc", 36)
 
 
 def names():
@@ -308,6 +330,64 @@ class Writers(unittest.TestCase):
                 file.write(gzip.compress(written()))
             self.assertRaisesRegex(ValueError, "compressed", pcapfile.Writer, name, append=True)
             self.assertRaises(TypeError, pcapfile.Writer, io.BytesIO(), append=True)
+
+    def appended(self, data, *calls):
+        """Returns the file with these bytes after a Writer goes on with it and makes these calls."""
+        with tempfile.TemporaryDirectory() as room:
+            name = os.path.join(room, "it")
+            with open(name, "wb") as file:
+                file.write(data)
+            with pcapfile.Writer(name, append=True) as writer:
+                for call in calls:
+                    call(writer)
+            self.assertRaises(OSError, writer.write, b"a", 1)
+            with open(name, "rb") as file:
+                return file.read()
+
+    def test_the_length_of_a_section_that_goes_on(self):
+        """The first block makes the length of the last section unspecified, -1, in both byte orders. Other sections stay the same."""
+        for order, other in ("<>", "><"):
+            first = section_of(other, 32 + 36) + nanoseconds(other) + three_bytes(other, 7)
+            for header in (section_of, commented_section_of):
+                last = nanoseconds(order) + three_bytes(order, 1)
+                for call, block in (
+                    (lambda writer: writer.write(b"abc", 5), three_bytes(order, 5)),
+                    (lambda writer: writer.write_block(77, b""), struct.pack(order + "III", 77, 12, 12)),
+                    (lambda writer: writer.add_interface(1, 0), nanoseconds(order)),
+                ):
+                    for length in (32 + 36, 0, -1):
+                        got = self.appended(first + header(order, length) + last, call, lambda writer: writer.write(b"abc", 6))
+                        self.assertEqual(got, first + header(order, -1) + last + block + three_bytes(order, 6))
+
+    def test_the_length_of_a_section_that_ends(self):
+        """A file without a new block, and a section before a new section header, stay the same."""
+        for order in "<>":
+            data = section_of(order, 32) + nanoseconds(order)
+
+            def refused(writer):
+                self.assertRaises(ValueError, writer.write, b"abc", -1)
+                self.assertRaises(pcapfile.Unwritable, writer.write, b"abc", 1, interface=1)
+
+            def another(writer):
+                writer.write_block(0x0A0D0D0A, section_of(order, 36 + 32)[8:-4])
+                writer.write_block(1, nanoseconds(order)[8:-4])
+                writer.write(b"abc", 5)
+
+            for calls in ((), (refused,)):
+                self.assertEqual(self.appended(data, *calls), data)
+            wanted = data + section_of(order, 36 + 32) + nanoseconds(order) + three_bytes(order, 5)
+            self.assertEqual(self.appended(data, refused, another), wanted)
+
+    def test_a_length_that_can_not_be_written(self):
+        """The error reaches the caller, later calls fail too, and the file stays the same."""
+
+        def failing(writer):
+            with mock.patch("os.pwrite", side_effect=OSError(28, "no space left")):
+                self.assertRaisesRegex(OSError, "no space left", writer.write, b"abc", 5)
+            self.assertRaises(OSError, writer.write, b"abc", 5)
+
+        data = section_of("<", 32) + nanoseconds("<")
+        self.assertEqual(self.appended(data, failing), data)
 
     def test_the_units_of_an_interface(self):
         """A packet's time is written in the units of its interface, whether the interface was in the file or came from another capture."""
