@@ -101,10 +101,12 @@ $(OUT)/libpcapfile.a: $(OUT)/libpcapfile.o
 	rm -f $@
 	$(AR) rcs $@ $<
 
+# The other two names are no symbolic links, since rt ci refuses a repository with one.
 $(OUT)/$(SHARED): $(OUT)/libpcapfile.o include/names
 	$(CC) -shared -Wl,-soname,libpcapfile.so.$(ABI) -Wl,--version-script,include/names -Wl,-z,noexecstack $(LDFLAGS) $< -o $@
-	ln -sf $(SHARED) $(OUT)/libpcapfile.so.$(ABI)
-	ln -sf libpcapfile.so.$(ABI) $(OUT)/libpcapfile.so
+	rm -f $(OUT)/libpcapfile.so.$(ABI) $(OUT)/libpcapfile.so
+	ln $@ $(OUT)/libpcapfile.so.$(ABI)
+	ln $@ $(OUT)/libpcapfile.so
 
 # The man page and the completions of pcapfile, made from its help.
 $(OUT)/pages: $(OUT)/pcapfile packages/pages VERSION
