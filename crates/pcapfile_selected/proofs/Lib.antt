@@ -1,5 +1,6 @@
 mod HeadTimes
 mod LeastFirst
+mod MadeItems
 mod PutBlocks
 mod PutPackets
 mod Reading

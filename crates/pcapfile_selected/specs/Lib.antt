@@ -6,6 +6,7 @@ pub mod Judging
 pub mod Moments
 pub mod PacketTimes
 pub mod SelectedBlocks
+pub mod SelectedItems
 pub mod SpanBlocks
 pub mod SpanPackets
 pub mod Spans

@@ -140,8 +140,8 @@ fn read_behind<R: Read>(input: &mut R, bytes: &mut [u8; HEAD], at: usize) -> io:
     input.read(&mut bytes[at..])
 }
 
-// Copies the first bytes into the buffer, as many as fit, and returns how many.
-fn copy_front(bytes: &[u8], buf: &mut [u8]) -> usize
+/// Copies the first bytes into the buffer, as many as fit, and returns how many.
+pub(crate) fn copy_front(bytes: &[u8], buf: &mut [u8]) -> usize
     ensures count { result ≡ min (length bytes.now) (length buf.old) }
     ensures front { take result buf.new ≡ take result bytes.now }
     ensures len { length buf.new ≡ length buf.old }

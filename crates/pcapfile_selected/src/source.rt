@@ -99,7 +99,8 @@ pub struct PacketSource<R> {
 }
 
 impl<R: BufRead + Drop> PacketSource<R> {
-    ghost use Rattle.std.specs.Prelude.{IfErr, IfOk, IfSome, IsTrue, OnOk, take};
+    ghost use Rattle.std.specs.Prelude.{◌⊎◌, IfErr, IfOk, IfSome, IsTrue, OnOk, take};
+    ghost use Rattle.pcap_core.specs.Errors.{IsIo, IsMemory};
     ghost use Rattle.pcapfile_selected.specs.Ahead.{held_in};
     ghost use Rattle.pcapfile_selected.specs.Asked.{is_relative};
     ghost use Rattle.pcapfile_cut.specs.Steps.{StaysThat, StepsOnce, progress_of};
@@ -166,6 +167,7 @@ impl<R: BufRead + Drop> PacketSource<R> {
     ) -> ResultParsing<PacketCutter<'a>>
         ensures begins { IfOk result (λ cutter. BeginsAsked tests.entry (opening_of self.old) (input_of R.remaining self.old) (W.contents output.old)
             (W.contents output.new) cutter) }
+        ensures fails { IfErr result (λ e. IsIo e ⊎ IsMemory e) }
         ensures kept { Keeps (input_of R.remaining self.old) (input_of R.remaining self.new) }
         ensures opening { opening_of self.new ≡ opening_of self.old }
     {
