@@ -1,5 +1,5 @@
 -- The options of the section header of a merge ('Section Header Block').
-use Rattle.std.specs.Prelude.{◌==◌, ◌&&◌, ◌+◌, ◌++◌, ℕ, List, [], ◌∷◌, length, Bool, false, nat_eq, nat_le, codes, if◌then◌else◌, Option, None, Some}
+use Rattle.std.specs.Prelude.{◌≡◌, ◌<◌, ◌==◌, ◌&&◌, ◌+◌, ◌++◌, ℕ, List, [], ◌∷◌, length, Bool, false, nat_eq, nat_le, codes, if◌then◌else◌, Option, None, Some}
 use Rattle.std.specs.Cmp.Lexicographic.{pointwise}
 use Rattle.std.specs.List.{flat_map, list_any}
 use Rattle.std.specs.Option.{option_map}
@@ -15,6 +15,11 @@ is_same_value (CustomStr p s) (CustomStr q t) = p == q && pointwise nat_eq s t
 is_same_value (CustomBytes p s) (CustomBytes q t) = p == q && pointwise nat_eq s t
 is_same_value (Unknown m s) (Unknown n t) = pointwise nat_eq s t
 is_same_value _ _ = false
+
+-- A value as a reader has it: if it is unknown, its length is that of its bytes.
+abbrev pub with_own_length : Value → Value
+with_own_length (Unknown n s) = Unknown (length s) s
+with_own_length value = value
 
 -- Two options are the same: they have the same code and the same value.
 abbrev pub is_same : Entry → Entry → Bool
@@ -56,3 +61,11 @@ added name earlier entry = if list_any (is_same entry) earlier then [] else unli
 -- The options after those of one more section header, of the capture with this name.
 abbrev pub options_with : List ℕ → List Entry → List Entry → List Entry
 options_with name earlier entries = earlier ++ flat_map (added name earlier) entries
+
+-- AddsFewer: after the earlier options come the first of the options to add, but not all of them.
+pub record AddsFewer (adds earlier now : List Entry) : Type 0 where
+  pub first : List Entry
+  pub left : List Entry
+  pub follow : now ≡ earlier ++ first
+  pub are_first : adds ≡ first ++ left
+  pub not_all : 0 < length left

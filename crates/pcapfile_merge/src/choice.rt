@@ -41,9 +41,9 @@ fn best_with(
     order: PacketOrder,
     best: Option<Best>,
     place: usize,
-    next: Option<Pending>,
+    next: &Option<Pending>,
 ) -> Option<Best>
-    ensures { BestWith order best place next result }
+    ensures { BestWith order best place next.now result }
 {
     let Some(pending) = next else {
         return best;

@@ -1,18 +1,19 @@
 //! Laws of merges: each contract states one.
 
-ghost use Rattle.std.specs.Prelude.{◌≡◌, ◌++◌, ℕ, List, [], map, true, Some};
+ghost use Rattle.std.specs.Prelude.{◌≡◌, ◌++◌, ℕ, Decides, List, [], map, true, Some};
 ghost use Rattle.byteorder.specs.Endian.{big_number, little_number};
 ghost use Rattle.pcapfile_merge.specs.declared.choice.PacketOrder.{PacketOrder};
 ghost use Rattle.pcapfile_merge.specs.declared.choice.PacketOrder.TheVariants.{ByTime, ByFile};
 ghost use Rattle.std.specs.List.{AllByRecursion, slice_index_or};
 ghost use Rattle.pcap_options.specs.Options.{OptionList, may_end_with_body};
-ghost use Rattle.pcap_options.specs.Values.{Entry};
+ghost use Rattle.pcap_options.specs.Values.{Entry, Value};
 ghost use Rattle.pcap_file.specs.Placing.{TakesNone};
 ghost use Rattle.pcapfile_merge.specs.Fronts.{AreOfAll, AreOfFirst};
 ghost use Rattle.pcapfile_merge.specs.Keeping.{Progress};
 ghost use Rattle.pcapfile_merge.specs.Little.{are_options, numbered_kind, turned_all};
 ghost use Rattle.pcapfile_merge.specs.Merges.{IsSorted, Merges, given_by, in_a_row};
 ghost use Rattle.pcapfile_merge.specs.Packets.{Packet, IsEarlier, IsEarlierIn};
+ghost use Rattle.pcapfile_merge.specs.SectionOptions.{is_same_value, with_own_length};
 ghost use Rattle.pcapfile_merge.specs.Sources.{BlocksGave};
 
 /// A merge takes exactly those bytes for big-endian options that are a list of them. It makes of them the little-endian list of the same
@@ -57,4 +58,10 @@ pub fn blocks_give_their_front()
 pub fn blocks_give_all_at_the_end()
     ensures { (numbers : List ℕ) (a b now : Progress) (given : List Packet) (s : List ℕ) → BlocksGave numbers a b given → TakesNone b.source now.source → a.source.left ≡ Some s
         → AreOfAll numbers a s given }
+{}
+
+/// A merge takes two values of options for the same exactly if they are of one kind and have the same numbers, strings and bytes. It
+/// ignores the stated length of an unknown value, and compares the bytes.
+pub fn same_values_are_equal()
+    ensures { (a b : Value) → Decides (is_same_value a b) (with_own_length a ≡ with_own_length b) }
 {}

@@ -3,8 +3,7 @@
 ghost use Rattle.std.specs.Prelude.{◌≡◌, ◌≤◌, ◌<◌, length};
 ghost use Rattle.pcap_items.specs.Writing.{WritesAll};
 ghost use Rattle.pcapfile_merge.specs.Choosing.{IsChosen};
-ghost use Rattle.pcapfile_merge.specs.Holding.{Holds};
-ghost use Rattle.pcapfile_merge.specs.Merging.{MergesAt, MergesNext, MergesRun, asked_of, next_number, outcome_of, output_of};
+ghost use Rattle.pcapfile_merge.specs.Merging.{MergesAt, MergesRun, asked_of, next_number, outcome_of, output_of};
 ghost use Rattle.pcapfile_merge.specs.Packets.{texts};
 ghost use Rattle.pcapfile_merge.specs.Sources.{pending_of};
 
@@ -75,7 +74,7 @@ fn merge_sources<R: Read + Drop, W: Write>(
     Ok(())
 }
 
-// Writes what the chosen source gives, and takes what it gives next.
+// Writes what the chosen source gives, numbers it if it is an interface, and takes what the source gives next.
 #[inline(always)]
 fn merge_at<R: Read + Drop, W: Write>(
     sources: &mut [Source<R>],
@@ -88,20 +87,7 @@ fn merge_at<R: Read + Drop, W: Write>(
     ensures { MergesAt R.remaining place sources.old sources.new (output_of (W.contents writer.old) interfaces.old)
         (output_of (W.contents writer.new) interfaces.new) result }
 {
-    merge_next(&mut sources[place], writer, interfaces)
-}
-
-// Writes what a source gives, numbers it if it is an interface, and takes what the source gives next.
-#[inline(always)]
-fn merge_next<R: Read + Drop, W: Write>(
-    source: &mut Source<R>,
-    writer: &mut W,
-    interfaces: &mut u64,
-) -> ResultParsing<()>
-    requires { Holds source.old.taken.next }
-    ensures { MergesNext R.remaining source.old source.new (output_of (W.contents writer.old) interfaces.old)
-        (output_of (W.contents writer.new) interfaces.new) result }
-{
+    let source = &mut sources[place];
     put_held(source, writer)?;
     let number = *interfaces;
     *interfaces = next_number(source.holds_interface(), number);
@@ -121,18 +107,19 @@ fn next_number(is_interface: bool, number: u64) -> u64
     }
 }
 
-// Writes what a source holds.
+// Writes what a source holds. `?` before `Ok(())` saves the copy of a result, since this runs for each packet.
 #[inline(always)]
 fn put_held<R: Read + Drop, W: Write>(source: &Source<R>, writer: &mut W) -> ResultParsing<()>
     ensures { WritesAll (W.contents writer.old) (W.contents writer.new) (texts (pending_of source.now)) result }
 {
-    let Some(pending) = source.taken.next else {
+    let Some(pending) = &source.taken.next else {
         return Ok(());
     };
     let data = source.reader.data(pending);
     let mut has_failed = false;
     if pending.is_made {
-        return put(writer, &mut has_failed, data);
+        put(writer, &mut has_failed, data)?;
+        return Ok(());
     }
     put_packet::<W, LittleEndian>(
         writer,
@@ -141,5 +128,6 @@ fn put_held<R: Read + Drop, W: Write>(source: &Source<R>, writer: &mut W) -> Res
         pending.units,
         data,
         pending.original_len,
-    )
+    )?;
+    Ok(())
 }

@@ -32,8 +32,8 @@ impl<R: Read + Drop> Reader<R> {
 
     // Returns the bytes of the held packet, or the text of its block if that is made.
     #[inline(always)]
-    pub(crate) fn data(&self, pending: Pending) -> &[u8]
-        ensures { result.now ≡ bytes_in self.now pending }
+    pub(crate) fn data(&self, pending: &Pending) -> &[u8]
+        ensures { result.now ≡ bytes_in self.now pending.now }
     {
         match self {
             Reader::Packets(reader) => reader.data(),

@@ -1,12 +1,12 @@
 //! The options of the section header of a merge.
 
 ghost use Rattle.std.specs.Prelude.{◌≡◌, ◌≤◌, ◌++◌, length, map, string_bytes, take, MatchResult};
-ghost use Rattle.std.specs.List.{list_any};
+ghost use Rattle.std.specs.List.{flat_map, list_any};
 ghost use Rattle.std.specs.Option.{option_map};
 ghost use Rattle.pcap_core.specs.Errors.{IsMemory};
 ghost use Rattle.pcap_options.specs.CommonOptions.{carries_string};
 ghost use Rattle.pcap_options.specs.SectionOption.{section_entry};
-ghost use Rattle.pcapfile_merge.specs.SectionOptions.{added, comment as comment_entry, comments_on, conflict_with, is_same, options_with, single_of, word_for};
+ghost use Rattle.pcapfile_merge.specs.SectionOptions.{AddsFewer, added, comment as comment_entry, comments_on, conflict_with, is_same, options_with, single_of, word_for};
 
 use pcap_file::ResultParsing;
 use pcap_file::pcapng::SectionHeaderOption;
@@ -20,7 +20,9 @@ const LONGEST: usize = 65535;
 /// Adds the options of a section header to those of the headers of earlier captures. `name` is the name of its capture.
 ///
 /// An option that an earlier header has is not added again. If an earlier header has another hardware, operating system or application, a
-/// comment that names the capture has the value. Returns `OutOfMemory` if an allocation fails.
+/// comment that names the capture has the value.
+///
+/// Returns `OutOfMemory` if an allocation for what is added fails. Then `options` has the first of the options to add, but not all of them.
 pub fn add_options<'a>(
     alloc: Global,
     name: &str,
@@ -29,7 +31,8 @@ pub fn add_options<'a>(
 ) -> ResultParsing<()>
     ensures { MatchResult result
         (λ done. map section_entry options.new.items ≡ options_with name.now (map section_entry options.old.items) (map section_entry section.entry.items))
-        IsMemory }
+        (λ e. IsMemory e × AddsFewer (flat_map (added name.now (map section_entry options.old.items)) (map section_entry section.entry.items))
+        (map section_entry options.old.items) (map section_entry options.new.items)) }
 {
     let earlier = options.len();
     for option in section {
@@ -50,7 +53,8 @@ fn add_option<'a>(
     ensures { MatchResult result
         (λ done. map section_entry options.new.items ≡ map section_entry options.old.items
         ++ added name.now (map section_entry (take earlier options.old.items)) (section_entry option.entry))
-        IsMemory }
+        (λ e. IsMemory e × AddsFewer (added name.now (map section_entry (take earlier options.old.items)) (section_entry option.entry))
+        (map section_entry options.old.items) (map section_entry options.new.items)) }
 {
     let before = &options.as_slice()[..earlier];
     if has(before, &option) {
@@ -77,6 +81,7 @@ fn conflict<'a>(
 }
 
 // Adds comments that name the capture, the kind of an option and its string.
+#[tactic(auto, using(crate::proofs::SectionOptions::none_added, crate::proofs::SectionOptions::one_added, crate::proofs::SectionOptions::some_comments))]
 fn add_comments(
     alloc: Global,
     name: &str,
@@ -86,18 +91,19 @@ fn add_comments(
 ) -> ResultParsing<()>
     ensures { MatchResult result
         (λ done. map section_entry options.new.items ≡ map section_entry options.old.items ++ comments_on name.now (code, text.now))
-        IsMemory }
+        (λ e. IsMemory e × AddsFewer (comments_on name.now (code, text.now)) (map section_entry options.old.items) (map section_entry options.new.items)) }
 {
     let mut front = String::from_str(alloc, name)?;
     front.push_str(": ")?;
     front.push_str(word(code))?;
     front.push_str(": ")?;
     if text.len() > LONGEST || front.len() > LONGEST - text.len() {
+        let rest = comment(String::from_str(alloc, text)?);
         options.push(comment(front))?;
-        front = String::from_str(alloc, text)?;
-    } else {
-        front.push_str(text)?;
+        options.push(rest)?;
+        return Ok(());
     }
+    front.push_str(text)?;
     options.push(comment(front))?;
     Ok(())
 }

@@ -60,10 +60,12 @@ impl<R: Read + Drop> Source<R> {
         if self.holds_interface() {
             return self.advance_numbered(number);
         }
-        self.taken.next = None;
         match self.reader.next_there(self.base, self.numbers.as_slice()) {
             Some(pending) => self.taken.next = Some(pending),
-            None => self.advance_any(),
+            None => {
+                self.taken.next = None;
+                self.advance_any();
+            }
         }
     }
 
@@ -101,10 +103,10 @@ impl<R: Read + Drop> Source<R> {
 impl<R> Source<R> {
     // Returns what the source gives next, or None if it has no more.
     #[inline(always)]
-    pub(crate) fn next(&self) -> Option<Pending>
-        ensures { result ≡ self.now.taken.next }
+    pub(crate) fn next(&self) -> &Option<Pending>
+        ensures { result.now ≡ self.now.taken.next }
     {
-        self.taken.next
+        &self.taken.next
     }
 
     /// Returns whether the source gives an interface next.
