@@ -27,6 +27,7 @@ import repairing  # noqa: E402
 import selecting  # noqa: E402
 import shown  # noqa: E402
 import sorting  # noqa: E402
+import sorting_blocks  # noqa: E402
 import streams  # noqa: E402
 import variants  # noqa: E402
 from converting import SECONDS, TOP  # noqa: E402
@@ -34,7 +35,7 @@ from converting import SECONDS, TOP  # noqa: E402
 # These make their captures by the functions of converting.py.
 OVER_CAPTURES = (
     converting, cutting, selecting, changing, moving, foreign, as_is, repairing, line_ends, describing, variants, informing, listing, dumping,
-    folders, ample, asking, sorting,
+    folders, ample, asking, sorting, sorting_blocks,
 )
 ALONE = (progress, outputs, streams, gaps)
 PARTS = {

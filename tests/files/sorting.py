@@ -1,7 +1,7 @@
 """Checks what `pcapfile sort` writes, beside a stable sort of the packet records by struct alone.
 
 Each sort has a folder of its own, so that the test sees a file that is left over. A damaged capture must print the line that `cut` prints,
-leave nothing, and spare the file that had the name. So must a file that changes between the two passes, a pipe, and a PcapNg capture.
+leave nothing, and spare the file that had the name. So must a file that changes between the two passes, and a pipe.
 """
 import itertools
 import os
@@ -11,12 +11,13 @@ import subprocess
 import sys
 import tempfile
 
+from lagging import sorts_blocks
+
 DONE, AT_FAULT, USAGE, FAILED = 0, 1, 2, 3
 SECONDS = 60
 KINDS = [("<", 0xA1B2C3D4, 1000), (">", 0xA1B2C3D4, 1000), ("<", 0xA1B23C4D, 1), (">", 0xA1B23C4D, 1)]
 TWICE = "error: sort needs a file, because it reads the capture twice\n"
 CHANGED = "pcapfile: in: the file changed while it was read; sort it again when no program writes it\n"
-BLOCKS = "pcapfile: in: sort reads classic captures only; 'pcapfile convert in --to pcap -o OUT' makes one\n"
 LONGEST = 262144
 # Runs a program, and prints its status and its peak memory in KiB. A child's peak counts that of the process that starts it, so this one is
 # small.
@@ -113,15 +114,13 @@ def try_refused(tally, help):
     damaged = [capture[:end] for end in range(1, len(capture)) if end not in itertools.accumulate(map(len, records_of("<", capture)), initial=24)]
     damaged += [capture + it + capture[24:] for it in broken]
     micro = header("<", 0xA1B2C3D4)
-    damaged += [micro + record("<", 1, 2**32 // 1000 + 1, b""), bytes(4) + capture[4:], b"", b"\n", b"this is no capture of packets"]
+    damaged += [micro + record("<", 1, 2**32 // 1000 + 1, b""), bytes(4) + capture[4:], b"", b"this is no capture of packets"]
+    damaged += [b"\n"] * sorts_blocks(tally.program)
     for content in damaged:
         held = {"in": content, "out": b"old"}
         (status, _, said), _ = in_folder(help, tally, ["cut", "in", "-o", "out"], held)
-        if content != b"\n":
-            refuses(tally, help, f"a sort of {content[-30:]!r}", words, held, status, said)
+        refuses(tally, help, f"a sort of {content[-30:]!r}", words, held, status, said)
         tally.note(f"a cut of {content[-30:]!r}", status != AT_FAULT and f"it ended with {status} and {said!r}")
-    blocks, _ = help.blocks("<", [help.interface("<", 1), help.enhanced("<", 0, 5, 4, b"data")])
-    refuses(tally, help, "blocks", words, {"in": blocks, "out": b"old"}, AT_FAULT, BLOCKS)
     refuses(tally, help, "standard input", ["sort", "-", "-o", "out"], {"out": b"old"}, USAGE, TWICE, given=capture)
     refuses(tally, help, "no file", words, {"out": b"old"}, FAILED, "pcapfile: in: No such file or directory (os error 2)\n")
     refuses(tally, help, "too long an output", words, {"in": capture, "out": b"old"}, FAILED, "pcapfile: out: File too large (os error 27)\n", most=60)
@@ -151,11 +150,10 @@ def changed(capture, size):
     yield "other data", capture[:-1] + b"\xff"
 
 
-def try_changes(tally, _help):
-    """Checks a capture whose last record changes while the first ones are read again. Only new data of a packet can't be noticed."""
-    size = 16 + 1000
-    capture = header("<", 0xA1B23C4D) + b"".join(record("<", 1000 + k, 0, bytes(1000)) for k in range(1000))
-    for name, other in changed(capture, size):
+def try_changing(tally, capture, size, changes):
+    """Checks a capture whose last record changes while the first ones are read again. Each record has this size. `changes` yields the name
+    of each change and the capture after it. Only new data of a packet can't be noticed."""
+    for name, other in changes:
         with tempfile.TemporaryDirectory() as folder:
             with open(f"{folder}/in", "wb") as it:
                 it.write(capture)
@@ -169,7 +167,13 @@ def try_changes(tally, _help):
                 said = ran.stderr.read().decode()
                 status = ran.wait(SECONDS)
         wanted = (DONE, "") if name == "other data" else (FAILED, CHANGED)
-        tally.note(f"a file that gets {name}", (status, said) != wanted and f"it ended with {status} and said {said!r}", out[:size] != capture[:size] and "the first packets are others")
+        tally.note(f"a file that gets {name}", (status, said) != wanted and f"it ended with {status} and said {said!r}", out[:size] != capture[:size] and "the first bytes are others")
+
+
+def try_changes(tally, _help):
+    size = 16 + 1000
+    capture = header("<", 0xA1B23C4D) + b"".join(record("<", 1000 + k, 0, bytes(1000)) for k in range(1000))
+    try_changing(tally, capture, size, changed(capture, size))
 
 
 def try_memory(tally, _help):

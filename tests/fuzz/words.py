@@ -5,16 +5,18 @@ import io
 import itertools
 import json
 import os
+import struct
 import subprocess
 import sys
 import tempfile
 
-from generated import MAGICS, sound
+from generated import ENHANCED, MAGICS, items, sound
 
 TOP = os.path.dirname(os.path.dirname(os.path.dirname(os.path.abspath(__file__))))
-sys.path.insert(0, f"{TOP}/tests/model")
+sys.path[:0] = [f"{TOP}/tests/model", f"{TOP}/tests"]
 import refusals  # noqa: E402
 import runs  # noqa: E402
+from lagging import sorts_blocks  # noqa: E402
 
 SECONDS = 20
 DONE, AT_FAULT, USAGE, FAILED, NO_MEMORY, REPAIRED, GUESSED = range(7)
@@ -235,25 +237,36 @@ def append_keeps_the_captures_in_a_row(folder, random, capture):
     assert [(seconds_of(it), int(it["captured"]), int(it["original"])) for it in rows] == [(it.time, len(it.data), it.wire) for it in every]
 
 
+def data_of(capture):
+    """Yields the place of the data of each packet of a capture whose packets are enhanced ones, or classic."""
+    for at, order, _ in items(capture):
+        if capture[:4] in MAGICS:
+            yield at + 16
+        elif capture[at : at + 4] == struct.pack(order + "I", ENHANCED):
+            yield at + 28
+
+
 def sort_is_stable(folder, random, capture):
-    """Checks that a sound classic capture, twice in a row, is sorted by time and stable, and that any other capture spares the output."""
+    """Checks that a sound capture, twice in a row, is sorted by time and stable, each section by itself, and that any other capture spares
+    the output."""
     folder.write("in", capture)
     folder.write("out", b"old")
     if folder.run("sort", "in", "-o", "out", statuses=(DONE, AT_FAULT, FAILED)).returncode != DONE:
         assert folder.read("out") == b"old"
     capture, found = sound(random)
-    while capture[:4] not in MAGICS:
+    while capture[:4] not in MAGICS and not sorts_blocks(folder.program):
         capture, found = sound(random)
-    folder.write("in", capture + capture[24:])
+    is_classic = capture[:4] in MAGICS
+    folder.write("in", capture + capture[24 * is_classic :])
     folder.run("sort", "in", "-o", "out", statuses=[DONE])
-    wanted = sorted(found + found, key=lambda it: it.time)
+    wanted = sorted(found + found, key=lambda it: it.time) if is_classic else sorted(found, key=lambda it: it.time) * 2
     told = [(seconds_of(it), int(it["captured"]), int(it["original"])) for it in packets_of(folder, "out", statuses=[DONE])]
     assert told == [(it.time, len(it.data), it.wire) for it in wanted]
-    out, at = folder.read("out"), 24
-    for packet in wanted:
-        assert out[at + 16 : at + 16 + len(packet.data)] == packet.data
-        at += 16 + len(packet.data)
-    assert out[:24] == capture[:24] and at == len(out)
+    out = folder.read("out")
+    places = list(data_of(out))
+    assert len(places) == len(wanted) and len(out) == 2 * len(capture) - 24 * is_classic
+    assert all(out[at : at + len(packet.data)] == packet.data for at, packet in zip(places, wanted))
+    assert out[:24] == capture[:24]
 
 
 def lenient_words_end(folder, random, capture):

@@ -111,7 +111,6 @@ impl<'a> Task<'a> {
         let (out, format) = match self {
             Task::Convert(asked) => (asked.out, asked.to?),
             Task::Merge(asked) => (asked.out, asked.to),
-            Task::Sort(asked) => (asked.out, Format::Pcap),
             _ => return None,
         };
         match (format_of_name(out)?, format) {

@@ -349,12 +349,16 @@ that 'pcapfile cut' writes with the same tests. The tests apply to each capture 
 
 const APPEND_HELP: &str = "The captures one after another, and not ordered by time";
 
-const SORT: &str = "Writes the packets of a classic capture in order of time.
+const SORT: &str = "Writes the packets of a capture in order of time.
 
-Packets of equal times keep their order. The header and each packet record keep their bytes. The capture
-is read twice, so IN is a file, and the program takes at most 64 bytes of memory for each packet. If the
-capture is truncated or malformed, there is no output, and standard error gives the reason. The output is
-written as OUT.part, and renamed to OUT when it is complete.";
+Packets of equal times keep their order. The header and each packet record or block keep their bytes. The
+capture is read twice, so IN is a file, and the program takes at most 64 bytes of memory for each packet
+or block. If the capture is truncated or malformed, there is no output, and standard error gives the
+reason. The output is written as OUT.part, and renamed to OUT when it is complete.
+
+In a PcapNg capture each section is sorted by itself: first its header and the blocks without a packet,
+then packets without a time, then packets with one. An interface has to be described before a packet, or
+the packet has no time.";
 
 const REPAIR: &str = "Reads a damaged capture and writes a well-formed one.
 
@@ -531,7 +535,7 @@ const MERGE_ROWS: &[Row<'static>] = &[
 ];
 
 const SORT_ROWS: &[Row<'static>] = &[
-    (IN, Takes::File, "The classic capture to sort", &[]),
+    (IN, Takes::File, "The capture to sort", &[]),
     (OUT, Takes::Output, OUT_HELP, &[]),
 ];
 
@@ -651,7 +655,7 @@ impl Word {
             Word::Cut => "Copies the chosen packets of a capture, or splits it into parts",
             Word::Join => "Joins the parts of a capture",
             Word::Merge => "Merges captures into one, by time or one after another",
-            Word::Sort => "Sorts the packets of a classic capture by time",
+            Word::Sort => "Sorts the packets of a capture by time",
             Word::Repair => "Reads a damaged capture and writes a well-formed one",
         }
     }

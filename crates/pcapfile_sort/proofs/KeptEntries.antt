@@ -1,10 +1,9 @@
 -- The entries that the first pass keeps of the packets that it met.
-use Rattle.std.proofs.Common.{◌≡◌, ◌<◌, ◌≤◌, ◌+◌, ◌*◌, ◌^◌, ℕ, List, [], ◌∷◌, ◌++◌, length, Bool, true, false, true≢false, Option, Ok, Err, ◌⊎◌, inl, inr, refl, sym, ap, ◌∙◌, subst, arith, append_assoc, append-nil, length-append}
-use Rattle.std.specs.Prelude.{All, Result}
+use Rattle.std.proofs.Common.{◌≡◌, ◌<◌, ◌≤◌, ◌+◌, ◌*◌, ℕ, List, [], ◌∷◌, ◌++◌, length, Bool, true, true≢false, Option, Err, inl, inr, refl, sym, ap, ◌∙◌, subst, arith, append_assoc, append-nil, length-append}
+use Rattle.std.specs.Prelude.{All}
 use Rattle.std.specs.Io.KnownBytes.{Consumes, Keeps}
 use Rattle.std.proofs.KnownBytes.{Consumes-trans}
 use Rattle.std.proofs.lemmas.List.Elements.{All-nil, All-cons, All-push}
-use Rattle.pcap_core.specs.Answer.{whole}
 use Rattle.pcap_items.specs.Format.{Texts}
 use Rattle.pcap_classic.specs.declared.pcap.header.PcapHeader.{PcapHeader}
 use Rattle.pcap_classic.specs.declared.pcap.packet.PacketHeader.{PacketHeader}
@@ -19,8 +18,9 @@ use Rattle.pcapfile_sort.specs.declared.collecting.Unkept.{Unkept}
 use Rattle.pcapfile_sort.specs.declared.collecting.Unkept.TheVariants.{Memory, TooLong}
 use Rattle.pcapfile_sort.specs.declared.entry.Entry.{Entry}
 use Rattle.pcapfile_sort.specs.Entries.{entry_of, entries_of}
-use Rattle.pcapfile_sort.specs.Reading.{EndsReading, KeepsEntry, KeepsOne, ReadsEntries, timed_by}
-use Rattle.pcapfile_sort.specs.Records.{IsTimed, PacketIsSaid, Timed, texts_of, time_in}
+use Rattle.pcapfile_sort.specs.Reading.{EndsReading, KeepsEntry, KeepsOne, KeepsPacket, ReadsEntries}
+use Rattle.pcapfile_sort.specs.Packets.{IsTimed, time_in}
+use Rattle.pcapfile_sort.specs.Ranked.{Ranked, ranked_at, texts_of}
 use Rattle.pcapfile_sort.proofs.PacketRecords.{packet_met, texts_push}
 
 -- The most packets that a walk gives.
@@ -29,7 +29,7 @@ most = 18446744073709551615
 
 -- After this many bytes, these bytes are records, and their entries were added to those that were kept.
 record Kept (header : PcapHeader) (bytes : List ℕ) (old new : Entries) (count : ℕ) : Type 0 where
-  records : List Timed
+  records : List Ranked
   each : All (IsTimed header) records
   texts : bytes ≡ texts_of records
   entries : new.list.items ≡ old.list.items ++ entries_of old.place records
@@ -37,8 +37,8 @@ record Kept (header : PcapHeader) (bytes : List ℕ) (old new : Entries) (count 
   long : 16 * count ≤ length bytes
 
 -- Why the first pass keeps no entry of the last of these records.
-stop_ends : (header : PcapHeader) (records : List Timed) (left : Option (List ℕ)) (failed : Bool) (place : ℕ) (new kept : Entries) (head : PacketHeader) (text : List ℕ) (stop : Unkept)
-    → 0 < length records → kept.place + length text ≡ place + length (texts_of records) → KeepsEntry head text kept new (Err stop) → EndsReading header records left failed place new (Stopped stop)
+stop_ends : (header : PcapHeader) (records : List Ranked) (left : Option (List ℕ)) (failed : Bool) (place : ℕ) (new kept : Entries) (head : PacketHeader) (text : List ℕ) (stop : Unkept)
+    → 0 < length records → kept.place + length text ≡ place + length (texts_of records) → KeepsEntry (time_in head) (length text) kept new (Err stop) → EndsReading header records left failed place new (Stopped stop)
 stop_ends header records left failed place new kept head text Memory some all given = some
 stop_ends header records left failed place new kept head text TooLong some all given = omega (arith, given, all)
 
@@ -46,7 +46,7 @@ stop_ends header records left failed place new kept head text TooLong some all g
 abbrev pub keeping : Type 0 → Does Captured Entries Unkept
 keeping F =
     does_of {F = F} {H = PacketHeader} {V = Captured} {K = Entries} {E = Unkept} (λ walker head text. met_packet head text) (λ index entries. true)
-    (λ index walker head text old out new out_now result. KeepsEntry head text old new result × Keeps out out_now)
+    (λ index walker head text old out new out_now result. KeepsPacket head text old new result × Keeps out out_now)
 
 module _ (F : Type 0) (header : PcapHeader) where
   kept_all : (n : ℕ) (vs : List Captured) (bytes : List ℕ) (old new : Entries) (out out_now : Option (List ℕ)) → Texts (reader_format packet_limit header) tt vs bytes [] → Folds (keeping F) n vs bytes old out new out_now
@@ -64,27 +64,28 @@ module _ (F : Type 0) (header : PcapHeader) where
       let after = folds.1 in
       let kept : Entries = folds.2 in
       let head : PacketHeader = folds.7.1 in
-      let one : KeepsOne head text old kept = folds.7.4.0 in
-      let met = packet_met header v head text bytes after texts.0 folds.7.2 one.long folds.5 texts.1 in
+      let long : 16 ≤ length text = folds.7.4.0.0 in
+      let one : KeepsOne (time_in head) (length text) old kept = folds.7.4.0.1 in
+      let met = packet_met header v head text bytes after texts.0 folds.7.2 long folds.5 texts.1 in
       let there : Texts (reader_format packet_limit header) tt vs after [] = subst (λ (t : List ℕ). Texts (reader_format packet_limit header) tt vs t []) (sym met.0) texts.2 in
       let more = kept_all (n + 1) vs after kept new folds.4 out_now there folds.8 in
-      let timed = timed_by head text in
+      let ranked : Ranked = ranked_at (time_in head) text in
       let others : List Entry = entries_of (old.place + length text) more.records in
       record {
-        records = timed ∷ more.records;
-        each = All-cons (IsTimed header) timed more.records (record { packet = v; said = met.1; time_is = ap (λ (p : Captured). time_in p.header) folds.7.2 }) more.each;
+        records = ranked ∷ more.records;
+        each = All-cons (IsTimed header) ranked more.records (record { packet = v; said = met.1; time_is = ap (λ (p : Captured). time_in p.header) folds.7.2 }) more.each;
         texts = folds.5 ∙ ap (λ (l : List ℕ). text ++ l) more.texts;
         entries = more.entries ∙ ap (λ (place : ℕ). kept.list.items ++ entries_of place more.records) one.place ∙ ap (λ (l : List Entry). l ++ others) one.kept
-            ∙ append_assoc old.list.items (entry_of old.place timed ∷ []) others;
+            ∙ append_assoc old.list.items (entry_of old.place ranked ∷ []) others;
         place = omega (arith, more.place, one.place, ap length folds.5, length-append text after);
-        long = omega (arith, more.long, one.long, ap length folds.5, length-append text after);
+        long = omega (arith, more.long, long, ap length folds.5, length-append text after);
       }
 
   -- The first pass stopped at the next packet.
   stopped_at : (before left now : Option (List ℕ)) (failed : Bool) (n : ℕ) (old kept new : Entries) (out out_now : Option (List ℕ)) (stop : Unkept) (bytes : List ℕ) (count : ℕ)
       → Kept header bytes old kept count → Consumes before left bytes → StopsAt (reader_format packet_limit header) (keeping F) tt left now n kept new out out_now stop → ReadsEntries header before failed old.place new (Stopped stop)
   stopped_at before left now failed n old kept new out out_now stop bytes count all took at =
-      let next : Timed = record { time = time_in at.item.header; text = at.text } in
+      let next : Ranked = record { rank = time_in at.item.header; text = at.text } in
       let records = all.records ++ next ∷ [] in
       let push = texts_push all.records next in
       let so_far : Consumes before left (texts_of all.records) = subst (λ (t : List ℕ). Consumes before left t) all.texts took in
@@ -96,7 +97,7 @@ module _ (F : Type 0) (header : PcapHeader) where
         left = now;
         each = All-push (IsTimed header) all.records next all.each (record { packet = at.item; said = at.is_text; time_is = refl });
         took = subst (λ (t : List ℕ). Consumes before now t) (sym push) (Consumes-trans before left now (texts_of all.records) at.text so_far at.took);
-        ends = stop_ends header records now failed old.place new kept at.stops.1 at.text stop (omega (arith, length-append all.records (next ∷ []))) whole_place at.stops.4.0;
+        ends = stop_ends header records now failed old.place new kept at.stops.1 at.text stop (omega (arith, length-append all.records (next ∷ []))) whole_place at.stops.4.0.1;
       }
 
   -- What the first pass has read and kept when its walk ends.

@@ -1,4 +1,7 @@
+pub mod BlockOrder
+pub mod BlockRanks
 pub mod CopiedRecords
+pub mod KeptBlocks
 pub mod KeptEntries
 pub mod LedRecords
 pub mod OneOrder

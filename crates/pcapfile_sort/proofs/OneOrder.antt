@@ -1,5 +1,5 @@
--- Records have one order of time, and a capture has one opening and one list of records.
-use Rattle.std.proofs.Common.{◌≡◌, ◌≤◌, ◌+◌, ◌==◌, ℕ, suc, List, [], ◌∷◌, ◌++◌, length, Bool, true, false, Option, Some, inl, inr, refl, sym, ap, ◌∙◌, subst, arith, append-nil, length-append, eq-eqb, ne_eqb}
+-- Records have one order of rank, and a capture has one opening and one list of records.
+use Rattle.std.proofs.Common.{◌≡◌, ◌≤◌, ◌==◌, ℕ, suc, List, [], ◌∷◌, ◌++◌, length, Bool, true, false, Some, inl, inr, refl, sym, ap, ◌∙◌, subst, arith, append-nil, length-append, eq-eqb, ne_eqb}
 use Rattle.std.specs.Prelude.{All, filter}
 use Rattle.std.specs.List.Sorted.{IsNonDecreasingBy}
 use Rattle.std.proofs.lemmas.Bool.{cases_eq}
@@ -16,72 +16,73 @@ use Rattle.pcap_classic.proofs.Packets.{reader_lawful}
 use Rattle.pcap_classic.proofs.Texts.{header_length}
 use Rattle.pcapfile_cut.specs.declared.opening.Opening.{Opening}
 use Rattle.pcapfile_cut.specs.Openings.{bytes_of, header_of}
-use Rattle.pcapfile_sort.specs.Order.{IsInOrder, at_time}
-use Rattle.pcapfile_sort.specs.Records.{BeginsWith, IsTimed, PacketIsSaid, Timed, texts_of, time_in}
+use Rattle.pcapfile_sort.specs.Order.{IsInOrder, at_rank}
+use Rattle.pcapfile_sort.specs.Packets.{BeginsWith, IsTimed, PacketIsSaid, packet_captures, time_in}
+use Rattle.pcapfile_sort.specs.Ranked.{Ranked, texts_of}
 use Rattle.pcapfile_sort.specs.Sorting.{WritesUpTo}
-use Rattle.pcapfile_sort.proofs.PacketRecords.{timed_same}
+use Rattle.pcapfile_sort.proofs.PacketRecords.{ranked_same}
 use Rattle.pcapfile_sort.proofs.SortedCaptures.{known_all}
 
--- The times of these records do not fall.
-abbrev Rises : List Timed → Type 0
-Rises records = IsNonDecreasingBy (λ (timed : Timed). timed.time) records
+-- The ranks of these records do not fall.
+abbrev Rises : List Ranked → Type 0
+Rises records = IsNonDecreasingBy (λ (ranked : Ranked). ranked.rank) records
 
-least : (x : Timed) (xs : List Timed) → Rises (x ∷ xs) → All (λ (y : Timed). x.time ≤ y.time) (x ∷ xs)
+least : (x : Ranked) (xs : List Ranked) → Rises (x ∷ xs) → All (λ (y : Ranked). x.rank ≤ y.rank) (x ∷ xs)
 least x xs up = λ k d less. up 0 k d (omega arith) less
 
-rises_tail : (x : Timed) (xs : List Timed) → Rises (x ∷ xs) → Rises xs
+rises_tail : (x : Ranked) (xs : List Ranked) → Rises (x ∷ xs) → Rises xs
 rises_tail x xs up = λ i j d le less. up (suc i) (suc j) d (omega (arith, le)) (omega (arith, less))
 
-passes : (p : Timed → Bool) (x : Timed) (xs : List Timed) → p x ≡ true → filter p (x ∷ xs) ≡ x ∷ filter p xs
+passes : (p : Ranked → Bool) (x : Ranked) (xs : List Ranked) → p x ≡ true → filter p (x ∷ xs) ≡ x ∷ filter p xs
 passes p x xs is = rw is refl
 
-skips : (p : Timed → Bool) (x : Timed) (xs : List Timed) → p x ≡ false → filter p (x ∷ xs) ≡ filter p xs
+skips : (p : Ranked → Bool) (x : Ranked) (xs : List Ranked) → p x ≡ false → filter p (x ∷ xs) ≡ filter p xs
 skips p x xs is = rw is refl
 
-here : (x : Timed) (xs : List Timed) (time : ℕ) → x.time ≡ time → at_time time (x ∷ xs) ≡ x ∷ at_time time xs
-here x xs time is = passes (λ (timed : Timed). timed.time == time) x xs (eq-eqb x.time time is)
+here : (x : Ranked) (xs : List Ranked) (rank : ℕ) → x.rank ≡ rank → at_rank rank (x ∷ xs) ≡ x ∷ at_rank rank xs
+here x xs rank is = passes (λ (ranked : Ranked). ranked.rank == rank) x xs (eq-eqb x.rank rank is)
 
-elsewhere : (x : Timed) (xs : List Timed) (time : ℕ) → (x.time ≡ time → ⊥) → at_time time (x ∷ xs) ≡ at_time time xs
-elsewhere x xs time other = skips (λ (timed : Timed). timed.time == time) x xs (ne_eqb x.time time other)
+elsewhere : (x : Ranked) (xs : List Ranked) (rank : ℕ) → (x.rank ≡ rank → ⊥) → at_rank rank (x ∷ xs) ≡ at_rank rank xs
+elsewhere x xs rank other = skips (λ (ranked : Ranked). ranked.rank == rank) x xs (ne_eqb x.rank rank other)
 
 -- The first of records in order is not later than a record among them.
-below : (x y : Timed) (xs ys : List Timed) → Rises (y ∷ ys) → at_time x.time (x ∷ xs) ≡ at_time x.time (y ∷ ys) → y.time ≤ x.time
+below : (x y : Ranked) (xs ys : List Ranked) → Rises (y ∷ ys) → at_rank x.rank (x ∷ xs) ≡ at_rank x.rank (y ∷ ys) → y.rank ≤ x.rank
 below x y xs ys up same =
-    let P : Timed → Type 0 = λ z. y.time ≤ z.time in
-    let all : All P (at_time x.time (y ∷ ys)) = All-filter (λ (timed : Timed). timed.time == x.time) P (y ∷ ys) (least y ys up) in
-    All-head P x (at_time x.time xs) (All-same P (x ∷ at_time x.time xs) (at_time x.time (y ∷ ys)) (sym (here x xs x.time refl) ∙ same) all)
+    let P : Ranked → Type 0 = λ z. y.rank ≤ z.rank in
+    let all : All P (at_rank x.rank (y ∷ ys)) = All-filter (λ (ranked : Ranked). ranked.rank == x.rank) P (y ∷ ys) (least y ys up) in
+    All-head P x (at_rank x.rank xs) (All-same P (x ∷ at_rank x.rank xs) (at_rank x.rank (y ∷ ys)) (sym (here x xs x.rank refl) ∙ same) all)
 
-rises_one : (a b : List Timed) → Rises a → Rises b → ((time : ℕ) → at_time time a ≡ at_time time b) → a ≡ b
+rises_one : (a b : List Ranked) → Rises a → Rises b → ((rank : ℕ) → at_rank rank a ≡ at_rank rank b) → a ≡ b
 rises_one [] [] up_a up_b same = refl
-rises_one [] (y ∷ ys) up_a up_b same = let e : [] ≡ y ∷ at_time y.time ys = same y.time ∙ here y ys y.time refl in absurd cc
-rises_one (x ∷ xs) [] up_a up_b same = let e : x ∷ at_time x.time xs ≡ [] = sym (here x xs x.time refl) ∙ same x.time in absurd cc
+rises_one [] (y ∷ ys) up_a up_b same = let e : [] ≡ y ∷ at_rank y.rank ys = same y.rank ∙ here y ys y.rank refl in absurd cc
+rises_one (x ∷ xs) [] up_a up_b same = let e : x ∷ at_rank x.rank xs ≡ [] = sym (here x xs x.rank refl) ∙ same x.rank in absurd cc
 rises_one (x ∷ xs) (y ∷ ys) up_a up_b same =
-    let times : x.time ≡ y.time = omega (arith, below x y xs ys up_b (same x.time), below y x ys xs up_a (sym (same y.time))) in
-    let both : x ∷ at_time x.time xs ≡ y ∷ at_time x.time ys = sym (here x xs x.time refl) ∙ same x.time ∙ here y ys x.time (sym times) in
+    let times : x.rank ≡ y.rank = omega (arith, below x y xs ys up_b (same x.rank), below y x ys xs up_a (sym (same y.rank))) in
+    let both : x ∷ at_rank x.rank xs ≡ y ∷ at_rank x.rank ys = sym (here x xs x.rank refl) ∙ same x.rank ∙ here y ys x.rank (sym times) in
     let first : x ≡ y = cc in
-    let others : at_time x.time xs ≡ at_time x.time ys = cc in
-    let rest : (time : ℕ) → at_time time xs ≡ at_time time ys = λ time. elim (cases_eq x.time time) [
-      | inl is ↦ subst (λ (k : ℕ). at_time k xs ≡ at_time k ys) is others
-      | inr other ↦ sym (elsewhere x xs time other) ∙ same time ∙ elsewhere y ys time (λ is. other (times ∙ is))
+    let others : at_rank x.rank xs ≡ at_rank x.rank ys = cc in
+    let rest : (rank : ℕ) → at_rank rank xs ≡ at_rank rank ys = λ rank. elim (cases_eq x.rank rank) [
+      | inl is ↦ subst (λ (k : ℕ). at_rank k xs ≡ at_rank k ys) is others
+      | inr other ↦ sym (elsewhere x xs rank other) ∙ same rank ∙ elsewhere y ys rank (λ is. other (times ∙ is))
     ] in
     cons_same x y xs ys first (rises_one xs ys (rises_tail x xs up_a) (rises_tail y ys up_b) rest)
 
 -- Records have one order.
-pub one_order : (records a b : List Timed) → IsInOrder records a → IsInOrder records b → a ≡ b
-one_order records a b first second = rises_one a b first.ordered second.ordered (λ time. first.stable time ∙ sym (second.stable time))
+pub one_order : (records a b : List Ranked) → IsInOrder records a → IsInOrder records b → a ≡ b
+one_order records a b first second = rises_one a b first.ordered second.ordered (λ rank. first.stable rank ∙ sym (second.stable rank))
 
 -- ---- one list of records
 
 module _ (header : PcapHeader) where
-  front_said : (timed : Timed) (others : List ℕ) → (is : IsTimed header timed) → PacketIsSaid header (timed.text ++ others) (whole is.packet others)
-  front_said timed others is = ((reader_lawful packet_limit header).stable tt).text timed.text others [] is.packet is.said
+  front_said : (ranked : Ranked) (others : List ℕ) → (is : IsTimed header ranked) → PacketIsSaid header (ranked.text ++ others) (whole is.packet others)
+  front_said ranked others is = ((reader_lawful packet_limit header).stable tt).text ranked.text others [] is.packet is.said
 
-  some_bytes : (timed : Timed) (others : List Timed) → IsTimed header timed → [] ≡ timed.text ++ texts_of others → ⊥
-  some_bytes timed others is none =
-      let empty : timed.text ≡ [] = nil_of_length timed.text (omega (arith, ap length none, length-append timed.text (texts_of others))) in
+  some_bytes : (ranked : Ranked) (others : List Ranked) → IsTimed header ranked → [] ≡ ranked.text ++ texts_of others → ⊥
+  some_bytes ranked others is none =
+      let empty : ranked.text ≡ [] = nil_of_length ranked.text (omega (arith, ap length none, length-append ranked.text (texts_of others))) in
       nothing_no_text (reader_format packet_limit header) (reader_lawful packet_limit header) tt is.packet [] (subst (λ (t : List ℕ). PacketIsSaid header t (whole is.packet [])) empty is.said)
 
-  records_one : (a b : List Timed) → All (IsTimed header) a → All (IsTimed header) b → texts_of a ≡ texts_of b → a ≡ b
+  records_one : (a b : List Ranked) → All (IsTimed header) a → All (IsTimed header) b → texts_of a ≡ texts_of b → a ≡ b
   records_one [] [] each_a each_b same = refl
   records_one [] (y ∷ ys) each_a each_b same = absurd (some_bytes y ys (All-head (IsTimed header) y ys each_b) same)
   records_one (x ∷ xs) [] each_a each_b same = absurd (some_bytes x xs (All-head (IsTimed header) x xs each_a) (sym same))
@@ -91,11 +92,11 @@ module _ (header : PcapHeader) where
       let there : PacketIsSaid header (y.text ++ texts_of ys) (whole first.packet (texts_of xs)) = subst (λ (t : List ℕ). PacketIsSaid header t (whole first.packet (texts_of xs))) same (front_said x (texts_of xs) first) in
       let one = text_same (reader_format packet_limit header) (reader_lawful packet_limit header) tt first.packet second.packet (y.text ++ texts_of ys) (texts_of xs) (texts_of ys) there (front_said y (texts_of ys) second) in
       let texts : x.text ≡ y.text = append_cancel_right x.text y.text (texts_of ys) (ap (λ (t : List ℕ). x.text ++ t) (sym one.1) ∙ same) in
-      let times : x.time ≡ y.time = first.time_is ∙ ap (λ (p : Captured). time_in p.header) one.0 ∙ sym second.time_is in
-      cons_same x y xs ys (timed_same x y times texts) (records_one xs ys (All-tail (IsTimed header) x xs each_a) (All-tail (IsTimed header) y ys each_b) one.1)
+      let times : x.rank ≡ y.rank = first.time_is ∙ ap (λ (p : Captured). time_in p.header) one.0 ∙ sym second.time_is in
+      cons_same x y xs ys (ranked_same x y times texts) (records_one xs ys (All-tail (IsTimed header) x xs each_a) (All-tail (IsTimed header) y ys each_b) one.1)
 
 -- The same bytes have one opening and one list of records.
-begins_one : (o p : Opening) (a b : List Timed) → HeaderText (header_of o) (bytes_of o) [] → HeaderText (header_of p) (bytes_of p) [] → All (IsTimed (header_of o)) a → All (IsTimed (header_of p)) b
+begins_one : (o p : Opening) (a b : List Ranked) → HeaderText (header_of o) (bytes_of o) [] → HeaderText (header_of p) (bytes_of p) [] → All (IsTimed (header_of o)) a → All (IsTimed (header_of p)) b
     → bytes_of o ++ texts_of a ≡ bytes_of p ++ texts_of b → (bytes_of o ≡ bytes_of p) × (a ≡ b)
 begins_one o p a b text_o text_p each_a each_b same =
     let long_o : length (bytes_of o) ≡ 24 = omega (arith, header_length (header_of o) (bytes_of o) [] text_o) in
@@ -109,13 +110,13 @@ begins_one o p a b text_o text_p each_a each_b same =
     (openings, records_one (header_of o) a b each_a all_b texts)
 
 -- A sort that wrote all of known bytes wrote their opening and their records in order.
-pub sorted_whole : (opening : Opening) (records sorted : List Timed) (bytes out : List ℕ) → BeginsWith opening records (Some bytes) (Some []) → IsInOrder records sorted → WritesUpTo (Some bytes) (Some bytes) (Some []) (Some out) [] []
+pub sorted_whole : (opening : Opening) (records sorted : List Ranked) (bytes out : List ℕ) → BeginsWith opening records (Some bytes) (Some []) → IsInOrder records sorted → WritesUpTo packet_captures (Some bytes) (Some bytes) (Some []) (Some out) [] []
     → out ≡ bytes_of opening ++ texts_of sorted
 sorted_whole opening records sorted bytes out begins order w =
     let mine : bytes ≡ bytes_of opening ++ texts_of records = known_all (Some bytes) (Some []) (bytes_of opening ++ texts_of records) bytes begins.took refl refl in
     let its : bytes ≡ bytes_of w.opening ++ texts_of w.records = known_all (Some bytes) w.end (bytes_of w.opening ++ texts_of w.records) bytes w.begins.took w.at_end refl in
     let one = begins_one w.opening opening w.records records w.begins.header begins.header w.begins.each begins.each (sym its ∙ mine) in
-    let here_order : IsInOrder records w.front = subst (λ (l : List Timed). IsInOrder records l) (append-nil w.front) (subst (λ (l : List Timed). IsInOrder l (w.front ++ [])) one.1 w.in_order) in
+    let here_order : IsInOrder records w.front = subst (λ (l : List Ranked). IsInOrder records l) (append-nil w.front) (subst (λ (l : List Ranked). IsInOrder l (w.front ++ [])) one.1 w.in_order) in
     let same : w.copies ≡ sorted = w.copied.same (bytes, refl, refl) ∙ one_order records w.front sorted here_order order in
     let gone : bytes_of w.opening ++ texts_of w.copies ≡ w.went.gone = w.went.split ∙ append-nil w.went.gone in
-    w.went.out ∙ sym gone ∙ ap (λ (l : List ℕ). l ++ texts_of w.copies) one.0 ∙ ap (λ (l : List Timed). bytes_of opening ++ texts_of l) same
+    w.went.out ∙ sym gone ∙ ap (λ (l : List ℕ). l ++ texts_of w.copies) one.0 ∙ ap (λ (l : List Ranked). bytes_of opening ++ texts_of l) same

@@ -1,7 +1,11 @@
 pub mod Again
+pub mod Blocks
 pub mod Copying
 pub mod Entries
 pub mod Order
+pub mod Packets
+pub mod Ranked
 pub mod Reading
-pub mod Records
+pub mod ReadingBlocks
+pub mod Sortable
 pub mod Sorting

@@ -1,35 +1,36 @@
-//! The first pass over a capture, which keeps an entry for each packet.
+//! The first pass over a classic capture, and the entries that it keeps.
 
-ghost use Rattle.std.specs.Prelude.{◌≡◌, ◌<◌, [], true, false};
+ghost use Rattle.std.specs.Prelude.{◌≡◌, [], true, false};
 ghost use Rattle.pcap_classic.specs.Magic.{is_magic};
-ghost use Rattle.pcapfile_sort.specs.Reading.{ReadsEntries};
+ghost use Rattle.pcapfile_sort.specs.Reading.{KeepsEntry, ReadsEntries};
 
-use crate::entry::{Entry, time_of};
+use crate::entry::Entry;
+use crate::packets::time_of;
 use pcap_classic::pcap::{PacketHeader, PcapHeader};
 use pcap_walk::{Ended, Packets, Sink, Walked, walk};
 use std::alloc::Global;
 use std::io;
 use std::io::{BufRead, Write};
 
-/// The reason why the entry of a packet is not kept.
+/// The reason why the entry of a record is not kept.
 #[derive(Clone, Copy, Debug)]
 pub(crate) enum Unkept {
     /// There is no memory for it.
     Memory,
-    /// The packet ends after 2^64 bytes or more.
+    /// There are more bytes or sections than a sort counts.
     TooLong,
 }
 
-/// The entries of the packets that were read.
+/// The entries of the records that were read.
 #[derive(Debug, Drop)]
 pub(crate) struct Entries {
     pub(crate) list: Vec<Entry>,
-    /// The number of bytes of the capture before the next packet.
+    /// The number of bytes of the capture before the next record.
     pub(crate) place: u64,
 }
 
 impl Entries {
-    /// Returns no entries, of a capture whose first packet follows this many bytes.
+    /// Returns no entries, of a capture whose first record follows this many bytes.
     pub(crate) fn new(alloc: Global, place: u64) -> Entries
         ensures list { result.list.items ≡ [] }
         ensures place { result.place ≡ place }
@@ -39,18 +40,40 @@ impl Entries {
             place,
         }
     }
+
+    /// Keeps the entry of the next record, which has this rank and this many bytes.
+    #[inline(always)]
+    pub(crate) fn keep(&mut self, rank: u128, bytes: usize) -> Result<(), Unkept>
+        ensures { KeepsEntry rank bytes self.old self.new result }
+    {
+        let Some(end) = self.place.checked_add(bytes as u64) else {
+            return Err(Unkept::TooLong);
+        };
+        let entry = Entry {
+            rank,
+            place: self.place,
+            length: bytes,
+        };
+        match self.list.push(entry) {
+            Ok(()) => {
+                self.place = end;
+                Ok(())
+            }
+            Err(_) => Err(Unkept::Memory),
+        }
+    }
 }
 
 impl<F> Sink<F, PacketHeader> for Entries {
     ghost use Rattle.std.specs.Prelude.{◌≤◌, length, true};
     ghost use Rattle.std.specs.Io.KnownBytes.{Keeps};
-    ghost use Rattle.pcapfile_sort.specs.Reading.{KeepsEntry};
+    ghost use Rattle.pcapfile_sort.specs.Reading.{KeepsPacket};
 
     type Stop = Unkept;
 
     ghost fits = { λ walker head text. 16 ≤ length text };
 
-    ghost gives = { λ index walker head text old out new out_now result. KeepsEntry head text old new result × Keeps out out_now };
+    ghost gives = { λ index walker head text old out new out_now result. KeepsPacket head text old new result × Keeps out out_now };
 
     ghost is_unready = { λ stop. ⊥ };
 
@@ -70,22 +93,7 @@ impl<F> Sink<F, PacketHeader> for Entries {
         head: &PacketHeader,
         text: &[u8],
     ) -> Result<(), Unkept> {
-        let length = text.len();
-        let Some(end) = self.place.checked_add(length as u64) else {
-            return Err(Unkept::TooLong);
-        };
-        let entry = Entry {
-            time: time_of(*head),
-            place: self.place,
-            length,
-        };
-        match self.list.push(entry) {
-            Ok(()) => {
-                self.place = end;
-                Ok(())
-            }
-            Err(_) => Err(Unkept::Memory),
-        }
+        self.keep(u128::from(time_of(*head)), text.len())
     }
 
     #[inline(always)]

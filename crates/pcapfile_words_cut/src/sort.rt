@@ -5,13 +5,13 @@ ghost use Rattle.std.specs.Prelude.{None};
 use capcopy_run::{Exit, Uninterrupted};
 use pcapfile_cut::Outcome;
 use pcapfile_files::{
-    AT_FAULT, Console, FAILED, OUTPUT, STANDARD, Shown, USAGE, Watched, buffered, open_watched,
-    tell_error, tell_exit, tell_io, tell_other_file, write_named,
+    Console, FAILED, OUTPUT, PCAP_EXTENSIONS, PCAPNG_EXTENSIONS, STANDARD, Shown, USAGE, Watched,
+    buffered, open_watched, tell_error, tell_exit, tell_io, write_named,
 };
 use pcapfile_lenient::tell_unopened;
 use pcapfile_run::{Format, format_of};
 use pcapfile_selected::tell_outcome;
-use pcapfile_sort::{ReadAgain, Refusal, Sorted, sort_capture};
+use pcapfile_sort::{ReadAgain, Refusal, Sorted, SortedBlocks, sort_blocks, sort_capture};
 use std::fs::File;
 use std::io;
 use std::io::{BufReader, BufWriter, ErrorKind, Write};
@@ -90,38 +90,80 @@ fn open_and_sort<W: Write + Drop>(
     };
     let mut input = buffered(console.alloc(), stream)?;
     match format_of(&mut input) {
-        Ok(Format::Pcap) => sort_to(console, asked, input, again, output),
-        Ok(Format::PcapNg) => tell_blocks(console, asked.from),
+        Ok(format) => sort_to(console, asked, format, input, again, output),
         Err(error) => tell_io(console, asked.from, &error),
     }
 }
 
-// Reports that a capture is no classic one, or what the file is that is no capture, and returns the exit status.
-fn tell_blocks(console: &Console, from: &str) -> io::Result<u8> {
-    let shown = Shown(from);
-    if !tell_other_file(console, from)? {
-        eprintln!(console.for_line();
-            "pcapfile: {shown}: sort reads classic captures only; 'pcapfile convert {shown} --to pcap -o OUT' makes one"
-        )?;
-    }
-    Ok(AT_FAULT)
-}
-
+// Sorts a capture of this format, and returns the exit status. A file that is no capture counts as PcapNg.
 fn sort_to<W: Write + Drop>(
     console: &Console,
     asked: Sorting<'_>,
+    format: Format,
     input: Input,
     mut again: Again,
     output: W,
 ) -> io::Result<u8> {
-    let mut output = BufWriter::with_capacity(console.alloc(), OUTPUT, output)?;
-    match sort_capture(console.alloc(), input, &mut again, &mut output) {
+    let alloc = console.alloc();
+    let mut output = BufWriter::with_capacity(alloc, OUTPUT, output)?;
+    let SortedBlocks { sorted, sections } = match format {
+        Format::Pcap => SortedBlocks {
+            sorted: sort_capture(alloc, input, &mut again, &mut output),
+            sections: 1,
+        },
+        Format::PcapNg => sort_blocks(alloc, input, &mut again, &mut output),
+    };
+    let status = end_sort(console, asked, sorted, output)?;
+    if status == 0 {
+        tell_sections(console, asked.from, sections)?;
+        tell_misnamed(console, asked.out, format)?;
+    }
+    Ok(status)
+}
+
+// Writes what is buffered of a sorted capture, or reports why it was not sorted, and returns the exit status.
+fn end_sort<W: Write + Drop>(
+    console: &Console,
+    asked: Sorting<'_>,
+    sorted: Sorted,
+    mut output: BufWriter<W>,
+) -> io::Result<u8> {
+    match sorted {
         Sorted::Whole => match output.flush() {
             Ok(()) => Ok(0),
             Err(error) => tell_io(console, asked.out, &error),
         },
         sorted => tell_unsorted(console, asked, sorted),
     }
+}
+
+// Reports that the packets of each section were sorted by themselves, if there are several sections.
+fn tell_sections(console: &Console, from: &str, sections: u64) -> io::Result<()> {
+    if sections < 2 {
+        return Ok(());
+    }
+    let shown = Shown(from);
+    eprintln!(console.for_line();
+        "pcapfile: {shown}: the capture has {sections} sections; the packets of each are in order of time"
+    )
+}
+
+// Reports that the extension of the output's name stands for another format than its own, if it does.
+fn tell_misnamed(console: &Console, out: &str, format: Format) -> io::Result<()> {
+    let Some((_, extension)) = out.rsplit_once('.') else {
+        return Ok(());
+    };
+    let (is_misnamed, format) = match format {
+        Format::Pcap => (PCAPNG_EXTENSIONS.contains(&extension), "pcap"),
+        Format::PcapNg => (PCAP_EXTENSIONS.contains(&extension), "PcapNg"),
+    };
+    if !is_misnamed {
+        return Ok(());
+    }
+    let out = Shown(out);
+    eprintln!(console.for_line();
+        "pcapfile: {out}: the format is {format}, but the extension is that of the other format"
+    )
 }
 
 // Reports why a capture was not sorted, and returns the exit status.

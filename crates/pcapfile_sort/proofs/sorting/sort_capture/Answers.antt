@@ -1,48 +1,19 @@
-use Rattle.std.proofs.Common.{◌≡◌, ◌∙◌, length, ap, inl}
-use Rattle.std.proofs.KnownBytes.{Keeps-refl}
+use Rattle.std.proofs.Common.{◌≡◌, ◌∙◌, length, ap, subst, sym}
+use Rattle.pcapfile_cut.specs.declared.opening.Opening.{Opening}
 use Rattle.pcapfile_cut.specs.Openings.{bytes_of}
-use Rattle.pcapfile_sort.proofs.SortedCaptures.{sorts_end, sorts_long, sorts_memory, sorts_most, sorts_refused}
+use Rattle.pcapfile_sort.specs.Packets.{packet_captures}
+use Rattle.pcapfile_sort.specs.Reading.{PassesOnce}
+use Rattle.pcapfile_sort.proofs.SortedCaptures.{packets_passed, packets_sortable}
 use Rattle.pcapfile_sort.proofs.sorting.sort_capture.Goals as goal
 
-pub returns-in-AtEnd : goal.returns-in-AtEnd
-returns-in-AtEnd g c =
-    let placed : c.new-entries.result.place ≡ length (bytes_of c.in-Ok.opening) = c.new-entries.ensures.place ∙ ap length c.bytes.ensures in
-    sorts_end c.in-Ok.opening c.header.result.now c.header.ensures.header (g.R.Read.remaining c.args.input) (g.R.Read.remaining c.read.new.input) c.in-Ok.ensures.bytes.0 c.in-Ok.ensures.bytes.1
-    c.read_entries.new.walked.read_failed c.new-entries.result.place placed c.read_entries.new.entries
-    c.in-AtEnd.ensures (g.S.ReadAgain.bytes c.args.again.now) (g.S.ReadAgain.has_failed c.write_in_order.new.again) (g.W.Write.contents c.args.output.now) (g.W.Write.contents c.write_in_order.new.output) c.write_in_order.result c.write_in_order.ensures
-
-pub returns-in-AtMost : goal.returns-in-AtMost
-returns-in-AtMost g c =
-    let placed : c.new-entries.result.place ≡ length (bytes_of c.in-Ok.opening) = c.new-entries.ensures.place ∙ ap length c.bytes.ensures in (
-      sorts_most c.in-Ok.opening c.header.result.now c.header.ensures.header (g.R.Read.remaining c.args.input) (g.R.Read.remaining c.read.new.input) c.in-Ok.ensures.bytes.0 c.in-Ok.ensures.bytes.1
-          c.read_entries.new.walked.read_failed c.new-entries.result.place placed c.read_entries.new.entries
-          c.in-AtMost.ensures,
-      Keeps-refl _,
-    )
-
-pub returns-in-Stopped-TooLong : goal.returns-in-Stopped-TooLong
-returns-in-Stopped-TooLong g c =
-    let placed : c.new-entries.result.place ≡ length (bytes_of c.in-Ok.opening) = c.new-entries.ensures.place ∙ ap length c.bytes.ensures in (
-      sorts_long c.in-Ok.opening c.header.result.now c.header.ensures.header (g.R.Read.remaining c.args.input) (g.R.Read.remaining c.read.new.input) c.in-Ok.ensures.bytes.0 c.in-Ok.ensures.bytes.1
-          c.read_entries.new.walked.read_failed c.new-entries.result.place placed c.read_entries.new.entries
-          (rw c.in-Stopped-TooLong.field-0-is at c.in-Stopped-TooLong.ensures),
-      Keeps-refl _,
-    )
-
-pub returns-in-Stopped-Memory : goal.returns-in-Stopped-Memory
-returns-in-Stopped-Memory g c =
-    let placed : c.new-entries.result.place ≡ length (bytes_of c.in-Ok.opening) = c.new-entries.ensures.place ∙ ap length c.bytes.ensures in (
-      sorts_memory c.in-Ok.opening c.header.result.now c.header.ensures.header (g.R.Read.remaining c.args.input) (g.R.Read.remaining c.read.new.input) c.in-Ok.ensures.bytes.0 c.in-Ok.ensures.bytes.1
-          c.read_entries.new.walked.read_failed c.new-entries.result.place placed c.read_entries.new.entries
-          (rw c.in-Stopped-Memory.field-0-is at c.in-Stopped-Memory.ensures),
-      inl (Keeps-refl _),
-    )
+pub end_sort-requires : goal.end_sort-requires
+end_sort-requires g c = record { lawful = packets_sortable }
 
 pub returns : goal.returns
 returns g c =
-    let placed : c.new-entries.result.place ≡ length (bytes_of c.in-Ok.opening) = c.new-entries.ensures.place ∙ ap length c.bytes.ensures in (
-      sorts_refused c.in-Ok.opening c.header.result.now c.header.ensures.header (g.R.Read.remaining c.args.input) (g.R.Read.remaining c.read.new.input) c.in-Ok.ensures.bytes.0 c.in-Ok.ensures.bytes.1
-          c.read_entries.new.walked.read_failed c.new-entries.result.place placed c.read_entries.new.entries
-          c.in-Refused.error c.in-Refused.ensures,
-      Keeps-refl _,
-    )
+    let placed : c.new-entries.result.place ≡ length (bytes_of c.in-Ok.opening) = c.new-entries.ensures.place ∙ ap length c.bytes.ensures in
+    let capture = g.R.Read.remaining c.args.input in
+    let pass = packets_passed c.in-Ok.opening c.header-header.result.now c.header-header.ensures.header capture (g.R.Read.remaining c.read.new.input) c.in-Ok.ensures.bytes.0 c.in-Ok.ensures.bytes.1
+    c.read_entries-ended.new.walked.read_failed c.new-entries.result.place placed c.read_entries-ended.new.entries c.read_entries-ended.result c.read_entries-ended.ensures in
+    let there = subst (λ (o : Opening). PassesOnce packet_captures o capture c.read_entries-ended.new.walked.read_failed c.read_entries-ended.new.entries c.read_entries-ended.result) (sym c.after-records.ensures) pass in
+    c.end_sort.ensures.sorts capture there
