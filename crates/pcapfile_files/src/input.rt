@@ -47,7 +47,6 @@ impl Read for Stream {
 }
 
 /// A capture whose progress is shown while it is read.
-#[derive(Drop)]
 pub struct Watched {
     stream: Stream,
     length: Option<u64>,
@@ -59,6 +58,21 @@ pub struct Watched {
     foreign: Rc<Cell<Option<Foreign>>>,
     /// The digest of its bytes.
     hashing: Rc<Hashing>,
+}
+
+// It is written out, so that crates above this one call it and prove no drop of the fields.
+impl Drop for Watched {
+    fn drop(self) {
+        let Watched {
+            stream: _,
+            length: _,
+            walk: _,
+            progress: _,
+            is_new: _,
+            foreign: _,
+            hashing: _,
+        } = self;
+    }
 }
 
 impl Watched {

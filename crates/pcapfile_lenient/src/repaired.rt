@@ -65,7 +65,6 @@ struct Item {
 }
 
 /// A capture repaired while it is read, which has no flaws. It reports what it changes or leaves out.
-#[derive(Drop)]
 pub struct Repaired {
     alloc: Global,
     /// The producer of more bytes. It is `None` after the end, and after an error that ended the capture early.
@@ -81,6 +80,22 @@ pub struct Repaired {
     /// The number of packets of other link types that were counted.
     others: u64,
     report: Report,
+}
+
+// It is written out, so that crates above this one call it and prove no drop of the fields.
+impl Drop for Repaired {
+    fn drop(self) {
+        let Repaired {
+            alloc: _,
+            making: _,
+            made: _,
+            given: _,
+            position: _,
+            changed: _,
+            others: _,
+            report: _,
+        } = self;
+    }
 }
 
 impl RepairedPackets {

@@ -56,7 +56,6 @@ enum Step {
 
 /// The packets or blocks of a capture that follow each other in a row. A read returns no byte at the end of a row, which is at corrupt
 /// bytes or at the end of the capture. Corrupt bytes are skipped, and the next read goes on after them.
-#[derive(Drop)]
 pub struct Rows {
     alloc: Global,
     kind: Kind,
@@ -80,6 +79,27 @@ pub struct Rows {
     others: u64,
     /// Whether nothing follows.
     is_at_end: bool,
+}
+
+// It is written out, so that crates above this one call it and prove no drop of the fields.
+impl Drop for Rows {
+    fn drop(self) {
+        let Rows {
+            alloc: _,
+            kind: _,
+            window: _,
+            ready: _,
+            last: _,
+            given: _,
+            describing: _,
+            left_out: _,
+            changed: _,
+            is_reported: _,
+            is_leaving_out: _,
+            others: _,
+            is_at_end: _,
+        } = self;
+    }
 }
 
 /// The last report on a packet or block, and how many there were so far.

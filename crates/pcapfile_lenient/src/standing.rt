@@ -32,19 +32,31 @@ pub const HEADER: usize = HEADER_LEN;
 const FIRST_OF_BLOCKS: u8 = 10;
 
 /// Packets in rows.
-#[derive(Drop)]
 pub struct PacketRows {
     reader: ReaderAsIs<Rows>,
     ghost ready: { is_done reader ≡ false },
     ghost unfailed: { has_failed reader ≡ false },
 }
 
+// It is written out, so that crates above this one call it and prove no drop of the fields.
+impl Drop for PacketRows {
+    fn drop(self) {
+        let PacketRows { reader: _ } = self;
+    }
+}
+
 /// Blocks in rows.
-#[derive(Drop)]
 pub struct BlockRows {
     reader: PcapNgReaderAsIs<Rows>,
     ghost ready: { is_done_with_blocks reader ≡ false },
     ghost unfailed: { has_failed_in_blocks reader ≡ false },
+}
+
+// It is written out, so that crates above this one call it and prove no drop of the fields.
+impl Drop for BlockRows {
+    fn drop(self) {
+        let BlockRows { reader: _ } = self;
+    }
 }
 
 /// The items of a capture.

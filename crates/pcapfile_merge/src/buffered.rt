@@ -19,10 +19,19 @@ const HEAD: usize = 16;
 
 /// A reader of the packets of a classic capture, with a buffer. It lends a packet that is whole in the buffer from there, without a copy.
 /// It holds a packet that ends outside the buffer.
-#[derive(Drop)]
 pub struct BufferedPackets<R> {
     reader: PcapReader<BufReader<R>>,
     shown: Option<usize>,
+}
+
+// It is written out, so that crates above this one call it and prove no drop of the fields.
+impl<R: Drop> Drop for BufferedPackets<R> {
+    fn drop(self) {
+        let BufferedPackets {
+            reader: _,
+            shown: _,
+        } = self;
+    }
 }
 
 impl<R> BufferedPackets<R> {

@@ -28,12 +28,23 @@ const AROUND: usize = 12;
 
 /// A reader of the blocks of a capture, with a buffer. It lends an enhanced packet without options that is whole in the buffer from
 /// there, without a copy. It holds other blocks.
-#[derive(Drop)]
 pub struct BufferedBlocks<R> {
     pub(crate) reader: PcapNgReader<BufReader<R>>,
     pub(crate) shown: Option<usize>,
     pub(crate) made: Made,
     pub(crate) kept: Kept,
+}
+
+// It is written out, so that crates above this one call it and prove no drop of the fields.
+impl<R: Drop> Drop for BufferedBlocks<R> {
+    fn drop(self) {
+        let BufferedBlocks {
+            reader: _,
+            shown: _,
+            made: _,
+            kept: _,
+        } = self;
+    }
 }
 
 impl<R> BufferedBlocks<R> {

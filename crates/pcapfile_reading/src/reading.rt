@@ -11,12 +11,21 @@ use std::io::Read;
 use std::rc::Rc;
 
 /// A capture that a command reads.
-#[derive(Drop)]
 pub enum Reading<'a> {
     /// All of the capture.
     All(Captured),
     /// The bytes that `cut` writes of the capture.
     Selected(Selected<'a, Captured>),
+}
+
+// It is written out, so that crates above this one call it and prove no drop of the fields.
+impl Drop for Reading<'_> {
+    fn drop(self) {
+        match self {
+            Reading::All(_capture) => {}
+            Reading::Selected(_selected) => {}
+        }
+    }
 }
 
 impl<'a> Reading<'a> {

@@ -51,7 +51,6 @@ enum Items<'a, R> {
 
 /// A capture with the selected packets of another one: the bytes that `cut` writes. It is made packet by packet, or block by block. It ends
 /// before the first truncated or malformed item of the other capture, and the account has the reason.
-#[derive(Drop)]
 pub struct Selected<'a, R> {
     alloc: Global,
     items: Items<'a, R>,
@@ -63,6 +62,21 @@ pub struct Selected<'a, R> {
     /// The number of these bytes that were read.
     given: usize,
     account: Rc<Account>,
+}
+
+// It is written out, so that crates above this one call it and prove no drop of the fields.
+impl<R: Drop> Drop for Selected<'_, R> {
+    fn drop(self) {
+        let Selected {
+            alloc: _,
+            items: _,
+            has_ended: _,
+            failure: _,
+            made: _,
+            given: _,
+            account: _,
+        } = self;
+    }
 }
 
 impl<'a, R: Read + Drop> SelectedPackets<'a, R> {
