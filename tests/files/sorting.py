@@ -11,7 +11,6 @@ import subprocess
 import sys
 import tempfile
 
-from lagging import sorts_blocks
 
 DONE, AT_FAULT, USAGE, FAILED = 0, 1, 2, 3
 SECONDS = 60
@@ -114,8 +113,7 @@ def try_refused(tally, help):
     damaged = [capture[:end] for end in range(1, len(capture)) if end not in itertools.accumulate(map(len, records_of("<", capture)), initial=24)]
     damaged += [capture + it + capture[24:] for it in broken]
     micro = header("<", 0xA1B2C3D4)
-    damaged += [micro + record("<", 1, 2**32 // 1000 + 1, b""), bytes(4) + capture[4:], b"", b"this is no capture of packets"]
-    damaged += [b"\n"] * sorts_blocks(tally.program)
+    damaged += [micro + record("<", 1, 2**32 // 1000 + 1, b""), bytes(4) + capture[4:], b"", b"\n", b"this is no capture of packets"]
     for content in damaged:
         held = {"in": content, "out": b"old"}
         (status, _, said), _ = in_folder(help, tally, ["cut", "in", "-o", "out"], held)

@@ -15,13 +15,11 @@ import sys
 import tempfile
 from fractions import Fraction
 
-from lagging import sorts_blocks
 from sorting import AT_FAULT, BASE, DONE, EACH, FAILED, MEASURE, in_folder, refuses, try_changing
 
 SECTION, INTERFACE, OLD, SIMPLE, NAMES, STATISTICS, ENHANCED, JOURNAL, SECRETS, CUSTOM = 0x0A0D0D0A, 1, 2, 3, 4, 5, 6, 9, 10, 0xBAD
 PACKETS = (OLD, SIMPLE, ENHANCED)
 BILLION = 10**9
-OLDER = "pcapfile: in: sort reads classic captures only; 'pcapfile convert in --to pcap -o OUT' makes one\n"
 
 
 def block(order, number, body):
@@ -311,15 +309,6 @@ def try_peer(tally, _help):
     tally.note("beside reordercap", found[0] != found[1] and "the packets have another order")
 
 
-def try_older(tally, help):
-    """Checks that an older program says what it can't sort, and spares the file that had the name."""
-    held = {"in": section("<") + interface("<"), "out": b"old"}
-    refuses(tally, help, "an older program", ["sort", "in", "-o", "out"], held, AT_FAULT, OLDER)
-
-
 def try_all(tally, help):
-    if not sorts_blocks(tally.program):
-        try_older(tally, help)
-        return
     for tries in (try_orders, try_refused, try_changes, try_memory, try_peer):
         tries(tally, help)
