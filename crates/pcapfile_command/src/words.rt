@@ -1,5 +1,8 @@
 //! The words of the program, and their help.
 
+ghost use Rattle.std.specs.Prelude.{◌≡◌};
+ghost use Rattle.pcapfile_command.specs.Words.{reads_repaired};
+
 use crate::rows::{Row, Takes, argument};
 use clap::Command;
 use std::alloc::{AllocError, Global};
@@ -623,7 +626,9 @@ impl Word {
     }
 
     /// Returns whether the word can read what `repair` would write of a capture.
-    pub fn reads_repaired(self) -> bool {
+    pub fn reads_repaired(self) -> bool
+        ensures { result ≡ reads_repaired self }
+    {
         match self {
             Word::Info | Word::Convert | Word::Cut | Word::Merge => true,
             Word::Check | Word::List | Word::Join | Word::Sort | Word::Repair => false,
