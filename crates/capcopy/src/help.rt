@@ -1,6 +1,7 @@
 //! The words that ask for the usage or the version of the program.
 
-use capcopy_run::Exit;
+use capcopy_run::Message;
+use pcap_program::Exit;
 use std::env::{Env, FillError};
 use std::{io, str};
 
@@ -38,7 +39,7 @@ impl About {
     pub(crate) fn print(self, rt: &HostRuntime) -> io::Result<()> {
         match self {
             About::Usage => {
-                let usage = Exit::Usage;
+                let usage = Message(&Exit::Usage);
                 println!(rt; "{usage}")
             }
             About::Version => println!(rt; "capcopy {VERSION}"),

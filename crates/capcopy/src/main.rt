@@ -4,9 +4,10 @@
 mod help;
 mod program;
 
-use capcopy_run::Exit;
+use capcopy_run::Message;
 use help::About;
 use pcap_file::PcapError;
+use pcap_program::Exit;
 use std::io;
 use std::io::ErrorKind;
 use std::process::ExitCode;
@@ -23,8 +24,9 @@ fn main(rt: HostRuntime) -> ExitCode {
         return ExitCode::from(UNREAD);
     }
     if !matches!(exit, Exit::Done) {
+        let message = Message(&exit);
         // If this write fails, there is nowhere left to report it.
-        let _ = eprintln!(rt; "{exit}");
+        let _ = eprintln!(rt; "{message}");
     }
     ExitCode::from(exit.status())
 }

@@ -1,6 +1,7 @@
 //! The program over its arguments and its standard streams.
 
-use capcopy_run::{Arguments, Exit, Uninterrupted, run_words};
+use capcopy_run::{Arguments, run_words};
+use pcap_program::{Exit, Uninterrupted};
 use std::io::{BufWriter, Write};
 
 /// The size of the output buffer, in bytes.

@@ -13,8 +13,8 @@ use Rattle.pcap_classic.specs.declared.common.TsResolution.{TsResolution}
 use Rattle.pcap_classic.specs.declared.common.TsResolution.TheVariants.{MicroSecond, NanoSecond}
 use Rattle.pcap_classic.specs.declared.run.copy.Under.{Under}
 use Rattle.pcap_classic.specs.declared.run.copy.Under.TheVariants.{Same, Header, Order}
-use Rattle.capcopy_run.specs.declared.exit.Exit.{Exit}
-use Rattle.capcopy_run.specs.declared.exit.Exit.TheVariants as exits
+use Rattle.pcap_program.specs.declared.exit.Exit.{Exit}
+use Rattle.pcap_program.specs.declared.exit.Exit.TheVariants as exits
 use Rattle.capcopy_run.specs.declared.words.Place.TheVariants.{Empty, Unknown, Text}
 use Rattle.capcopy_run.specs.Runs.{IsStrange, StandsAt, TellsWord, Runs, RunsBuffered}
 use Rattle.capcopy_run.specs.Words.{order_word, resolution_word, AskForCopy, AskForNothing}

@@ -10,9 +10,9 @@ use Rattle.pcap_ng.specs.Opening.{OpeningSays}
 use Rattle.pcap_ng.specs.State.{State}
 use Rattle.pcap_ng.proofs.BlockFormat.{blocks_lawful}
 use Rattle.pcap_ng.proofs.FirstBlock.{opening_stable}
-use Rattle.capcopy_run.specs.declared.exit.Exit.{Exit}
-use Rattle.capcopy_run.specs.Exits.{exit_of}
-use Rattle.capcopy_run.specs.Lines.{WritesLine}
+use Rattle.pcap_program.specs.declared.exit.Exit.{Exit}
+use Rattle.pcap_program.specs.Exits.{exit_of}
+use Rattle.pcap_program.specs.Lines.{WritesLine}
 use Rattle.capcopy_run.specs.Listing.{ListsItems, ListsUntil, streams}
 use Rattle.capcopy_run.specs.BlockLines.{IsBodyWord, IsBlockLine, IsItemLine, kind_name, block_lines, section_line, heading_of}
 use Rattle.capcopy_run.proofs.Listing.{lists_heading, lists_known}

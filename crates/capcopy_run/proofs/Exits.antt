@@ -1,9 +1,10 @@
 -- This file proves facts about the exits of known words.
 use Rattle.pcap_core.specs.declared.errors.PcapError.{PcapError}
 use Rattle.pcap_core.specs.declared.errors.PcapError.TheVariants as errors
-use Rattle.capcopy_run.specs.declared.exit.Exit.{Exit}
-use Rattle.capcopy_run.specs.declared.exit.Exit.TheVariants as exits
-use Rattle.capcopy_run.specs.Exits.{EndsAt, IsEarlyEnd, IsOfKnownWord}
+use Rattle.pcap_program.specs.declared.exit.Exit.{Exit}
+use Rattle.pcap_program.specs.declared.exit.Exit.TheVariants as exits
+use Rattle.pcap_program.specs.Exits.{EndsAt, IsEarlyEnd}
+use Rattle.capcopy_run.specs.Exits.{IsOfKnownWord}
 
 early_known : (exit : Exit) → IsEarlyEnd exit → IsOfKnownWord exit
 early_known (exits.Io (errors.IoError x)) early = tt

@@ -6,8 +6,5 @@ pub mod PacketLists
 mod PacketLines
 mod Skipping
 mod Exits
-mod Kept
 pub mod Turns
-mod Digits
-mod FixedPoint
 mod AskedWords

@@ -16,10 +16,10 @@ use Rattle.pcap_items.specs.Writing.{AppendsPart}
 use Rattle.pcap_items.proofs.Formats.{state_push, lacks_no_text, fault_no_text, texts_more, front_goes_on, nothing_more}
 use Rattle.pcap_core.proofs.Refusals.{shown_fault}
 use Rattle.pcap_items.proofs.Taking.{takes_more, run_reads}
-use Rattle.capcopy_run.specs.declared.exit.Exit.{Exit}
-use Rattle.capcopy_run.specs.declared.exit.Exit.TheVariants as exits
-use Rattle.capcopy_run.specs.Exits.{EndsAt, exit_of}
-use Rattle.capcopy_run.specs.Lines.{WritesLine}
+use Rattle.pcap_program.specs.declared.exit.Exit.{Exit}
+use Rattle.pcap_program.specs.declared.exit.Exit.TheVariants as exits
+use Rattle.pcap_program.specs.Exits.{EndsAt, exit_of}
+use Rattle.pcap_program.specs.Lines.{WritesLine}
 use Rattle.capcopy_run.specs.Listing.{Kind, Listing, TearsNext, LinesEnd, InputEnd, ListsItems, Listed, TearsLine, ListsUntil, streams}
 use Rattle.capcopy_run.proofs.Lines.{lines_push}
 

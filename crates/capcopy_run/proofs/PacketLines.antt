@@ -3,7 +3,8 @@ use Rattle.std.proofs.Common.{◌≡◌, ℕ, List, [], ◌∷◌, ◌++◌, rul
 use Rattle.std.specs.Fmt.{decimal}
 use Rattle.std.proofs.lemmas.List.{append_assoc}
 use Rattle.pcap_classic.specs.declared.pcap.packet.PacketHeader.{PacketHeader}
-use Rattle.capcopy_run.specs.PacketLines.{nine_digits, packet_line}
+use Rattle.pcap_program.specs.Digits.{nine_digits}
+use Rattle.capcopy_run.specs.PacketLines.{packet_line}
 
 -- The parts put before a text, from the line's end to its beginning, are the line.
 pub line_made : (index original included seconds : ℕ) (header : PacketHeader) (l9 l8 l7 l6 l5 l4 l3 l2 l1 l0 all : List ℕ)

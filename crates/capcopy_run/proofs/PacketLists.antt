@@ -19,8 +19,8 @@ use Rattle.pcap_classic.proofs.HeadedPackets.{packets_lawful}
 use Rattle.pcap_classic.proofs.PacketStream.{packet_joined}
 use Rattle.pcap_classic.proofs.Packets.{packets_say}
 use Rattle.pcap_classic.proofs.Stable.{header_stable}
-use Rattle.capcopy_run.specs.declared.exit.Exit.{Exit}
-use Rattle.capcopy_run.specs.Exits.{EndsAt, exit_of}
+use Rattle.pcap_program.specs.declared.exit.Exit.{Exit}
+use Rattle.pcap_program.specs.Exits.{EndsAt, exit_of}
 use Rattle.capcopy_run.specs.Listing.{LinesEnd, ListsItems, ListsUntil, streams}
 use Rattle.capcopy_run.specs.PacketLines.{packets_in}
 use Rattle.capcopy_run.specs.Skipping.{TakesExactly}

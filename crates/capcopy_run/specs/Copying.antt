@@ -4,9 +4,9 @@ use Rattle.pcap_core.specs.declared.errors.PcapError.{PcapError}
 use Rattle.pcap_classic.specs.declared.run.copy.Copied.{Copied}
 use Rattle.pcap_classic.specs.declared.run.copy.Under.{Under}
 use Rattle.pcap_classic.specs.Copies.{CopyRun, CopyFront}
-use Rattle.capcopy_run.specs.declared.exit.Exit.{Exit}
-use Rattle.capcopy_run.specs.declared.exit.Exit.TheVariants.{Done, Most}
-use Rattle.capcopy_run.specs.Exits.{EndsAt}
+use Rattle.pcap_program.specs.declared.exit.Exit.{Exit}
+use Rattle.pcap_program.specs.declared.exit.Exit.TheVariants.{Done, Most}
+use Rattle.pcap_program.specs.Exits.{EndsAt}
 
 -- EndsCopy most n fault exit: a copy of n packets ends at the exit of its fault, else at `Most` if n is the most, else at `Done`.
 abbrev pub EndsCopy : ℕ → ℕ → Option PcapError → Exit → Type 0

@@ -1,7 +1,6 @@
 pub mod BlockLines
 pub mod Commands
 pub mod Copying
-pub mod Digits
 pub mod Exits
 pub mod Lines
 pub mod Listing
@@ -10,6 +9,5 @@ pub mod PacketLines
 pub mod Runs
 pub mod Skipping
 pub mod Turns
-pub mod Uninterrupted
 pub mod WordPlaces
 pub mod Words

@@ -9,8 +9,8 @@ use Rattle.pcap_items.specs.Format.{Format, Front, state_after}
 use Rattle.pcap_items.specs.Reading.{IsFaultOf, Takes, TakesAsked}
 use Rattle.pcap_items.specs.Takes.{TakesTexts}
 use Rattle.pcap_items.specs.Writing.{AppendsPart}
-use Rattle.capcopy_run.specs.declared.exit.Exit.{Exit}
-use Rattle.capcopy_run.specs.declared.exit.Exit.TheVariants.{Done, Refused, Most, Usage, Io, Memory}
+use Rattle.pcap_program.specs.declared.exit.Exit.{Exit}
+use Rattle.pcap_program.specs.declared.exit.Exit.TheVariants.{Done, Refused, Most, Usage, Io, Memory}
 use Rattle.capcopy_run.specs.Lines.{AreLines}
 
 -- A kind of capture that is listed has an opening, items after it, and lines for both.

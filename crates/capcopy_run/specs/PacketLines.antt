@@ -1,16 +1,13 @@
 -- This file defines the lines that the word `list` writes.
-use Rattle.std.specs.Prelude.{◌≡◌, ℕ, ◌-◌, List, [], ◌++◌, length, replicate, codes}
+use Rattle.std.specs.Prelude.{◌≡◌, ℕ, List, [], ◌++◌, codes}
 use Rattle.std.specs.Fmt.{decimal}
 use Rattle.pcap_classic.specs.declared.pcap.header.PcapHeader.{PcapHeader}
 use Rattle.pcap_classic.specs.declared.pcap.packet.PacketHeader.{PacketHeader}
 use Rattle.pcap_classic.specs.HeaderText.{HeaderSays}
 use Rattle.pcap_classic.specs.PacketText.{packet_limit, Captured}
 use Rattle.pcap_classic.specs.Packets.{format_under}
+use Rattle.pcap_program.specs.Digits.{nine_digits}
 use Rattle.capcopy_run.specs.Listing.{Kind}
-
--- A number padded with zeros in front to at least nine digits.
-abbrev pub nine_digits : ℕ → List ℕ
-nine_digits n = replicate (9 - length (decimal n)) 48 ++ decimal n
 
 -- The line of a packet gives its index, its time in seconds and nanoseconds, and its stored and original length.
 abbrev pub packet_line : ℕ → PacketHeader → List ℕ

@@ -4,15 +4,16 @@ use Rattle.std.specs.declared.env.FillError.{FillError}
 use Rattle.std.specs.declared.env.FillError.TheVariants.{NotPresent, TooLong}
 use Rattle.std.specs.Io.KnownBytes.{Keeps}
 use Rattle.pcap_classic.specs.declared.run.copy.Under.{Under}
-use Rattle.capcopy_run.specs.declared.exit.Exit.{Exit}
-use Rattle.capcopy_run.specs.declared.exit.Exit.TheVariants.{Usage}
+use Rattle.pcap_program.specs.declared.exit.Exit.{Exit}
+use Rattle.pcap_program.specs.declared.exit.Exit.TheVariants.{Usage}
 use Rattle.capcopy_run.specs.declared.words.Place.{Place}
 use Rattle.capcopy_run.specs.declared.words.Place.TheVariants.{Empty, Unknown, Text}
 use Rattle.capcopy_run.specs.declared.words.Texts.{Texts}
 use Rattle.capcopy_run.specs.declared.words.Texts.TheVariants.{Nothing, One, Two, Three}
 use Rattle.capcopy_run.specs.BlockLines.{block_lines}
 use Rattle.capcopy_run.specs.Copying.{CopiesUntil}
-use Rattle.capcopy_run.specs.Exits.{IsMemoryExit, IsOfKnownWord}
+use Rattle.pcap_program.specs.Exits.{IsMemoryExit}
+use Rattle.capcopy_run.specs.Exits.{IsOfKnownWord}
 use Rattle.capcopy_run.specs.Listing.{ListsUntil}
 use Rattle.capcopy_run.specs.PacketLines.{packet_lines}
 use Rattle.capcopy_run.specs.Words.{AskForList, AskForBlocks, AskForCopy, AskForNothing}

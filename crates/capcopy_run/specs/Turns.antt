@@ -2,7 +2,7 @@
 use Rattle.std.specs.Prelude.{ℕ, List, drop, Bool, true, false, Option, Result, Ok, Err}
 use Rattle.std.specs.Io.KnownBytes.{prepend_known}
 use Rattle.pcap_items.specs.Format.{Format}
-use Rattle.capcopy_run.specs.declared.exit.Exit.{Exit}
+use Rattle.pcap_program.specs.declared.exit.Exit.{Exit}
 use Rattle.capcopy_run.specs.Listing.{Listing, ListsItems, streams}
 
 -- What a turn of a list changes: the state of the format, the input, the output, and the number of lines so far.

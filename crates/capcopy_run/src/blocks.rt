@@ -6,21 +6,20 @@ ghost use Rattle.pcap_ng.specs.Blocks.{Item, block_format};
 ghost use Rattle.pcap_ng.specs.Bodies.{GrowsInBody};
 ghost use Rattle.pcap_ng.specs.Frames.{framed_of};
 ghost use Rattle.pcap_ng.specs.State.{State};
-ghost use Rattle.capcopy_run.specs.declared.exit.Exit.TheVariants as exits;
+ghost use Rattle.pcap_program.specs.declared.exit.Exit.TheVariants as exits;
 ghost use Rattle.capcopy_run.specs.BlockLines.{section_line, kind_name, IsBodyWord, IsBlockLine, IsItemLine, block_lines};
-ghost use Rattle.capcopy_run.specs.Exits.{IsOfKnownWord, exit_of};
-ghost use Rattle.capcopy_run.specs.Lines.{WritesLine};
+ghost use Rattle.pcap_program.specs.Exits.{exit_of};
+ghost use Rattle.capcopy_run.specs.Exits.{IsOfKnownWord};
+ghost use Rattle.pcap_program.specs.Lines.{WritesLine};
 ghost use Rattle.capcopy_run.specs.Listing.{ListsUntil};
 ghost use Rattle.capcopy_run.specs.OfBlocks.{blocks_alone};
 ghost use Rattle.capcopy_run.specs.Words.{order_word};
 
-use crate::Exit;
 use crate::items::list_items;
-use crate::line::{ROOM, put_byte, put_number, put_word};
 use crate::listed_blocks::{BlockLine, Blocks};
-use crate::output::put_line;
 use pcap_file::pcapng::{Block, BlockType, PcapNgParser, SectionHeaderBlock};
 use pcap_file::{Endianness, PcapError};
+use pcap_program::{Exit, ROOM, put_byte, put_line, put_number, put_word};
 use std::alloc::{AllocError, Global};
 use std::io::{BufRead, Write};
 

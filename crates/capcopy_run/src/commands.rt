@@ -3,21 +3,22 @@
 ghost use Rattle.std.specs.Prelude.{◌≡◌, IfSome};
 ghost use Rattle.std.specs.Io.KnownBytes.{Keeps};
 ghost use Rattle.pcap_classic.specs.declared.run.copy.Under.{Under};
-ghost use Rattle.capcopy_run.specs.declared.exit.Exit.TheVariants as exits;
+ghost use Rattle.pcap_program.specs.declared.exit.Exit.TheVariants as exits;
 ghost use Rattle.capcopy_run.specs.BlockLines.{block_lines};
 ghost use Rattle.capcopy_run.specs.Commands.{AsksFor};
 ghost use Rattle.capcopy_run.specs.Copying.{CopiesUntil};
-ghost use Rattle.capcopy_run.specs.Exits.{IsMemoryExit, IsOfKnownWord, exit_of};
+ghost use Rattle.pcap_program.specs.Exits.{IsMemoryExit, exit_of};
+ghost use Rattle.capcopy_run.specs.Exits.{IsOfKnownWord};
 ghost use Rattle.capcopy_run.specs.Listing.{ListsUntil};
 ghost use Rattle.capcopy_run.specs.PacketLines.{packet_lines};
 ghost use Rattle.capcopy_run.specs.Words.{texts_of, AskForList, AskForBlocks, AskForCopy, AskForNothing};
 
-use crate::Exit;
 use crate::blocks::blocks;
 use crate::copy::copy;
-use crate::list::list;
+use crate::list::list_lines;
 use pcap_file::run::Under;
 use pcap_file::{Endianness, TsResolution};
+use pcap_program::Exit;
 use std::alloc::Global;
 use std::io::{BufRead, Write};
 
@@ -77,7 +78,7 @@ pub fn run<R: BufRead, W: Write>(
 {
     match asked_for(words) {
         None => Exit::Usage,
-        Some(Command::List) => exit_at(list(alloc, input, output, most)),
+        Some(Command::List) => exit_at(list_lines(alloc, input, output, most)),
         Some(Command::Copy(under)) => exit_at(copy(alloc, input, output, under, most)),
         Some(Command::Blocks) => exit_at(blocks(alloc, input, output, most)),
     }

@@ -2,10 +2,11 @@
 
 ghost use Rattle.std.specs.Prelude.{IfErr};
 ghost use Rattle.capcopy_run.specs.Copying.{CopiesUntil};
-ghost use Rattle.capcopy_run.specs.Exits.{exit_of, IsOfKnownWord};
+ghost use Rattle.pcap_program.specs.Exits.{exit_of};
+ghost use Rattle.capcopy_run.specs.Exits.{IsOfKnownWord};
 
-use crate::Exit;
 use pcap_file::run::{Copied, Under, copy_buffered};
+use pcap_program::Exit;
 use std::alloc::Global;
 use std::io::{BufRead, Write};
 

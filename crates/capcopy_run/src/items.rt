@@ -1,12 +1,12 @@
 //! Listing the items of a capture, one line each.
 
 ghost use Rattle.std.specs.Prelude.{◌≡◌, ◌≤◌, ◌<◌, ◌+◌, ℕ, List, length, true, IfOk, IfErr};
-ghost use Rattle.capcopy_run.specs.Exits.{IsMemoryExit};
+ghost use Rattle.pcap_program.specs.Exits.{IsMemoryExit};
 ghost use Rattle.pcap_items.specs.Format.{Format};
 ghost use Rattle.capcopy_run.specs.Listing.{ListsItems, streams};
 ghost use Rattle.capcopy_run.specs.Turns.{TurnGives, WalkGives, turn, walk};
 
-use crate::Exit;
+use pcap_program::Exit;
 use std::alloc::Global;
 use std::io::{BufRead, Write};
 

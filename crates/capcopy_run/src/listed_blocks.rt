@@ -5,13 +5,13 @@ ghost use Rattle.pcap_items.specs.Format.{Format};
 ghost use Rattle.pcap_ng.specs.Blocks.{Item, item_of};
 ghost use Rattle.pcap_ng.specs.Parser.{state_of};
 ghost use Rattle.pcap_ng.specs.State.{State};
-ghost use Rattle.capcopy_run.specs.Lines.{WritesLine};
+ghost use Rattle.pcap_program.specs.Lines.{WritesLine};
 ghost use Rattle.capcopy_run.specs.OfBlocks.{AreBlocks};
 
-use crate::Exit;
 use crate::items::Lister;
 use pcap_file::PcapError;
 use pcap_file::pcapng::{Block, PcapNgParser};
+use pcap_program::Exit;
 use std::alloc::Global;
 use std::io::{BufRead, Write};
 

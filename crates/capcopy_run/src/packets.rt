@@ -7,18 +7,19 @@ ghost use Rattle.pcap_classic.specs.declared.common.TsResolution.{TsResolution};
 ghost use Rattle.pcap_classic.specs.declared.pcap.packet.PacketHeader.{PacketHeader};
 ghost use Rattle.pcap_classic.specs.PacketText.{packet_limit, Captured};
 ghost use Rattle.pcap_classic.specs.Packets.{packet_format};
-ghost use Rattle.capcopy_run.specs.Exits.{IsMemoryExit, IsOfKnownWord, exit_of};
-ghost use Rattle.capcopy_run.specs.Lines.{WritesLine};
+ghost use Rattle.pcap_program.specs.Exits.{IsMemoryExit, exit_of};
+ghost use Rattle.capcopy_run.specs.Exits.{IsOfKnownWord};
+ghost use Rattle.pcap_program.specs.Lines.{WritesLine};
 ghost use Rattle.capcopy_run.specs.Listing.{ListsUntil};
 ghost use Rattle.capcopy_run.specs.PacketLines.{of_header, packets_in};
 ghost use Rattle.capcopy_run.specs.Turns.{TurnGives, WalkGives, turn, walk};
 
-use crate::Exit;
 use crate::input::skip_exact;
 use crate::items::{Lister, list_items};
 use byteorder::{BigEndian, ByteOrder, LittleEndian};
 use pcap_file::pcap::{Packet, PacketHeader, PcapHeader};
 use pcap_file::{Endianness, TsResolution};
+use pcap_program::Exit;
 use std::alloc::Global;
 use std::io::{BufRead, Write};
 

@@ -6,7 +6,8 @@ ghost use Rattle.capcopy_run.specs.Runs.{AreTexts, RunsBuffered, StandsAt, Tells
 ghost use Rattle.capcopy_run.specs.WordPlaces.{environment_of, words_in};
 ghost use Rattle.capcopy_run.specs.Words.{texts_of};
 
-use crate::{Exit, Uninterrupted, run};
+use crate::run;
+use pcap_program::{Exit, Uninterrupted};
 use std::alloc::Global;
 use std::env::{Env, FillError};
 use std::io::{BufReader, Read, Write};

@@ -5,9 +5,9 @@ ghost use Rattle.pcap_classic.specs.Parser.{header_of};
 ghost use Rattle.pcap_damaged.specs.Heads.{head_in};
 ghost use Rattle.pcap_damaged.specs.Plausible.{BeginsNear, EndsHere, Follows, GoesOn, MayFollow};
 
-use crate::heads::{Numbers, PACKET_LIMIT, begins_capture, head_at, is_near};
+use crate::heads::{Numbers, begins_capture, head_at, is_near};
 use crate::row::is_row;
-use pcap_classic::pcap::PcapParser;
+use pcap_classic::pcap::{PACKET_LIMIT, PcapParser};
 
 /// The number of packets near a known time that resynchronization needs in a row.
 const IN_A_ROW: usize = 2;

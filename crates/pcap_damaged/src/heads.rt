@@ -11,15 +11,12 @@ ghost use Rattle.pcap_damaged.specs.Heads.{head_in};
 
 use byteorder::{BigEndian, ByteOrder, LittleEndian};
 use pcap_classic::TsResolution;
-use pcap_classic::pcap::{Packet, PcapHeader, PcapParser};
+use pcap_classic::pcap::{PACKET_LIMIT, Packet, PcapHeader, PcapParser};
 use pcap_core::Endianness;
 use pcap_core::fields::split_u32;
 
 /// The most seconds between two times that are near each other: a day.
 pub const NEAR: u32 = 86_400;
-
-/// The longest packet that breaks no rule, in bytes.
-pub(crate) const PACKET_LIMIT: u32 = 262144;
 
 // Returns whether two times, in seconds, are near each other.
 pub(crate) fn is_near(a: u32, b: u32) -> bool

@@ -6,9 +6,9 @@ ghost use Rattle.pcap_damaged.specs.Heads.{head_in};
 ghost use Rattle.pcap_damaged.specs.Weighed.{CanBe, Doubtful, EndsWell, GoesOnWithin, HeadCanBe, Opposed, OriginalEndsWell, Weighs};
 
 use crate::behind::follows;
-use crate::heads::{Numbers, PACKET_LIMIT, breaks_a_rule, head_at, is_near, limit_of, nanos_of};
+use crate::heads::{Numbers, breaks_a_rule, head_at, is_near, limit_of, nanos_of};
 use crate::search::resync;
-use pcap_classic::pcap::PcapParser;
+use pcap_classic::pcap::{PACKET_LIMIT, PcapParser};
 
 /// What a packet's head is worth, by the bytes behind it.
 #[derive(Clone, Copy, Debug, PartialEq, Eq)]

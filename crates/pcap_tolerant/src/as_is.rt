@@ -11,14 +11,11 @@ ghost use Rattle.pcap_tolerant.specs.AsIs.{breaks_one, flaws_of, rules_of, first
 
 use byteorder::{BigEndian, ByteOrder, LittleEndian};
 use pcap_classic::TsResolution;
-use pcap_classic::pcap::{PcapHeader, PcapParser};
+use pcap_classic::pcap::{PACKET_LIMIT, PcapHeader, PcapParser};
 use pcap_core::fields::split_u32;
 use pcap_core::rules::Rule;
 use pcap_core::{Endianness, PcapError, ResultParsing};
 use std::time::Duration;
-
-/// The longest packet that breaks no rule, in bytes. A lower limit of the caller is raised to it.
-const PACKET_LIMIT: u32 = 262144;
 
 /// The flaws of a packet: which of the four rules for packets it breaks. Each field is independent of the others.
 #[derive(Clone, Copy, Debug, PartialEq, Eq)]

@@ -10,7 +10,9 @@ use clap::Error;
 use clap::error::ErrorKind;
 use pcapfile_command::words;
 use pcapfile_command::words::Word;
-use pcapfile_files::{Console, Shown, UNREAD, USAGE, keep_standard_streams, status_of};
+use pcapfile_files::{
+    Console, Shown, UNREAD, USAGE, keep_standard_streams, status_of, tell_misnamed,
+};
 use std::alloc::AllocError;
 use std::io;
 use std::io::IsTerminal;
@@ -85,8 +87,9 @@ fn run(rt: &HostRuntime) -> io::Result<u8> {
     let is_told = rt.stdout().is_terminal() && task.tells_meanwhile();
     let console = Console::new(rt, is_told || matches.get_flag(words::QUIET))?;
     let status = task.run(&console)?;
-    if status == 0 {
-        tell_misnamed(&console, &task);
+    if let (0, Some((out, format))) = (status, task.misnamed()) {
+        // The work is done. If this write fails, its message is lost.
+        let _ = tell_misnamed(&console, out, format);
     }
     if console.has_fault() {
         tell_remedy(&console, &task);
@@ -115,17 +118,6 @@ fn tell_remedy(console: &Console, task: &Task) {
         return;
     };
     let _ = eprintln!(console.for_line(); "pcapfile: {remedy}");
-}
-
-// Reports that the extension of the output's name stands for another format than its own. A failed write of this message is ignored.
-fn tell_misnamed(console: &Console, task: &Task) {
-    let Some((out, format)) = task.misnamed() else {
-        return;
-    };
-    let out = Shown(out);
-    let _ = eprintln!(console.for_line();
-        "pcapfile: {out}: the format is {format}, but the extension is that of the other format"
-    );
 }
 
 // Reports that the arguments name no word of the program, and returns the exit status.

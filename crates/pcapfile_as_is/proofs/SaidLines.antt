@@ -18,10 +18,10 @@ use Rattle.pcap_tolerant_blocks.specs.declared.flaws.Broken.{Broken}
 use Rattle.pcap_tolerant_blocks.specs.declared.flaws.Flaw.{Flaw}
 use Rattle.pcap_tolerant_blocks.specs.Flaws.{Said, fault_of, said_of}
 use Rattle.pcap_tolerant_blocks.specs.NextFlaw.{HasFlaws}
-use Rattle.capcopy_run.specs.declared.exit.Exit.{Exit}
-use Rattle.capcopy_run.specs.declared.exit.Exit.TheVariants.{Io, Memory}
-use Rattle.capcopy_run.specs.Exits.{IsMemoryExit}
-use Rattle.capcopy_run.specs.Lines.{WritesLine}
+use Rattle.pcap_program.specs.declared.exit.Exit.{Exit}
+use Rattle.pcap_program.specs.declared.exit.Exit.TheVariants.{Io, Memory}
+use Rattle.pcap_program.specs.Exits.{IsMemoryExit}
+use Rattle.pcap_program.specs.Lines.{WritesLine}
 use Rattle.pcapfile_as_is.specs.BlockLines.{WritesFlaws, fault_line, said_line, said_lines}
 use Rattle.pcapfile_as_is.specs.Counts.{are_some}
 

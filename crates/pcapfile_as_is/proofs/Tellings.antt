@@ -22,9 +22,9 @@ use Rattle.pcap_tolerant.specs.Run.{as_is_under}
 use Rattle.pcap_tolerant_captures.specs.Blocks as blocks
 use Rattle.pcap_tolerant_captures.specs.State.{State, order_at}
 use Rattle.pcap_tolerant_captures.proofs.FirstFlaw.{frame_size}
-use Rattle.capcopy_run.specs.declared.exit.Exit.{Exit}
-use Rattle.capcopy_run.specs.declared.exit.Exit.TheVariants.{Io, Memory}
-use Rattle.capcopy_run.specs.Lines.{WritesLine}
+use Rattle.pcap_program.specs.declared.exit.Exit.{Exit}
+use Rattle.pcap_program.specs.declared.exit.Exit.TheVariants.{Io, Memory}
+use Rattle.pcap_program.specs.Lines.{WritesLine}
 use Rattle.pcapfile_as_is.specs.declared.counted.Counted.{Counted}
 use Rattle.pcapfile_as_is.specs.Counts.{counted, one_if, block_size}
 use Rattle.pcapfile_as_is.specs.declared.counted.Told.{Told}

@@ -7,8 +7,8 @@ use Rattle.pcap_core.specs.Faults.{Fault, Invalid, Io, Utf8, Own, rule_message}
 use Rattle.pcap_core.specs.Rules.{number_of}
 use Rattle.pcap_tolerant_blocks.specs.Flaws.{Said}
 use Rattle.pcap_tolerant_captures.specs.Blocks.{Item}
-use Rattle.capcopy_run.specs.declared.exit.Exit.{Exit}
-use Rattle.capcopy_run.specs.Lines.{WritesLine}
+use Rattle.pcap_program.specs.declared.exit.Exit.{Exit}
+use Rattle.pcap_program.specs.Lines.{WritesLine}
 use Rattle.pcapfile_as_is.specs.Counts.{are_some}
 
 -- The text that says where a block is: its number and the number of bytes before it.

@@ -21,7 +21,7 @@ use Rattle.pcap_tolerant_blocks.specs.SimpleAsIs.{SimpleAsIsText}
 use Rattle.pcap_tolerant_captures.specs.Blocks.{Item}
 use Rattle.pcap_tolerant_captures.specs.State.{State, opening, within}
 use Rattle.pcapfile_run.specs.BlockPackets.{InBlock, packet_in}
-use Rattle.pcapfile_run.specs.FileLines.{IsPacketText}
+use Rattle.pcapfile_run.specs.PacketTexts.{IsPacketText}
 use Rattle.pcapfile_as_is.specs.declared.counted.Told.{Told}
 use Rattle.pcapfile_as_is.specs.Counts.{are_some, is_flawed}
 use Rattle.pcapfile_as_is.specs.Texts.{numbered}

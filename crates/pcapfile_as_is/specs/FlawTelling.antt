@@ -4,7 +4,7 @@ use Rattle.pcap_core.specs.declared.errors.PcapError.{PcapError}
 use Rattle.pcap_tolerant_captures.specs.Blocks.{Item, as_is_format}
 use Rattle.pcap_tolerant_captures.specs.Outlines.{known_order}
 use Rattle.pcap_tolerant_captures.specs.State.{State}
-use Rattle.capcopy_run.specs.declared.exit.Exit.{Exit}
+use Rattle.pcap_program.specs.declared.exit.Exit.{Exit}
 use Rattle.pcapfile_as_is.specs.BlockLines.{block_lines}
 use Rattle.pcapfile_as_is.specs.Counts.{block_size, is_flawed}
 use Rattle.pcapfile_as_is.specs.Texts.{Progress, ToldBy, TellsBy, TellsItems, TellsTorn, progress, told_by}

@@ -3,7 +3,7 @@ use Rattle.std.specs.Prelude.{◌+◌, ◌*◌, ◌/◌, ◌%◌, ℕ, List, [],
 use Rattle.std.specs.Fmt.{decimal}
 use Rattle.pcap_classic.specs.declared.common.TsResolution.{TsResolution}
 use Rattle.pcap_classic.specs.PacketText.{Head, nanoseconds}
-use Rattle.capcopy_run.specs.PacketLines.{nine_digits}
+use Rattle.pcap_program.specs.Digits.{nine_digits}
 use Rattle.pcap_tolerant.specs.declared.as_is.Flaws.{Flaws}
 use Rattle.pcap_tolerant.specs.AsIs.{AsIs}
 

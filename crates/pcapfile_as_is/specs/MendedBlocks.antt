@@ -1,7 +1,7 @@
 -- This file defines how blocks are mended and written.
 use Rattle.std.specs.Prelude.{◌≡◌, ℕ, List, Bool, true, false, Option, Result, Ok, Err}
-use Rattle.capcopy_run.specs.declared.exit.Exit.{Exit}
-use Rattle.capcopy_run.specs.Lines.{WritesLine}
+use Rattle.pcap_program.specs.declared.exit.Exit.{Exit}
+use Rattle.pcap_program.specs.Lines.{WritesLine}
 use Rattle.pcap_written.specs.Raw.{Raw}
 use Rattle.pcapfile_mended.specs.declared.mending.Mended.{Mended}
 use Rattle.pcapfile_mended.specs.declared.mending.Mended.TheVariants as shown

@@ -6,8 +6,8 @@ use Rattle.pcap_core.specs.declared.errors.PcapError.{PcapError}
 use Rattle.pcap_items.specs.Format.{Format, state_after}
 use Rattle.pcap_items.specs.Reading.{Takes}
 use Rattle.pcap_items.specs.Takes.{TakesTexts, TakesItems}
-use Rattle.capcopy_run.specs.declared.exit.Exit.{Exit}
-use Rattle.capcopy_run.specs.Lines.{WritesLine}
+use Rattle.pcap_program.specs.declared.exit.Exit.{Exit}
+use Rattle.pcap_program.specs.Lines.{WritesLine}
 use Rattle.pcapfile_as_is.specs.declared.counted.Counted.{Counted}
 use Rattle.pcapfile_as_is.specs.declared.counted.Told.{Told}
 use Rattle.pcapfile_as_is.specs.Counts.{counted, one_if}

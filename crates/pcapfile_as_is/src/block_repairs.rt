@@ -9,8 +9,8 @@ ghost use Rattle.pcapfile_mended.specs.Mended.{IsMended};
 
 use crate::block_teller::BlockTeller;
 use crate::counted::{Spot, Told};
-use capcopy_run::{Exit, put_line};
 use pcap_blocks::BlockType;
+use pcap_program::{Exit, put_line};
 use pcap_tolerant_captures::{LentAsIs, PcapNgReaderAsIs};
 use pcap_written::RawBlock;
 use pcapfile_mended::{Mended, mend};

@@ -7,7 +7,7 @@ ghost use Rattle.pcapfile_as_is.specs.declared.counted.Told.{Told as WasTold};
 ghost use Rattle.pcapfile_as_is.specs.Texts.{WritesTold};
 
 use crate::counted::{Spot, Told};
-use capcopy_run::Exit;
+use pcap_program::Exit;
 use pcap_tolerant_captures::{LentAsIs, PcapNgReaderAsIs};
 use std::alloc::Global;
 use std::io::Write;

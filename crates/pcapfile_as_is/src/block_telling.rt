@@ -8,8 +8,8 @@ ghost use Rattle.pcapfile_as_is.specs.Texts.{TellsItems, TellsTorn, progress, to
 
 use crate::block_teller::BlockTeller;
 use crate::counted::{Counted, Spot};
-use capcopy_run::Exit;
 use pcap_core::PcapError;
+use pcap_program::Exit;
 use pcap_tolerant_captures::PcapNgReaderAsIs;
 use std::alloc::Global;
 use std::io::{Read, Write};

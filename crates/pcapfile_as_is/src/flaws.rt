@@ -6,9 +6,9 @@ ghost use Rattle.pcapfile_as_is.specs.FlawLines.{place_text, flaw_text, flaws_te
 use crate::block_flaws::rule_flaw;
 use crate::counted::Spot;
 use crate::teller::Teller;
-use capcopy_run::{Exit, put_line};
 use pcap_classic::TsResolution;
 use pcap_core::rules::Rule;
+use pcap_program::{Exit, put_line};
 use pcap_tolerant::{Flaws, PacketAsIs};
 use std::alloc::{AllocError, Global};
 use std::io::Write;

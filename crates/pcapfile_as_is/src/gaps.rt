@@ -1,13 +1,13 @@
 //! Bytes of captures that are left out, because they are no packets or blocks.
 
 ghost use Rattle.std.specs.Prelude.{◌≡◌, ◌+◌, ◌-◌, max, Some, IfOk, string_bytes};
-ghost use Rattle.capcopy_run.specs.Lines.{WritesLine};
+ghost use Rattle.pcap_program.specs.Lines.{WritesLine};
 ghost use Rattle.pcapfile_as_is.specs.Counts.{counted};
 ghost use Rattle.pcapfile_as_is.specs.Gaps.{gap_behind, gap_line, gap_text, reason_text, scrap_text};
 
 use crate::counted::Counted;
-use capcopy_run::{Exit, put_line};
 use pcap_core::rules::Rule;
+use pcap_program::{Exit, put_line};
 use std::alloc::{AllocError, Global};
 use std::fmt;
 use std::io::Write;

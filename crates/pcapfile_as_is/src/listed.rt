@@ -6,8 +6,8 @@ ghost use Rattle.pcapfile_as_is.specs.Lists.{as_is_line, marks_text};
 
 use crate::counted::Spot;
 use crate::teller::Teller;
-use capcopy_run::{Exit, ROOM, put_byte, put_line, put_nine_digits, put_number, put_word};
 use pcap_classic::TsResolution;
+use pcap_program::{Exit, ROOM, put_byte, put_line, put_nine_digits, put_number, put_word};
 use pcap_tolerant::{Flaws, PacketAsIs};
 use std::alloc::Global;
 use std::io::Write;

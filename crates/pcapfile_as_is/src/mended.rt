@@ -6,12 +6,9 @@ ghost use Rattle.pcap_tolerant.specs.AsIs.{as_it_is};
 ghost use Rattle.pcapfile_as_is.specs.Repaired.{repaired_of, repaired_time};
 
 use pcap_classic::TsResolution;
-use pcap_classic::pcap::{Packet, PacketHeader};
+use pcap_classic::pcap::{PACKET_LIMIT, Packet, PacketHeader};
 use pcap_core::CowBytes;
 use pcap_tolerant::PacketAsIs;
-
-/// The longest packet that breaks no rule, in bytes.
-const PACKET_LIMIT: u32 = 262144;
 
 /// The latest time that a packet can have at either timestamp resolution, in seconds and nanoseconds.
 const LATEST: (u32, u32) = (4_294_967_295, 999_999_000);

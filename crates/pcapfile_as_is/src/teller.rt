@@ -3,11 +3,11 @@
 ghost use Rattle.std.specs.Prelude.{◌≡◌, ℕ, List};
 ghost use Rattle.pcap_classic.specs.declared.common.TsResolution.{TsResolution as Resolution};
 ghost use Rattle.pcap_tolerant.specs.AsIs.{AsIs, as_it_is};
-ghost use Rattle.capcopy_run.specs.Lines.{WritesLine};
+ghost use Rattle.pcap_program.specs.Lines.{WritesLine};
 
 use crate::counted::Spot;
-use capcopy_run::Exit;
 use pcap_classic::TsResolution;
+use pcap_program::Exit;
 use pcap_tolerant::PacketAsIs;
 use std::alloc::Global;
 use std::io::Write;

@@ -9,8 +9,8 @@ ghost use Rattle.pcapfile_as_is.specs.Texts.{TellsBy, TellsItems, TellsTorn, pro
 
 use crate::counted::{Counted, Spot};
 use crate::teller::Teller;
-use capcopy_run::Exit;
 use pcap_core::PcapError;
+use pcap_program::Exit;
 use pcap_tolerant::ReaderAsIs;
 use std::alloc::Global;
 use std::io::{Read, Write};

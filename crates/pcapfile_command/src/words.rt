@@ -1,7 +1,7 @@
 //! The words of the program, and their help.
 
 ghost use Rattle.std.specs.Prelude.{◌≡◌};
-ghost use Rattle.pcapfile_command.specs.Words.{reads_repaired};
+ghost use Rattle.pcapfile_command.specs.Words.{IsWordOf, name_of, reads_repaired};
 
 use crate::rows::{Row, Takes, argument};
 use clap::Command;
@@ -616,7 +616,9 @@ const WORDS: [Word; 9] = [
 
 impl Word {
     /// Returns the word of this name, if there is one.
-    pub fn of_name(name: &str) -> Option<Word> {
+    pub fn of_name(name: &str) -> Option<Word>
+        ensures { IsWordOf name.now result }
+    {
         for word in WORDS {
             if word.name() == name {
                 return Some(word);
@@ -635,7 +637,9 @@ impl Word {
         }
     }
 
-    fn name<'a>(self) -> &'a str {
+    fn name<'a>(self) -> &'a str
+        ensures { result.now ≡ name_of self }
+    {
         match self {
             Word::Check => "check",
             Word::Info => "info",

@@ -1,1 +1,3 @@
+pub mod Buffered
+pub mod Counts
 pub mod Statuses

@@ -5,7 +5,7 @@ ghost use Rattle.std.specs.Prelude.{None};
 use crate::digest::Hashing;
 use crate::foreign::Foreign;
 use crate::progress::Progress;
-use capcopy_run::Uninterrupted;
+use pcap_program::Uninterrupted;
 use std::alloc::{AllocError, Global};
 use std::cell::Cell;
 use std::io;

@@ -5,7 +5,7 @@ use crate::foreign::is_capture;
 use crate::input::STANDARD;
 use crate::shown::Shown;
 use crate::tell::{FAILED, tell_io};
-use capcopy_run::Uninterrupted;
+use pcap_program::Uninterrupted;
 use std::alloc::{AllocError, Global};
 use std::fs::File;
 use std::io::{ErrorKind, Read};

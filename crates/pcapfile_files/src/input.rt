@@ -1,12 +1,15 @@
 //! The captures that the program reads.
 
-ghost use Rattle.std.specs.Prelude.{None};
+ghost use Rattle.std.specs.Prelude.{◌≡◌, IfErr, IfOk, None};
+ghost use Rattle.std.specs.IoError.{error_kind};
+ghost use Rattle.std.specs.declared.io.ErrorKind.TheVariants as kinds;
+ghost use Rattle.pcapfile_files.specs.Buffered.{left_in};
 
 use crate::console::{Console, Shared};
 use crate::digest::Hashing;
 use crate::foreign::Foreign;
 use crate::walk::Walk;
-use capcopy_run::Uninterrupted;
+use pcap_program::Uninterrupted;
 use std::alloc::Global;
 use std::cell::Cell;
 use std::fs::File;
@@ -20,11 +23,11 @@ const INPUT: usize = 262_144;
 /// The file name that means standard input or standard output.
 pub const STANDARD: &str = "-";
 
-/// Returns a buffered reader of a stream. It repeats a read that a signal interrupts.
-pub fn buffered<R: Read + Drop>(
-    alloc: Global,
-    stream: R,
-) -> io::Result<BufReader<Uninterrupted<R>>> {
+/// Returns a buffered reader of a stream. It repeats a read that a signal interrupts. Fails only if memory runs out.
+pub fn buffered<R: Read + Drop>(alloc: Global, stream: R) -> io::Result<BufReader<Uninterrupted<R>>>
+    ensures reads { IfOk result (λ input. left_in R.remaining input ≡ R.remaining stream) }
+    ensures fails { IfErr result (λ e. error_kind e ≡ kinds.OutOfMemory) }
+{
     BufReader::with_capacity(alloc, INPUT, Uninterrupted::new(stream))
 }
 

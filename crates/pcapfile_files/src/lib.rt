@@ -3,6 +3,7 @@
 #![tactic(auto)]
 
 mod console;
+mod count;
 mod destination;
 mod digest;
 mod folders;
@@ -19,6 +20,7 @@ mod tell;
 mod walk;
 
 pub use console::{Console, Notes};
+pub use count::Count;
 pub use folders::{EachFile, Inputs, PCAP_EXTENSIONS, PCAPNG_EXTENSIONS, read_files};
 pub use input::{STANDARD, Watched, buffered, open_further, open_watched};
 pub use numbered::unnumbered;
@@ -27,5 +29,5 @@ pub use shown::{NOT_UTF8, Shown, ShownJson};
 pub use standard::keep_standard_streams;
 pub use tell::{
     AT_FAULT, FAILED, UNREAD, USAGE, status_of, tell_changed, tell_error, tell_exit, tell_foreign,
-    tell_io, tell_other_file, tell_unwritten,
+    tell_io, tell_misnamed, tell_other_file, tell_unwritten,
 };

@@ -10,7 +10,7 @@ use crate::part;
 use crate::part::{Refusal, part_path};
 use crate::shown::Shown;
 use crate::tell::{FAILED, tell_io};
-use capcopy_run::Uninterrupted;
+use pcap_program::Uninterrupted;
 use std::fs::{File, Metadata, OpenOptions};
 use std::io::{Stdout, Write};
 use std::{fs, io};

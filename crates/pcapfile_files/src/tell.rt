@@ -7,8 +7,8 @@ ghost use Rattle.pcapfile_files.specs.Statuses.{failed_status};
 use crate::console::Console;
 use crate::foreign::Foreign;
 use crate::shown::{NOT_UTF8, Shown};
-use capcopy_run::Exit;
-use pcap_file::PcapError;
+use pcap_core::PcapError;
+use pcap_program::Exit;
 use std::io;
 use std::io::ErrorKind;
 
@@ -144,4 +144,12 @@ pub fn tell_unwritten(console: &Console, name: &str, exit: Exit) -> io::Result<u
         Exit::Io(PcapError::IoError(error)) => Err(error),
         exit => tell_exit(console, name, &exit),
     }
+}
+
+/// Prints that the extension of the output's name stands for another format than the output's, which has this name.
+pub fn tell_misnamed(console: &Console, out: &str, format: &str) -> io::Result<()> {
+    let out = Shown(out);
+    eprintln!(console.for_line();
+        "pcapfile: {out}: the format is {format}, but the extension is that of the other format"
+    )
 }

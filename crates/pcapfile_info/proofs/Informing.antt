@@ -25,8 +25,8 @@ use Rattle.pcap_ng.proofs.BlockFormat.{blocks_lawful}
 use Rattle.pcap_ng.proofs.ReadBlocks.{opened_more}
 use Rattle.pcapfile_run.specs.declared.checked.Checked.{Checked}
 use Rattle.pcapfile_run.specs.declared.checked.End.{End}
-use Rattle.pcapfile_run.specs.declared.checked.Format.{Format as CaptureFormat}
-use Rattle.pcapfile_run.specs.declared.checked.Format.TheVariants.{Pcap, PcapNg}
+use Rattle.pcapfile_run.specs.declared.format.Format.{Format as CaptureFormat}
+use Rattle.pcapfile_run.specs.declared.format.Format.TheVariants.{Pcap, PcapNg}
 use Rattle.pcapfile_run.specs.Checks.{FaultIs, EndIs, most_passed}
 use Rattle.pcapfile_run.specs.Passing.{counted}
 use Rattle.pcapfile_run.proofs.Ends.{fails_at, stops_at}

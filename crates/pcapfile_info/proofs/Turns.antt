@@ -9,7 +9,7 @@ use Rattle.pcap_core.specs.Answer.{whole}
 use Rattle.pcap_items.specs.Format.{Format, IsLawful}
 use Rattle.pcap_items.specs.Reading.{Takes}
 use Rattle.pcap_items.specs.Takes.{Stops}
-use Rattle.capcopy_run.proofs.Turns.{behind_shown, shown_split, shown_used, takes_shown}
+use Rattle.pcap_program.proofs.Shown.{behind_shown, shown_split, shown_used, takes_shown}
 use Rattle.pcapfile_run.specs.Passing.{counted}
 use Rattle.pcapfile_info.specs.declared.progress.Progress.{Progress}
 use Rattle.pcapfile_info.specs.declared.seen.Sight.{Sight}

@@ -11,7 +11,7 @@ use Rattle.pcap_ng.specs.Blocks.{block_format}
 use Rattle.pcap_ng.specs.Opening.{OpeningSays}
 use Rattle.pcap_ng.specs.State.{State}
 use Rattle.pcapfile_run.specs.declared.checked.Checked.{Checked}
-use Rattle.pcapfile_run.specs.declared.checked.Format.TheVariants.{Pcap, PcapNg}
+use Rattle.pcapfile_run.specs.declared.format.Format.TheVariants.{Pcap, PcapNg}
 use Rattle.pcapfile_run.specs.declared.checked.End.TheVariants.{Memory}
 use Rattle.pcapfile_run.specs.Checks.{ChecksItems, FailsOpening, most_passed}
 use Rattle.pcapfile_info.specs.declared.described.Described.{Described}

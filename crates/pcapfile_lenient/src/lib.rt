@@ -3,7 +3,6 @@
 #![tactic(auto)]
 
 mod captured;
-mod count;
 mod cut_short;
 mod describing;
 mod frames;
@@ -24,7 +23,6 @@ mod variants;
 mod window;
 
 pub use captured::Captured;
-pub use count::Count;
 pub use cut_short::{tell_cut_short, tell_fault, tell_unopened};
 pub use describing::{Fate, Source, Undescribed};
 pub use lost::FirstSection;

@@ -2,9 +2,9 @@
 
 ghost use Rattle.std.specs.Prelude.{◌≡◌};
 
-use capcopy_run::Exit;
 use pcap_file::pcapng::BlockType;
 use pcap_file::{Rule, TsResolution};
+use pcap_program::Exit;
 use pcap_tolerant::{Flaws, PacketAsIs};
 use pcap_tolerant_blocks::{Broken, Flaw};
 use pcap_tolerant_captures::{LentAsIs, PcapNgReaderAsIs};

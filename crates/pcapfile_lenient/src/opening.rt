@@ -5,7 +5,7 @@ use crate::window::Window;
 use byteorder::{BigEndian, LittleEndian};
 use pcap_altered::is_transferred;
 use pcap_damaged::{begins_near, head_at, resync};
-use pcap_file::pcap::PcapHeader;
+use pcap_file::pcap::{PACKET_LIMIT, PcapHeader};
 use pcap_file::{DataLink, Endianness, PcapParser, ResultParsing, TsResolution};
 use pcap_variants::Variant;
 use std::alloc::Global;
@@ -13,9 +13,6 @@ use std::io;
 
 /// The magic numbers of classic captures, in the order in which they are tried.
 const MAGICS: [u32; 4] = [0xD4C3_B2A1, 0xA1B2_C3D4, 0x4D3C_B2A1, 0xA1B2_3C4D];
-
-/// The longest packet that breaks no rule, in bytes.
-const SNAPLEN: u32 = 262_144;
 
 /// The length of a packet's head, in bytes.
 const HEAD: usize = 16;
@@ -80,7 +77,7 @@ pub fn header_with(magic_number: u32, link: u32) -> PcapHeader {
         version_minor: 4,
         ts_correction: 0,
         ts_accuracy: 0,
-        snaplen: SNAPLEN,
+        snaplen: PACKET_LIMIT,
         datalink: DataLink::from(link),
     }
 }

@@ -7,7 +7,7 @@ use pcap_damaged::{
     NEAR, Numbers, Weight, begins_capture, begins_near, can_be_this_long, follows, head_at, resync,
     weigh,
 };
-use pcap_file::pcap::PcapHeader;
+use pcap_file::pcap::{PACKET_LIMIT, PcapHeader};
 use pcap_file::{Endianness, PcapParser, ResultParsing, Rule, TsResolution};
 use pcapfile_as_is::{Counted, Spot};
 use std::alloc::{AllocError, Global};
@@ -15,9 +15,6 @@ use std::{fmt, io};
 
 /// The longest packet that lenient reading returns, in bytes.
 pub(crate) const LIMIT: u32 = 16_777_216;
-
-/// The longest packet that breaks no rule, in bytes.
-pub(crate) const PACKET_LIMIT: u32 = 262_144;
 
 /// The length of a packet's head, in bytes.
 const HEAD: usize = 16;
@@ -32,7 +29,7 @@ const MICROSECOND: u32 = 1_000;
 const SECOND: u32 = 1_000_000;
 
 /// The most bytes needed to be sure that packets go on at a place: four packets that break no rule have no more.
-pub(crate) const ROW: usize = 1_048_640;
+pub(crate) const ROW: usize = 4 * (HEAD + PACKET_LIMIT as usize);
 
 /// The length of the longest packet that is usual on networks, in bytes.
 const USUAL: u32 = 1_518;

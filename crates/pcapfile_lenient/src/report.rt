@@ -2,8 +2,8 @@
 
 use crate::packets::Change;
 use crate::summary::{Outcome, Summary, Tally};
-use capcopy_run::Uninterrupted;
 use pcap_file::Rule;
+use pcap_program::Uninterrupted;
 use pcapfile_as_is::{Counted, Gap, Scrap, Spot};
 use pcapfile_files::{Console, Notes, OUTPUT, Shown, ShownJson};
 use pcapfile_run::Format;

@@ -2,9 +2,10 @@
 
 use crate::frames::number_at;
 use crate::in_force::InForce;
-use crate::packets::{Change, LIMIT, PACKET_LIMIT};
+use crate::packets::{Change, LIMIT};
 use crate::window::Window;
 use pcap_file::Endianness;
+use pcap_file::pcap::PACKET_LIMIT;
 
 /// The type of an obsolete packet, whose numbers have the places of an enhanced one's.
 const OBSOLETE: u32 = 2;

@@ -3,7 +3,7 @@
 ghost use Rattle.std.specs.Prelude.{◌≡◌};
 ghost use Rattle.pcapfile_lenient.specs.Outcomes.{outcome_of, status_of, worse};
 
-use crate::count::Count;
+use pcapfile_files::Count;
 use pcapfile_run::Format;
 use std::fmt;
 

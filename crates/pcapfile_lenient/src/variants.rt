@@ -3,13 +3,11 @@
 use crate::packets::HEADER;
 use crate::window::Window;
 use pcap_damaged::{begins_near, head_at};
+use pcap_file::pcap::PACKET_LIMIT;
 use pcap_file::{PcapParser, ResultParsing};
 use pcap_variants::{Variant, variant_of};
 use std::alloc::Global;
 use std::fmt;
-
-/// The longest packet that breaks no rule, in bytes.
-const PACKET_LIMIT: u32 = 262_144;
 
 /// The length of a packet's head, in bytes.
 const HEAD: usize = 16;

@@ -2,9 +2,9 @@
 
 use crate::packets::ROW;
 use crate::undo::Undo;
-use capcopy_run::Uninterrupted;
 use pcap_damaged::resync as first_packets;
 use pcap_file::{Endianness, PcapParser};
+use pcap_program::Uninterrupted;
 use pcap_tolerant_captures::resync::{resync_in as first_blocks, resync_section};
 use pcap_variants::Variant;
 use pcapfile_files::Watched;

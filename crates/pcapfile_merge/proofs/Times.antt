@@ -4,7 +4,8 @@ use Rattle.std.proofs.lemmas.Int.{ints}
 use Rattle.pcap_times.specs.declared.clock.Timestamp.{Timestamp}
 use Rattle.pcapfile_merge.specs.declared.choice.PacketOrder.{PacketOrder}
 use Rattle.pcapfile_merge.specs.declared.choice.PacketOrder.TheVariants.{ByTime, ByFile}
-use Rattle.pcapfile_merge.specs.Packets.{IsBefore, IsBeforeIn, IsTimeBefore}
+use Rattle.pcapfile_run.specs.BlockPackets.{IsBefore, IsTimeBefore}
+use Rattle.pcapfile_merge.specs.Packets.{IsBeforeIn}
 
 time_transitive : (a b c : Timestamp) → IsTimeBefore a b → IsTimeBefore b c → IsTimeBefore a c
 time_transitive a b c p q = grind (arith, ints)

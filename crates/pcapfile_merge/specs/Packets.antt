@@ -1,5 +1,5 @@
 -- Packets that are merged, and their times.
-use Rattle.std.specs.Prelude.{⊤, ◌≡◌, ◌⊎◌, ◌<◌, ◌<ℤ◌, ◌+◌, ℕ, List, [], ◌∷◌, Bool, true, false, Option, None, Some}
+use Rattle.std.specs.Prelude.{◌≡◌, ◌+◌, ℕ, List, [], ◌∷◌, Bool, true, false, Option, None, Some}
 use Rattle.std.specs.List.{flat_map}
 use Rattle.pcap_times.specs.declared.clock.Timestamp.{Timestamp}
 use Rattle.pcap_classic.specs.PacketText.{Captured}
@@ -7,6 +7,7 @@ use Rattle.pcap_file.specs.Conversion.{exact_time}
 use Rattle.pcap_blocks.specs.ParsedBlock.{EnhancedBody}
 use Rattle.pcap_written.specs.Plain.{plain_packet}
 use Rattle.pcap_file.specs.Converted.{little_text, time_of}
+use Rattle.pcapfile_run.specs.BlockPackets.{IsBefore}
 use Rattle.pcapfile_run.specs.Passing.{counted}
 use Rattle.pcapfile_merge.specs.declared.choice.PacketOrder.{PacketOrder}
 use Rattle.pcapfile_merge.specs.declared.choice.PacketOrder.TheVariants.{ByTime, ByFile}
@@ -35,17 +36,6 @@ texts = flat_map text_of
 -- clock, its length on the wire and its bytes ('Enhanced Packet Block').
 abbrev pub plain_text : ℕ → ℕ → ℕ → List ℕ → List ℕ
 plain_text number units original_len bytes = little_text (EnhancedBody (plain_packet number units original_len bytes))
-
--- One time is before another.
-abbrev pub IsTimeBefore : Timestamp → Timestamp → Type 0
-IsTimeBefore t u = (t.seconds <ℤ u.seconds) ⊎ ((t.seconds ≡ u.seconds) × (t.nanoseconds < u.nanoseconds))
-
--- A missing time is before each time.
-abbrev pub IsBefore : Option Timestamp → Option Timestamp → Type 0
-IsBefore None None = ⊥
-IsBefore None (Some u) = ⊤
-IsBefore (Some t) None = ⊥
-IsBefore (Some t) (Some u) = IsTimeBefore t u
 
 abbrev pub TellsBefore : Option Timestamp → Option Timestamp → Bool → Type 0
 TellsBefore t u true = IsBefore t u

@@ -1,6 +1,6 @@
-//! Captures of which a command reads all packets or the selected ones, unchanged or repaired.
+//! Captures that a command reads: unchanged or repaired, and all of their packets or the selected ones.
 #![tactic(auto)]
 
-mod reading;
+mod input;
 
-pub use reading::{Reading, tell_account, tell_exceptions};
+pub use input::Input;

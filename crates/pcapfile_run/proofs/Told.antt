@@ -21,7 +21,7 @@ use Rattle.pcap_ng.specs.State.{State}
 use Rattle.pcap_ng.proofs.ReadBlocks.{opened_more}
 use Rattle.pcapfile_run.specs.declared.checked.Checked.{Checked}
 use Rattle.pcapfile_run.specs.declared.checked.End.{End}
-use Rattle.pcapfile_run.specs.declared.checked.Format.TheVariants.{Pcap, PcapNg}
+use Rattle.pcapfile_run.specs.declared.format.Format.TheVariants.{Pcap, PcapNg}
 use Rattle.pcapfile_run.specs.Checks.{FaultIs, EndIs, ChecksPackets, ChecksOpened, CountsBehind, most_passed}
 use Rattle.pcap_walk.specs.CountedItems.{CountsItems}
 use Rattle.pcapfile_run.specs.Passing.{counted}

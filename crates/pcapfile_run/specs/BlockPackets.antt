@@ -1,8 +1,10 @@
--- This file defines the packets in blocks ('Enhanced Packet Block', 'Packet Block', 'Simple Packet Block').
-use Rattle.std.specs.Prelude.{◌≡◌, ℕ, List, take, Option, None, Some}
+-- This file defines the packets in blocks and their times ('Enhanced Packet Block', 'Packet Block', 'Simple Packet Block').
+use Rattle.std.specs.Prelude.{◌≡◌, ◌<◌, ◌<ℤ◌, ◌⊎◌, ⊤, ℕ, List, take, Option, None, Some}
 use Rattle.std.specs.List.{slice_get}
 use Rattle.pcap_core.specs.Answer.{whole}
+use Rattle.pcap_times.specs.declared.clock.Timestamp.{Timestamp}
 use Rattle.pcap_blocks.specs.InterfaceDescription.{Interface}
+use Rattle.pcap_blocks.specs.InterfaceTimes.{IsTimeAt}
 use Rattle.pcap_blocks.specs.ParsedBlock.{Body, EnhancedBody, OldPacketBody, SimpleBody}
 use Rattle.pcap_blocks.specs.StoredBytes.{stored_len}
 use Rattle.pcap_ng.specs.Bodies.{SaysOfBody}
@@ -42,3 +44,25 @@ pub record HoldsPacket (interfaces : List Interface) (block : Framed) (packet : 
 -- The packet that a value of the code stands for.
 abbrev pub in_block : BlockPacket → InBlock
 in_block packet = record { interface = packet.interface; units = packet.units; original_len = packet.original_len; bytes = packet.bytes.now }
+
+-- IsClockTime interface units time: `time` is the time at this count of the interface's clock, or none if there is no interface.
+abbrev pub IsClockTime : Option Interface → ℕ → Option Timestamp → Type 0
+IsClockTime (Some interface) units (Some time) = IsTimeAt interface units time
+IsClockTime None units None = ⊤
+IsClockTime _ units _ = ⊥
+
+-- IsTimeIn: the time of a packet of the interface with this number, or none if the packet has none.
+abbrev pub IsTimeIn : List Interface → ℕ → Option ℕ → Option Timestamp → Type 0
+IsTimeIn interfaces number (Some units) time = IsClockTime (slice_get interfaces number) units time
+IsTimeIn interfaces number None time = time ≡ None
+
+-- One time is before another.
+abbrev pub IsTimeBefore : Timestamp → Timestamp → Type 0
+IsTimeBefore t u = (t.seconds <ℤ u.seconds) ⊎ ((t.seconds ≡ u.seconds) × (t.nanoseconds < u.nanoseconds))
+
+-- A missing time is before each time.
+abbrev pub IsBefore : Option Timestamp → Option Timestamp → Type 0
+IsBefore None None = ⊥
+IsBefore None (Some u) = ⊤
+IsBefore (Some t) None = ⊥
+IsBefore (Some t) (Some u) = IsTimeBefore t u

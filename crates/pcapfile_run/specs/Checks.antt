@@ -17,7 +17,7 @@ use Rattle.pcap_ng.specs.State.{State}
 use Rattle.pcapfile_run.specs.declared.checked.Checked.{Checked}
 use Rattle.pcapfile_run.specs.declared.checked.End.{End}
 use Rattle.pcapfile_run.specs.declared.checked.End.TheVariants.{Whole, Most, Short, Breaks, NotUtf8, Unread, Memory}
-use Rattle.pcapfile_run.specs.declared.checked.Format.TheVariants.{Pcap, PcapNg}
+use Rattle.pcapfile_run.specs.declared.format.Format.TheVariants.{Pcap, PcapNg}
 use Rattle.pcap_walk.specs.CountedItems.{CountsItems}
 use Rattle.pcapfile_run.specs.Passing.{counted}
 use Rattle.pcapfile_run.specs.SoundBlocks.{sound_blocks}

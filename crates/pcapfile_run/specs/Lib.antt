@@ -1,12 +1,8 @@
 pub mod BlockPackets
 pub mod Checks
-pub mod FileLines
-pub mod FormedLines
+pub mod Formats
 pub mod Lines
-pub mod Numbered
-pub mod NumberedLaws
+pub mod PacketTexts
 pub mod Passing
 pub mod SoundBlocks
-pub mod StoredBlocks
-pub mod WalkedLists
 pub mod WiderCauses

@@ -6,8 +6,8 @@ use Rattle.pcap_core.specs.Rules.{number_of}
 use Rattle.pcapfile_run.specs.declared.checked.Checked.{Checked}
 use Rattle.pcapfile_run.specs.declared.checked.End.{End}
 use Rattle.pcapfile_run.specs.declared.checked.End.TheVariants.{Whole, Most, Short, Breaks, NotUtf8, Unread, Memory}
-use Rattle.pcapfile_run.specs.declared.checked.Format.{Format}
-use Rattle.pcapfile_run.specs.declared.checked.Format.TheVariants.{Pcap, PcapNg}
+use Rattle.pcapfile_run.specs.declared.format.Format.{Format}
+use Rattle.pcapfile_run.specs.declared.format.Format.TheVariants.{Pcap, PcapNg}
 
 -- The name of a format.
 abbrev pub format_name : Format → List ℕ

@@ -3,9 +3,10 @@
 ghost use Rattle.std.specs.Prelude.{◌≡◌, [], true, IfSome};
 ghost use Rattle.pcap_items.specs.Format.{IsLawful};
 ghost use Rattle.pcapfile_run.specs.Checks.{ChecksBlocks, ChecksBodies, ChecksPackets, CountsBehind, FaultIs};
-ghost use Rattle.pcapfile_run.specs.declared.checked.Format.TheVariants as formats;
+ghost use Rattle.pcapfile_run.specs.declared.format.Format.TheVariants as formats;
 
-use crate::checked::{Checked, Format, end_of};
+use crate::checked::{Checked, end_of};
+use crate::format::Format;
 use crate::sound_blocks::SoundBlocks;
 use pcap_file::PcapError;
 use pcap_file::pcap::read_header;

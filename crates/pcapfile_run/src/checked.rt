@@ -5,19 +5,11 @@ ghost use Rattle.pcap_core.specs.declared.rules.Rule.{Rule};
 ghost use Rattle.pcap_core.specs.Errors.{IsIo, IsMemory};
 ghost use Rattle.pcap_core.specs.Faults.{Names};
 ghost use Rattle.pcapfile_run.specs.Checks.{EndIs, FaultIs};
-ghost use Rattle.pcapfile_run.specs.Lines.{ending_text, format_name, items_name, line_of, status_of};
+ghost use Rattle.pcapfile_run.specs.Lines.{ending_text, line_of, status_of};
 
+use crate::format::Format;
 use pcap_file::{PcapError, Rule};
 use std::fmt;
-
-/// The format of a capture.
-#[derive(Clone, Copy, Debug, PartialEq, Eq)]
-pub enum Format {
-    /// A classic capture.
-    Pcap,
-    /// A PcapNg capture.
-    PcapNg,
-}
 
 /// The reason why no item follows those that were counted.
 #[derive(Debug, Drop)]
@@ -50,27 +42,6 @@ pub struct Checked {
     pub bytes: u64,
     /// The reason why no item follows.
     pub end: End,
-}
-
-impl Format {
-    fn name(self) -> &'static str
-        ensures { result.now ≡ format_name self }
-    {
-        match self {
-            Format::Pcap => "pcap",
-            Format::PcapNg => "pcapng",
-        }
-    }
-
-    // Returns the name of its items.
-    fn items(self) -> &'static str
-        ensures { result.now ≡ items_name self }
-    {
-        match self {
-            Format::Pcap => "packets",
-            Format::PcapNg => "blocks",
-        }
-    }
 }
 
 impl Checked {

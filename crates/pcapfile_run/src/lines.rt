@@ -1,15 +1,14 @@
 //! Lines of packets in blocks, built from the end to the beginning.
 
-ghost use Rattle.std.specs.Prelude.{◌≡◌, ◌≢◌, ◌≤◌, ◌+◌, ◌<◌, ◌^◌, ◌++◌, ℕ, List, pos, length, drop, map, codes, option_map, MatchOption};
+ghost use Rattle.std.specs.Prelude.{◌≡◌, ◌≢◌, ◌≤◌, ◌+◌, ◌<◌, ◌^◌, ◌++◌, ℕ, List, pos, length, drop, codes, option_map, MatchOption};
 ghost use Rattle.std.specs.Fmt.{decimal};
 ghost use Rattle.pcap_blocks.specs.InterfaceDescription.{interface_of};
-ghost use Rattle.pcap_blocks.specs.ParsedBlock.{body_of};
 ghost use Rattle.pcapfile_run.specs.BlockPackets.{in_block};
-ghost use Rattle.pcapfile_run.specs.FileLines.{IsBodyLine, IsPacketText, IsTimeText, IsUnitsText, ShowsTime, lengths_text};
+ghost use Rattle.pcapfile_run.specs.PacketTexts.{IsPacketText, IsTimeText, IsUnitsText, ShowsTime, lengths_text};
 
-use crate::block_packet::{BlockPacket, interface_at, packet_in_body};
-use capcopy_run::{ROOM, put_byte, put_nine_digits, put_number, put_word};
-use pcap_file::pcapng::{InterfaceDescriptionBlock, ParsedBlock, Timestamp};
+use crate::block_packet::BlockPacket;
+use pcap_file::pcapng::{InterfaceDescriptionBlock, Timestamp};
+use pcap_program::{ROOM, put_byte, put_nine_digits, put_number};
 
 // Returns the seconds of a time, if they fit in 64 bits and aren't negative.
 fn seconds_of(time: Timestamp) -> Option<u64>
@@ -118,32 +117,4 @@ pub fn put_packet(
     let start = put_lengths(room, end, stored, packet.original_len, packet.interface);
     let start = put_packet_time(room, start, interface, packet.units);
     put_packet_number(room, start, number)
-}
-
-/// Writes the line of the packet in a body, with this number, into the end of the buffer, and returns where the line begins. The line
-/// is empty if the body is no packet.
-pub(crate) fn make_body_line(
-    room: &mut [u8; ROOM],
-    number: u64,
-    interfaces: &[InterfaceDescriptionBlock<'static>],
-    parsed: &ParsedBlock,
-) -> usize
-    ensures within { result ≤ 126 }
-    ensures line { IsBodyLine (map interface_of interfaces.now) number (body_of parsed.now) (drop result room.new) }
-{
-    let Some(packet) = packet_in_body(interfaces, parsed) else {
-        return ROOM;
-    };
-    let end = put_byte(room, ROOM, b'\n');
-    let interface = interface_at(interfaces, packet.interface);
-    put_packet(room, end, number, interface, packet)
-}
-
-/// Writes the line of a packet with this number and a malformed body into the end of the buffer, and returns where the line begins.
-pub(crate) fn make_refused_line(room: &mut [u8; ROOM], number: u64) -> usize
-    ensures within { result ≤ 126 }
-    ensures line { drop result room.new ≡ decimal number ++ codes " refused\n" }
-{
-    let start = put_word(room, ROOM, " refused\n");
-    put_number(room, start, number)
 }

@@ -3,5 +3,5 @@ mod LeastFirst
 mod MadeItems
 mod PutBlocks
 mod PutPackets
-mod Reading
+mod ReadAhead
 mod Spanning

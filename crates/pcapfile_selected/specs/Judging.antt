@@ -8,8 +8,7 @@ use Rattle.pcap_blocks.specs.declared.parsed_block.ParsedBlock.{ParsedBlock}
 use Rattle.pcap_blocks.specs.ParsedBlock.{Body, body_of}
 use Rattle.pcap_ng.specs.Bodies.{SaysOfBody}
 use Rattle.pcap_ng.specs.Frames.{Framed}
-use Rattle.pcapfile_run.specs.BlockPackets.{InBlock, packet_in}
-use Rattle.pcapfile_run.specs.FormedLines.{IsTimeIn}
+use Rattle.pcapfile_run.specs.BlockPackets.{InBlock, IsTimeIn, packet_in}
 use Rattle.pcapfile_info.specs.Tallies.{IsBefore}
 use Rattle.pcapfile_cut.specs.Selections.{accepts, is_in}
 use Rattle.pcapfile_selected.specs.declared.blocks.judging.BlockTests.{BlockTests}

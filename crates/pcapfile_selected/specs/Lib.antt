@@ -5,6 +5,7 @@ pub mod Deciding
 pub mod Judging
 pub mod Moments
 pub mod PacketTimes
+pub mod Readings
 pub mod SelectedBlocks
 pub mod SelectedItems
 pub mod SpanBlocks

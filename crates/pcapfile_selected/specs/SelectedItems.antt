@@ -1,7 +1,6 @@
 -- A capture of selected packets that is read: its items are made as they are needed.
 use Rattle.std.specs.Prelude.{◌≡◌, ◌<◌, ◌-◌, ◌^◌, ◌++◌, ◌||◌, ◌⊎◌, ℕ, List, [], ◌∷◌, length, take, drop, Bool, true, false, IsTrue, Option, None, Some, Result, Ok, Err}
 use Rattle.std.specs.Result.{result_err}
-use Rattle.std.specs.Io.Buffered.{reader_remaining}
 use Rattle.std.specs.Io.KnownBytes.{Keeps}
 use Rattle.std.specs.IoError.{error_kind}
 use Rattle.std.specs.declared.alloc.Global.{Global}
@@ -11,11 +10,11 @@ use Rattle.std.specs.declared.io.ErrorKind.TheVariants as kinds
 use Rattle.pcap_core.specs.declared.errors.PcapError.{PcapError}
 use Rattle.pcap_core.specs.declared.errors.PcapError.TheVariants.{IoError, OutOfMemory}
 use Rattle.pcap_core.specs.Errors.{IsIo, IsMemory}
-use Rattle.capcopy_run.specs.declared.exit.Exit.{Exit}
-use Rattle.capcopy_run.specs.declared.exit.Exit.TheVariants as exits
-use Rattle.capcopy_run.specs.Exits.{EndsAt}
-use Rattle.capcopy_run.specs.declared.uninterrupted.Uninterrupted.{Uninterrupted}
-use Rattle.capcopy_run.specs.Uninterrupted.{stream_of}
+use Rattle.pcap_program.specs.declared.exit.Exit.{Exit}
+use Rattle.pcap_program.specs.declared.exit.Exit.TheVariants as exits
+use Rattle.pcap_program.specs.Exits.{EndsAt}
+use Rattle.pcap_program.specs.declared.uninterrupted.Uninterrupted.{Uninterrupted}
+use Rattle.pcapfile_files.specs.Buffered.{left_in}
 use Rattle.pcapfile_cut.specs.declared.cutting.Outcome.{Outcome}
 use Rattle.pcapfile_cut.specs.Cuts.{IsNew}
 use Rattle.pcapfile_cut.specs.Steps.{StaysThat, StepsOnce, ends_with, progress_of}
@@ -31,10 +30,6 @@ use Rattle.pcapfile_selected.specs.declared.source.PacketSource.{PacketSource}
 use Rattle.pcapfile_selected.specs.Asked.{IsLeastFirst}
 use Rattle.pcapfile_selected.specs.PacketTimes.{BeginsAsked, OpensPackets, input_of, opening_of}
 use Rattle.pcapfile_selected.specs.SelectedBlocks.{Begins, ChoosesSame, OpensBlocks, Passes, SelectsNext, place_of, run, spot}
-
--- The bytes that are left in the buffered input of a selection.
-abbrev pub left_in : {R A : Type 0} → (R → Option (List ℕ)) → BufReader (Uninterrupted R) A → Option (List ℕ)
-left_in remaining input = reader_remaining (λ (stream : Uninterrupted _). remaining (stream_of stream)) input
 
 -- The next packet was read, and written if it is selected. Or no further packet is wanted, or there is none.
 pub record PutsPacket {R : Type 0} (remaining : R → Option (List ℕ)) (old new : SelectedPackets R) (out out_now : Option (List ℕ)) (result : Result Bool PcapError) : Type 0 where

@@ -1,8 +1,8 @@
 //! The latest time in a capture, which a selection may need before it reads the capture.
 
-use capcopy_run::Exit;
 use pcap_file::PcapError;
 use pcap_file::pcapng::Timestamp;
+use pcap_program::Exit;
 use pcapfile_files::{
     Console, STANDARD, USAGE, Watched, buffered, open_watched, tell_error, tell_exit, tell_io,
 };

@@ -3,15 +3,16 @@
 ghost use Rattle.std.specs.Prelude.{◌≡◌, ◌<◌, ◌≤◌, ◌||◌, [], length, IfErr, IfOk, IsTrue, MatchResult, None, Some, false};
 ghost use Rattle.std.specs.Io.{ReadsAtMost};
 ghost use Rattle.std.specs.Io.KnownBytes.{ReadConsumes};
-ghost use Rattle.pcapfile_selected.specs.SelectedItems.{BeginsItems, BeginsSelected, Empties, FailsToBegin, Gives, IsFailureAt, KeepsFailure, MakesItems, MakesMore, MakesOne, PutsBlocks, PutsItem, PutsPacket, ReadsSelected, Refills, TellsFailure, has_failed, is_failure, left_in};
+ghost use Rattle.pcapfile_selected.specs.SelectedItems.{BeginsItems, BeginsSelected, Empties, FailsToBegin, Gives, IsFailureAt, KeepsFailure, MakesItems, MakesMore, MakesOne, PutsBlocks, PutsItem, PutsPacket, ReadsSelected, Refills, TellsFailure, has_failed, is_failure};
+ghost use Rattle.pcapfile_files.specs.Buffered.{left_in};
 
 use crate::account::Account;
 use crate::ahead::copy_front;
 use crate::blocks::{BlockSource, Choosing};
 use crate::selecting::Tests;
 use crate::source::{Exceptions, PacketSource, Source};
-use capcopy_run::{Exit, Uninterrupted};
 use pcap_file::{PcapError, ResultParsing};
+use pcap_program::{Exit, Uninterrupted};
 use pcapfile_cut::{Outcome, PacketCutter};
 use pcapfile_run::{Format, format_of};
 use std::alloc::{AllocError, Global};

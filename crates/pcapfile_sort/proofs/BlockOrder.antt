@@ -4,7 +4,8 @@ use Rattle.std.specs.Prelude.{◌↔◌}
 use Rattle.std.proofs.lemmas.Bool.{cases_lt}
 use Rattle.std.proofs.lemmas.Int.{ints}
 use Rattle.pcap_times.specs.declared.clock.Timestamp.{Timestamp}
-use Rattle.pcapfile_sort.specs.Blocks.{IsBefore, IsTimeNumber, IsWithinSecond, rank_in}
+use Rattle.pcapfile_run.specs.BlockPackets.{IsBefore}
+use Rattle.pcapfile_sort.specs.Blocks.{IsTimeNumber, IsWithinSecond, rank_in}
 
 rank_less : (a b m n : ℕ) → n < 2 ^ 95 → rank_in a m < rank_in b n → (a < b) ⊎ ((a ≡ b) × (m < n))
 rank_less a b m n few less = elim (cases_lt a b) [

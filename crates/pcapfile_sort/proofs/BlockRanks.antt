@@ -24,8 +24,7 @@ use Rattle.pcap_ng.specs.Frames.{Framed, FrameSays, frame_format}
 use Rattle.pcap_ng.specs.Opening.{OpeningSays}
 use Rattle.pcap_ng.specs.State.{State, leads, opening, order_at}
 use Rattle.pcap_ng.proofs.HeadedFrames.{frames_lawful}
-use Rattle.pcapfile_run.specs.BlockPackets.{InBlock}
-use Rattle.pcapfile_run.specs.FormedLines.{IsClockTime, IsTimeIn}
+use Rattle.pcapfile_run.specs.BlockPackets.{InBlock, IsClockTime, IsTimeIn}
 use Rattle.pcapfile_sort.specs.Blocks.{AreBlocks, IsBlock, IsBlockIn, IsNumberIn, IsRankOf, block_captures, rank_in}
 use Rattle.pcapfile_sort.specs.Ranked.{Ranked, ranked_at}
 use Rattle.pcapfile_sort.specs.ReadingBlocks.{HasTimeNumber}

@@ -1,5 +1,5 @@
 -- Blocks of PcapNg captures with their ranks: by section, then blocks without a packet before packets, then packets by time.
-use Rattle.std.specs.Prelude.{⊤, ◌≡◌, ◌<◌, ◌<ℤ◌, ◌≤◌, ◌+◌, ◌*◌, ◌^◌, ◌⊎◌, ◌+ℤ◌, pos, ℕ, List, [], ◌∷◌, length, Bool, Option, None, Some}
+use Rattle.std.specs.Prelude.{⊤, ◌≡◌, ◌<◌, ◌≤◌, ◌+◌, ◌*◌, ◌^◌, ◌⊎◌, ◌+ℤ◌, pos, ℕ, List, [], ◌∷◌, length, Bool, Option, None, Some}
 use Rattle.std.specs.Io.KnownBytes.{Consumes, IsAtEnd}
 use Rattle.pcap_core.specs.declared.common.Endianness.{Endianness}
 use Rattle.pcap_core.specs.declared.common.Endianness.TheVariants.{Big, Little}
@@ -14,8 +14,7 @@ use Rattle.pcap_ng.specs.Bodies.{GrowsInBody, SaysOfBody}
 use Rattle.pcap_ng.specs.Frames.{Framed, FrameSays}
 use Rattle.pcap_ng.specs.Opening.{RefusesOpening}
 use Rattle.pcap_ng.specs.State.{State, interfaces_at, opening}
-use Rattle.pcapfile_run.specs.BlockPackets.{InBlock, packet_in}
-use Rattle.pcapfile_run.specs.FormedLines.{IsTimeIn}
+use Rattle.pcapfile_run.specs.BlockPackets.{InBlock, IsTimeIn, packet_in}
 use Rattle.pcapfile_sort.specs.Ranked.{Ranked, texts_of}
 use Rattle.pcapfile_sort.specs.Sortable.{Sortable}
 
@@ -23,13 +22,6 @@ use Rattle.pcapfile_sort.specs.Sortable.{Sortable}
 abbrev pub IsTimeNumber : Option Timestamp → ℕ → Type 0
 IsTimeNumber None n = n ≡ 1
 IsTimeNumber (Some time) n = (seconds : ℕ) × (pos seconds ≡ time.seconds +ℤ pos (2 ^ 63)) × (n ≡ 2 + (seconds * 10 ^ 9 + time.nanoseconds))
-
--- A time is before another. A missing time is before each time.
-abbrev pub IsBefore : Option Timestamp → Option Timestamp → Type 0
-IsBefore None None = ⊥
-IsBefore None (Some u) = ⊤
-IsBefore (Some t) None = ⊥
-IsBefore (Some t) (Some u) = (t.seconds <ℤ u.seconds) ⊎ ((t.seconds ≡ u.seconds) × (t.nanoseconds < u.nanoseconds))
 
 -- The nanoseconds of a time, if there is one, are less than a second.
 abbrev pub IsWithinSecond : Option Timestamp → Type 0

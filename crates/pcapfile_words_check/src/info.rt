@@ -1,18 +1,18 @@
 //! The word `info`.
 
 use crate::check::tell_unread;
-use capcopy_run::{Exit, Uninterrupted};
 use pcap_file::PcapError;
 use pcap_filter::Filter;
+use pcap_program::{Exit, Uninterrupted};
 use pcapfile_files::{
     AT_FAULT, Console, EachFile, Inputs, OUTPUT, Shown, ShownJson, buffered, read_files,
     tell_error, tell_exit, tell_foreign, tell_io,
 };
 use pcapfile_info::{Information, inform_blocks, inform_packets};
 use pcapfile_lenient::{Captured, tell_unopened};
-use pcapfile_reading::{Reading, tell_account};
+use pcapfile_reading::Input;
 use pcapfile_run::{Checked, End, Format, format_of};
-use pcapfile_selected::{Account, Choice, Tests, load_filter};
+use pcapfile_selected::{Account, Choice, Tests, load_filter, tell_account};
 use pcapfile_shown::{COLUMNS, Report, Total, Unwritten, row_of, write_json};
 use std::io::{BufWriter, ErrorKind, Read, Write};
 use std::rc::Rc;
@@ -164,7 +164,7 @@ fn inform(
     inform_on(
         console,
         asked,
-        Reading::new(console, capture, tests, account)?,
+        Input::new(console, capture, tests, account)?,
     )
 }
 

@@ -2,18 +2,19 @@
 
 ghost use Rattle.std.specs.Prelude.{None};
 
-use capcopy_run::{Exit, Uninterrupted};
 use pcap_file::PcapError;
 use pcap_filter::Filter;
 use pcap_items::stream::Told;
+use pcap_program::{Exit, Uninterrupted};
 use pcapfile_files::{
-    AT_FAULT, Console, OUTPUT, Shown, buffered, open_watched, tell_exit, tell_io, tell_unwritten,
+    AT_FAULT, Console, Count, OUTPUT, Shown, buffered, open_watched, tell_exit, tell_io,
+    tell_unwritten,
 };
-use pcapfile_lenient::{Captured, Count, tell_fault};
+use pcapfile_lenient::{Captured, tell_fault};
 use pcapfile_lines::{Form, HEADING, UTC_HEADING};
-use pcapfile_reading::{Reading, tell_account};
-use pcapfile_run::list;
-use pcapfile_selected::{Account, Choice, Tests, load_filter};
+use pcapfile_list::list;
+use pcapfile_reading::Input;
+use pcapfile_selected::{Account, Choice, Tests, load_filter, tell_account};
 use std::io::{BufWriter, ErrorKind, Read, Write};
 use std::rc::Rc;
 use std::{io, str};
@@ -310,7 +311,7 @@ fn open_and_list<W: Write>(
     if tests.is_some() {
         account.keep_numbers(console.alloc());
     }
-    match Reading::new(console, Captured::Whole(stream), tests, account) {
+    match Input::new(console, Captured::Whole(stream), tests, account) {
         Ok(capture) => list_capture(console, asked, capture, account, output),
         Err(error) => Ok(Listed::unread(error)),
     }

@@ -3,33 +3,24 @@
 ghost use Rattle.std.specs.Prelude.{IfOk};
 ghost use Rattle.pcapfile_merge.specs.Holding.{IsReady};
 
-use crate::convert::{WHOLE_PACKETS, tell_lost_bits};
-use crate::left_out::LeftOut;
-use crate::opening::{Joining, Opened, Openings, put_opening};
-use crate::placing::Placing;
-use crate::with_fcs::has_reserved_bits;
-use capcopy_run::Uninterrupted;
-use pcap_file::pcapng::PcapNgWriter;
 use pcap_file::{PcapNgReader, PcapReader, ResultParsing};
 use pcap_filter::Filter;
+use pcap_program::Uninterrupted;
+use pcapfile_convert::{Joining, Opened, merge_readers, tell_left_out};
 use pcapfile_files::{
-    AT_FAULT, Console, OUTPUT, Shown, Watched, buffered, open_further, tell_error, tell_io,
-    write_named,
+    AT_FAULT, Console, OUTPUT, Watched, buffered, open_further, tell_error, tell_io, write_named,
 };
-use pcapfile_lenient::{Captured, Count, tell_fault, tell_unopened};
-use pcapfile_merge::{
-    BufferedBlocks, BufferedPackets, PacketOrder, Reader, Source, merge_packets, next_source,
-};
-use pcapfile_reading::{Reading, tell_account};
+use pcapfile_lenient::{Captured, tell_fault, tell_unopened};
+use pcapfile_merge::{BufferedBlocks, BufferedPackets, PacketOrder, Reader, Source};
+use pcapfile_reading::Input;
 use pcapfile_run::{Format, format_of};
-use pcapfile_selected::{Account, Choice, Tests, load_filter};
-use std::alloc::Global;
+use pcapfile_selected::{Account, Choice, Tests, load_filter, tell_account};
 use std::io;
 use std::io::{BufWriter, Read, Write};
 use std::rc::Rc;
 
 /// A capture to merge.
-type Input<'a> = Uninterrupted<Reading<'a>>;
+type Stream<'a> = Uninterrupted<Input<'a>>;
 
 /// The arguments of `merge`.
 #[derive(Drop)]
@@ -142,7 +133,7 @@ fn open_input<'a>(
     name: &'a str,
     asked: &'a Merge<'a>,
     filter: Option<&'a Filter>,
-    inputs: &mut Inputs<'a, Input<'a>>,
+    inputs: &mut Inputs<'a, Stream<'a>>,
 ) -> io::Result<()> {
     let tests = match asked.choice.tests(console, name, asked.as_is, filter)? {
         Ok(tests) => tests,
@@ -186,11 +177,7 @@ fn merge_inputs<R: Read + Drop, W: Write + Drop>(
         order: asked.order,
         names: names.as_slice(),
     };
-    let written = match asked.to {
-        Format::Pcap => write_placed(joining, readers, &mut sources, output),
-        Format::PcapNg => write_merged(joining, readers, &mut sources, output),
-    };
-    let left_out = match written {
+    let left_out = match merge_readers(joining, asked.to, readers, &mut sources, output) {
         Ok(left_out) => left_out,
         Err(error) => return Ok(Ended::given_up(tell_error(console, asked.out, &error)?)),
     };
@@ -204,82 +191,6 @@ fn merge_inputs<R: Read + Drop, W: Write + Drop>(
         status,
         is_whole: status <= AT_FAULT,
     })
-}
-
-// Returns the largest snapshot length of the captures. That of a PcapNg capture is not known before all its interfaces are read.
-fn most_stored<R: Read + Drop>(readers: &[Opened<R>]) -> u32 {
-    let mut most = 0;
-    for opened in readers {
-        let snaplen = match &opened.reader {
-            Reader::Packets(packets) => packets.header().snaplen,
-            Reader::Blocks(_) => WHOLE_PACKETS,
-        };
-        most = most.max(if snaplen == 0 { WHOLE_PACKETS } else { snaplen });
-    }
-    most
-}
-
-// Reports what was left out of each capture.
-fn tell_left_out<R: Read + Drop>(
-    console: &Console,
-    names: &[&str],
-    sources: &[Source<R>],
-) -> io::Result<()> {
-    for (name, source) in names.iter().zip(sources) {
-        match source.reader() {
-            Reader::Packets(packets) if has_reserved_bits(packets.header()) => {
-                tell_lost_bits(console, name)?;
-            }
-            Reader::Packets(_) => {}
-            Reader::Blocks(blocks) => {
-                for count in kinds(blocks.left_out(), source.left_out()) {
-                    tell_kind(console, name, count)?;
-                }
-            }
-        }
-    }
-    Ok(())
-}
-
-// Returns how many blocks and options of each kind were left out of a capture.
-fn kinds<'a>(left_out: pcapfile_merge::LeftOut, packet_options: u64) -> [Count<'a>; 6] {
-    [
-        Count(left_out.names, "block of names is", "blocks of names are"),
-        Count(
-            left_out.statistics,
-            "block of statistics is",
-            "blocks of statistics are",
-        ),
-        Count(
-            left_out.secrets,
-            "block of secrets is",
-            "blocks of secrets are",
-        ),
-        Count(
-            left_out.others,
-            "block of other types is",
-            "blocks of other types are",
-        ),
-        Count(
-            left_out.section_options,
-            "option of section headers is",
-            "options of section headers are",
-        ),
-        Count(
-            packet_options,
-            "option of obsolete packets is",
-            "options of obsolete packets are",
-        ),
-    ]
-}
-
-// Reports how many blocks or options of one kind were left out of a capture, if there were any.
-fn tell_kind(console: &Console, name: &str, count: Count<'_>) -> io::Result<()> {
-    if count.0 > 0 {
-        let shown = Shown(name);
-        eprintln!(console.for_line(); "pcapfile: {shown}: {count} left out")?;
-    }
-    Ok(())
 }
 
 // Reports the error that ended each capture early, if any, and returns the worst exit status.
@@ -305,12 +216,12 @@ fn open_reader<'a>(
     as_is: bool,
     tests: Option<Tests<'a>>,
     account: &Rc<Account>,
-) -> ResultParsing<Reader<Input<'a>>>
+) -> ResultParsing<Reader<Stream<'a>>>
     ensures { IfOk result (λ reader. IsReady reader) }
 {
     let alloc = console.alloc();
     let capture = Captured::new(console, name, stream, as_is)?;
-    let mut input = buffered(alloc, Reading::new(console, capture, tests, account)?)?;
+    let mut input = buffered(alloc, Input::new(console, capture, tests, account)?)?;
     match format_of(&mut input)? {
         Format::Pcap => {
             let reader = PcapReader::new(alloc, input)?;
@@ -320,78 +231,5 @@ fn open_reader<'a>(
             let reader = PcapNgReader::new(alloc, input)?;
             Ok(Reader::Blocks(BufferedBlocks::new(alloc, reader)))
         }
-    }
-}
-
-// Writes the merge as a PcapNg capture, from which nothing is left out.
-fn write_merged<R: Read + Drop, W: Write + Drop>(
-    joining: Joining<'_>,
-    readers: Vec<Opened<R>>,
-    sources: &mut Vec<Source<R>>,
-    output: W,
-) -> ResultParsing<LeftOut> {
-    let (mut output, interfaces) = put_opening(joining, readers, sources, output)?;
-    let all = sources.as_mut_slice();
-    let merged = merge_packets(all, joining.order, &mut output, u64::MAX, interfaces);
-    if let Some(error) = merged.fault {
-        return Err(error);
-    }
-    output.flush()?;
-    Ok(LeftOut::default())
-}
-
-// Writes the merge as a classic capture, and returns what was left out.
-fn write_placed<R: Read + Drop, W: Write + Drop>(
-    joining: Joining<'_>,
-    readers: Vec<Opened<R>>,
-    sources: &mut Vec<Source<R>>,
-    output: W,
-) -> ResultParsing<LeftOut> {
-    let snaplen = most_stored(readers.as_slice());
-    let Joining { alloc, order, .. } = joining;
-    let (mut openings, mut writer) = Openings::begin(joining, readers, Vec::new(alloc))?;
-    let section = writer.get_ref().as_slice();
-    let mut placing = Placing::after(alloc, section, output, snaplen)?;
-    for _ in 0..u64::MAX {
-        writer.get_mut().clear();
-        // A packet that is written now is the next one of the merge.
-        let has_no_time = is_untimed_next(sources.as_slice(), order);
-        let goes_on = put_next(&mut openings, sources, &mut writer)?;
-        placing.place(writer.get_ref().as_slice(), has_no_time)?;
-        if !goes_on {
-            break;
-        }
-    }
-    placing.end(openings.of_headers)
-}
-
-// Returns whether the next packet or block of a merge in this order has no time.
-fn is_untimed_next<R>(sources: &[Source<R>], order: PacketOrder) -> bool {
-    match next_source(sources, order) {
-        None => false,
-        Some(source) => source.is_untimed(),
-    }
-}
-
-// Writes the next block of an opening, or else the blocks up to the next packet. Returns false if no packet is left.
-fn put_next<R: Read + Drop>(
-    openings: &mut Openings<R>,
-    sources: &mut Vec<Source<R>>,
-    writer: &mut PcapNgWriter<Vec<u8>>,
-) -> ResultParsing<bool> {
-    if openings.put_next(sources, writer)? {
-        return Ok(true);
-    }
-    let merged = merge_packets(
-        sources.as_mut_slice(),
-        openings.order,
-        writer.get_mut(),
-        1,
-        openings.interfaces,
-    );
-    openings.interfaces = merged.interfaces;
-    match merged.fault {
-        None => Ok(merged.packets > 0),
-        Some(error) => Err(error),
     }
 }

@@ -7,11 +7,10 @@ use pcapfile_files::{
     Console, OUTPUT, STANDARD, Shown, USAGE, buffered, tell_io, unnumbered, write_named,
 };
 use pcapfile_lenient::{Captured, tell_unopened};
-use pcapfile_reading::tell_exceptions;
 use pcapfile_run::{Format, format_of};
 use pcapfile_selected::{
-    BlockSource, PacketSource, Selecting, Source, Spans, Tests, flushed, load_filter, tell_outcome,
-    tests_of,
+    BlockSource, PacketSource, Selecting, Source, Spans, Tests, flushed, load_filter,
+    tell_exceptions, tell_outcome, tests_of,
 };
 use std::alloc::Global;
 use std::io;

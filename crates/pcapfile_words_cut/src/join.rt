@@ -1,6 +1,6 @@
 //! The word `join`.
 
-use capcopy_run::Uninterrupted;
+use pcap_program::Uninterrupted;
 use pcapfile_cut::{BlockCutter, Joined, Opening, Wanted, join_part};
 use pcapfile_files::{
     AT_FAULT, Console, OUTPUT, Shown, Watched, buffered, open_watched, tell_io, tell_other_file,

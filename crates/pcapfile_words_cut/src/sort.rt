@@ -2,11 +2,11 @@
 
 ghost use Rattle.std.specs.Prelude.{None};
 
-use capcopy_run::{Exit, Uninterrupted};
+use pcap_program::{Exit, Uninterrupted};
 use pcapfile_cut::Outcome;
 use pcapfile_files::{
     Console, FAILED, OUTPUT, PCAP_EXTENSIONS, PCAPNG_EXTENSIONS, STANDARD, Shown, USAGE, Watched,
-    buffered, open_watched, tell_error, tell_exit, tell_io, write_named,
+    buffered, open_watched, tell_error, tell_exit, tell_io, tell_misnamed, write_named,
 };
 use pcapfile_lenient::tell_unopened;
 use pcapfile_run::{Format, format_of};
@@ -116,7 +116,7 @@ fn sort_to<W: Write + Drop>(
     let status = end_sort(console, asked, sorted, output)?;
     if status == 0 {
         tell_sections(console, asked.from, sections)?;
-        tell_misnamed(console, asked.out, format)?;
+        tell_if_misnamed(console, asked.out, format)?;
     }
     Ok(status)
 }
@@ -149,21 +149,19 @@ fn tell_sections(console: &Console, from: &str, sections: u64) -> io::Result<()>
 }
 
 // Reports that the extension of the output's name stands for another format than its own, if it does.
-fn tell_misnamed(console: &Console, out: &str, format: Format) -> io::Result<()> {
+fn tell_if_misnamed(console: &Console, out: &str, format: Format) -> io::Result<()> {
     let Some((_, extension)) = out.rsplit_once('.') else {
         return Ok(());
     };
-    let (is_misnamed, format) = match format {
-        Format::Pcap => (PCAPNG_EXTENSIONS.contains(&extension), "pcap"),
-        Format::PcapNg => (PCAP_EXTENSIONS.contains(&extension), "PcapNg"),
-    };
-    if !is_misnamed {
-        return Ok(());
+    match format {
+        Format::Pcap if PCAPNG_EXTENSIONS.contains(&extension) => {
+            tell_misnamed(console, out, "pcap")
+        }
+        Format::PcapNg if PCAP_EXTENSIONS.contains(&extension) => {
+            tell_misnamed(console, out, "PcapNg")
+        }
+        _ => Ok(()),
     }
-    let out = Shown(out);
-    eprintln!(console.for_line();
-        "pcapfile: {out}: the format is {format}, but the extension is that of the other format"
-    )
 }
 
 // Reports why a capture was not sorted, and returns the exit status.

@@ -1,7 +1,7 @@
 //! Captures that are read leniently.
 
-use capcopy_run::Exit;
 use pcap_file::{PcapError, ResultParsing};
+use pcap_program::Exit;
 use pcapfile_as_is::{BlockPacketLines, Counted, Gap, LeftOut, Position, Scrap, Teller};
 use pcapfile_files::{Console, Shown, open_watched, tell_changed};
 use pcapfile_lenient::{Change, HEADER, LeftOutHeads, Named, Rows, Standing, Stop};

@@ -1,8 +1,8 @@
 //! The lenient word `check`.
 
 use crate::as_is::{Between, BlockLines, MOST, Telling};
-use capcopy_run::{Exit, Uninterrupted, put_line};
 use pcap_file::PcapError;
+use pcap_program::{Exit, Uninterrupted, put_line};
 use pcapfile_as_is::{CheckedAsIs, FlawLines, put_gap};
 use pcapfile_files::{
     Console, EachFile, Inputs, OUTPUT, Shown, read_files, tell_changed, tell_error, tell_unwritten,

@@ -1,8 +1,8 @@
 //! The lenient word `list`.
 
 use crate::as_is::{Between, BlockLines, Telling};
-use capcopy_run::{Exit, Uninterrupted};
 use pcap_file::PcapError;
+use pcap_program::{Exit, Uninterrupted};
 use pcapfile_as_is::PacketLines;
 use pcapfile_files::{AT_FAULT, Console, OUTPUT, Shown, tell_error, tell_exit, tell_unwritten};
 use pcapfile_lenient::tell_cut_short;

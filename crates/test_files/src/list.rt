@@ -1,7 +1,7 @@
 //! The word `list` on captures of either format.
 
 use crate::inputs::{ROOMS, buffered};
-use pcapfile_run::list;
+use pcapfile_list::list;
 use std::alloc::Global;
 use std::test::*;
 use test_support::captures::{SECTIONS, front};

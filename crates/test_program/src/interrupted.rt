@@ -2,7 +2,8 @@
 
 use crate::failing::{LINE, LINES};
 use crate::runs::{End, Run, end_of, ended, is_out};
-use capcopy_run::{Uninterrupted, WordList, run, run_words};
+use capcopy_run::{WordList, run, run_words};
+use pcap_program::Uninterrupted;
 use std::alloc::Global;
 use std::io;
 use std::io::{BufReader, ErrorKind, Read};

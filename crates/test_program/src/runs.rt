@@ -2,8 +2,9 @@
 //!
 //! These functions free what a run makes: a test gets a copy of the values to compare, or a failure.
 
-use capcopy_run::{Exit, run};
+use capcopy_run::{Message, run};
 use pcap_classic::PcapError;
+use pcap_program::Exit;
 use std::alloc::Global;
 use std::io::{BufReader, ErrorKind, Write};
 use std::test::Fail;
@@ -136,7 +137,8 @@ pub(crate) fn writes(alloc: Global, given: &Run<'_>, wanted: &[u8]) -> Result<Ra
 pub(crate) fn says(alloc: Global, given: &Run<'_>, wanted: &[u8], line: &str) -> Result<Ran, Fail> {
     let mut output = Vec::new(alloc);
     let (exit, ran) = exit_of(alloc, given, &mut output)?;
-    let told = format!(in alloc; "{exit}")?;
+    let message = Message(&exit);
+    let told = format!(in alloc; "{message}")?;
     same(told.as_str(), line)?;
     is_out(output.as_slice(), wanted, given.room)?;
     Ok(ran)

@@ -24,7 +24,7 @@ use std::io::{Read, Write};
 use std::time::Duration;
 
 /// The highest valid value of a packet's stored or original length, in bytes.
-const PACKET_LIMIT: u32 = 262144;
+pub const PACKET_LIMIT: u32 = 262144;
 
 /// The header of a packet, 16 bytes in a capture.
 #[derive(Clone, Copy, Debug, Default, PartialEq, Eq)]

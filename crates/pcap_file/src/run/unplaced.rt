@@ -6,12 +6,9 @@ ghost use Rattle.pcap_blocks.specs.ParsedBlock.{body_of};
 ghost use Rattle.pcap_file.specs.Placed.{is_packet, unplaced_message, TellsPlaced, TellsPlacedBody};
 
 use pcap_blocks::{BlockType, InterfaceDescriptionBlock, ParsedBlock, Timestamp};
-use pcap_classic::pcap::PacketHeader;
+use pcap_classic::pcap::{PACKET_LIMIT, PacketHeader};
 use pcap_core::DataLink;
 use pcap_core::rules::Rule;
-
-/// The most bytes that a packet of a classic capture may have.
-const PACKET_LIMIT: u32 = 262144;
 
 /// A reason why a packet of a block has no place in a classic capture.
 #[derive(Clone, Copy, Debug, PartialEq, Eq)]

@@ -5,8 +5,7 @@ ghost use Rattle.pcap_core.specs.Errors.{IsMemory};
 ghost use Rattle.pcap_blocks.specs.InterfaceDescription.{interface_of};
 ghost use Rattle.pcap_blocks.specs.ParsedBlock.{body_of};
 ghost use Rattle.pcap_ng.specs.Frames.{framed_of};
-ghost use Rattle.pcapfile_run.specs.BlockPackets.{in_block, packet_in};
-ghost use Rattle.pcapfile_run.specs.FormedLines.{IsClockTime, IsTimeIn};
+ghost use Rattle.pcapfile_run.specs.BlockPackets.{IsClockTime, IsTimeIn, in_block, packet_in};
 ghost use Rattle.pcapfile_selected.specs.Judging.{IsBlockTime, IsHeldTime, IsRead, IsWithin, Judges, JudgesHeld, JudgesPacket, passes, takes_interface};
 
 use pcap_file::pcapng::{Block, InterfaceDescriptionBlock, ParsedBlock, Timestamp};

@@ -1,5 +1,5 @@
 use Rattle.std.proofs.Common.{arith}
-use Rattle.capcopy_run.proofs.Digits.{nine_long}
+use Rattle.pcap_program.proofs.Digits.{nine_long}
 use Rattle.capcopy_run.proofs.line.put_seconds.Goals as goal
 
 pub returns-clause-text : goal.returns-clause-text

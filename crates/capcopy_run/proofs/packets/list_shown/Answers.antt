@@ -5,7 +5,7 @@ use Rattle.pcap_classic.specs.PacketText.{packet_limit, content_of}
 use Rattle.pcap_classic.specs.Packets.{packet_format}
 use Rattle.pcap_classic.proofs.HeadedPackets.{packets_lawful}
 use Rattle.pcap_classic.proofs.Packets.{packets_say}
-use Rattle.capcopy_run.specs.Lines.{WritesLine}
+use Rattle.pcap_program.specs.Lines.{WritesLine}
 use Rattle.capcopy_run.specs.PacketLines.{of_header}
 use Rattle.capcopy_run.proofs.Turns.{walked_none, walked_more, walked_torn, walked_used}
 use Rattle.capcopy_run.proofs.packets.list_shown.Goals as goal

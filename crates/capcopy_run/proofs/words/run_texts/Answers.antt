@@ -1,5 +1,5 @@
 use Rattle.std.proofs.Common.{◌∙◌, ap}
-use Rattle.capcopy_run.specs.Uninterrupted.{stream_of}
+use Rattle.pcap_program.specs.Uninterrupted.{stream_of}
 use Rattle.capcopy_run.specs.Words.{texts_of}
 use Rattle.capcopy_run.proofs.AskedWords.{buffer_left, buffered_runs}
 use Rattle.capcopy_run.proofs.words.run_texts.Goals as goal

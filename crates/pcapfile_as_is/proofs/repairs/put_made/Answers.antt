@@ -1,5 +1,5 @@
 use Rattle.std.proofs.Common.{◌≡◌, ◌∙◌, ℕ, List, subst}
-use Rattle.capcopy_run.specs.Lines.{WritesLine}
+use Rattle.pcap_program.specs.Lines.{WritesLine}
 use Rattle.pcapfile_as_is.proofs.repairs.put_made.Goals as goal
 
 pub returns : goal.returns

@@ -1,6 +1,6 @@
 use Rattle.std.proofs.Common.{◌≡◌, ◌++◌, ◌∷◌, drop, codes, refl, sym, inl, inr, append_assoc}
 use Rattle.std.specs.Fmt.{decimal}
-use Rattle.capcopy_run.specs.PacketLines.{nine_digits}
+use Rattle.pcap_program.specs.Digits.{nine_digits}
 use Rattle.pcapfile_run.proofs.lines.put_time.Goals as goal
 
 pub returns-in_default-clause-text : goal.returns-in_default-clause-text

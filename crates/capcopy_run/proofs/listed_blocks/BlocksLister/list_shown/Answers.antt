@@ -3,7 +3,7 @@ use Rattle.std.proofs.lemmas.Result.{err_from_is_err_and}
 use Rattle.pcap_ng.specs.Blocks.{item_of}
 use Rattle.pcap_ng.specs.Parser.{state_of}
 use Rattle.pcap_ng.proofs.BlockFormat.{block_said}
-use Rattle.capcopy_run.specs.Lines.{WritesLine}
+use Rattle.pcap_program.specs.Lines.{WritesLine}
 use Rattle.capcopy_run.proofs.Turns.{walked_none, walked_more, walked_refused, walked_torn, walked_used}
 use Rattle.capcopy_run.proofs.listed_blocks.BlocksLister.list_shown.Goals as goal
 

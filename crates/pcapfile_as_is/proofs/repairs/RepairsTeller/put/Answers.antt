@@ -3,7 +3,7 @@ use Rattle.pcap_core.specs.Codec.{number_bytes}
 use Rattle.pcap_core.specs.declared.common.Endianness.{Endianness}
 use Rattle.pcap_classic.specs.PacketText.{Captured, content_of}
 use Rattle.pcap_classic.specs.Written.{record_bytes}
-use Rattle.capcopy_run.specs.Lines.{WritesLine}
+use Rattle.pcap_program.specs.Lines.{WritesLine}
 use Rattle.pcapfile_as_is.proofs.repairs.RepairsTeller.put.Goals as goal
 
 pub returns-clause-writes : goal.returns-clause-writes

@@ -1,5 +1,5 @@
 use Rattle.std.proofs.Common.{rules}
-use Rattle.pcapfile_selected.proofs.Reading.{held_at_end}
+use Rattle.pcapfile_selected.proofs.ReadAhead.{held_at_end}
 use Rattle.pcapfile_selected.proofs.ahead.Ahead.is_at_end.Goals as goal
 
 pub returns : goal.returns

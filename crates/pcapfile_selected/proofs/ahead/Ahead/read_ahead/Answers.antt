@@ -1,7 +1,7 @@
 use Rattle.std.proofs.Common.{arith}
 use Rattle.std.proofs.lemmas.List.{length-take}
 use Rattle.pcapfile_selected.specs.Ahead.{held_in}
-use Rattle.pcapfile_selected.proofs.Reading.{ahead_all, ahead_full, ahead_more}
+use Rattle.pcapfile_selected.proofs.ReadAhead.{ahead_all, ahead_full, ahead_more}
 use Rattle.pcapfile_selected.proofs.ahead.Ahead.read_ahead.Goals as goal
 
 pub returns-then-not-branch-clause-ahead : goal.returns-then-not-branch-clause-ahead

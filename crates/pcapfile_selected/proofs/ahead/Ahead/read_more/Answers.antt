@@ -1,5 +1,5 @@
 use Rattle.std.proofs.Common.{rules}
-use Rattle.pcapfile_selected.proofs.Reading.{held_more}
+use Rattle.pcapfile_selected.proofs.ReadAhead.{held_more}
 use Rattle.pcapfile_selected.proofs.ahead.Ahead.read_more.Goals as goal
 
 pub returns-clause-reads : goal.returns-clause-reads

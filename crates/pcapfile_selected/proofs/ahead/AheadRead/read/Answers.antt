@@ -1,7 +1,7 @@
 use Rattle.std.proofs.Common.{ap, rules}
 use Rattle.std.proofs.lemmas.List.{length-take-le}
 use Rattle.pcapfile_selected.specs.Ahead.{held_in}
-use Rattle.pcapfile_selected.proofs.Reading.{read_bare, read_held}
+use Rattle.pcapfile_selected.proofs.ReadAhead.{read_bare, read_held}
 use Rattle.pcapfile_selected.proofs.ahead.AheadRead.read.Goals as goal
 
 pub returns-then-self-eq0-clause-bytes : goal.returns-then-self-eq0-clause-bytes

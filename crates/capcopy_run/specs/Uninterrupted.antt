@@ -1,6 +1,0 @@
--- This file defines the stream inside a stream that repeats interrupted calls.
-use Rattle.capcopy_run.specs.declared.uninterrupted.Uninterrupted.{Uninterrupted}
-
--- The stream inside.
-abbrev pub stream_of : {R : Type 0} → Uninterrupted R → R
-stream_of reads = reads.stream

@@ -1,0 +1,4 @@
+pub mod Digits
+mod FixedPoint
+mod Kept
+pub mod Shown

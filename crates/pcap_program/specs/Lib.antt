@@ -1,0 +1,4 @@
+pub mod Digits
+pub mod Exits
+pub mod Lines
+pub mod Uninterrupted

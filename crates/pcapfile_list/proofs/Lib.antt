@@ -1,0 +1,4 @@
+mod FormedItems
+mod PacketLines
+mod StoredLists
+mod WalkedLists
