@@ -7,9 +7,9 @@
  * Toolchain: rattle-kit-13f logic dac8208d650f15bf
  * Proof of the crate capcopy: logic=proved functions=6 axioms=12 target=x86_64-unknown-linux-gnu cpu=x86-64-v2
  * sum=dac8208d650f15bf native=nat,char,string
- * Sources: sha256 a340a672ee7e60e3a19ea9c644479695f06bfdd8fef2dfb4b185d69aaf3fb1db
+ * Sources: sha256 3493d1c2827a94a9f1ca864090f944708c87e46453fb97e366a73ac32ec88821
  * (of src and specs of capcopy, capcopy_run, pcap_blocks, pcap_classic, pcap_core, pcap_file, pcap_items, pcap_ng,
- * pcap_options, pcap_times, pcap_written)
+ * pcap_options, pcap_program, pcap_times, pcap_written)
  *
  * MIT licence: see LICENSE and NOTICE.
  * It holds parts of byteorder (MIT), itoa (MIT): see LICENSE.NAME of each, and NOTICE.
@@ -238,7 +238,7 @@ static const u8 static_95[8] = "enhanced";
 static const u8 static_96[7] = "journal";
 static const u8 static_97[8] = "unknown:";
 static const u8 switch_table_pcap_options_refusal_PcapErrorFromRefusal_from[40] = "\035(\037\037 (\035\027&\025%+-:#+\027(2311/1/-02'+\037/00/'(\0321!";
-static _Alignas(8) const struct __attribute__((packed)) { ptr f0; ptr f1; ptr f2; ptr f3; ptr f4; ptr f5; ptr f6; ptr f7; ptr f8; ptr f9; ptr f10; ptr f11; ptr f12; ptr f13; ptr f14; ptr f15; ptr f16; ptr f17; ptr f18; ptr f19; ptr f20; ptr f21; ptr f22; ptr f23; ptr f24; ptr f25; ptr f26; ptr f27; ptr f28; ptr f29; ptr f30; ptr f31; ptr f32; ptr f33; ptr f34; ptr f35; ptr f36; ptr f37; ptr f38; ptr f39; } switch_table_pcap_options_refusal_PcapErrorFromRefusal_from_261 = { (ptr)static_35, (ptr)static_36, (ptr)static_37, (ptr)static_38, (ptr)static_39, (ptr)static_40, (ptr)static_41, (ptr)static_42, (ptr)static_43, (ptr)static_44, (ptr)static_45, (ptr)static_46, (ptr)static_47, (ptr)static_48, (ptr)static_49, (ptr)static_50, (ptr)static_51, (ptr)static_52, (ptr)static_53, (ptr)static_54, (ptr)static_55, (ptr)static_56, (ptr)static_57, (ptr)static_58, (ptr)static_59, (ptr)static_60, (ptr)static_61, (ptr)static_62, (ptr)static_63, (ptr)static_64, (ptr)static_65, (ptr)static_66, (ptr)static_67, (ptr)static_68, (ptr)static_69, (ptr)static_70, (ptr)static_71, (ptr)static_72, (ptr)static_73, (ptr)static_74 };
+static _Alignas(8) const struct __attribute__((packed)) { ptr f0; ptr f1; ptr f2; ptr f3; ptr f4; ptr f5; ptr f6; ptr f7; ptr f8; ptr f9; ptr f10; ptr f11; ptr f12; ptr f13; ptr f14; ptr f15; ptr f16; ptr f17; ptr f18; ptr f19; ptr f20; ptr f21; ptr f22; ptr f23; ptr f24; ptr f25; ptr f26; ptr f27; ptr f28; ptr f29; ptr f30; ptr f31; ptr f32; ptr f33; ptr f34; ptr f35; ptr f36; ptr f37; ptr f38; ptr f39; } switch_table_pcap_options_refusal_PcapErrorFromRefusal_from_262 = { (ptr)static_35, (ptr)static_36, (ptr)static_37, (ptr)static_38, (ptr)static_39, (ptr)static_40, (ptr)static_41, (ptr)static_42, (ptr)static_43, (ptr)static_44, (ptr)static_45, (ptr)static_46, (ptr)static_47, (ptr)static_48, (ptr)static_49, (ptr)static_50, (ptr)static_51, (ptr)static_52, (ptr)static_53, (ptr)static_54, (ptr)static_55, (ptr)static_56, (ptr)static_57, (ptr)static_58, (ptr)static_59, (ptr)static_60, (ptr)static_61, (ptr)static_62, (ptr)static_63, (ptr)static_64, (ptr)static_65, (ptr)static_66, (ptr)static_67, (ptr)static_68, (ptr)static_69, (ptr)static_70, (ptr)static_71, (ptr)static_72, (ptr)static_73, (ptr)static_74 };
 
 static APART u64 core_slice_words_skip_far_52f9(ptr v1, u64 v2, u64 v3) {
 	u64 v4, v5;
@@ -660,7 +660,7 @@ L5:
 L6:
 	return v9;
 }
-static void std_io_io_print_to_c2b6(ptr v1, u32 v2, ptr v3) {
+static void std_io_io_print_to_ad37(ptr v1, u32 v2, ptr v3) {
 	u64 v4, v5, v7, v8, v9, v11, v12, v13, v14, v15, v16, v17, v18, v20, v21, v22, v24, v25, v26, v28, v29, v30, v32, v33, v34, v36, v37, v38, v40, v41, v42, v44, v45, v46, v48, v50, v51, v53, v54, v55, v57, v58, v59, v61, v62, v63, v65, v66, v74, v75, v82, v83;
 	ptr v6, v10, v19, v23, v27, v31, v35, v39, v43, v47, v52, v56, v60, v64;
 	u8 v49, v67, v68, v69, v70, v71, v72, v76, v77, v78, v79, v80;
@@ -680,7 +680,8 @@ static void std_io_io_print_to_c2b6(ptr v1, u32 v2, ptr v3) {
 	st32(v90+1136, 32);
 	clear(v90+1140, 12);
 	st64(v90+1152, ~0ull);
-	switch (ld8(v3)) {
+	ptr v91 = ldp(v3);
+	switch (ld8(v91)) {
 	case 0: goto L59;
 	case 1: goto L0;
 	case 2: goto L46;
@@ -695,22 +696,22 @@ L0:
 	st64(v90+1152, ~0ull);
 	v4 = ld64(v90+1032); v6 = (ptr)static_7; v5 = 9;
 L1:;
-	u64 v91 = v5 - 1;
-	u8 v92 = ld8(v6);
+	u64 v92 = v5 - 1;
+	u8 v93 = ld8(v6);
 	if (v4 <= 1023) { v7 = v4; goto L2; }
-	u8 v93 = std_io_io_buffer_Buffer_flush(v90);
-	u64 v94 = ld64(v90+1032);
-	if (!(v93 && v94 < 1024)) { v49 = 1; goto L44; }
-	v7 = v94;
+	u8 v94 = std_io_io_buffer_Buffer_flush(v90);
+	u64 v95 = ld64(v90+1032);
+	if (!(v94 && v95 < 1024)) { v49 = 1; goto L44; }
+	v7 = v95;
 L2:
-	st8(at(v90+4, v7), v92);
-	u64 v95 = v7 + 1;
-	st64(v90+1032, v95);
-	if (v91) { v4 = v95; v5 = v91; v6 = v6+1; goto L1; }
+	st8(at(v90+4, v7), v93);
+	u64 v96 = v7 + 1;
+	st64(v90+1032, v96);
+	if (v92) { v4 = v96; v5 = v92; v6 = v6+1; goto L1; }
 	st32(v90+1136, 32);
 	clear(v90+1140, 12);
 	st64(v90+1152, ~0ull);
-	switch (ld8(v3+8)) {
+	switch (ld8(v91+8)) {
 	case 0: goto L3;
 	case 1: goto L20;
 	case 2: goto L24;
@@ -721,76 +722,76 @@ L2:
 	}
 L3:
 	if (ld64(v90+1160)) goto L6;
-	v8 = v95; v10 = (ptr)static_12; v9 = 14;
+	v8 = v96; v10 = (ptr)static_12; v9 = 14;
 L4:;
-	u64 v96 = v9 - 1;
-	u8 v97 = ld8(v10);
+	u64 v97 = v9 - 1;
+	u8 v98 = ld8(v10);
 	if (v8 <= 1023) { v11 = v8; goto L5; }
-	u8 v98 = std_io_io_buffer_Buffer_flush(v90);
-	u64 v99 = ld64(v90+1032);
-	if (!(v98 && v99 < 1024)) { v49 = 1; goto L44; }
-	v11 = v99;
+	u8 v99 = std_io_io_buffer_Buffer_flush(v90);
+	u64 v100 = ld64(v90+1032);
+	if (!(v99 && v100 < 1024)) { v49 = 1; goto L44; }
+	v11 = v100;
 L5:
-	st8(at(v90+4, v11), v97);
-	u64 v100 = v11 + 1;
-	st64(v90+1032, v100);
-	if (!v96) goto L7;
-	v8 = v100; v9 = v96; v10 = v10+1; goto L4;
+	st8(at(v90+4, v11), v98);
+	u64 v101 = v11 + 1;
+	st64(v90+1032, v101);
+	if (!v97) goto L7;
+	v8 = v101; v9 = v97; v10 = v10+1; goto L4;
 L6:;
-	u8 v101 = core_fmt_formatter_Formatter_write_indented_bf26(v90, (ptr)static_12, 14);
-	if (v101) { v49 = 1; goto L44; }
+	u8 v102 = core_fmt_formatter_Formatter_write_indented_bf26(v90, (ptr)static_12, 14);
+	if (v102) { v49 = 1; goto L44; }
 L7:
 	st32(v90+1136, 32);
 	clear(v90+1140, 12);
 	st64(v90+1152, ~0ull);
-	u64 v102 = ld64(v3+16);
+	u64 v103 = ld64(v91+16);
 	clear(v86, 24);
-	if (v102 <= 99) { v14 = v102; v15 = 24; goto L9; }
-	v13 = v102; v12 = 24;
+	if (v103 <= 99) { v14 = v103; v15 = 24; goto L9; }
+	v13 = v103; v12 = 24;
 L8:;
-	u8 v103 = (u8)(v13 % 100);
-	ptr v104 = at(v86, v12);
-	st8(v104-1, (v103 % 10) | 48);
-	st8(v104-2, (v103 / 10) | 48);
-	u64 v105 = v13 / 100, v106 = v12 - 2;
-	if (v13 > 9999) { v12 = v106; v13 = v105; goto L8; }
-	v14 = v105; v15 = v106;
+	u8 v104 = (u8)(v13 % 100);
+	ptr v105 = at(v86, v12);
+	st8(v105-1, (v104 % 10) | 48);
+	st8(v105-2, (v104 / 10) | 48);
+	u64 v106 = v13 / 100, v107 = v12 - 2;
+	if (v13 > 9999) { v12 = v107; v13 = v106; goto L8; }
+	v14 = v106; v15 = v107;
 L9:;
-	u8 v107 = (u8)v14;
+	u8 v108 = (u8)v14;
 	if (v14 <= 9) goto L10;
-	ptr v108 = at(v86, v15);
-	st8(v108-1, (v107 % 10) | 48);
-	st8(v108-2, (v107 / 10) | 48);
+	ptr v109 = at(v86, v15);
+	st8(v109-1, (v108 % 10) | 48);
+	st8(v109-2, (v108 / 10) | 48);
 	v16 = v15 - 2; goto L11;
 L10:;
-	u64 v109 = v15 - 1;
-	st8(at(v86, v109), v107 | 48);
-	v16 = v109;
+	u64 v110 = v15 - 1;
+	st8(at(v86, v110), v108 | 48);
+	v16 = v110;
 L11:;
-	ptr v110 = at(v86, v16);
-	st8(v110-1, 45);
-	u64 v111 = 24ull - v16;
+	ptr v111 = at(v86, v16);
+	st8(v111-1, 45);
+	u64 v112 = 24ull - v16;
 	if (ld64(v90+1160)) goto L15;
 	if (v16 == 24) goto L14;
-	v17 = ld64(v90+1032); v18 = v111; v19 = v110;
+	v17 = ld64(v90+1032); v18 = v112; v19 = v111;
 L12:;
-	u64 v112 = v18 - 1;
-	u8 v113 = ld8(v19);
+	u64 v113 = v18 - 1;
+	u8 v114 = ld8(v19);
 	if (v17 <= 1023) { v20 = v17; goto L13; }
-	u8 v114 = std_io_io_buffer_Buffer_flush(v90);
-	u64 v115 = ld64(v90+1032);
-	if (v114 && v115 < 1024) { v20 = v115; goto L13; }
+	u8 v115 = std_io_io_buffer_Buffer_flush(v90);
+	u64 v116 = ld64(v90+1032);
+	if (v115 && v116 < 1024) { v20 = v116; goto L13; }
 	v49 = 1; goto L44;
 L13:
-	st8(at(v90+4, v20), v113);
-	u64 v116 = v20 + 1;
-	st64(v90+1032, v116);
-	if (v112) { v17 = v116; v18 = v112; v19 = v19+1; goto L12; }
+	st8(at(v90+4, v20), v114);
+	u64 v117 = v20 + 1;
+	st64(v90+1032, v117);
+	if (v113) { v17 = v117; v18 = v113; v19 = v19+1; goto L12; }
 L14:
 	goto L16;
 L15:;
-	u8 v117 = core_fmt_formatter_Formatter_write_indented_bf26(v90, v110, v111);
-	if (v117) { v49 = 1; goto L44; }
+	u8 v118 = core_fmt_formatter_Formatter_write_indented_bf26(v90, v111, v112);
+	if (v118) { v49 = 1; goto L44; }
 L16:
 	st32(v90+1136, 32);
 	clear(v90+1140, 12);
@@ -798,148 +799,148 @@ L16:
 	if (ld64(v90+1160)) goto L19;
 	v21 = ld64(v90+1032); v23 = (ptr)static_13; v22 = 11;
 L17:;
-	u64 v118 = v22 - 1;
-	u8 v119 = ld8(v23);
+	u64 v119 = v22 - 1;
+	u8 v120 = ld8(v23);
 	if (v21 <= 1023) { v24 = v21; goto L18; }
-	u8 v120 = std_io_io_buffer_Buffer_flush(v90);
-	u64 v121 = ld64(v90+1032);
-	if (!(v120 && v121 < 1024)) { v49 = 1; goto L44; }
-	v24 = v121;
+	u8 v121 = std_io_io_buffer_Buffer_flush(v90);
+	u64 v122 = ld64(v90+1032);
+	if (!(v121 && v122 < 1024)) { v49 = 1; goto L44; }
+	v24 = v122;
 L18:
-	st8(at(v90+4, v24), v119);
-	u64 v122 = v24 + 1;
-	st64(v90+1032, v122);
-	if (!v118) { v49 = 0; goto L44; }
-	v21 = v122; v22 = v118; v23 = v23+1; goto L17;
+	st8(at(v90+4, v24), v120);
+	u64 v123 = v24 + 1;
+	st64(v90+1032, v123);
+	if (!v119) { v49 = 0; goto L44; }
+	v21 = v123; v22 = v119; v23 = v23+1; goto L17;
 L19:;
-	u8 v123 = core_fmt_formatter_Formatter_write_indented_bf26(v90, (ptr)static_13, 11);
-	v49 = v123; goto L44;
+	u8 v124 = core_fmt_formatter_Formatter_write_indented_bf26(v90, (ptr)static_13, 11);
+	v49 = v124; goto L44;
 L20:
 	if (ld64(v90+1160)) goto L23;
-	v25 = v95; v27 = (ptr)static_14; v26 = 19;
+	v25 = v96; v27 = (ptr)static_14; v26 = 19;
 L21:;
-	u64 v124 = v26 - 1;
-	u8 v125 = ld8(v27);
+	u64 v125 = v26 - 1;
+	u8 v126 = ld8(v27);
 	if (v25 <= 1023) { v28 = v25; goto L22; }
-	u8 v126 = std_io_io_buffer_Buffer_flush(v90);
-	u64 v127 = ld64(v90+1032);
-	if (!(v126 && v127 < 1024)) { v49 = 1; goto L44; }
-	v28 = v127;
+	u8 v127 = std_io_io_buffer_Buffer_flush(v90);
+	u64 v128 = ld64(v90+1032);
+	if (!(v127 && v128 < 1024)) { v49 = 1; goto L44; }
+	v28 = v128;
 L22:
-	st8(at(v90+4, v28), v125);
-	u64 v128 = v28 + 1;
-	st64(v90+1032, v128);
-	if (!v124) { v49 = 0; goto L44; }
-	v25 = v128; v26 = v124; v27 = v27+1; goto L21;
+	st8(at(v90+4, v28), v126);
+	u64 v129 = v28 + 1;
+	st64(v90+1032, v129);
+	if (!v125) { v49 = 0; goto L44; }
+	v25 = v129; v26 = v125; v27 = v27+1; goto L21;
 L23:;
-	u8 v129 = core_fmt_formatter_Formatter_write_indented_bf26(v90, (ptr)static_14, 19);
-	v49 = v129; goto L44;
+	u8 v130 = core_fmt_formatter_Formatter_write_indented_bf26(v90, (ptr)static_14, 19);
+	v49 = v130; goto L44;
 L24:
 	if (ld64(v90+1160)) goto L27;
-	v29 = v95; v31 = (ptr)static_15; v30 = 21;
+	v29 = v96; v31 = (ptr)static_15; v30 = 21;
 L25:;
-	u64 v130 = v30 - 1;
-	u8 v131 = ld8(v31);
+	u64 v131 = v30 - 1;
+	u8 v132 = ld8(v31);
 	if (v29 <= 1023) { v32 = v29; goto L26; }
-	u8 v132 = std_io_io_buffer_Buffer_flush(v90);
-	u64 v133 = ld64(v90+1032);
-	if (!(v132 && v133 < 1024)) { v49 = 1; goto L44; }
-	v32 = v133;
+	u8 v133 = std_io_io_buffer_Buffer_flush(v90);
+	u64 v134 = ld64(v90+1032);
+	if (!(v133 && v134 < 1024)) { v49 = 1; goto L44; }
+	v32 = v134;
 L26:
-	st8(at(v90+4, v32), v131);
-	u64 v134 = v32 + 1;
-	st64(v90+1032, v134);
-	if (!v130) goto L28;
-	v29 = v134; v30 = v130; v31 = v31+1; goto L25;
+	st8(at(v90+4, v32), v132);
+	u64 v135 = v32 + 1;
+	st64(v90+1032, v135);
+	if (!v131) goto L28;
+	v29 = v135; v30 = v131; v31 = v31+1; goto L25;
 L27:;
-	u8 v135 = core_fmt_formatter_Formatter_write_indented_bf26(v90, (ptr)static_15, 21);
-	if (v135) { v49 = 1; goto L44; }
+	u8 v136 = core_fmt_formatter_Formatter_write_indented_bf26(v90, (ptr)static_15, 21);
+	if (v136) { v49 = 1; goto L44; }
 L28:
 	st32(v90+1136, 32);
 	clear(v90+1140, 12);
 	st64(v90+1152, ~0ull);
-	ptr v136 = lup(v3+16);
-	u64 v137 = lu64(v3+24);
+	ptr v137 = lup(v91+16);
+	u64 v138 = lu64(v91+24);
 	if (ld64(v90+1160)) goto L31;
-	if (!v137) { v49 = 0; goto L44; }
-	v33 = ld64(v90+1032); v34 = v137; v35 = v136;
-L29:;
-	u64 v138 = v34 - 1;
-	u8 v139 = ld8(v35);
-	if (v33 <= 1023) { v36 = v33; goto L30; }
-	u8 v140 = std_io_io_buffer_Buffer_flush(v90);
-	u64 v141 = ld64(v90+1032);
-	if (!(v140 && v141 < 1024)) { v49 = 1; goto L44; }
-	v36 = v141;
-L30:
-	st8(at(v90+4, v36), v139);
-	u64 v142 = v36 + 1;
-	st64(v90+1032, v142);
 	if (!v138) { v49 = 0; goto L44; }
-	v33 = v142; v34 = v138; v35 = v35+1; goto L29;
+	v33 = ld64(v90+1032); v34 = v138; v35 = v137;
+L29:;
+	u64 v139 = v34 - 1;
+	u8 v140 = ld8(v35);
+	if (v33 <= 1023) { v36 = v33; goto L30; }
+	u8 v141 = std_io_io_buffer_Buffer_flush(v90);
+	u64 v142 = ld64(v90+1032);
+	if (!(v141 && v142 < 1024)) { v49 = 1; goto L44; }
+	v36 = v142;
+L30:
+	st8(at(v90+4, v36), v140);
+	u64 v143 = v36 + 1;
+	st64(v90+1032, v143);
+	if (!v139) { v49 = 0; goto L44; }
+	v33 = v143; v34 = v139; v35 = v35+1; goto L29;
 L31:;
-	u8 v143 = core_fmt_formatter_Formatter_write_indented_bf26(v90, v136, v137);
-	v49 = v143; goto L44;
+	u8 v144 = core_fmt_formatter_Formatter_write_indented_bf26(v90, v137, v138);
+	v49 = v144; goto L44;
 L32:
 	if (ld64(v90+1160)) goto L35;
-	v37 = v95; v39 = (ptr)static_18; v38 = 10;
+	v37 = v96; v39 = (ptr)static_18; v38 = 10;
 L33:;
-	u64 v144 = v38 - 1;
-	u8 v145 = ld8(v39);
+	u64 v145 = v38 - 1;
+	u8 v146 = ld8(v39);
 	if (v37 <= 1023) { v40 = v37; goto L34; }
-	u8 v146 = std_io_io_buffer_Buffer_flush(v90);
-	u64 v147 = ld64(v90+1032);
-	if (!(v146 && v147 < 1024)) { v49 = 1; goto L44; }
-	v40 = v147;
+	u8 v147 = std_io_io_buffer_Buffer_flush(v90);
+	u64 v148 = ld64(v90+1032);
+	if (!(v147 && v148 < 1024)) { v49 = 1; goto L44; }
+	v40 = v148;
 L34:
-	st8(at(v90+4, v40), v145);
-	u64 v148 = v40 + 1;
-	st64(v90+1032, v148);
-	if (!v144) { v49 = 0; goto L44; }
-	v37 = v148; v38 = v144; v39 = v39+1; goto L33;
+	st8(at(v90+4, v40), v146);
+	u64 v149 = v40 + 1;
+	st64(v90+1032, v149);
+	if (!v145) { v49 = 0; goto L44; }
+	v37 = v149; v38 = v145; v39 = v39+1; goto L33;
 L35:;
-	u8 v149 = core_fmt_formatter_Formatter_write_indented_bf26(v90, (ptr)static_18, 10);
-	v49 = v149; goto L44;
+	u8 v150 = core_fmt_formatter_Formatter_write_indented_bf26(v90, (ptr)static_18, 10);
+	v49 = v150; goto L44;
 L36:
 	if (ld64(v90+1160)) goto L39;
-	v41 = v95; v43 = (ptr)static_16; v42 = 13;
+	v41 = v96; v43 = (ptr)static_16; v42 = 13;
 L37:;
-	u64 v150 = v42 - 1;
-	u8 v151 = ld8(v43);
+	u64 v151 = v42 - 1;
+	u8 v152 = ld8(v43);
 	if (v41 <= 1023) { v44 = v41; goto L38; }
-	u8 v152 = std_io_io_buffer_Buffer_flush(v90);
-	u64 v153 = ld64(v90+1032);
-	if (!(v152 && v153 < 1024)) { v49 = 1; goto L44; }
-	v44 = v153;
+	u8 v153 = std_io_io_buffer_Buffer_flush(v90);
+	u64 v154 = ld64(v90+1032);
+	if (!(v153 && v154 < 1024)) { v49 = 1; goto L44; }
+	v44 = v154;
 L38:
-	st8(at(v90+4, v44), v151);
-	u64 v154 = v44 + 1;
-	st64(v90+1032, v154);
-	if (!v150) { v49 = 0; goto L44; }
-	v41 = v154; v42 = v150; v43 = v43+1; goto L37;
+	st8(at(v90+4, v44), v152);
+	u64 v155 = v44 + 1;
+	st64(v90+1032, v155);
+	if (!v151) { v49 = 0; goto L44; }
+	v41 = v155; v42 = v151; v43 = v43+1; goto L37;
 L39:;
-	u8 v155 = core_fmt_formatter_Formatter_write_indented_bf26(v90, (ptr)static_16, 13);
-	v49 = v155; goto L44;
+	u8 v156 = core_fmt_formatter_Formatter_write_indented_bf26(v90, (ptr)static_16, 13);
+	v49 = v156; goto L44;
 L40:
 	if (ld64(v90+1160)) goto L43;
-	v45 = v95; v47 = (ptr)static_17; v46 = 21;
+	v45 = v96; v47 = (ptr)static_17; v46 = 21;
 L41:;
-	u64 v156 = v46 - 1;
-	u8 v157 = ld8(v47);
+	u64 v157 = v46 - 1;
+	u8 v158 = ld8(v47);
 	if (v45 <= 1023) { v48 = v45; goto L42; }
-	u8 v158 = std_io_io_buffer_Buffer_flush(v90);
-	u64 v159 = ld64(v90+1032);
-	if (!(v158 && v159 < 1024)) { v49 = 1; goto L44; }
-	v48 = v159;
+	u8 v159 = std_io_io_buffer_Buffer_flush(v90);
+	u64 v160 = ld64(v90+1032);
+	if (!(v159 && v160 < 1024)) { v49 = 1; goto L44; }
+	v48 = v160;
 L42:
-	st8(at(v90+4, v48), v157);
-	u64 v160 = v48 + 1;
-	st64(v90+1032, v160);
-	if (!v156) { v49 = 0; goto L44; }
-	v45 = v160; v46 = v156; v47 = v47+1; goto L41;
+	st8(at(v90+4, v48), v158);
+	u64 v161 = v48 + 1;
+	st64(v90+1032, v161);
+	if (!v157) { v49 = 0; goto L44; }
+	v45 = v161; v46 = v157; v47 = v47+1; goto L41;
 L43:;
-	u8 v161 = core_fmt_formatter_Formatter_write_indented_bf26(v90, (ptr)static_17, 21);
-	v49 = v161;
+	u8 v162 = core_fmt_formatter_Formatter_write_indented_bf26(v90, (ptr)static_17, 21);
+	v49 = v162;
 L44:
 	copy(v90+1136, v88, 24);
 	if (!v49) goto L60;
@@ -949,68 +950,68 @@ L45:
 L46:
 	v50 = ld64(v90+1032); v52 = (ptr)static_8; v51 = 22;
 L47:;
-	u64 v162 = v51 - 1;
-	u8 v163 = ld8(v52);
+	u64 v163 = v51 - 1;
+	u8 v164 = ld8(v52);
 	if (v50 <= 1023) { v53 = v50; goto L48; }
-	u8 v164 = std_io_io_buffer_Buffer_flush(v90);
-	u64 v165 = ld64(v90+1032);
-	if (!(v164 && v165 < 1024)) goto L57;
-	v53 = v165;
+	u8 v165 = std_io_io_buffer_Buffer_flush(v90);
+	u64 v166 = ld64(v90+1032);
+	if (!(v165 && v166 < 1024)) goto L57;
+	v53 = v166;
 L48:
-	st8(at(v90+4, v53), v163);
-	u64 v166 = v53 + 1;
-	st64(v90+1032, v166);
-	if (!v162) goto L59;
-	v50 = v166; v51 = v162; v52 = v52+1; goto L47;
+	st8(at(v90+4, v53), v164);
+	u64 v167 = v53 + 1;
+	st64(v90+1032, v167);
+	if (!v163) goto L59;
+	v50 = v167; v51 = v163; v52 = v52+1; goto L47;
 L49:
 	v54 = ld64(v90+1032); v56 = (ptr)static_9; v55 = 59;
 L50:;
-	u64 v167 = v55 - 1;
-	u8 v168 = ld8(v56);
+	u64 v168 = v55 - 1;
+	u8 v169 = ld8(v56);
 	if (v54 <= 1023) { v57 = v54; goto L51; }
-	u8 v169 = std_io_io_buffer_Buffer_flush(v90);
-	u64 v170 = ld64(v90+1032);
-	if (!(v169 && v170 < 1024)) goto L57;
-	v57 = v170;
+	u8 v170 = std_io_io_buffer_Buffer_flush(v90);
+	u64 v171 = ld64(v90+1032);
+	if (!(v170 && v171 < 1024)) goto L57;
+	v57 = v171;
 L51:
-	st8(at(v90+4, v57), v168);
-	u64 v171 = v57 + 1;
-	st64(v90+1032, v171);
-	if (!v167) goto L59;
-	v54 = v171; v55 = v167; v56 = v56+1; goto L50;
+	st8(at(v90+4, v57), v169);
+	u64 v172 = v57 + 1;
+	st64(v90+1032, v172);
+	if (!v168) goto L59;
+	v54 = v172; v55 = v168; v56 = v56+1; goto L50;
 L52:
 	v58 = ld64(v90+1032); v60 = (ptr)static_10; v59 = 46;
 L53:;
-	u64 v172 = v59 - 1;
-	u8 v173 = ld8(v60);
+	u64 v173 = v59 - 1;
+	u8 v174 = ld8(v60);
 	if (v58 <= 1023) { v61 = v58; goto L54; }
-	u8 v174 = std_io_io_buffer_Buffer_flush(v90);
-	u64 v175 = ld64(v90+1032);
-	if (!(v174 && v175 < 1024)) goto L57;
-	v61 = v175;
+	u8 v175 = std_io_io_buffer_Buffer_flush(v90);
+	u64 v176 = ld64(v90+1032);
+	if (!(v175 && v176 < 1024)) goto L57;
+	v61 = v176;
 L54:
-	st8(at(v90+4, v61), v173);
-	u64 v176 = v61 + 1;
-	st64(v90+1032, v176);
-	if (!v172) goto L59;
-	v58 = v176; v59 = v172; v60 = v60+1; goto L53;
+	st8(at(v90+4, v61), v174);
+	u64 v177 = v61 + 1;
+	st64(v90+1032, v177);
+	if (!v173) goto L59;
+	v58 = v177; v59 = v173; v60 = v60+1; goto L53;
 L55:
 	v62 = ld64(v90+1032); v64 = (ptr)static_11; v63 = 22;
 L56:;
-	u64 v177 = v63 - 1;
-	u8 v178 = ld8(v64);
+	u64 v178 = v63 - 1;
+	u8 v179 = ld8(v64);
 	if (v62 <= 1023) { v65 = v62; goto L58; }
-	u8 v179 = std_io_io_buffer_Buffer_flush(v90);
-	u64 v180 = ld64(v90+1032);
-	if (v179 && v180 < 1024) { v65 = v180; goto L58; }
+	u8 v180 = std_io_io_buffer_Buffer_flush(v90);
+	u64 v181 = ld64(v90+1032);
+	if (v180 && v181 < 1024) { v65 = v181; goto L58; }
 L57:
 	copy(v90+1136, v88, 24);
 	v68 = 0; goto L64;
 L58:
-	st8(at(v90+4, v65), v178);
-	u64 v181 = v65 + 1;
-	st64(v90+1032, v181);
-	if (v177) { v62 = v181; v63 = v177; v64 = v64+1; goto L56; }
+	st8(at(v90+4, v65), v179);
+	u64 v182 = v65 + 1;
+	st64(v90+1032, v182);
+	if (v178) { v62 = v182; v63 = v178; v64 = v64+1; goto L56; }
 L59:
 	copy(v90+1136, v88, 24);
 L60:
@@ -1019,36 +1020,36 @@ L60:
 	clear(v90+1140, 12);
 	st64(v90+1152, ~0ull);
 	if (ld64(v90+1160)) goto L62;
-	u64 v182 = ld64(v90+1032);
-	if (v182 <= 1023) { v66 = v182; goto L61; }
-	u8 v183 = std_io_io_buffer_Buffer_flush(v90);
-	u64 v184 = ld64(v90+1032);
-	if (!(v183 && v184 < 1024)) { v67 = 0; goto L63; }
-	v66 = v184;
+	u64 v183 = ld64(v90+1032);
+	if (v183 <= 1023) { v66 = v183; goto L61; }
+	u8 v184 = std_io_io_buffer_Buffer_flush(v90);
+	u64 v185 = ld64(v90+1032);
+	if (!(v184 && v185 < 1024)) { v67 = 0; goto L63; }
+	v66 = v185;
 L61:
 	st8(at(v90+4, v66), 10);
 	st64(v90+1032, v66 + 1);
 	v67 = 1; goto L63;
 L62:;
-	u8 v185 = core_fmt_formatter_Formatter_write_indented_bf26(v90, (ptr)static_6, 1);
-	v67 = v185 == 0;
+	u8 v186 = core_fmt_formatter_Formatter_write_indented_bf26(v90, (ptr)static_6, 1);
+	v67 = v186 == 0;
 L63:
 	copy(v90+1136, v87, 24);
 	v68 = v67;
 L64:
 	st32(v84, ld32(v90));
 	copy(v84+4, v90+4, 1132);
-	u8 v186 = std_io_io_buffer_Buffer_flush(v84);
-	if (!(v68 & v186)) goto L65;
+	u8 v187 = std_io_io_buffer_Buffer_flush(v84);
+	if (!(v68 & v187)) goto L65;
 	clear(v89, 64);
 	v76 = v77 = v78 = v79 = v80 = v81 = v82 = v83 = 0; goto L68;
 L65:
 	if (ld8(v84+1040) != 1) goto L66;
-	u8 v187 = ld8(v84+1048), v188 = ld8(v84+1049), v189 = ld8(v84+1050), v190 = ld8(v84+1051);
-	u32 v191 = ld32(v84+1052);
-	u64 v192 = ld64(v84+1056), v193 = ld64(v84+1064);
+	u8 v188 = ld8(v84+1048), v189 = ld8(v84+1049), v190 = ld8(v84+1050), v191 = ld8(v84+1051);
+	u32 v192 = ld32(v84+1052);
+	u64 v193 = ld64(v84+1056), v194 = ld64(v84+1064);
 	copy(v85, v84+1072, 64);
-	v69 = v187; v70 = v188; v71 = v189; v72 = v190; v73 = v191; v74 = v192; v75 = v193; goto L67;
+	v69 = v188; v70 = v189; v71 = v190; v72 = v191; v73 = v192; v74 = v193; v75 = v194; goto L67;
 L66:
 	fill(v85, 46, 64);
 	v74 = 0x657474616d726f66ull; v75 = 0x2e726f7272652072ull; v69 = 2; v70 = 41; v71 = 15; v72 = v73 = 0;
@@ -1251,7 +1252,7 @@ L1:
 	su64(v1+80, v8 | (u64)v81 | v82 | v7 | v83 | v85 | v84 | v86);
 	return;
 }
-static void capcopy_run_uninterrupted_UninterruptedRead_read_f128(ptr v1, ptr v2, u64 v3) {
+static void pcap_program_uninterrupted_UninterruptedRead_read_f128(ptr v1, ptr v2, u64 v3) {
 	u64 v4, v5, v6, v7, v8, v9, v10, v11, v12, v13, v14, v15, v16;
 	_Alignas(1) u8 v17[41];
 	_Alignas(8) u8 v18[88];
@@ -1329,7 +1330,7 @@ L3:
 	su64(v1+88, v16);
 	return;
 }
-static void std_io_buffered_BufReaderRead_read_e988(ptr v1, ptr v2, ptr v3, u64 v4) {
+static void std_io_buffered_BufReaderRead_read_a70f(ptr v1, ptr v2, ptr v3, u64 v4) {
 	u64 v5, v6, v7;
 	_Alignas(8) u8 v8[96], v9[80], v10[96] = {0}, v11[80];
 	u64 v12 = ld64(v2+8), v13 = ld64(v2+24), v14 = ld64(v2+32);
@@ -1338,7 +1339,7 @@ static void std_io_buffered_BufReaderRead_read_e988(ptr v1, ptr v2, ptr v3, u64 
 	clear(v2+24, 16);
 	ptr v15 = ldp(v2);
 	clear(v8, 96);
-	capcopy_run_uninterrupted_UninterruptedRead_read_f128(v8, v15, v12);
+	pcap_program_uninterrupted_UninterruptedRead_read_f128(v8, v15, v12);
 	u64 v16 = ld64(v8+8);
 	u8 v17 = ld8(v8);
 	copy(v9, v8+16, 80);
@@ -1374,7 +1375,7 @@ L4:
 	goto L6;
 L5:
 	clear(v2+24, 16);
-	capcopy_run_uninterrupted_UninterruptedRead_read_f128(v10, v3, v4);
+	pcap_program_uninterrupted_UninterruptedRead_read_f128(v10, v3, v4);
 	su64(v1, (u64)ld8(v10));
 	copy(v1+8, v10+8, 88);
 L6:
@@ -1710,7 +1711,7 @@ L106:
 L107:
 	return (t_8_32){v2, v3};
 }
-static void pcap_classic_pcap_header_read_header_67f8(ptr v1, ptr v2, ptr v3) {
+static void pcap_classic_pcap_header_read_header_e3e1(ptr v1, ptr v2, ptr v3) {
 	u64 v4, v13, v14, v15, v16;
 	u32 v5, v8, v9, v10, v11, v12;
 	u16 v6, v7;
@@ -1719,7 +1720,7 @@ static void pcap_classic_pcap_header_read_header_67f8(ptr v1, ptr v2, ptr v3) {
 	v4 = 0;
 L0:
 	clear(v17, 96);
-	std_io_buffered_BufReaderRead_read_e988(v17, v2, at(v19, v4), 24ull - v4);
+	std_io_buffered_BufReaderRead_read_a70f(v17, v2, at(v19, v4), 24ull - v4);
 	u64 v21 = ld64(v17+8), v22 = ld64(v17+16), v23 = ld64(v17+24), v24 = ld64(v17+32);
 	u32 v25 = ld32(v17+40), v26 = ld32(v17+44);
 	u8 v27 = ld8(v17);
@@ -1785,7 +1786,7 @@ L7:
 L8:
 	return;
 }
-static void std_io_buffered_BufWriter_flush_buf_9d90(ptr v1, ptr v2) {
+static void std_io_buffered_BufWriter_flush_buf_3730(ptr v1, ptr v2) {
 	u64 v3, v4, v5, v6, v7, v8, v9, v10, v11, v12, v13, v14, v15, v16, v18, v19, v20, v21, v22, v23, v24, v25, v26, v27, v28, v29, v30, v32, v33, v34, v35, v36, v37, v38, v39, v40, v41, v42, v43, v44;
 	u8 v17, v31;
 	_Alignas(1) u8 v45[41], v49[41];
@@ -1973,7 +1974,7 @@ L1:
 L2:
 	return v4;
 }
-static APART RARE void std_io_buffered_BufWriter_write_cold_9d90(ptr v1, ptr v2, ptr v3, u64 v4) {
+static APART RARE void std_io_buffered_BufWriter_write_cold_3730(ptr v1, ptr v2, ptr v3, u64 v4) {
 	u64 v5, v6, v7, v8, v9, v10, v11, v12, v13, v14, v15, v16, v17, v18, v19, v20;
 	_Alignas(8) u8 v21[96], v23[88], v24[96] = {0};
 	_Alignas(1) u8 v22[41];
@@ -1982,7 +1983,7 @@ static APART RARE void std_io_buffered_BufWriter_write_cold_9d90(ptr v1, ptr v2,
 	clear(v21, 96);
 	u64 v26 = ld64(v2+8);
 	if (v25 - v26 >= v4) { v5 = v25; v6 = v26; goto L2; }
-	std_io_buffered_BufWriter_flush_buf_9d90(v21, v2);
+	std_io_buffered_BufWriter_flush_buf_3730(v21, v2);
 	if (ld8(v21)) goto L1;
 	u64 v27 = ld64(v2+16), v28 = ld64(v2+8);
 	if (v4 <= v27 - v28) { v5 = v27; v6 = v28; goto L2; }
@@ -2032,7 +2033,7 @@ L5:
 	clear(v1+16, 80);
 	goto L12;
 L6:
-	std_io_buffered_BufWriter_flush_buf_9d90(v24, v2);
+	std_io_buffered_BufWriter_flush_buf_3730(v24, v2);
 	if (ld8(v24)) goto L11;
 	v8 = 0;
 L7:;
@@ -3629,7 +3630,7 @@ L0:
 L1:
 	v4 = v11; v5 = v11; v6 = v11 & 0xffffffffffff0000ull; v7 = v12; v8 = (u64)v13 << 8; v3 = 3; goto L3;
 L2:;
-	ptr v15 = ldp(at((ptr)&switch_table_pcap_options_refusal_PcapErrorFromRefusal_from_261, (u64)v10 * 8));
+	ptr v15 = ldp(at((ptr)&switch_table_pcap_options_refusal_PcapErrorFromRefusal_from_262, (u64)v10 * 8));
 	u64 v16 = (u64)v15;
 	v4 = v16; v5 = v16; v6 = v16 & 0xffffffffffff0000ull; v7 = ld8(at((ptr)switch_table_pcap_options_refusal_PcapErrorFromRefusal_from, (u64)v10)); v3 = 2; v8 = 0;
 L3:
@@ -6226,7 +6227,7 @@ L5:;
 L6:
 	return v10;
 }
-static RARE void capcopy_run_blocks_write_section_ce79(ptr v1, ptr v2, ptr v3) {
+static RARE void capcopy_run_blocks_write_section_3bfe(ptr v1, ptr v2, ptr v3) {
 	u64 v4, v6, v7, v8, v9, v10, v11, v12, v13, v14, v16, v17, v19, v20, v21, v23, v24, v25, v26, v27, v28, v29, v30, v31, v32, v33, v34, v36;
 	ptr v5, v15, v18, v35;
 	u8 v22;
@@ -6373,7 +6374,7 @@ L21:
 	st64(v2+16, v74);
 	v21 = v19; goto L23;
 L22:
-	std_io_buffered_BufWriter_write_cold_9d90(v38, v2, v18, v19);
+	std_io_buffered_BufWriter_write_cold_3730(v38, v2, v18, v19);
 	u64 v80 = ld64(v38+8);
 	if (ld8(v38)) { v24 = v80; v25 = ld64(v38+16); v26 = ld64(v38+24); v27 = ld64(v38+32); v28 = ld64(v38+40); v29 = ld64(v38+48); v30 = ld64(v38+56); v31 = ld64(v38+64); v32 = ld64(v38+72); v33 = ld64(v38+80); v34 = ld64(v38+88); v22 = 1; v23 = 4; goto L24; }
 	if (!v80) { v24 = 1513219; v25 = 0x7074756f20656874ull; v26 = 0x206b6f6f74207475ull; v27 = 0x2e676e6968746f6eull; v28 = 0x2e2e2e2e2e2e2e2eull; v29 = 0x2e2e2e2e2e2e2e2eull; v30 = 0x2e2e2e2e2e2e2e2eull; v31 = 0x2e2e2e2e2e2e2e2eull; v32 = 0x2e2e2e2e2e2e2e2eull; v33 = 0x2e2e2e2e2e2e2e2eull; v34 = 0x2e2e2e2e2e2e2e2eull; v22 = 1; v23 = 4; goto L24; }
@@ -7202,7 +7203,7 @@ L78:
 L79:
 	return;
 }
-static void capcopy_run_blocks_KindLinesBlockLine_write_line_ce79(ptr v1, ptr v2, ptr v3, u64 v4, ptr v5) {
+static void capcopy_run_blocks_KindLinesBlockLine_write_line_3bfe(ptr v1, ptr v2, ptr v3, u64 v4, ptr v5) {
 	u64 v6, v7, v8, v9, v10, v12, v13, v14, v15, v16, v17, v18, v19, v20, v21, v22, v23, v24, v25, v26, v27, v28, v29, v30, v31, v32, v33, v34, v35, v36, v37, v38, v39, v40, v41, v42, v43, v44, v45, v47, v48, v49, v51, v52, v53, v54, v55, v56, v57, v58, v59, v60, v61, v62;
 	ptr v11, v46;
 	u8 v50;
@@ -7828,7 +7829,7 @@ L125:
 	st64(v3+16, v235);
 	v49 = v47; goto L127;
 L126:
-	std_io_buffered_BufWriter_write_cold_9d90(v63, v3, v46, v47);
+	std_io_buffered_BufWriter_write_cold_3730(v63, v3, v46, v47);
 	u64 v241 = ld64(v63+8);
 	if (ld8(v63)) { v52 = v241; v53 = ld64(v63+16); v54 = ld64(v63+24); v55 = ld64(v63+32); v56 = ld64(v63+40); v57 = ld64(v63+48); v58 = ld64(v63+56); v59 = ld64(v63+64); v60 = ld64(v63+72); v61 = ld64(v63+80); v62 = ld64(v63+88); v50 = 1; v51 = 4; goto L128; }
 	if (!v241) { v52 = 1513219; v53 = 0x7074756f20656874ull; v54 = 0x206b6f6f74207475ull; v55 = 0x2e676e6968746f6eull; v56 = 0x2e2e2e2e2e2e2e2eull; v57 = 0x2e2e2e2e2e2e2e2eull; v58 = 0x2e2e2e2e2e2e2e2eull; v59 = 0x2e2e2e2e2e2e2e2eull; v60 = 0x2e2e2e2e2e2e2e2eull; v61 = 0x2e2e2e2e2e2e2e2eull; v62 = 0x2e2e2e2e2e2e2e2eull; v50 = 1; v51 = 4; goto L128; }
@@ -8255,7 +8256,7 @@ L4:
 	su64(v1+16, v20);
 	return;
 }
-static void pcap_classic_pcap_writer_put_packet_ce79(ptr v1, ptr v2, ptr v3, u32 v4, ptr v5) {
+static void pcap_classic_pcap_writer_put_packet_3bfe(ptr v1, ptr v2, ptr v3, u32 v4, ptr v5) {
 	u32 v6, v7, v8, v9;
 	ptr v10, v14, v36;
 	u64 v11, v12, v13, v15, v16, v17, v18, v19, v20, v21, v23, v24, v25, v26, v27, v28, v29, v30, v32, v33, v34, v35;
@@ -8302,7 +8303,7 @@ L6:
 	clear(v42, 56);
 	v13 = v11; goto L8;
 L7:
-	std_io_buffered_BufWriter_write_cold_9d90(v41, v2, v10, v11);
+	std_io_buffered_BufWriter_write_cold_3730(v41, v2, v10, v11);
 	u64 v56 = ld64(v41+8), v57 = ld64(v41+16), v58 = ld64(v41+24), v59 = ld64(v41+32);
 	u8 v60 = ld8(v41);
 	copy(v42, v41+40, 56);
@@ -8343,7 +8344,7 @@ L12:
 	clear(v38, 56);
 	v17 = v15; goto L14;
 L13:
-	std_io_buffered_BufWriter_write_cold_9d90(v37, v2, v14, v15);
+	std_io_buffered_BufWriter_write_cold_3730(v37, v2, v14, v15);
 	u64 v70 = ld64(v37+8), v71 = ld64(v37+16), v72 = ld64(v37+24), v73 = ld64(v37+32);
 	u8 v74 = ld8(v37);
 	copy(v38, v37+40, 56);
@@ -8384,7 +8385,7 @@ L21:
 	copy(v1+48, v36, 56);
 	return;
 }
-static void capcopy_run_commands_run_0456(ptr v1, ptr v2, u64 v3, ptr v4, ptr v5) {
+static void capcopy_run_commands_run_408a(ptr v1, ptr v2, u64 v3, ptr v4, ptr v5) {
 	u64 v6, v7, v8, v9, v11, v13, v14, v15, v16, v17, v18, v19, v20, v21, v22, v23, v24, v25, v26, v27, v28, v29, v30, v31, v33, v34, v35, v36, v38, v40, v41, v42, v43, v44, v45, v46, v47, v48, v49, v50, v51, v52, v53, v54, v55, v56, v58, v59, v60, v61, v62, v63, v65, v67, v68, v69, v70, v71, v72, v73, v74, v75, v76, v77, v78, v79, v80, v81, v82, v83, v84, v85, v86, v87, v88, v89, v90, v92, v93, v94, v95, v96, v97, v98, v99, v100, v101, v102, v103, v104, v105, v106, v107, v108, v109, v110, v111, v112, v113, v114, v115, v116, v117, v120, v122, v124, v125, v126, v127, v128, v130, v131, v132, v133, v134, v135, v136, v137, v138, v139, v140, v141, v142, v143, v144, v146, v147, v148, v149, v150, v151, v152, v153, v154, v155, v156, v157, v158, v159, v160, v161, v162, v163, v164, v165, v166, v167, v168, v169, v170, v171, v172, v177, v178, v179, v180, v181, v182, v183, v184, v185, v186, v187, v188, v194, v195, v196, v197, v198, v199, v200, v201, v202, v203, v208, v209, v210, v211, v212, v213, v214, v215, v216, v217, v218, v219, v220, v221, v222, v223, v224, v225, v230, v231, v232, v233, v234, v235, v236, v240, v241, v242, v243, v244, v246, v247, v248, v249, v250, v251, v259, v261, v262, v264, v265, v267, v268, v269, v277, v279, v280, v282, v283, v285, v286, v287, v289, v290, v292, v293, v295, v304, v305, v306, v307, v308, v309, v310, v312, v315, v319, v321, v322, v323, v324, v325, v326, v327, v328, v329, v330, v333, v334, v336, v337, v338, v340, v341, v343, v344, v345, v347, v350, v351, v352, v353, v354, v355, v356, v357, v359, v363, v365, v366, v367, v368, v374, v375, v376, v379, v380, v381, v382, v383, v385, v386, v387, v388, v389, v392, v393, v394, v395, v396, v397, v400, v403, v404, v405, v408, v409, v410, v411, v412, v414, v415, v416, v417, v418, v421, v422, v423, v424, v425, v426, v429, v435, v436, v437, v439, v440, v441, v442, v443, v446, v451, v452, v453, v457, v458, v459, v460, v461, v464, v466, v467, v468, v472, v473, v474, v475, v482, v483, v484, v487, v488, v494, v495, v496, v497, v498, v499, v500, v501, v502, v503, v508, v509, v510, v511, v512, v513, v514, v515, v516, v517, v518, v523, v524, v525, v526, v527, v528, v529, v530, v531, v532, v533, v534, v536, v537, v538, v539, v540, v541, v542, v543, v545, v548, v550, v551, v552, v554, v555, v556, v557, v558, v559, v562, v563, v564, v566, v567, v572, v573, v574, v578, v579, v580, v582, v583, v585, v586, v587, v596, v597, v598, v600, v601, v603, v604, v605, v611, v612, v613, v614, v615, v616, v617, v618, v619, v620, v626, v627, v628, v629, v630, v631, v632, v633, v634, v635, v637, v638, v639, v640, v641, v642, v643, v644, v645, v646, v652, v653, v654, v656, v657, v658, v659, v660, v661, v662, v664, v665, v666, v667, v668, v669, v670, v671, v672, v673, v674, v675, v676, v678, v680, v683, v685, v686, v687, v689, v690, v691, v692, v693, v694, v697, v698, v699, v702, v703, v704, v705, v706, v707, v708, v709, v710, v711, v712, v713, v714, v715, v716, v718, v721, v724, v728, v729, v730, v731, v732, v733, v734, v735, v736, v737, v738, v740, v741, v742, v744, v745, v746, v747, v748, v749, v750, v752, v753, v754, v755, v756, v757, v758, v759, v763, v764, v765, v766, v768, v769, v770, v771, v772, v773, v776, v777, v778, v779, v780, v781, v782, v783, v784, v785, v786, v787, v790, v791, v792, v793, v794, v795, v796, v797, v800, v801, v802, v803, v805, v811, v812, v813, v814, v821, v822, v823, v824, v826, v828, v829, v830, v831, v832, v838, v839, v840, v841, v842, v845, v846, v847, v848, v849, v850, v851, v852, v853, v861, v862, v863, v864, v865, v869, v870, v871, v872, v875, v876, v877, v878, v879, v881, v882, v893, v894, v895, v896, v897, v898, v899, v900, v901, v906, v907, v908, v909, v910, v911, v912, v913, v914, v915, v916, v917, v918, v919, v920, v923, v924, v925, v926, v927, v928, v929, v930, v931, v932, v933;
 	ptr v10, v32, v37, v57, v66, v91, v123, v129, v145, v226, v237, v245, v263, v266, v281, v284, v291, v303, v311, v320, v335, v339, v342, v346, v358, v362, v407, v456, v522, v535, v544, v547, v549, v553, v561, v565, v577, v581, v599, v602, v625, v647, v651, v655, v663, v679, v684, v688, v717, v722, v725, v739, v743, v789, v799, v806, v807, v808, v809, v810, v816, v817, v818, v819, v820, v827;
 	u32 v12, v39, v64, v121, v193, v229, v239, v257, v275, v300, v314, v317, v318, v349, v361, v364, v370, v371, v372, v373, v377, v391, v398, v401, v402, v420, v427, v430, v431, v432, v433, v434, v444, v447, v448, v449, v450, v454, v462, v465, v469, v471, v478, v479, v480, v481, v485, v493, v568, v569, v570, v571, v575, v584, v588, v595, v610, v681, v682, v720, v723, v726, v727, v833, v834, v836, v843, v844, v854, v856, v859, v860, v866, v868, v873, v874, v883, v886, v887, v888, v890, v891, v892, v902, v904;
@@ -8411,7 +8412,7 @@ L0:;
 L1:
 	clear(v1056, 128);
 	clear(v1054, 104);
-	pcap_classic_pcap_header_read_header_67f8(v1054, v4, v1055);
+	pcap_classic_pcap_header_read_header_e3e1(v1054, v4, v1055);
 	u32 v1060 = ld32(v1054+4);
 	u8 v1061 = ld8(v1054+8), v1062 = ld8(v1054+16), v1063 = ld8(v1054+17), v1064 = ld8(v1054+18);
 	u8 v1065 = ld8(v1054+19);
@@ -8427,7 +8428,7 @@ L1:
 	v6 = 0;
 L2:
 	clear(v1053, 96);
-	std_io_buffered_BufWriter_flush_buf_9d90(v1053, v5);
+	std_io_buffered_BufWriter_flush_buf_3730(v1053, v5);
 	if (ld8(v1053)) goto L164;
 	u64 v1078 = ld64(v4+24), v1079 = ld64(v4+32);
 	if (v1078 < v1079) { v7 = v1079; v8 = v1078; goto L3; }
@@ -8435,7 +8436,7 @@ L2:
 	ptr v1080 = ldp(v4);
 	u64 v1081 = ld64(v4+8);
 	clear(v1052, 96);
-	capcopy_run_uninterrupted_UninterruptedRead_read_f128(v1052, v1080, v1081);
+	pcap_program_uninterrupted_UninterruptedRead_read_f128(v1052, v1080, v1081);
 	u64 v1082 = ld64(v1052+8);
 	if (ld8(v1052)) { v208 = v1082; v209 = ld64(v1052+16); v210 = ld64(v1052+24); v211 = ld64(v1052+32); v212 = ld64(v1052+40); v213 = ld64(v1052+48); v214 = ld64(v1052+56); v215 = ld64(v1052+64); v216 = ld64(v1052+72); v217 = ld64(v1052+80); v218 = ld64(v1052+88); v206 = 4; v207 = 1; goto L170; }
 	st64(v4+32, v1082);
@@ -8742,7 +8743,7 @@ L37:
 	st64(v5+16, v1229);
 	v35 = v33; goto L39;
 L38:
-	std_io_buffered_BufWriter_write_cold_9d90(v1051, v5, v32, v33);
+	std_io_buffered_BufWriter_write_cold_3730(v1051, v5, v32, v33);
 	u64 v1235 = ld64(v1051+8);
 	if (ld8(v1051)) { v208 = v1235; v209 = ld64(v1051+16); v210 = ld64(v1051+24); v211 = ld64(v1051+32); v212 = ld64(v1051+40); v213 = ld64(v1051+48); v214 = ld64(v1051+56); v215 = ld64(v1051+64); v216 = ld64(v1051+72); v217 = ld64(v1051+80); v218 = ld64(v1051+88); v206 = 4; v207 = 1; goto L170; }
 	if (!v1235) { M13: v208 = 1513219; v209 = 0x7074756f20656874ull; v210 = 0x206b6f6f74207475ull; v211 = 0x2e676e6968746f6eull; v212 = 0x2e2e2e2e2e2e2e2eull; v213 = 0x2e2e2e2e2e2e2e2eull; v214 = 0x2e2e2e2e2e2e2e2eull; v215 = 0x2e2e2e2e2e2e2e2eull; v216 = 0x2e2e2e2e2e2e2e2eull; v217 = 0x2e2e2e2e2e2e2e2eull; v218 = 0x2e2e2e2e2e2e2e2eull; v206 = 4; v207 = 1; goto L170; }
@@ -9048,7 +9049,7 @@ L74:
 	st64(v5+16, v1375);
 	v60 = v58; goto L76;
 L75:
-	std_io_buffered_BufWriter_write_cold_9d90(v1050, v5, v57, v58);
+	std_io_buffered_BufWriter_write_cold_3730(v1050, v5, v57, v58);
 	u64 v1381 = ld64(v1050+8);
 	if (ld8(v1050)) { v208 = v1381; v209 = ld64(v1050+16); v210 = ld64(v1050+24); v211 = ld64(v1050+32); v212 = ld64(v1050+40); v213 = ld64(v1050+48); v214 = ld64(v1050+56); v215 = ld64(v1050+64); v216 = ld64(v1050+72); v217 = ld64(v1050+80); v218 = ld64(v1050+88); v206 = 4; v207 = 1; goto L170; }
 	if (!v1381) goto M13;
@@ -9069,7 +9070,7 @@ L78:;
 	v63 = 0;
 L79:
 	clear(v1048, 96);
-	std_io_buffered_BufReaderRead_read_e988(v1048, v4, at(v1049, v63), 16ull - v63);
+	std_io_buffered_BufReaderRead_read_a70f(v1048, v4, at(v1049, v63), 16ull - v63);
 	u64 v1387 = ld64(v1048+8);
 	if (ld8(v1048)) { v95 = ld64(v1048+40); v96 = ld64(v1048+48); v97 = ld64(v1048+56); v98 = ld64(v1048+64); v99 = ld64(v1048+72); v100 = ld64(v1048+80); v101 = ld64(v1048+88); v102 = v1387; v103 = ld64(v1048+16); v104 = ld64(v1048+24); v105 = ld64(v1048+32); goto L119; }
 	if (!v1387) { v95 = 0x2e2e2e2e2e2e2e2eull; v96 = 0x2e2e2e2e2e2e2e2eull; v97 = 0x2e2e2e2e2e2e2e2eull; v98 = 0x2e2e2e2e2e2e2e2eull; v99 = 0x2e2e2e2e2e2e2e2eull; v100 = 0x2e2e2e2e2e2e2e2eull; v101 = 0x2e2e2e2e2e2e2e2eull; v102 = 1451267; v103 = 0x6572747320656874ull; v104 = 0x6465646e65206d61ull; v105 = 0x2e2e796c72616520ull; goto L119; }
@@ -9102,7 +9103,7 @@ L83:
 	ptr v1399 = ldp(v4);
 	u64 v1400 = ld64(v4+8);
 	clear(v1045, 96);
-	capcopy_run_uninterrupted_UninterruptedRead_read_f128(v1045, v1399, v1400);
+	pcap_program_uninterrupted_UninterruptedRead_read_f128(v1045, v1399, v1400);
 	u64 v1401 = ld64(v1045+8);
 	if (ld8(v1045)) { v177 = v1401; v178 = v1401; v179 = ld64(v1045+16); v180 = ld64(v1045+24); v181 = ld64(v1045+32); v182 = ld64(v1045+40); v183 = ld64(v1045+48); v184 = ld64(v1045+56); v185 = ld64(v1045+64); v186 = ld64(v1045+72); v187 = ld64(v1045+80); v188 = ld64(v1045+88); v175 = 4; v176 = 1; goto L163; }
 	st64(v4+32, v1401);
@@ -9392,7 +9393,7 @@ L116:
 	st64(v5+16, v1535);
 	v94 = v92; goto L118;
 L117:
-	std_io_buffered_BufWriter_write_cold_9d90(v1044, v5, v91, v92);
+	std_io_buffered_BufWriter_write_cold_3730(v1044, v5, v91, v92);
 	u64 v1541 = ld64(v1044+8);
 	if (ld8(v1044)) { v177 = v1541; v178 = v1541; v179 = ld64(v1044+16); v180 = ld64(v1044+24); v181 = ld64(v1044+32); v182 = ld64(v1044+40); v183 = ld64(v1044+48); v184 = ld64(v1044+56); v185 = ld64(v1044+64); v186 = ld64(v1044+72); v187 = ld64(v1044+80); v188 = ld64(v1044+88); v175 = 4; v176 = 1; goto L163; }
 	if (!v1541) { M45: v177 = 1513219; v178 = 1513219; v179 = 0x7074756f20656874ull; v180 = 0x206b6f6f74207475ull; v181 = 0x2e676e6968746f6eull; v182 = 0x2e2e2e2e2e2e2e2eull; v183 = 0x2e2e2e2e2e2e2e2eull; v184 = 0x2e2e2e2e2e2e2e2eull; v185 = 0x2e2e2e2e2e2e2e2eull; v186 = 0x2e2e2e2e2e2e2e2eull; v187 = 0x2e2e2e2e2e2e2e2eull; v188 = 0x2e2e2e2e2e2e2e2eull; v175 = 4; v176 = 1; goto L163; }
@@ -9412,7 +9413,7 @@ L121:
 	v120 = 0;
 L122:
 	clear(v1042, 96);
-	std_io_buffered_BufReaderRead_read_e988(v1042, v4, at(v1043, v120), 16ull - v120);
+	std_io_buffered_BufReaderRead_read_a70f(v1042, v4, at(v1043, v120), 16ull - v120);
 	u64 v1543 = ld64(v1042+8);
 	if (ld8(v1042)) { v150 = ld64(v1042+40); v151 = ld64(v1042+48); v152 = ld64(v1042+56); v153 = ld64(v1042+64); v154 = ld64(v1042+72); v155 = ld64(v1042+80); v156 = ld64(v1042+88); v157 = v1543; v158 = ld64(v1042+16); v159 = ld64(v1042+24); v160 = ld64(v1042+32); goto L161; }
 	if (!v1543) { v150 = 0x2e2e2e2e2e2e2e2eull; v151 = 0x2e2e2e2e2e2e2e2eull; v152 = 0x2e2e2e2e2e2e2e2eull; v153 = 0x2e2e2e2e2e2e2e2eull; v154 = 0x2e2e2e2e2e2e2e2eull; v155 = 0x2e2e2e2e2e2e2e2eull; v156 = 0x2e2e2e2e2e2e2e2eull; v157 = 1451267; v158 = 0x6572747320656874ull; v159 = 0x6465646e65206d61ull; v160 = 0x2e2e796c72616520ull; goto L161; }
@@ -9446,7 +9447,7 @@ L126:
 	ptr v1553 = ldp(v4);
 	u64 v1554 = ld64(v4+8);
 	clear(v1039, 96);
-	capcopy_run_uninterrupted_UninterruptedRead_read_f128(v1039, v1553, v1554);
+	pcap_program_uninterrupted_UninterruptedRead_read_f128(v1039, v1553, v1554);
 	u64 v1555 = ld64(v1039+8);
 	if (ld8(v1039)) { v177 = v1555; v178 = v1555; v179 = ld64(v1039+16); v180 = ld64(v1039+24); v181 = ld64(v1039+32); v182 = ld64(v1039+40); v183 = ld64(v1039+48); v184 = ld64(v1039+56); v185 = ld64(v1039+64); v186 = ld64(v1039+72); v187 = ld64(v1039+80); v188 = ld64(v1039+88); v175 = 4; v176 = 1; goto L163; }
 	st64(v4+32, v1555);
@@ -9728,7 +9729,7 @@ L157:
 	st64(v5+16, v1683);
 	v148 = v146; goto L159;
 L158:
-	std_io_buffered_BufWriter_write_cold_9d90(v1038, v5, v145, v146);
+	std_io_buffered_BufWriter_write_cold_3730(v1038, v5, v145, v146);
 	u64 v1689 = ld64(v1038+8);
 	if (ld8(v1038)) { v177 = v1689; v178 = v1689; v179 = ld64(v1038+16); v180 = ld64(v1038+24); v181 = ld64(v1038+32); v182 = ld64(v1038+40); v183 = ld64(v1038+48); v184 = ld64(v1038+56); v185 = ld64(v1038+64); v186 = ld64(v1038+72); v187 = ld64(v1038+80); v188 = ld64(v1038+88); v175 = 4; v176 = 1; goto L163; }
 	if (!v1689) goto M45;
@@ -9806,7 +9807,7 @@ L176:
 	v225 = v219; v226 = ldp(v980);
 L177:
 	clear(v976, 96);
-	std_io_buffered_BufReaderRead_read_e988(v976, v4, at(v226, v225), v1691);
+	std_io_buffered_BufReaderRead_read_a70f(v976, v4, at(v226, v225), v1691);
 	u64 v1699 = ld64(v976+8);
 	if (ld8(v976)) { v549 = ldp(v976+64); v550 = ld64(v976+72); v551 = ld64(v976+80); v552 = ld64(v976+88); v553 = ldp(v976+40); v554 = ld64(v976+48); v555 = ld64(v976+56); v556 = ld64(v976+16); v557 = ld64(v976+24); v558 = ld64(v976+32); v559 = v1699; v560 = 1; goto L389; }
 	u64 v1700 = v1699 + v225;
@@ -9859,7 +9860,7 @@ L186:
 	v236 = v230; v237 = ldp(v980);
 L187:
 	clear(v977, 96);
-	std_io_buffered_BufReaderRead_read_e988(v977, v4, at(v237, v236), v1707);
+	std_io_buffered_BufReaderRead_read_a70f(v977, v4, at(v237, v236), v1707);
 	u64 v1715 = ld64(v977+8);
 	if (ld8(v977)) { v535 = ldp(v977+40); v536 = ld64(v977+48); v537 = ld64(v977+56); v538 = ld64(v977+16); v539 = ld64(v977+24); v540 = ld64(v977+32); v541 = ld64(v977+88); v542 = ld64(v977+80); v543 = ld64(v977+72); v544 = ldp(v977+64); v545 = v1715; v546 = 1; goto L387; }
 	u64 v1716 = v1715 + v236;
@@ -10270,7 +10271,7 @@ L275:
 	st64(v982+40, (u64)v291);
 	st64(v982+48, v290);
 	st64(v982+56, v289);
-	capcopy_run_blocks_write_section_ce79(v984, v5, v982);
+	capcopy_run_blocks_write_section_3bfe(v984, v5, v982);
 	u8 v1817 = ld8(v984+16);
 	if (ld8(v984)) goto L384;
 	clear(v985, 126);
@@ -10280,7 +10281,7 @@ L275:
 	v307 = 0;
 L276:
 	clear(v968, 96);
-	std_io_buffered_BufWriter_flush_buf_9d90(v968, v5);
+	std_io_buffered_BufWriter_flush_buf_3730(v968, v5);
 	if (ld8(v968)) goto L379;
 	u64 v1819 = ld64(v4+24), v1820 = ld64(v4+32);
 	if (v1819 < v1820) { v308 = v1820; v309 = v1819; goto L277; }
@@ -10288,7 +10289,7 @@ L276:
 	ptr v1821 = ldp(v4);
 	u64 v1822 = ld64(v4+8);
 	clear(v967, 96);
-	capcopy_run_uninterrupted_UninterruptedRead_read_f128(v967, v1821, v1822);
+	pcap_program_uninterrupted_UninterruptedRead_read_f128(v967, v1821, v1822);
 	u64 v1823 = ld64(v967+8), v1824 = ld64(v967+16), v1825 = ld64(v967+24), v1826 = ld64(v967+32);
 	u64 v1827 = ld64(v967+40), v1828 = ld64(v967+48), v1829 = ld64(v967+56), v1830 = ld64(v967+64);
 	u64 v1831 = ld64(v967+72), v1832 = ld64(v967+80), v1833 = ld64(v967+88);
@@ -10437,7 +10438,7 @@ L303:
 	st8(v965+52, v313);
 	clear(v965+53, 3);
 	u64 v1853 = v310 + 1;
-	capcopy_run_blocks_KindLinesBlockLine_write_line_ce79(v966, v986, v5, v1853, v965);
+	capcopy_run_blocks_KindLinesBlockLine_write_line_3bfe(v966, v986, v5, v1853, v965);
 	if (ld8(v966)) goto L304;
 	if (v310 < 4294967294u) { v310 = v1853; v311 = v1843+4; v312 = v1845; goto L278; }
 	v333 = v1853; v334 = v1845; goto L308;
@@ -10489,7 +10490,7 @@ L312:;
 	v345 = ld64(v957+24); v346 = ldp(v957); v347 = v1863;
 L313:
 	clear(v944, 96);
-	std_io_buffered_BufReaderRead_read_e988(v944, v4, at(v346, v345), v1858);
+	std_io_buffered_BufReaderRead_read_a70f(v944, v4, at(v346, v345), v1858);
 	u64 v1864 = ld64(v944+8), v1865 = ld64(v944+16), v1866 = ld64(v944+24), v1867 = ld64(v944+32);
 	u64 v1868 = ld64(v944+40);
 	u32 v1869 = ld32(v944+48);
@@ -10560,7 +10561,7 @@ L324:
 	v357 = v351; v358 = ldp(v957); v359 = v350;
 L325:
 	clear(v950, 96);
-	std_io_buffered_BufReaderRead_read_e988(v950, v4, at(v358, v357), v1884);
+	std_io_buffered_BufReaderRead_read_a70f(v950, v4, at(v358, v357), v1884);
 	u64 v1891 = ld64(v950+8), v1892 = ld64(v950+16), v1893 = ld64(v950+24), v1894 = ld64(v950+32);
 	u64 v1895 = ld64(v950+40);
 	u32 v1896 = ld32(v950+48);
@@ -10751,7 +10752,7 @@ L366:
 	st64(v958+40, v1929);
 	st64(v958+48, v487);
 	u64 v1930 = v333 + 1;
-	capcopy_run_blocks_KindLinesBlockLine_write_line_ce79(v959, v986, v5, v1930, v958);
+	capcopy_run_blocks_KindLinesBlockLine_write_line_3bfe(v959, v986, v5, v1930, v958);
 	u8 v1931 = ld8(v959+16), v1932 = (u8)v482;
 	if (ld8(v959)) goto L369;
 	if (v1932 != 1 || !v1929) goto L367;
@@ -10914,7 +10915,7 @@ L407:
 	stp(v1036, v936);
 	clear(v1036+8, 24);
 	clear(v1033, 104);
-	pcap_classic_pcap_header_read_header_67f8(v1033, v4, v1035+8);
+	pcap_classic_pcap_header_read_header_e3e1(v1033, v4, v1035+8);
 	u32 v1979 = ld32(v1033+4);
 	u8 v1980 = ld8(v1033+8);
 	if (ld8(v1033)) goto L510;
@@ -10965,7 +10966,7 @@ L412:
 	st64(v5+16, v1994);
 	v654 = v652; goto L414;
 L413:
-	std_io_buffered_BufWriter_write_cold_9d90(v1029, v5, v651, v652);
+	std_io_buffered_BufWriter_write_cold_3730(v1029, v5, v651, v652);
 	u64 v2000 = ld64(v1029+8);
 	if (ld8(v1029)) { v859 = (u32)ld_bytes(v1029+45, 3) & 16777215; v860 = ld32(v1029+52); v861 = ld64(v1029+56); v862 = ld64(v1029+64); v863 = ld64(v1029+72); v864 = ld64(v1029+80); v865 = ld64(v1029+88); v866 = ld32(v1029+48); v867 = ld8(v1029+44); v868 = ld32(v1029+40); v869 = v2000; v870 = ld64(v1029+16); v871 = ld64(v1029+24); v872 = ld64(v1029+32); goto L509; }
 	if (!v2000) { M173: v859 = 3026478; v860 = 774778414; v861 = 0x2e2e2e2e2e2e2e2eull; v862 = 0x2e2e2e2e2e2e2e2eull; v863 = 0x2e2e2e2e2e2e2e2eull; v864 = 0x2e2e2e2e2e2e2e2eull; v865 = 0x2e2e2e2e2e2e2e2eull; v866 = 774778414; v868 = 774778414; v869 = 1513219; v870 = 0x7469727720656874ull; v871 = 0x206b6f6f74207265ull; v872 = 0x2e676e6968746f6eull; v867 = 46; goto L509; }
@@ -11003,7 +11004,7 @@ L419:
 	st64(v5+16, v2003);
 	v658 = v656; goto L421;
 L420:
-	std_io_buffered_BufWriter_write_cold_9d90(v1028, v5, v655, v656);
+	std_io_buffered_BufWriter_write_cold_3730(v1028, v5, v655, v656);
 	u64 v2009 = ld64(v1028+8);
 	if (ld8(v1028)) { v859 = (u32)ld_bytes(v1028+45, 3) & 16777215; v860 = ld32(v1028+52); v861 = ld64(v1028+56); v862 = ld64(v1028+64); v863 = ld64(v1028+72); v864 = ld64(v1028+80); v865 = ld64(v1028+88); v866 = ld32(v1028+48); v867 = ld8(v1028+44); v868 = ld32(v1028+40); v869 = v2009; v870 = ld64(v1028+16); v871 = ld64(v1028+24); v872 = ld64(v1028+32); goto L509; }
 	if (!v2009) goto M173;
@@ -11038,7 +11039,7 @@ L423:
 	ptr v2016 = ldp(v4);
 	u64 v2017 = ld64(v4+8);
 	clear(v1003, 96);
-	capcopy_run_uninterrupted_UninterruptedRead_read_f128(v1003, v2016, v2017);
+	pcap_program_uninterrupted_UninterruptedRead_read_f128(v1003, v2016, v2017);
 	u64 v2018 = ld64(v1003+8), v2019 = ld64(v1003+16), v2020 = ld64(v1003+24), v2021 = ld64(v1003+32);
 	u8 v2022 = ld8(v1003);
 	copy(v1004, v1003+40, 56);
@@ -11087,7 +11088,7 @@ L429:
 	clear(v996, 56);
 	v666 = v664; goto L431;
 L430:
-	std_io_buffered_BufWriter_write_cold_9d90(v995, v5, v663, v664);
+	std_io_buffered_BufWriter_write_cold_3730(v995, v5, v663, v664);
 	u64 v2035 = ld64(v995+8), v2036 = ld64(v995+16), v2037 = ld64(v995+24), v2038 = ld64(v995+32);
 	u8 v2039 = ld8(v995);
 	copy(v996, v995+40, 56);
@@ -11170,7 +11171,7 @@ L445:
 	st64(v993+24, (u64)v688);
 	st64(v993+32, v683);
 	st64(v993+40, 0);
-	pcap_classic_pcap_writer_put_packet_ce79(v994, v5, v1035+9, v1984, v993);
+	pcap_classic_pcap_writer_put_packet_3bfe(v994, v5, v1035+9, v1984, v993);
 	if (ld8(v994) != 1) goto L446;
 	u8 v2062 = ld8(v994+8);
 	u64 v2063 = ld64(v994+16), v2064 = ld64(v994+24), v2065 = ld64(v994+32), v2066 = ld64(v994+40);
@@ -11237,7 +11238,7 @@ L455:
 	v715 = v707; v716 = v709; v717 = ldp(v1036); v718 = v708;
 L456:
 	clear(v1011, 96);
-	std_io_buffered_BufReaderRead_read_e988(v1011, v4, at(v717, v716), v2072);
+	std_io_buffered_BufReaderRead_read_a70f(v1011, v4, at(v717, v716), v2072);
 	u64 v2079 = ld64(v1011+8), v2080 = ld64(v1011+16), v2081 = ld64(v1011+24), v2082 = ld64(v1011+32);
 	u8 v2083 = ld8(v1011);
 	copy(v1012, v1011+40, 56);
@@ -11335,7 +11336,7 @@ L476:
 	v737 = v729; v738 = v731; v739 = ldp(v1036); v740 = v730;
 L477:
 	clear(v1013, 96);
-	std_io_buffered_BufReaderRead_read_e988(v1013, v4, at(v739, v738), v2098);
+	std_io_buffered_BufReaderRead_read_a70f(v1013, v4, at(v739, v738), v2098);
 	u64 v2105 = ld64(v1013+8), v2106 = ld64(v1013+16), v2107 = ld64(v1013+24), v2108 = ld64(v1013+32);
 	u8 v2109 = ld8(v1013);
 	copy(v1014, v1013+40, 56);
@@ -11384,7 +11385,7 @@ L484:
 	clear(v989, 56);
 	v746 = v744; goto L486;
 L485:
-	std_io_buffered_BufWriter_write_cold_9d90(v988, v5, v743, v744);
+	std_io_buffered_BufWriter_write_cold_3730(v988, v5, v743, v744);
 	u64 v2119 = ld64(v988+8), v2120 = ld64(v988+16), v2121 = ld64(v988+24), v2122 = ld64(v988+32);
 	u8 v2123 = ld8(v988);
 	copy(v989, v988+40, 56);
@@ -11414,7 +11415,7 @@ L491:
 	stp(v1010+24, v2112+16);
 	st64(v1010+32, v742 - 16);
 	st64(v1010+40, 0);
-	pcap_classic_pcap_writer_put_packet_ce79(v1008, v5, v1009, v1984, v1010);
+	pcap_classic_pcap_writer_put_packet_3bfe(v1008, v5, v1009, v1984, v1010);
 	v756 = ld64(v1008+40); v757 = ld64(v1008+32); v758 = ld64(v1008+24); v759 = ld64(v1008+16); v760 = ld8(v1008+8); v761 = ld8(v1008);
 L492:
 	copy(v1025, v1008+48, 56);
@@ -11524,57 +11525,60 @@ int32_t program_main(void) {
 	ptr v3, v7, v46, v53, v61, v69, v77, v87, v95;
 	u8 v10, v11, v13, v14, v15, v16, v17, v18, v23, v24, v25, v26, v27, v28, v29, v33, v34, v36, v37, v38, v39, v40, v48, v49, v50, v51, v52, v57, v58, v59, v60, v65, v66, v67, v68, v73, v74, v75, v76, v81, v82, v83, v84, v85, v86, v91, v92, v93, v94, v99, v100;
 	u32 v19, v30, v41, v101;
-	_Alignas(1) u8 v102[1], v104[41], v116[54], v128[54], v129[64], v130[64], v131[64], v134[54], v137[54], v138[54], v140[54], v149[9] = {0};
-	_Alignas(8) u8 v103[96], v105[24], v106[96], v107[24], v108[96], v109[96], v110[104], v111[40], v112[104], v113[40], v114[104], v115[40], v117[32], v118[48], v119[24], v120[24], v121[24], v122[16], v123[16], v124[16], v125[16], v126[16], v127[16], v132[16], v133[32], v135[24], v139[1136], v141[24], v142[24], v144[1176], v147[96], v148[104], v150[24] = {0}, v151[104] = {0};
-	_Alignas(2) u8 v136[54], v143[54], v145[54], v146[54], v152[54] = {0};
-	u64 v153 = os_arg(1, v149, 9);
-	os_set_errno((s64)v153 > -1 ? 0 : (v153 == ~0ull ? 22u : 36u));
-	u64 v154 = (s64)v153 > 0 ? v153 : 0, v155 = v154 < 9 ? v154 : 9;
-	u32 v156 = os_errno();
-	if (v156) goto L23;
-	u64 v157 = os_arg(2, v102, 0);
-	os_set_errno((s64)v157 > -1 ? 0 : (v157 == ~0ull ? 22u : 36u));
+	_Alignas(1) u8 v102[1], v104[41], v116[54], v128[54], v129[64], v130[64], v131[64], v134[54], v137[54], v138[54], v140[54], v150[9] = {0};
+	_Alignas(8) u8 v103[96], v105[24], v106[96], v107[24], v108[96], v109[96], v110[104], v111[40], v112[104], v113[40], v114[104], v115[40], v117[32], v118[48], v119[24], v120[24], v121[24], v122[16], v123[16], v124[16], v125[16], v126[16], v127[16], v132[16], v133[32], v135[24], v139[1136], v141[24], v142[24], v144[1176], v147[96], v148[8], v149[104], v151[24] = {0}, v152[104] = {0}, v153[8];
+	_Alignas(2) u8 v136[54], v143[54], v145[54], v146[54], v154[54] = {0};
+	st64(v153, 0);
+	u64 v155 = os_arg(1, v150, 9);
+	os_set_errno((s64)v155 > -1 ? 0 : (v155 == ~0ull ? 22u : 36u));
+	u64 v156 = (s64)v155 > 0 ? v155 : 0, v157 = v156 < 9 ? v156 : 9;
 	u32 v158 = os_errno();
-	switch (v158) {
+	if (v158) goto L23;
+	u64 v159 = os_arg(2, v102, 0);
+	os_set_errno((s64)v159 > -1 ? 0 : (v159 == ~0ull ? 22u : 36u));
+	u32 v160 = os_errno();
+	switch (v160) {
 	case 0: case 36: goto L23;
 	default: goto L0;
 	}
 L0:
-	core_str_utf8_from_utf8(v150, v149, v155);
-	if (ld8(v150)) goto L23;
-	ptr v159 = (ptr)ld64(v150+8);
-	switch (ld64(v150+16)) {
+	core_str_utf8_from_utf8(v151, v150, v157);
+	if (ld8(v151)) goto L23;
+	ptr v161 = (ptr)ld64(v151+8);
+	switch (ld64(v151+16)) {
 	case 6: goto L1;
 	case 2: goto L2;
 	case 9: goto L4;
 	default: goto L23;
 	}
 L1:
-	if ((((u64)lu32(v159+2) << 32) | (u64)lu32(v159)) == 0x706c656865682d2dull) goto L3;
+	if ((((u64)lu32(v161+2) << 32) | (u64)lu32(v161)) == 0x706c656865682d2dull) goto L3;
 	goto L23;
 L2:;
-	u64 v160 = (u64)ld8(v159+1);
-	switch (((u64)ld8(v159) << 16) | (v160 << 8) | v160) {
+	u64 v162 = (u64)ld8(v161+1);
+	switch (((u64)ld8(v161) << 16) | (v162 << 8) | v162) {
 	case 2975848: goto L3;
 	case 2971222: goto L5;
 	default: goto L23;
 	}
 L3:
-	clear(v148+8, 96);
-	st64(v148, 3);
+	st64(v149+8, 0);
+	st64(v149, 3);
+	clear(v149+16, 88);
+	stp(v148, v149);
 	clear(v147, 96);
-	std_io_io_print_to_c2b6(v147, 1, v148);
-	u8 v161 = ld8(v147), v162 = ld8(v147+8), v163 = ld8(v147+9), v164 = ld8(v147+10);
-	u8 v165 = ld8(v147+11);
-	u32 v166 = ld32(v147+12);
-	u64 v167 = ld64(v147+16), v168 = ld64(v147+24), v169 = ld64(v147+32);
-	u8 v170 = ld8(v147+40), v171 = ld8(v147+41);
+	std_io_io_print_to_ad37(v147, 1, v148);
+	u8 v163 = ld8(v147), v164 = ld8(v147+8), v165 = ld8(v147+9), v166 = ld8(v147+10);
+	u8 v167 = ld8(v147+11);
+	u32 v168 = ld32(v147+12);
+	u64 v169 = ld64(v147+16), v170 = ld64(v147+24), v171 = ld64(v147+32);
+	u8 v172 = ld8(v147+40), v173 = ld8(v147+41);
 	copy(v146, v147+42, 54);
-	v33 = v171; v34 = v170; v35 = v169; v36 = v161; v37 = v162; v38 = v163; v39 = v164; v40 = v165; v41 = v166; v42 = v167; v43 = v168; goto L21;
+	v33 = v173; v34 = v172; v35 = v171; v36 = v163; v37 = v164; v38 = v165; v39 = v166; v40 = v167; v41 = v168; v42 = v169; v43 = v170; goto L21;
 L4:
-	if (!((lu64(v159) == 0x6f69737265762d2dull) & (lu64(v159+1) == 0x6e6f69737265762dull))) goto L23;
+	if (!((lu64(v161) == 0x6f69737265762d2dull) & (lu64(v161+1) == 0x6e6f69737265762dull))) goto L23;
 L5:
-	clear(v148+8, 96);
+	st64(v149+8, 0);
 	clear(v146, 54);
 	clear(v145, 54);
 	clear(v143, 54);
@@ -11590,82 +11594,82 @@ L5:
 	st64(v144+1152, ~0ull);
 	v3 = (ptr)static_4; v1 = 0; v2 = 8;
 L6:;
-	u64 v172 = v2 - 1;
-	u8 v173 = ld8(v3);
+	u64 v174 = v2 - 1;
+	u8 v175 = ld8(v3);
 	if (v1 <= 1023) { v4 = v1; goto L7; }
-	u8 v174 = std_io_io_buffer_Buffer_flush(v144);
-	u64 v175 = ld64(v144+1032);
-	if (!(v174 && v175 < 1024)) goto L9;
-	v4 = v175;
+	u8 v176 = std_io_io_buffer_Buffer_flush(v144);
+	u64 v177 = ld64(v144+1032);
+	if (!(v176 && v177 < 1024)) goto L9;
+	v4 = v177;
 L7:
-	st8(at(v144+4, v4), v173);
-	u64 v176 = v4 + 1;
-	st64(v144+1032, v176);
-	if (v172) { v1 = v176; v2 = v172; v3 = v3+1; goto L6; }
-	u8 v177 = ld64(v144+1160) == 0;
+	st8(at(v144+4, v4), v175);
+	u64 v178 = v4 + 1;
+	st64(v144+1032, v178);
+	if (v174) { v1 = v178; v2 = v174; v3 = v3+1; goto L6; }
+	u8 v179 = ld64(v144+1160) == 0;
 	st32(v144+1136, 32);
 	clear(v144+1140, 12);
 	st64(v144+1152, ~0ull);
-	if (!v177) goto L11;
-	v5 = v176; v7 = (ptr)&static_5+16; v6 = 5;
+	if (!v179) goto L11;
+	v5 = v178; v7 = (ptr)&static_5+16; v6 = 5;
 L8:;
-	u64 v178 = v6 - 1;
-	u8 v179 = ld8(v7);
+	u64 v180 = v6 - 1;
+	u8 v181 = ld8(v7);
 	if (v5 <= 1023) { v8 = v5; goto L10; }
-	u8 v180 = std_io_io_buffer_Buffer_flush(v144);
-	u64 v181 = ld64(v144+1032);
-	if (v180 && v181 < 1024) { v8 = v181; goto L10; }
+	u8 v182 = std_io_io_buffer_Buffer_flush(v144);
+	u64 v183 = ld64(v144+1032);
+	if (v182 && v183 < 1024) { v8 = v183; goto L10; }
 L9:
 	copy(v144+1136, v141, 24);
 	v11 = 0; goto L16;
 L10:
-	st8(at(v144+4, v8), v179);
-	u64 v182 = v8 + 1;
-	st64(v144+1032, v182);
-	if (v178) { v5 = v182; v6 = v178; v7 = v7+1; goto L8; }
+	st8(at(v144+4, v8), v181);
+	u64 v184 = v8 + 1;
+	st64(v144+1032, v184);
+	if (v180) { v5 = v184; v6 = v180; v7 = v7+1; goto L8; }
 	copy(v144+1136, v141, 24);
 	goto L12;
 L11:;
-	u8 v183 = core_fmt_formatter_Formatter_write_indented_bf26(v144, (ptr)&static_5+16, 5);
+	u8 v185 = core_fmt_formatter_Formatter_write_indented_bf26(v144, (ptr)&static_5+16, 5);
 	copy(v144+1136, v141, 24);
-	if (v183) { v11 = 0; goto L16; }
+	if (v185) { v11 = 0; goto L16; }
 L12:
 	copy(v142, v144+1136, 24);
 	st32(v144+1136, 32);
 	clear(v144+1140, 12);
 	st64(v144+1152, ~0ull);
 	if (ld64(v144+1160)) goto L14;
-	u64 v184 = ld64(v144+1032);
-	if (v184 <= 1023) { v9 = v184; goto L13; }
-	u8 v185 = std_io_io_buffer_Buffer_flush(v144);
 	u64 v186 = ld64(v144+1032);
-	if (!(v185 && v186 < 1024)) { v10 = 0; goto L15; }
-	v9 = v186;
+	if (v186 <= 1023) { v9 = v186; goto L13; }
+	u8 v187 = std_io_io_buffer_Buffer_flush(v144);
+	u64 v188 = ld64(v144+1032);
+	if (!(v187 && v188 < 1024)) { v10 = 0; goto L15; }
+	v9 = v188;
 L13:
 	st8(at(v144+4, v9), 10);
 	st64(v144+1032, v9 + 1);
 	v10 = 1; goto L15;
 L14:;
-	u8 v187 = core_fmt_formatter_Formatter_write_indented_bf26(v144, (ptr)static_6, 1);
-	v10 = v187 == 0;
+	u8 v189 = core_fmt_formatter_Formatter_write_indented_bf26(v144, (ptr)static_6, 1);
+	v10 = v189 == 0;
 L15:
 	copy(v144+1136, v142, 24);
 	v11 = v10;
 L16:
 	st32(v139, ld32(v144));
 	copy(v139+4, v144+4, 1132);
-	u8 v188 = std_io_io_buffer_Buffer_flush(v139);
-	if (!(v11 & v188)) goto L17;
+	u8 v190 = std_io_io_buffer_Buffer_flush(v139);
+	if (!(v11 & v190)) goto L17;
 	clear(v143, 54);
 	v22 = v23 = v24 = v25 = v26 = v27 = v28 = v29 = v30 = v31 = v32 = 0; goto L20;
 L17:
 	if (ld8(v139+1040) != 1) goto L18;
-	u8 v189 = ld8(v139+1048), v190 = ld8(v139+1049), v191 = ld8(v139+1050), v192 = ld8(v139+1051);
-	u32 v193 = ld32(v139+1052);
-	u64 v194 = ld64(v139+1056), v195 = ld64(v139+1064), v196 = ld64(v139+1072);
-	u8 v197 = ld8(v139+1080), v198 = ld8(v139+1081);
+	u8 v191 = ld8(v139+1048), v192 = ld8(v139+1049), v193 = ld8(v139+1050), v194 = ld8(v139+1051);
+	u32 v195 = ld32(v139+1052);
+	u64 v196 = ld64(v139+1056), v197 = ld64(v139+1064), v198 = ld64(v139+1072);
+	u8 v199 = ld8(v139+1080), v200 = ld8(v139+1081);
 	copy(v140, v139+1082, 54);
-	v12 = v196; v13 = v197; v14 = v198; v15 = v189; v16 = v190; v17 = v191; v18 = v192; v19 = v193; v20 = v194; v21 = v195; goto L19;
+	v12 = v198; v13 = v199; v14 = v200; v15 = v191; v16 = v192; v17 = v193; v18 = v194; v19 = v195; v20 = v196; v21 = v197; goto L19;
 L18:
 	fill(v140, 46, 54);
 	v12 = 0x2e2e2e2e2e2e2e2eull; v20 = 0x657474616d726f66ull; v21 = 0x2e726f7272652072ull; v13 = v14 = 46; v15 = 2; v16 = 41; v17 = 15; v18 = v19 = 0;
@@ -11682,15 +11686,15 @@ L21:
 	copy(v138, v146, 54);
 	v44 = v43; v45 = v42; v46 = (ptr)(((u64)v38 << 8) | (u64)v37 | ((u64)v39 << 16) | ((u64)v40 << 24) | ((u64)v41 << 32)); v47 = v35; v48 = v34; v49 = v33; v50 = 4; v51 = 1;
 L22:
-	copy(v152, v138, 54);
+	copy(v154, v138, 54);
 	v93 = v50; v94 = v51; v95 = v46; v96 = v45; v97 = v44; v98 = v47; v99 = v48; v100 = v49; goto L56;
 L23:
 	clear(v134, 54);
 	clear(v136, 54);
 	clear(v137, 54);
-	t_64_64 v199 = allocate(65536, 1);
-	if (!(v199.f0 & 1)) goto L54;
-	st64(v135, v199.f1);
+	t_64_64 v201 = allocate(65536, 1);
+	if (!(v201.f0 & 1)) goto L54;
+	st64(v135, v201.f1);
 	st64(v135+8, 0);
 	st64(v135+16, 65536);
 	clear(v128, 54);
@@ -11703,51 +11707,51 @@ L23:
 	clear(v126, 16);
 	clear(v127, 16);
 	clear(v121, 24);
-	u64 v200 = os_arg(1, v129, 64);
-	os_set_errno((s64)v200 > -1 ? 0 : (v200 == ~0ull ? 22u : 36u));
-	u32 v201 = os_errno();
-	switch (v201) {
+	u64 v202 = os_arg(1, v129, 64);
+	os_set_errno((s64)v202 > -1 ? 0 : (v202 == ~0ull ? 22u : 36u));
+	u32 v203 = os_errno();
+	switch (v203) {
 	case 0: goto L24;
 	case 36: goto L42;
 	default: goto L43;
 	}
 L24:;
-	u64 v202 = (s64)v200 > 0 ? v200 : 0;
-	core_str_utf8_from_utf8(v121, v129, v202 < 64 ? v202 : 64);
+	u64 v204 = (s64)v202 > 0 ? v202 : 0;
+	core_str_utf8_from_utf8(v121, v129, v204 < 64 ? v204 : 64);
 	if (ld8(v121)) goto L42;
 	copy(v122, v121+8, 16);
 	clear(v120, 24);
-	u64 v203 = os_arg(2, v130, 64);
-	os_set_errno((s64)v203 > -1 ? 0 : (v203 == ~0ull ? 22u : 36u));
-	u32 v204 = os_errno();
-	switch (v204) {
+	u64 v205 = os_arg(2, v130, 64);
+	os_set_errno((s64)v205 > -1 ? 0 : (v205 == ~0ull ? 22u : 36u));
+	u32 v206 = os_errno();
+	switch (v206) {
 	case 0: goto L25;
 	case 36: goto L37;
 	default: goto L38;
 	}
 L25:;
-	u64 v205 = (s64)v203 > 0 ? v203 : 0;
-	core_str_utf8_from_utf8(v120, v130, v205 < 64 ? v205 : 64);
+	u64 v207 = (s64)v205 > 0 ? v205 : 0;
+	core_str_utf8_from_utf8(v120, v130, v207 < 64 ? v207 : 64);
 	if (ld8(v120)) goto L37;
 	copy(v123, v120+8, 16);
 	clear(v119, 24);
-	u64 v206 = os_arg(3, v131, 64);
-	os_set_errno((s64)v206 > -1 ? 0 : (v206 == ~0ull ? 22u : 36u));
-	u32 v207 = os_errno();
-	switch (v207) {
+	u64 v208 = os_arg(3, v131, 64);
+	os_set_errno((s64)v208 > -1 ? 0 : (v208 == ~0ull ? 22u : 36u));
+	u32 v209 = os_errno();
+	switch (v209) {
 	case 0: goto L26;
 	case 36: goto L32;
 	default: goto L33;
 	}
 L26:;
-	u64 v208 = (s64)v206 > 0 ? v206 : 0;
-	core_str_utf8_from_utf8(v119, v131, v208 < 64 ? v208 : 64);
+	u64 v210 = (s64)v208 > 0 ? v208 : 0;
+	core_str_utf8_from_utf8(v119, v131, v210 < 64 ? v210 : 64);
 	if (ld8(v119)) goto L32;
 	copy(v124, v119+8, 16);
-	u64 v209 = os_arg(4, v102, 0);
-	os_set_errno((s64)v209 > -1 ? 0 : (v209 == ~0ull ? 22u : 36u));
-	u32 v210 = os_errno();
-	switch (v210) {
+	u64 v211 = os_arg(4, v102, 0);
+	os_set_errno((s64)v211 > -1 ? 0 : (v211 == ~0ull ? 22u : 36u));
+	u32 v212 = os_errno();
+	switch (v212) {
 	case 0: case 36: v52 = 1; goto L28;
 	default: goto L27;
 	}
@@ -11766,23 +11770,23 @@ L28:
 	copy(v118+16, v133, 16);
 	copy(v118+32, v133+16, 16);
 	clear(v110, 104);
-	t_64_64 v211 = allocate(262144, 1);
-	if (!(v211.f0 & 1)) goto L30;
-	clear((ptr)v211.f1, 262144);
-	st64(v111, v211.f1);
+	t_64_64 v213 = allocate(262144, 1);
+	if (!(v213.f0 & 1)) goto L30;
+	clear((ptr)v213.f1, 262144);
+	st64(v111, v213.f1);
 	st64(v111+8, 262144);
 	st64(v111+16, 262144);
 	clear(v111+24, 16);
-	capcopy_run_commands_run_0456(v110, v118, 3, v111, v135);
+	capcopy_run_commands_run_408a(v110, v118, 3, v111, v135);
 	if (!ld64(v111+16)) goto L29;
 	deallocate(ldp(v111));
 L29:;
-	u8 v212 = ld8(v110), v213 = ld8(v110+8);
-	ptr v214 = ldp(v110+16);
-	u64 v215 = ld64(v110+24), v216 = ld64(v110+32), v217 = ld64(v110+40);
-	u8 v218 = ld8(v110+48), v219 = ld8(v110+49);
+	u8 v214 = ld8(v110), v215 = ld8(v110+8);
+	ptr v216 = ldp(v110+16);
+	u64 v217 = ld64(v110+24), v218 = ld64(v110+32), v219 = ld64(v110+40);
+	u8 v220 = ld8(v110+48), v221 = ld8(v110+49);
 	copy(v116, v110+50, 54);
-	v53 = v214; v54 = v215; v55 = v216; v56 = v217; v57 = v218; v58 = v219; v59 = v212; v60 = v213; goto L31;
+	v53 = v216; v54 = v217; v55 = v218; v56 = v219; v57 = v220; v58 = v221; v59 = v214; v60 = v215; goto L31;
 L30:
 	clear(v116, 54);
 	v53 = (ptr)0; v54 = v55 = v56 = v57 = v58 = v60 = 0; v59 = 5;
@@ -11796,23 +11800,23 @@ L33:
 	copy(v117, v132, 16);
 	copy(v117+16, v133, 16);
 	clear(v112, 104);
-	t_64_64 v220 = allocate(262144, 1);
-	if (!(v220.f0 & 1)) goto L35;
-	clear((ptr)v220.f1, 262144);
-	st64(v113, v220.f1);
+	t_64_64 v222 = allocate(262144, 1);
+	if (!(v222.f0 & 1)) goto L35;
+	clear((ptr)v222.f1, 262144);
+	st64(v113, v222.f1);
 	st64(v113+8, 262144);
 	st64(v113+16, 262144);
 	clear(v113+24, 16);
-	capcopy_run_commands_run_0456(v112, v117, 2, v113, v135);
+	capcopy_run_commands_run_408a(v112, v117, 2, v113, v135);
 	if (!ld64(v113+16)) goto L34;
 	deallocate(ldp(v113));
 L34:;
-	u8 v221 = ld8(v112), v222 = ld8(v112+8);
-	ptr v223 = ldp(v112+16);
-	u64 v224 = ld64(v112+24), v225 = ld64(v112+32), v226 = ld64(v112+40);
-	u8 v227 = ld8(v112+48), v228 = ld8(v112+49);
+	u8 v223 = ld8(v112), v224 = ld8(v112+8);
+	ptr v225 = ldp(v112+16);
+	u64 v226 = ld64(v112+24), v227 = ld64(v112+32), v228 = ld64(v112+40);
+	u8 v229 = ld8(v112+48), v230 = ld8(v112+49);
 	copy(v116, v112+50, 54);
-	v61 = v223; v62 = v224; v63 = v225; v64 = v226; v65 = v227; v66 = v228; v67 = v221; v68 = v222; goto L36;
+	v61 = v225; v62 = v226; v63 = v227; v64 = v228; v65 = v229; v66 = v230; v67 = v223; v68 = v224; goto L36;
 L35:
 	clear(v116, 54);
 	v61 = (ptr)0; v62 = v63 = v64 = v65 = v66 = v68 = 0; v67 = 5;
@@ -11823,23 +11827,23 @@ L37:
 L38:
 	copy(v132, v122, 16);
 	clear(v114, 104);
-	t_64_64 v229 = allocate(262144, 1);
-	if (!(v229.f0 & 1)) goto L40;
-	clear((ptr)v229.f1, 262144);
-	st64(v115, v229.f1);
+	t_64_64 v231 = allocate(262144, 1);
+	if (!(v231.f0 & 1)) goto L40;
+	clear((ptr)v231.f1, 262144);
+	st64(v115, v231.f1);
 	st64(v115+8, 262144);
 	st64(v115+16, 262144);
 	clear(v115+24, 16);
-	capcopy_run_commands_run_0456(v114, v132, 1, v115, v135);
+	capcopy_run_commands_run_408a(v114, v132, 1, v115, v135);
 	if (!ld64(v115+16)) goto L39;
 	deallocate(ldp(v115));
 L39:;
-	u8 v230 = ld8(v114), v231 = ld8(v114+8);
-	ptr v232 = ldp(v114+16);
-	u64 v233 = ld64(v114+24), v234 = ld64(v114+32), v235 = ld64(v114+40);
-	u8 v236 = ld8(v114+48), v237 = ld8(v114+49);
+	u8 v232 = ld8(v114), v233 = ld8(v114+8);
+	ptr v234 = ldp(v114+16);
+	u64 v235 = ld64(v114+24), v236 = ld64(v114+32), v237 = ld64(v114+40);
+	u8 v238 = ld8(v114+48), v239 = ld8(v114+49);
 	copy(v116, v114+50, 54);
-	v69 = v232; v70 = v233; v71 = v234; v72 = v235; v73 = v236; v74 = v237; v75 = v230; v76 = v231; goto L41;
+	v69 = v234; v70 = v235; v71 = v236; v72 = v237; v73 = v238; v74 = v239; v75 = v232; v76 = v233; goto L41;
 L40:
 	clear(v116, 54);
 	v69 = (ptr)0; v70 = v71 = v72 = v73 = v74 = v76 = 0; v75 = 5;
@@ -11855,19 +11859,19 @@ L45:
 	copy(v128, v116, 54);
 	copy(v136, v128, 54);
 	clear(v109, 96);
-	std_io_buffered_BufWriter_flush_buf_9d90(v109, v135);
+	std_io_buffered_BufWriter_flush_buf_3730(v109, v135);
 	if (ld8(v109)) goto L47;
 	copy(v107, v135, 24);
-	std_io_buffered_BufWriter_flush_buf_9d90(v108, v107);
+	std_io_buffered_BufWriter_flush_buf_3730(v108, v107);
 	if (!ld64(v107+16)) goto L46;
 	deallocate(ldp(v107));
 L46:
-	copy(v152, v136, 54);
+	copy(v154, v136, 54);
 	v85 = v83; v86 = v84; v87 = v77; v88 = v78; v89 = v79; v90 = v80; v91 = v81; v92 = v82; goto L55;
 L47:;
-	ptr v238 = ldp(v109+8);
-	u64 v239 = ld64(v109+16), v240 = ld64(v109+24), v241 = ld64(v109+32);
-	u8 v242 = ld8(v109+40), v243 = ld8(v109+41);
+	ptr v240 = ldp(v109+8);
+	u64 v241 = ld64(v109+16), v242 = ld64(v109+24), v243 = ld64(v109+32);
+	u8 v244 = ld8(v109+40), v245 = ld8(v109+41);
 	copy(v137, v109+42, 54);
 	copy(v134, v137, 54);
 	switch (v83) {
@@ -11885,35 +11889,35 @@ L50:
 	deallocate(v77);
 L51:
 	copy(v105, v135, 24);
-	std_io_buffered_BufWriter_flush_buf_9d90(v106, v105);
+	std_io_buffered_BufWriter_flush_buf_3730(v106, v105);
 	if (!ld64(v105+16)) goto L52;
 	deallocate(ldp(v105));
 L52:
-	copy(v152, v134, 54);
-	v87 = v238; v88 = v239; v89 = v240; v90 = v241; v91 = v242; v92 = v243; v85 = 4; v86 = 1; goto L55;
+	copy(v154, v134, 54);
+	v87 = v240; v88 = v241; v89 = v242; v90 = v243; v91 = v244; v92 = v245; v85 = 4; v86 = 1; goto L55;
 L53:
 	__builtin_trap();
 L54:
-	clear(v152, 54);
+	clear(v154, 54);
 	v87 = (ptr)0; v85 = 5; v86 = v88 = v89 = v90 = v91 = v92 = 0;
 L55:
 	v93 = v85; v94 = v86; v95 = v87; v96 = v88; v97 = v89; v98 = v90; v99 = v91; v100 = v92;
 L56:
-	st64(v151, (u64)v93);
-	st8(v151+8, v94);
-	stp(v151+16, v95);
-	st64(v151+24, v96);
-	st64(v151+32, v97);
-	st64(v151+40, v98);
-	st8(v151+48, v99);
-	st8(v151+49, v100);
-	copy(v151+50, v152, 54);
-	u64 v244 = (u64)v95 >> 8;
-	u8 v245 = (u8)v244;
+	st64(v152, (u64)v93);
+	st8(v152+8, v94);
+	stp(v152+16, v95);
+	st64(v152+24, v96);
+	st64(v152+32, v97);
+	st64(v152+40, v98);
+	st8(v152+48, v99);
+	st8(v152+49, v100);
+	copy(v152+50, v154, 54);
+	u64 v246 = (u64)v95 >> 8;
+	u8 v247 = (u8)v246;
 	switch (v93) {
 	case 4: goto L57;
-	case 0: v101 = 0; goto L64;
-	default: goto L60;
+	case 0: v101 = 0; goto L65;
+	default: goto L59;
 	}
 L57:
 	if (v94 != 1) goto L59;
@@ -11958,35 +11962,39 @@ L57:
 	st8(v104+38, 38);
 	st8(v104+39, 39);
 	st8(v104+40, 40);
-	if (v245 >= 41) goto L58;
-	if (ld8(at(v104, v244 & 63)) == 11) { v101 = 141; goto L64; }
+	if (v247 >= 41) goto L58;
+	if (ld8(at(v104, v246 & 63)) == 11) { v101 = 141; goto L65; }
 	goto L59;
 L58:
 L59:
-	std_io_io_print_to_c2b6(v103, 2, v151);
-	if (v94 != 4 || !v97) { v101 = 3; goto L64; }
-	deallocate(v95);
-	v101 = 3; goto L64;
-L60:
-	std_io_io_print_to_c2b6(v103, 2, v151);
-	switch (v93) {
-	case 2: goto L61;
-	case 5: goto L62;
+	stp(v153, v152);
+	std_io_io_print_to_ad37(v103, 2, v153);
+	switch (ld8(v152)) {
+	case 0: v101 = 0; goto L65;
+	case 5: goto L60;
+	case 4: goto L61;
+	case 3: goto L62;
 	case 1: goto L63;
-	case 3: v101 = 2; goto L64;
-	default: goto L65;
+	case 2: goto L64;
+	default: goto L66;
 	}
+L60:
+	v101 = 4; goto L65;
 L61:
-	v101 = 1; goto L64;
+	if (ld8(v152+8) != 4 || !ld64(v152+32)) { v101 = 3; goto L65; }
+	deallocate(ldp(v152+16));
+	v101 = 3; goto L65;
 L62:
-	v101 = 4; goto L64;
+	v101 = 2; goto L65;
 L63:
-	if (v94 != 4 || !v97) { v101 = 1; goto L64; }
-	deallocate(v95);
-	v101 = 1;
+	if (ld8(v152+8) != 4 || !ld64(v152+32)) { v101 = 1; goto L65; }
+	deallocate(ldp(v152+16));
+	v101 = 1; goto L65;
 L64:
-	return (int32_t)(v101);
+	v101 = 1;
 L65:
+	return (int32_t)(v101);
+L66:
 	__builtin_trap();
 }
 #endif

@@ -7,7 +7,7 @@
  * Toolchain: rattle-kit-13f logic dac8208d650f15bf
  * Proof of the crate pcapfile_c: logic=proved functions=138 axioms=3 target=x86_64-unknown-linux-gnu cpu=x86-64-v2
  * sum=dac8208d650f15bf native=nat,char,string
- * Sources: sha256 a8720971f0bf5b8cab5cd4ac8891c3e6571c7149780a4e5fcca1734a323653cb
+ * Sources: sha256 9c6bc74a49b006cea5bf73b8fcac313df1019778a34512488a79c570ff685774
  * (of src and specs of pcap_blocks, pcap_classic, pcap_core, pcap_items, pcap_ng, pcap_options, pcap_parts,
  * pcap_raw_options, pcap_times, pcap_tolerant, pcap_tolerant_blocks, pcap_tolerant_captures, pcap_written, pcapfile_c,
  * pcapfile_values)
