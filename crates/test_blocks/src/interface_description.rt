@@ -1,36 +1,64 @@
 //! Interface descriptions.
 
-use byteorder::{BigEndian, ByteOrder, LittleEndian};
+use crate::rows::{Calls, every_call, no_call, whole_list};
+use byteorder::{BigEndian, LittleEndian};
 use pcap_blocks::InterfaceDescriptionBlock;
 use std::alloc::Global;
 use std::test::*;
-use test_support::rows::{every_row, told, whole_list};
+use test_support::rows::{bytes, told};
 
-// Formats the result of parsing a body.
-fn interface<B: ByteOrder>(alloc: Global, body: &[u8]) -> Result<String, Fail> {
-    told(
-        alloc,
-        InterfaceDescriptionBlock::from_slice::<B>(alloc, body),
-    )
+// Parses a body in the byte order that a row names.
+struct Interface;
+
+impl Calls for Interface {
+    fn result(alloc: Global, name: &str, digits: &str) -> Result<String, Fail> {
+        let bytes = bytes(alloc, digits)?;
+        let body = bytes.as_slice();
+        match name {
+            "big" => told(
+                alloc,
+                InterfaceDescriptionBlock::from_slice::<BigEndian>(alloc, body),
+            ),
+            "little" => told(
+                alloc,
+                InterfaceDescriptionBlock::from_slice::<LittleEndian>(alloc, body),
+            ),
+            _ => Err(no_call(name)),
+        }
+    }
 }
 
+const INTERFACES: &str = "
+    little 0100 0000 00000400 0900 0100 06 000000 0e00 0800 0100000000000000 0000 0000 => [] InterfaceDescriptionBlock { linktype: ETHERNET, reserved: 0, snaplen: 262144, options: [IfTsResol(6), IfTsOffset(1)] }
+    big 0001 0000 00040000 000a 0004 00000e10 0000 0000 => [] InterfaceDescriptionBlock { linktype: ETHERNET, reserved: 0, snaplen: 262144, options: [IfTzone(3600)] }
+    big 0002 0003 00040000 000a 0004 00000e10 0000 0000 aa => [170] InterfaceDescriptionBlock { linktype: Unknown(2), reserved: 3, snaplen: 262144, options: [IfTzone(3600)] }
+    big 00010000000400 => InterfaceDescriptionBlock: block length < 8
+    big 0001 0000 00040000 000a 0001 10 000000 0000 0000 => InterfaceDescriptionOption: IfTzone length != 4
+    big 0001 0000 00040000 000a 0003 000010 00 0000 0000 => InterfaceDescriptionOption: IfTzone length != 4
+    big 0001 0000 00040000 000b 0000 0000 0000 => InterfaceDescriptionOption: IfFilter is empty
+    big 0001 0000 00040000 0004 0004 c0a80001 => InterfaceDescriptionOption: IfIpv4Addr length != 8
+    big 0001 0000 00040000 0005 0010 00000000000000000000000000000000 => InterfaceDescriptionOption: IfIpv6Addr length != 17
+    big 0001 0000 00040000 0006 0008 0001020304050607 => InterfaceDescriptionOption: IfMacAddr length != 6
+    big 0001 0000 00040000 0007 0004 00010203 => InterfaceDescriptionOption: IfEuIAddr length != 8
+    big 0001 0000 00040000 0008 0000 => InterfaceDescriptionOption: IfSpeed length != 8
+    big 0001 0000 00040000 0009 0002 0600 0000 => InterfaceDescriptionOption: IfTsResol length != 1
+    big 0001 0000 00040000 000d 0000 => InterfaceDescriptionOption: IfFcsLen length != 1
+    big 0001 0000 00040000 000e 0004 00000001 => InterfaceDescriptionOption: IfTsOffset length != 8
+    big 0001 0000 00040000 0002 0001 ff 000000 => Utf8Error
+    big 0001 0000 00040000 0bac 0003 616263 00 => IoError
+    big 0001 0000 00040000 0002 0001 61 0000 => Option: length + pad.len() > slice.len()
+    big 0001 0000 00040000 0002 0001 61 000000 0000 => Option: slice.len() < 4
+";
+
 #[test]
-fn interfaces_of_both_orders(rt: HostRuntime) -> Result<(), Fail> {
-    let little = "
-        0100 0000 00000400 0900 0100 06 000000 0e00 0800 0100000000000000 0000 0000 => [] InterfaceDescriptionBlock { linktype: ETHERNET, reserved: 0, snaplen: 262144, options: [IfTsResol(6), IfTsOffset(1)] }
-    ";
-    let big = "
-        0001 0000 00040000 000a 0004 00000e10 0000 0000 => [] InterfaceDescriptionBlock { linktype: ETHERNET, reserved: 0, snaplen: 262144, options: [IfTzone(3600)] }
-        0002 0003 00040000 000a 0004 00000e10 0000 0000 aa => [170] InterfaceDescriptionBlock { linktype: Unknown(2), reserved: 3, snaplen: 262144, options: [IfTzone(3600)] }
-    ";
-    every_row(rt.alloc(), little, interface::<LittleEndian>)?;
-    every_row(rt.alloc(), big, interface::<BigEndian>)
+fn interfaces(rt: HostRuntime) -> Result<(), Fail> {
+    every_call::<Interface>(rt.alloc(), INTERFACES)
 }
 
 #[test]
 fn each_option_of_an_interface(rt: HostRuntime) -> Result<(), Fail> {
     let row =
-        "0001 0000 00040000 .. => [] InterfaceDescriptionBlock { linktype: ETHERNET, reserved: 0, snaplen: 262144, options: [..] }";
+        "big 0001 0000 00040000 .. => [] InterfaceDescriptionBlock { linktype: ETHERNET, reserved: 0, snaplen: 262144, options: [..] }";
     let table = r#"
         0001 0001 61 000000 => Comment("a")
         0002 0001 62 000000 => IfName("b")
@@ -48,13 +76,9 @@ fn each_option_of_an_interface(rt: HostRuntime) -> Result<(), Fail> {
         000e 0008 0000000100000000 => IfTsOffset(4294967296)
         000f 0001 65 000000 => IfHardware("e")
     "#;
-    whole_list(rt.alloc(), row, table, interface::<BigEndian>)
-}
-
-#[test]
-fn custom_and_unknown_options_of_an_interface(rt: HostRuntime) -> Result<(), Fail> {
+    whole_list::<Interface>(rt.alloc(), row, table)?;
     let row =
-        "0001 0000 00040000 .. 0000 0000 => [] InterfaceDescriptionBlock { linktype: ETHERNET, reserved: 0, snaplen: 262144, options: [..] }";
+        "big 0001 0000 00040000 .. 0000 0000 => [] InterfaceDescriptionBlock { linktype: ETHERNET, reserved: 0, snaplen: 262144, options: [..] }";
     let table = r#"
         0bac 0006 00007ed9 6869 0000 => CustomUtf8(CustomUtf8Option { code: 2988, pen: 32473, value: "hi" })
         0063 0002 aabb ffff => Unknown(UnknownOption { code: 99, length: 2, value: Borrowed([170, 187]) })
@@ -62,28 +86,5 @@ fn custom_and_unknown_options_of_an_interface(rt: HostRuntime) -> Result<(), Fai
         4bac 0004 00000002 => CustomUtf8(CustomUtf8Option { code: 19372, pen: 2, value: "" })
         0bad 0004 00000003 => CustomBinary(CustomBinaryOption { code: 2989, pen: 3, value: Borrowed([]) })
     "#;
-    whole_list(rt.alloc(), row, table, interface::<BigEndian>)
-}
-
-#[test]
-fn refused_interfaces(rt: HostRuntime) -> Result<(), Fail> {
-    let table = "
-        00010000000400 => InterfaceDescriptionBlock: block length < 8
-        0001 0000 00040000 000a 0001 10 000000 0000 0000 => InterfaceDescriptionOption: IfTzone length != 4
-        0001 0000 00040000 000a 0003 000010 00 0000 0000 => InterfaceDescriptionOption: IfTzone length != 4
-        0001 0000 00040000 000b 0000 0000 0000 => InterfaceDescriptionOption: IfFilter is empty
-        0001 0000 00040000 0004 0004 c0a80001 => InterfaceDescriptionOption: IfIpv4Addr length != 8
-        0001 0000 00040000 0005 0010 00000000000000000000000000000000 => InterfaceDescriptionOption: IfIpv6Addr length != 17
-        0001 0000 00040000 0006 0008 0001020304050607 => InterfaceDescriptionOption: IfMacAddr length != 6
-        0001 0000 00040000 0007 0004 00010203 => InterfaceDescriptionOption: IfEuIAddr length != 8
-        0001 0000 00040000 0008 0000 => InterfaceDescriptionOption: IfSpeed length != 8
-        0001 0000 00040000 0009 0002 0600 0000 => InterfaceDescriptionOption: IfTsResol length != 1
-        0001 0000 00040000 000d 0000 => InterfaceDescriptionOption: IfFcsLen length != 1
-        0001 0000 00040000 000e 0004 00000001 => InterfaceDescriptionOption: IfTsOffset length != 8
-        0001 0000 00040000 0002 0001 ff 000000 => Utf8Error
-        0001 0000 00040000 0bac 0003 616263 00 => IoError
-        0001 0000 00040000 0002 0001 61 0000 => Option: length + pad.len() > slice.len()
-        0001 0000 00040000 0002 0001 61 000000 0000 => Option: slice.len() < 4
-    ";
-    every_row(rt.alloc(), table, interface::<BigEndian>)
+    whole_list::<Interface>(rt.alloc(), row, table)
 }

@@ -17,6 +17,8 @@ mod packets;
 #[cfg(test)]
 mod parsed_block;
 #[cfg(test)]
+mod rows;
+#[cfg(test)]
 mod section_header;
 #[cfg(test)]
 mod times;

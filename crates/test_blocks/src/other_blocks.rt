@@ -1,23 +1,45 @@
 //! Statistics, journal entries, unknown blocks and block types.
 
-use byteorder::{BigEndian, ByteOrder, LittleEndian};
+use crate::rows::{Calls, every_call, no_call, whole_list};
+use byteorder::{BigEndian, LittleEndian};
 use pcap_blocks::{BlockType, InterfaceStatisticsBlock, SystemdJournalExportBlock, UnknownBlock};
 use std::alloc::Global;
 use std::test::*;
-use test_support::rows::{every_row, told, whole_list};
+use test_support::rows::{bytes, told};
 
-// Formats the result of parsing a body.
-fn statistics<B: ByteOrder>(alloc: Global, body: &[u8]) -> Result<String, Fail> {
-    told(
-        alloc,
-        InterfaceStatisticsBlock::from_slice::<B>(alloc, body),
-    )
+// Blocks of these kinds, parsed from bytes or made of them.
+struct OtherBlocks;
+
+impl Calls for OtherBlocks {
+    fn result(alloc: Global, name: &str, digits: &str) -> Result<String, Fail> {
+        let bytes = bytes(alloc, digits)?;
+        let body = bytes.as_slice();
+        match name {
+            "statistics" => told(
+                alloc,
+                InterfaceStatisticsBlock::from_slice::<BigEndian>(alloc, body),
+            ),
+            "little_statistics" => told(
+                alloc,
+                InterfaceStatisticsBlock::from_slice::<LittleEndian>(alloc, body),
+            ),
+            "journal" => told(
+                alloc,
+                SystemdJournalExportBlock::from_slice::<BigEndian>(body),
+            ),
+            "unknown" => {
+                let block = UnknownBlock::new(BlockType::Unknown(77), 5, body);
+                Ok(format!(in alloc; "{block:?}")?)
+            }
+            _ => Err(no_call(name)),
+        }
+    }
 }
 
 #[test]
 fn each_option_of_statistics(rt: HostRuntime) -> Result<(), Fail> {
     let row =
-        "00000001 00000002 00000003 .. => [] InterfaceStatisticsBlock { interface_id: 1, timestamp: 8589934595, options: [..] }";
+        "statistics 00000001 00000002 00000003 .. => [] InterfaceStatisticsBlock { interface_id: 1, timestamp: 8589934595, options: [..] }";
     let table = r#"
         0001 0001 61 000000 => Comment("a")
         0002 0008 00000001 00000002 => IsbStartTime(4294967298)
@@ -33,58 +55,46 @@ fn each_option_of_statistics(rt: HostRuntime) -> Result<(), Fail> {
         4bad 0005 00000004 aa 000000 => CustomBinary(CustomBinaryOption { code: 19373, pen: 4, value: Borrowed([170]) })
         0009 0000 => Unknown(UnknownOption { code: 9, length: 0, value: Borrowed([]) })
     "#;
-    whole_list(rt.alloc(), row, table, statistics::<BigEndian>)
+    whole_list::<OtherBlocks>(rt.alloc(), row, table)
 }
 
 #[test]
-fn little_endian_statistics(rt: HostRuntime) -> Result<(), Fail> {
+fn other_blocks(rt: HostRuntime) -> Result<(), Fail> {
     let table = "
-        01000000 02000000 03000000 0200 0900 01000000 02000000 ff 000000 0000 0000 => [] InterfaceStatisticsBlock { interface_id: 1, timestamp: 8589934595, options: [IsbStartTime(4294967298)] }
-        01000000 02000000 03000000 0400 0400 01000000 0000 0000 => IoError
-        01000000 02000000 03000000 0300 0700 01000000 020000 00 => IoError
-        0100000002000000030000 => InterfaceStatisticsBlock: block length < 12
+        little_statistics 01000000 02000000 03000000 0200 0900 01000000 02000000 ff 000000 0000 0000 => [] InterfaceStatisticsBlock { interface_id: 1, timestamp: 8589934595, options: [IsbStartTime(4294967298)] }
+        little_statistics 01000000 02000000 03000000 0400 0400 01000000 0000 0000 => IoError
+        little_statistics 01000000 02000000 03000000 0300 0700 01000000 020000 00 => IoError
+        little_statistics 0100000002000000030000 => InterfaceStatisticsBlock: block length < 12
+        journal 5f3d0a => [] SystemdJournalExportBlock { journal_entry: Borrowed([95, 61, 10]) }
+        unknown 5f3d0a => UnknownBlock { type_: Unknown(77), length: 5, value: Borrowed([95, 61, 10]) }
     ";
-    every_row(rt.alloc(), table, statistics::<LittleEndian>)
+    every_call::<OtherBlocks>(rt.alloc(), table)
 }
 
-// Each of these formats the journal entry or unknown block with these bytes.
+// Types of blocks by their numbers.
+struct Types;
 
-fn journal(alloc: Global, body: &[u8]) -> Result<String, Fail> {
-    told(
-        alloc,
-        SystemdJournalExportBlock::from_slice::<BigEndian>(body),
-    )
-}
-
-fn unknown(alloc: Global, body: &[u8]) -> Result<String, Fail> {
-    let block = UnknownBlock::new(BlockType::Unknown(77), 5, body);
-    Ok(format!(in alloc; "{block:?}")?)
-}
-
-#[test]
-fn journal_entries_and_unknown_blocks(rt: HostRuntime) -> Result<(), Fail> {
-    let entry = "5f3d0a => [] SystemdJournalExportBlock { journal_entry: Borrowed([95, 61, 10]) }";
-    let block =
-        "5f3d0a => UnknownBlock { type_: Unknown(77), length: 5, value: Borrowed([95, 61, 10]) }";
-    every_row(rt.alloc(), entry, journal)?;
-    every_row(rt.alloc(), block, unknown)
-}
-
-#[test]
-fn types_of_blocks(rt: HostRuntime) {
-    for (n, type_) in [
-        (0x0A0D0D0A, BlockType::SectionHeader),
-        (1, BlockType::InterfaceDescription),
-        (2, BlockType::Packet),
-        (3, BlockType::SimplePacket),
-        (4, BlockType::NameResolution),
-        (5, BlockType::InterfaceStatistics),
-        (6, BlockType::EnhancedPacket),
-        (9, BlockType::SystemdJournalExport),
-        (0, BlockType::Unknown(0)),
-        (7, BlockType::Unknown(7)),
-        (0x0A0D0D0B, BlockType::Unknown(0x0A0D0D0B)),
-    ] {
-        assert_eq!(rt; BlockType::from(n), type_);
+impl Calls for Types {
+    fn result(alloc: Global, _name: &str, number: &str) -> Result<String, Fail> {
+        let type_ = BlockType::from(u32::from_str_radix(number, 16)?);
+        Ok(format!(in alloc; "{type_:?}")?)
     }
+}
+
+#[test]
+fn types_of_blocks(rt: HostRuntime) -> Result<(), Fail> {
+    let table = "
+        type 0a0d0d0a => SectionHeader
+        type 1 => InterfaceDescription
+        type 2 => Packet
+        type 3 => SimplePacket
+        type 4 => NameResolution
+        type 5 => InterfaceStatistics
+        type 6 => EnhancedPacket
+        type 9 => SystemdJournalExport
+        type 0 => Unknown(0)
+        type 7 => Unknown(7)
+        type 0a0d0d0b => Unknown(168627467)
+    ";
+    every_call::<Types>(rt.alloc(), table)
 }

@@ -1,33 +1,42 @@
 //! Section headers.
 
+use crate::rows::{Calls, every_call, whole_list};
 use pcap_blocks::SectionHeaderBlock;
 use pcap_core::Endianness;
 use std::alloc::Global;
 use std::test::*;
-use test_support::rows::{every_row, told, whole_list};
+use test_support::rows::{bytes, told};
 
-// Formats the result of parsing a body.
-fn section(alloc: Global, body: &[u8]) -> Result<String, Fail> {
-    told(alloc, SectionHeaderBlock::from_slice(alloc, body))
+// Section headers, parsed from their bodies.
+struct Section;
+
+impl Calls for Section {
+    fn result(alloc: Global, _name: &str, digits: &str) -> Result<String, Fail> {
+        let body = bytes(alloc, digits)?;
+        told(
+            alloc,
+            SectionHeaderBlock::from_slice(alloc, body.as_slice()),
+        )
+    }
 }
 
 #[test]
 fn sections(rt: HostRuntime) -> Result<(), Fail> {
     let table = r#"
-        1a2b3c4d 0001 0000 0000000000000010 0002 0003 783836 00 0003 0005 4c696e7578 000000 0000 0000 => [] SectionHeaderBlock { magic: 439041101, major_version: 1, minor_version: 0, section_length: 16, options: [Hardware("x86"), OS("Linux")] }
-        4d3c2b1a 0100 0200 ffffffffffffffff 0000 0000 aabb => [170, 187] SectionHeaderBlock { magic: 1295788826, major_version: 1, minor_version: 2, section_length: -1, options: [] }
-        1a2b3c4d 0001 0000 00000000000000 => SectionHeaderBlock: block length < 16
-        000000000000000000000000000000 => SectionHeaderBlock: block length < 16
-        00000000000000000000000000000000 => SectionHeaderBlock: invalid magic number
-        1a2b3c4d 0001 0000 0000000000000010 00 => Option: slice.len() < 4
-        1a2b3c4d 0001 0000 0000000000000010 0001 00 => Option: slice.len() < 4
-        1a2b3c4d 0001 0000 0000000000000010 0001 0002 6869 => Option: length + pad.len() > slice.len()
-        1a2b3c4d 0001 0000 0000000000000010 0001 0002 6869 0000 00 => Option: slice.len() < 4
-        1a2b3c4d 0001 0000 0000000000000010 0004 0001 ff 000000 => Utf8Error
-        1a2b3c4d 0001 0000 0000000000000010 0bad 0003 ffffff 00 => IoError
-        4d3c2b1a 0100 0000 1000000000000000 ac0b 0500 00000000 ff 000000 => Utf8Error
+        section 1a2b3c4d 0001 0000 0000000000000010 0002 0003 783836 00 0003 0005 4c696e7578 000000 0000 0000 => [] SectionHeaderBlock { magic: 439041101, major_version: 1, minor_version: 0, section_length: 16, options: [Hardware("x86"), OS("Linux")] }
+        section 4d3c2b1a 0100 0200 ffffffffffffffff 0000 0000 aabb => [170, 187] SectionHeaderBlock { magic: 1295788826, major_version: 1, minor_version: 2, section_length: -1, options: [] }
+        section 1a2b3c4d 0001 0000 00000000000000 => SectionHeaderBlock: block length < 16
+        section 000000000000000000000000000000 => SectionHeaderBlock: block length < 16
+        section 00000000000000000000000000000000 => SectionHeaderBlock: invalid magic number
+        section 1a2b3c4d 0001 0000 0000000000000010 00 => Option: slice.len() < 4
+        section 1a2b3c4d 0001 0000 0000000000000010 0001 00 => Option: slice.len() < 4
+        section 1a2b3c4d 0001 0000 0000000000000010 0001 0002 6869 => Option: length + pad.len() > slice.len()
+        section 1a2b3c4d 0001 0000 0000000000000010 0001 0002 6869 0000 00 => Option: slice.len() < 4
+        section 1a2b3c4d 0001 0000 0000000000000010 0004 0001 ff 000000 => Utf8Error
+        section 1a2b3c4d 0001 0000 0000000000000010 0bad 0003 ffffff 00 => IoError
+        section 4d3c2b1a 0100 0000 1000000000000000 ac0b 0500 00000000 ff 000000 => Utf8Error
     "#;
-    every_row(rt.alloc(), table, section)
+    every_call::<Section>(rt.alloc(), table)
 }
 
 // Returns whether the section with these bytes has a valid magic number, with this byte order.
@@ -53,7 +62,7 @@ fn orders_of_sections(rt: HostRuntime) {
 #[test]
 fn each_option_of_a_section(rt: HostRuntime) -> Result<(), Fail> {
     let row =
-        "1a2b3c4d 0001 0000 0000000000000000 .. => [] SectionHeaderBlock { magic: 439041101, major_version: 1, minor_version: 0, section_length: 0, options: [..] }";
+        "section 1a2b3c4d 0001 0000 0000000000000000 .. => [] SectionHeaderBlock { magic: 439041101, major_version: 1, minor_version: 0, section_length: 0, options: [..] }";
     let table = r#"
         0001 0002 6869 ffff => Comment("hi")
         0002 0001 61 ffffff => Hardware("a")
@@ -65,5 +74,5 @@ fn each_option_of_a_section(rt: HostRuntime) -> Result<(), Fail> {
         4bad 0004 00000002 => CustomBinary(CustomBinaryOption { code: 19373, pen: 2, value: Borrowed([]) })
         0063 0002 aabb ffff => Unknown(UnknownOption { code: 99, length: 2, value: Borrowed([170, 187]) })
     "#;
-    whole_list(rt.alloc(), row, table, section)
+    whole_list::<Section>(rt.alloc(), row, table)
 }

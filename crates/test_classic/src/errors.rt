@@ -1,5 +1,6 @@
-//! The messages of errors, and conversions between errors.
+//! The messages of errors, conversions between errors, and texts of values.
 
+use crate::calls::filled;
 use pcap_classic::pcap::{Packet, PcapHeader, PcapParser, PcapReader, PcapWriter};
 use pcap_classic::rules::Rule;
 use pcap_classic::{CowBytes, DataLink, Endianness, PcapError, TsResolution};
@@ -9,78 +10,62 @@ use std::io::ErrorKind;
 use std::string::String;
 use std::test::Fail;
 use std::{io, str};
-use test_support::captures::BIG_HEAD;
+use test_support::captures::{BIG_HEAD, front};
 
-// Returns whether an error has this message.
-fn says(alloc: Global, error: &PcapError, text: &str) -> bool {
-    match format!(in alloc; "{error}") {
-        Ok(shown) => shown.as_str() == text,
-        Err(_) => false,
-    }
-}
-
-#[test]
-fn texts(rt: HostRuntime) {
-    let alloc = rt.alloc();
-    let magic = "Invalid field value: PcapHeader wrong magic number";
-    assert!(rt;
-        says(
-            alloc,
-            &PcapError::IncompleteBuffer(7),
-            "Need at least 7 more bytes"
-        )
-    );
-    assert!(rt;
-        says(
-            alloc,
-            &PcapError::InvalidField("x"),
-            "Invalid field value: x"
-        )
-    );
-    assert!(rt; says(alloc, &PcapError::from(Rule::CaptureMagic), magic));
-    assert!(rt; says(alloc, &PcapError::WriterFailed, "Writer failed earlier"));
-}
-
-// Returns whether a stream's error becomes an `IoError` with its message.
-fn becomes_io(alloc: Global) -> bool {
-    let error = PcapError::from(io::Error::from(ErrorKind::UnexpectedEof));
-    matches!(error, PcapError::IoError(_)) && says(alloc, &error, "Error reading bytes")
-}
-
-fn becomes_memory(alloc: Global) -> bool {
-    let error = PcapError::from(AllocError);
-    matches!(error, PcapError::OutOfMemory(_)) && says(alloc, &error, "Out of memory")
-}
-
-// Returns whether the error of bytes that aren't UTF-8 becomes a `Utf8Error`.
-fn becomes_utf8(alloc: Global) -> bool {
+// Returns the error of bytes that aren't UTF-8.
+fn of_utf8() -> PcapError {
     match str::from_utf8(&[0xff]) {
-        Err(error) => {
-            let error = PcapError::from(error);
-            matches!(error, PcapError::Utf8Error(_)) && says(alloc, &error, "UTF8 error")
-        }
-        Ok(_) => false,
+        Err(error) => PcapError::from(error),
+        Ok(_) => PcapError::WriterFailed,
     }
 }
 
-// Returns whether the error of owned bytes that aren't UTF-8 becomes a `FromUtf8Error`.
-fn becomes_from_utf8(alloc: Global, bytes: Vec<u8>) -> bool {
+// Does the same for owned bytes.
+fn of_owned_utf8(bytes: Vec<u8>) -> PcapError {
     match String::from_utf8(bytes) {
-        Err(error) => {
-            let error = PcapError::from(error);
-            matches!(error, PcapError::FromUtf8Error(_)) && says(alloc, &error, "UTF8 error")
-        }
-        Ok(_) => false,
+        Err(error) => PcapError::from(error),
+        Ok(_) => PcapError::WriterFailed,
     }
+}
+
+// Returns the error of this name. All but the first three are converted from another error.
+fn error_of(alloc: Global, name: &str) -> Result<PcapError, AllocError> {
+    Ok(match name {
+        "lack" => PcapError::IncompleteBuffer(7),
+        "field" => PcapError::InvalidField("x"),
+        "writer" => PcapError::WriterFailed,
+        "rule" => PcapError::from(Rule::CaptureMagic),
+        "io" => PcapError::from(io::Error::from(ErrorKind::UnexpectedEof)),
+        "memory" => PcapError::from(AllocError),
+        "utf8" => of_utf8(),
+        _ => of_owned_utf8(Vec::from_slice(alloc, &[0xff])?),
+    })
+}
+
+// Returns whether the error of a row has its message, and its text or the beginning of it.
+fn says(alloc: Global, row: &str) -> Result<bool, AllocError> {
+    let (name, texts) = row.split_once(" => ").unwrap_or((row, ""));
+    let (message, text) = texts.split_once(" => ").unwrap_or((texts, ""));
+    let error = error_of(alloc, name.trim())?;
+    let told = format!(in alloc; "{error}")?;
+    Ok(told.as_str() == message && is_shown(alloc, &error, text))
 }
 
 #[test]
-fn variants(rt: HostRuntime) -> Result<(), Fail> {
-    assert!(rt; becomes_io(rt.alloc()));
-    assert!(rt; becomes_memory(rt.alloc()));
-    assert!(rt; becomes_utf8(rt.alloc()));
-    let bytes = Vec::from_slice(rt.alloc(), &[0xff])?;
-    assert!(rt; becomes_from_utf8(rt.alloc(), bytes));
+fn texts(rt: HostRuntime) -> Result<(), Fail> {
+    let table = r#"
+        lack => Need at least 7 more bytes => IncompleteBuffer(7)
+        field => Invalid field value: x => InvalidField("x")
+        writer => Writer failed earlier => WriterFailed
+        rule => Invalid field value: PcapHeader wrong magic number => InvalidField("PcapHeader wrong magic number")
+        io => Error reading bytes => IoError(..
+        memory => Out of memory => OutOfMemory(..
+        utf8 => UTF8 error => Utf8Error(..
+        owned_utf8 => UTF8 error => FromUtf8Error(..
+    "#;
+    for row in filled(table)?.lines() {
+        assert!(rt; says(rt.alloc(), row)?, "{row}");
+    }
     Ok(())
 }
 
@@ -94,10 +79,18 @@ fn wrong_magic(rt: HostRuntime) {
     );
 }
 
-// Returns whether a value is formatted as this text.
-fn is_shown<T: Debug>(alloc: Global, value: &T, text: &str) -> bool {
+// Returns whether a text is this one, or begins with what is before `..`.
+fn is_text(told: &str, text: &str) -> bool {
+    match text.strip_suffix("..") {
+        Some(text) => told.starts_with(text),
+        None => told == text,
+    }
+}
+
+/// Returns whether a value is formatted as this text, or as one that begins with what is before `..`.
+pub fn is_shown<T: Debug>(alloc: Global, value: &T, text: &str) -> bool {
     match format!(in alloc; "{value:?}") {
-        Ok(shown) => shown.as_str() == text,
+        Ok(shown) => is_text(shown.as_str(), text),
         Err(_) => false,
     }
 }
@@ -119,15 +112,6 @@ fn debug_texts(rt: HostRuntime) {
     assert!(rt; is_shown(alloc, &header, text));
     assert!(rt; is_shown(alloc, &Endianness::Big, "Big"));
     assert!(rt; is_shown(alloc, &TsResolution::NanoSecond, "NanoSecond"));
-    assert!(rt;
-        is_shown(
-            alloc,
-            &PcapError::IncompleteBuffer(7),
-            "IncompleteBuffer(7)"
-        )
-    );
-    assert!(rt; is_shown(alloc, &PcapError::InvalidField("x"), "InvalidField(\"x\")"));
-    assert!(rt; is_shown(alloc, &PcapError::WriterFailed, "WriterFailed"));
 }
 
 #[test]
@@ -140,49 +124,15 @@ fn debug_texts_of_packets(rt: HostRuntime) -> Result<(), Fail> {
     Ok(())
 }
 
-// Returns whether a parser of the capture is formatted with its header.
-fn shows_a_parser(alloc: Global) -> bool {
-    let text =
-        "PcapParser { header: PcapHeader { magic_number: 2712847316, version_major: 2, version_minor: 4, ts_correction: 0, ts_accuracy: 0, snaplen: 65535, datalink: ETHERNET } }";
-    match &PcapParser::new(&BIG_HEAD) {
-        Ok((_, parser)) => is_shown(alloc, parser, text),
-        Err(_) => false,
-    }
-}
-
-// Returns whether the text of a value begins so.
-fn begins<T: Debug>(alloc: Global, value: &T, text: &str) -> bool {
-    match format!(in alloc; "{value:?}") {
-        Ok(shown) => shown.starts_with(text),
-        Err(_) => false,
-    }
-}
-
-fn shows_a_reader(alloc: Global) -> bool {
-    match &PcapReader::new(alloc, BIG_HEAD.as_slice()) {
-        Ok(reader) => begins(
-            alloc,
-            reader,
-            "PcapReader { header: PcapHeader { magic_number: 2712847316, ",
-        ),
-        Err(_) => false,
-    }
-}
-
-fn shows_a_writer(alloc: Global) -> bool {
-    match &PcapWriter::new(Vec::new(alloc)) {
-        Ok(writer) => begins(
-            alloc,
-            writer,
-            "PcapWriter { header: PcapHeader { magic_number: 3569595041, ",
-        ),
-        Err(_) => false,
-    }
-}
-
 #[test]
 fn debug_texts_of_parsers_readers_and_writers(rt: HostRuntime) {
-    assert!(rt; shows_a_parser(rt.alloc()));
-    assert!(rt; shows_a_reader(rt.alloc()));
-    assert!(rt; shows_a_writer(rt.alloc()));
+    let alloc = rt.alloc();
+    let head = front(&BIG_HEAD, 24);
+    let parser =
+        "Ok(([], PcapParser { header: PcapHeader { magic_number: 2712847316, version_major: 2, version_minor: 4, ts_correction: 0, ts_accuracy: 0, snaplen: 65535, datalink: ETHERNET } }))";
+    assert!(rt; is_shown(alloc, &PcapParser::new(head), parser));
+    let reader = "Ok(PcapReader { header: PcapHeader { magic_number: 2712847316, ..";
+    assert!(rt; is_shown(alloc, &PcapReader::new(alloc, head), reader));
+    let writer = "Ok(PcapWriter { header: PcapHeader { magic_number: 3569595041, ..";
+    assert!(rt; is_shown(alloc, &PcapWriter::new(Vec::new(alloc)), writer));
 }

@@ -1,13 +1,15 @@
 //! Calls on slices.
 
+use crate::calls::filled;
+use crate::errors::is_shown;
 use byteorder::BigEndian;
 use pcap_classic::pcap::{Packet, PacketHeader, PcapHeader, PcapParser};
 use pcap_classic::run::{PcapRun, Rest, parse_pcap};
 use pcap_classic::{CowBytes, DataLink, Endianness, PcapError, ResultParsing, TsResolution};
 use std::alloc::{AllocError, Global};
 use std::test::Fail;
-use std::time::Duration;
 use test_support::captures::{BIG_HEAD, LITTLE_HEAD, back, big, capture, front, pattern};
+use test_support::rows::every_row;
 
 // Returns whether a call that ended so lacks this many bytes.
 fn lacks(error: &Option<PcapError>, n: usize) -> bool {
@@ -119,100 +121,40 @@ fn whole_captures(rt: HostRuntime) -> Result<(), Fail> {
     Ok(())
 }
 
-// Returns a packet's header in microseconds: 0 seconds, and these bytes of fraction, stored and original length.
-fn head(numbers: [u8; 12]) -> [u8; 16] {
-    let mut head = [0; 16];
-    head[4..].copy_from_slice(&numbers);
-    head
-}
-
-// Returns whether a packet with this header is refused with this message.
-fn is_refused(numbers: [u8; 12], text: &str) -> bool {
-    match Packet::from_slice::<BigEndian>(&head(numbers), TsResolution::MicroSecond) {
-        Err(PcapError::InvalidField(fault)) => fault == text,
-        _ => false,
-    }
-}
-
-// Returns whether a packet with this header lacks `lack` bytes.
-fn is_asked(numbers: [u8; 12], lack: usize) -> bool {
-    let bytes = head(numbers);
-    let packet = Packet::from_slice::<BigEndian>(&bytes, TsResolution::MicroSecond);
-    lacks(&packet.err(), lack)
-}
-
-#[test]
-fn heads_of_packets(rt: HostRuntime) {
-    let refused = [
-        (
-            [0, 0x41, 0x89, 0x38, 0, 1, 0, 0, 0, 1, 0, 0],
-            "PacketHeader ts_usec * 1000 > 0xFFFFFFFF",
-        ),
-        (
-            [0, 0x41, 0x89, 0x38, 0, 4, 0, 1, 0, 4, 0, 1],
-            "PacketHeader ts_usec * 1000 > 0xFFFFFFFF",
-        ),
-        (
-            [0, 0, 0, 0, 0, 0, 0, 0x62, 0, 0, 0, 0x61],
-            "PacketHeader incl_len > orig_len",
-        ),
-        (
-            [0, 0, 0, 0, 0, 1, 0, 0, 0, 0, 0, 0],
-            "PacketHeader incl_len > orig_len",
-        ),
-        (
-            [0, 0, 0, 0, 0, 4, 0, 1, 0, 0, 0, 0],
-            "PacketHeader incl_len > 0x40000",
-        ),
-        (
-            [0, 0, 0, 0, 0, 4, 0, 1, 0, 4, 0, 1],
-            "PacketHeader incl_len > 0x40000",
-        ),
-        (
-            [0, 0, 0, 0, 0, 0, 0, 0, 0, 4, 0, 1],
-            "PacketHeader orig_len > 0x40000",
-        ),
-    ];
-    for (numbers, text) in refused {
-        assert!(rt; is_refused(numbers, text), "{numbers:?}");
-    }
-    let asking = [
-        ([0, 0, 0, 0, 0, 1, 0, 0, 0, 1, 0, 0], 65536),
-        ([0, 0, 0, 0, 0, 4, 0, 0, 0, 4, 0, 0], 262144),
-    ];
-    for (numbers, lack) in asking {
-        assert!(rt; is_asked(numbers, lack), "{lack}");
-    }
-}
-
-// Returns whether a packet with this header has no bytes, this original length and this number of nanoseconds.
-fn is_empty(numbers: [u8; 12], ts_nsec: u32, orig_len: u32) -> bool {
-    let bytes = head(numbers);
-    match Packet::from_slice::<BigEndian>(&bytes, TsResolution::MicroSecond) {
+// Formats the packet of these bytes with its time and the bytes after it, or the error.
+fn packet(alloc: Global, bytes: &[u8]) -> Result<String, Fail> {
+    match Packet::from_slice::<BigEndian>(bytes, TsResolution::MicroSecond) {
         Ok((rest, packet)) => {
-            let seconds = ts_nsec as u64 / 1_000_000_000;
-            rest.is_empty()
-                && packet.data_.is_empty()
-                && packet.header == PacketHeader::new(0, ts_nsec, 0, orig_len)
-                && packet.header.timestamp() == Duration::new(seconds, ts_nsec % 1_000_000_000)
+            let header = packet.header;
+            let time = header.timestamp();
+            let (seconds, nanoseconds) = (time.as_secs(), time.subsec_nanos());
+            let data = packet.data_.as_slice();
+            Ok(format!(in alloc; "{header:?} {data:?} {rest:?} at {seconds} {nanoseconds}")?)
         }
-        Err(_) => false,
+        Err(error) => Ok(format!(in alloc; "{error:?}")?),
     }
 }
 
 #[test]
-fn empty_packets(rt: HostRuntime) {
-    let rows = [
-        (
-            [0, 0x41, 0x89, 0x37, 0, 0, 0, 0, 0, 0, 0, 0],
-            4_294_967_000,
-            0,
-        ),
-        ([0, 0, 0, 0, 0, 0, 0, 0, 0, 1, 0, 0], 0, 65536),
-    ];
-    for (numbers, ts_nsec, orig_len) in rows {
-        assert!(rt; is_empty(numbers, ts_nsec, orig_len), "{numbers:?}");
-    }
+fn heads_of_packets(rt: HostRuntime) -> Result<(), Fail> {
+    let table = r#"
+        00000000 00418938 00010000 00010000 => InvalidField("PacketHeader ts_usec * 1000 > 0xFFFFFFFF")
+        00000000 00418938 00040001 00040001 => InvalidField("PacketHeader ts_usec * 1000 > 0xFFFFFFFF")
+        00000000 00000000 00000062 00000061 => InvalidField("PacketHeader incl_len > orig_len")
+        00000000 00000000 00010000 00000000 => InvalidField("PacketHeader incl_len > orig_len")
+        00000000 00000000 00040001 00000000 => InvalidField("PacketHeader incl_len > 0x40000")
+        00000000 00000000 00040001 00040001 => InvalidField("PacketHeader incl_len > 0x40000")
+        00000000 00000000 00000000 00040001 => InvalidField("PacketHeader orig_len > 0x40000")
+        00000000 00000000 00010000 00010000 => IncompleteBuffer(65536)
+        00000000 00000000 00040000 00040000 => IncompleteBuffer(262144)
+        00000000 00418937 00000000 00000000 => PacketHeader { ts_sec: 0, ts_nsec: 4294967000, incl_len: 0, orig_len: 0 } [] [] at 4 294967000
+        00000000 00000000 00000000 00010000 => PacketHeader { ts_sec: 0, ts_nsec: 0, incl_len: 0, orig_len: 65536 } [] [] at 0 0
+    "#;
+    every_row(rt.alloc(), table, packet)
+}
+
+#[test]
+fn default_headers(rt: HostRuntime) {
     assert!(rt; PacketHeader::default() == PacketHeader::new(0, 0, 0, 0));
 }
 
@@ -270,26 +212,37 @@ fn clones(rt: HostRuntime) -> Result<(), Fail> {
     Ok(())
 }
 
-// Returns whether this number is this link type, in both directions.
-fn is_link(number: u32, link: DataLink) -> bool {
-    DataLink::from(number) == link && u32::from(link) == number
+// Returns whether the number of a row is that of the row's link type, in both directions.
+fn is_link(alloc: Global, row: &str) -> bool {
+    let (number, name) = row.split_once(" => ").unwrap_or((row, ""));
+    match number.trim().parse::<u32>() {
+        Ok(number) => {
+            let link = DataLink::from(number);
+            u32::from(link) == number && is_shown(alloc, &link, name)
+        }
+        Err(_) => false,
+    }
 }
 
 #[test]
-fn link_types(rt: HostRuntime) {
-    let rows = [
-        (0, DataLink::NULL),
-        (1, DataLink::ETHERNET),
-        (2, DataLink::Unknown(2)),
-        (113, DataLink::LINUX_SLL),
-        (162, DataLink::USER15),
-        (268, DataLink::SDLC),
-        (269, DataLink::Unknown(269)),
-    ];
-    for (number, link) in rows {
-        assert!(rt; is_link(number, link), "{number}");
+fn link_types(rt: HostRuntime) -> Result<(), Fail> {
+    let table = "
+        0 => NULL
+        1 => ETHERNET
+        2 => Unknown(2)
+        113 => LINUX_SLL
+        162 => USER15
+        268 => SDLC
+        269 => Unknown(269)
+    ";
+    for row in filled(table)?.lines() {
+        assert!(rt; is_link(rt.alloc(), row), "{row}");
     }
+    assert!(rt;
+        DataLink::from(269) == DataLink::Unknown(269) && DataLink::from(162) == DataLink::USER15
+    );
     assert!(rt; DataLink::Unknown(1) != DataLink::ETHERNET);
     assert!(rt; u32::from(DataLink::Unknown(1)) == 1);
     assert!(rt; Endianness::new::<BigEndian>() == Endianness::Big);
+    Ok(())
 }

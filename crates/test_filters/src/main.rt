@@ -2,8 +2,8 @@
 //! separated by bars. The program is printed as by `tcpdump -ddd`, with a comma in place of each line end. Each line of the output is the
 //! program's result, or why it is refused.
 //!
-//! The programs and packets of `stdin` were drawn at random. `stdout` is what libpcap's interpreter gives for them. `tests/filter/run
-//! --write` makes both.
+//! The first programs of `stdin` are those of `tests/filter/rows`: each operation, filters of tcpdump, and programs that break a rule. The
+//! others were drawn at random. The results in `stdout` are those of libpcap's interpreter. `tests/filter/run --write` makes both files.
 #![tactic(auto)]
 
 use anyhow::{Context, Result};

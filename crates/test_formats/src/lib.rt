@@ -10,5 +10,3 @@ mod rooms;
 #[cfg(test)]
 mod rows;
 pub mod samples;
-#[cfg(test)]
-mod wide;

@@ -26,7 +26,7 @@ pub const SIZE_LIMIT: u16 = 1000;
 pub const SHORT_LIMIT: u16 = 8;
 
 /// What the head of an item says.
-#[derive(Clone, Copy, Debug, PartialEq, Eq)]
+#[derive(Clone, Copy)]
 pub enum Head {
     /// The size of each sample after it, in bytes.
     Size(u16),
@@ -35,7 +35,7 @@ pub enum Head {
 }
 
 /// The fault of a head.
-#[derive(Clone, Copy, Debug, PartialEq, Eq)]
+#[derive(Clone, Copy)]
 pub enum LogFault {
     /// A kind that no log has.
     UnknownKind,
@@ -44,7 +44,7 @@ pub enum LogFault {
 }
 
 /// Why a call on a stream returns no item.
-#[derive(Debug, Drop)]
+#[derive(Drop)]
 pub enum LogError {
     /// The head is bad.
     Refused(LogFault),

@@ -22,70 +22,65 @@ pub(crate) fn make_calls(rt: &HostRuntime) -> io::Result<()> {
     tell(rt, "names", names(alloc))?;
     tell(rt, "statistics", statistics(alloc))?;
     tell(rt, "journal entry", journal_entry(alloc))?;
-    tell(rt, "unknown block", unknown_block(alloc))?;
+    let block = UnknownBlock::new(BlockType::Unknown(77), 32, &PACKET).into_owned(alloc);
+    tell(rt, "unknown block", block)?;
     let body = body(alloc, BlockType::SectionHeader, &SECTION);
     tell(rt, "parsed section", body)?;
     let body = self::body(alloc, BlockType::NameResolution, &NAMES);
     tell(rt, "parsed names", body)
 }
 
-fn section(alloc: Global) -> ResultParsing<()> {
+fn section(alloc: Global) -> ResultParsing<SectionHeaderBlock<'static>> {
     let (_rest, section) = SectionHeaderBlock::from_slice(alloc, &SECTION)?;
     for option in section.options {
         let _option = option.into_owned(alloc)?;
     }
     let (_rest, section) = SectionHeaderBlock::from_slice(alloc, &SECTION)?;
-    let _section = section.into_owned(alloc)?;
-    Ok(())
+    section.into_owned(alloc)
 }
 
-fn interface(alloc: Global) -> ResultParsing<()> {
+fn interface(alloc: Global) -> ResultParsing<InterfaceDescriptionBlock<'static>> {
     let (_rest, interface) = InterfaceDescriptionBlock::from_slice::<BigEndian>(alloc, &INTERFACE)?;
     for option in interface.options {
         let _option = option.into_owned(alloc)?;
     }
     let (_rest, interface) = InterfaceDescriptionBlock::from_slice::<BigEndian>(alloc, &INTERFACE)?;
-    let _interface = interface.into_owned(alloc)?;
-    Ok(())
+    interface.into_owned(alloc)
 }
 
-fn packet(alloc: Global) -> ResultParsing<()> {
+fn packet(alloc: Global) -> ResultParsing<PacketBlock<'static>> {
     let (_rest, packet) = PacketBlock::from_slice::<BigEndian>(alloc, &PACKET)?;
     for option in packet.options {
         let _option = option.into_owned(alloc)?;
     }
     let (_rest, packet) = PacketBlock::from_slice::<BigEndian>(alloc, &PACKET)?;
-    let _packet = packet.into_owned(alloc)?;
-    Ok(())
+    packet.into_owned(alloc)
 }
 
-fn enhanced_packet(alloc: Global) -> ResultParsing<()> {
+fn enhanced_packet(alloc: Global) -> ResultParsing<EnhancedPacketBlock<'static>> {
     let (_rest, packet) = EnhancedPacketBlock::from_slice::<BigEndian>(alloc, &PACKET)?;
     for option in packet.options {
         let _option = option.into_owned(alloc)?;
     }
     let (_rest, packet) = EnhancedPacketBlock::from_slice::<BigEndian>(alloc, &PACKET)?;
-    let _packet = packet.into_owned(alloc)?;
-    Ok(())
+    packet.into_owned(alloc)
 }
 
-fn simple_packet(alloc: Global) -> ResultParsing<()> {
+fn simple_packet(alloc: Global) -> ResultParsing<SimplePacketBlock<'static>> {
     let (_rest, packet) = SimplePacketBlock::from_slice::<BigEndian>(&PACKET)?;
-    let _packet = packet.into_owned(alloc)?;
-    Ok(())
+    packet.into_owned(alloc)
 }
 
-fn names(alloc: Global) -> ResultParsing<()> {
+fn names(alloc: Global) -> ResultParsing<NameResolutionBlock<'static>> {
     let (_rest, names) = NameResolutionBlock::from_slice::<BigEndian>(alloc, &NAMES)?;
     for option in names.options {
         let _option = option.into_owned(alloc)?;
     }
     let (_rest, names) = NameResolutionBlock::from_slice::<BigEndian>(alloc, &NAMES)?;
-    let _names = names.into_owned(alloc)?;
-    Ok(())
+    names.into_owned(alloc)
 }
 
-fn statistics(alloc: Global) -> ResultParsing<()> {
+fn statistics(alloc: Global) -> ResultParsing<InterfaceStatisticsBlock<'static>> {
     let (_rest, statistics) = InterfaceStatisticsBlock::from_slice::<BigEndian>(
         alloc,
         &STATISTICS,
@@ -97,23 +92,15 @@ fn statistics(alloc: Global) -> ResultParsing<()> {
         alloc,
         &STATISTICS,
     )?;
-    let _statistics = statistics.into_owned(alloc)?;
-    Ok(())
+    statistics.into_owned(alloc)
 }
 
-fn journal_entry(alloc: Global) -> ResultParsing<()> {
+fn journal_entry(alloc: Global) -> ResultParsing<SystemdJournalExportBlock<'static>> {
     let (_rest, entry) = SystemdJournalExportBlock::from_slice::<BigEndian>(&PACKET)?;
-    let _entry = entry.into_owned(alloc)?;
-    Ok(())
+    entry.into_owned(alloc)
 }
 
-fn unknown_block(alloc: Global) -> ResultParsing<()> {
-    let _block = UnknownBlock::new(BlockType::Unknown(77), 32, &PACKET).into_owned(alloc)?;
-    Ok(())
-}
-
-fn body(alloc: Global, type_: BlockType, bytes: &[u8]) -> ResultParsing<()> {
+fn body(alloc: Global, type_: BlockType, bytes: &[u8]) -> ResultParsing<ParsedBlock<'static>> {
     let (_rest, block) = ParsedBlock::from_slice::<BigEndian>(alloc, type_, bytes)?;
-    let _block = block.into_owned(alloc)?;
-    Ok(())
+    block.into_owned(alloc)
 }

@@ -1,7 +1,7 @@
 //! Calls on captures and packets.
 
 use crate::bytes::CAPTURE;
-use crate::tell;
+use crate::{came, tell, without};
 use byteorder::BigEndian;
 use pcap_classic::pcap::{Packet, PcapHeader, PcapReader};
 use pcap_classic::run::{Copied, PcapRead, Under, copy_pcap, parse_pcap, read_pcap};
@@ -12,22 +12,19 @@ use std::io::{self, Cursor};
 
 pub(crate) fn make_calls(rt: &HostRuntime) -> io::Result<()> {
     let alloc = rt.alloc();
-    tell(rt, "parse_pcap", parse(alloc))?;
+    tell(rt, "parse_pcap", parse_pcap(alloc, &CAPTURE))?;
     tell(rt, "read_pcap", read(alloc))?;
     tell(rt, "PcapReader::next", next(alloc))?;
     tell(rt, "copy_pcap", copy(alloc))?;
-    tell(rt, "PcapHeader::to_array", header_to_array(alloc))?;
+    let bytes = PcapHeader::default().to_array::<BigEndian>(alloc);
+    tell(rt, "PcapHeader::to_array", bytes)?;
     tell(rt, "Packet::from_reader", packet_from_reader(alloc))?;
     tell(rt, "Packet::to_owned", packet_to_owned(alloc))?;
     tell(rt, "Packet::into_owned", packet_into_owned(alloc))?;
-    tell(rt, "CowBytes::into_owned", bytes_into_owned(alloc))?;
+    let bytes = CowBytes::Borrowed(&CAPTURE).into_owned(alloc);
+    tell(rt, "CowBytes::into_owned", bytes)?;
     tell(rt, "Fill::step", fill_step(alloc))?;
     tell(rt, "Fill::more", fill_more(alloc))
-}
-
-fn parse(alloc: Global) -> ResultParsing<()> {
-    let _run = parse_pcap(alloc, &CAPTURE)?;
-    Ok(())
 }
 
 // Checks that no packet is taken that then doesn't fit into the list.
@@ -45,60 +42,38 @@ fn read(alloc: Global) -> ResultParsing<()> {
 
 fn next(alloc: Global) -> ResultParsing<()> {
     let mut reader = PcapReader::new(alloc, Cursor::new(CAPTURE))?;
-    match reader.next() {
-        None => Err(PcapError::InvalidField("no packet came")),
-        Some(Ok(_packet)) => Ok(()),
-        Some(Err(error)) => Err(error),
-    }
+    came(reader.next())
 }
 
 fn copy(alloc: Global) -> ResultParsing<()> {
     let mut capture = Cursor::new(CAPTURE);
     let Copied { fault, .. } = copy_pcap(alloc, &mut capture, &mut io::sink(), Under::Same, 9);
-    match fault {
-        None => Ok(()),
-        Some(error) => Err(error),
-    }
+    without(fault)
 }
 
-fn header_to_array(alloc: Global) -> ResultParsing<()> {
-    let _bytes = PcapHeader::default().to_array::<BigEndian>(alloc)?;
-    Ok(())
-}
-
-fn packet_from_reader(alloc: Global) -> ResultParsing<()> {
+fn packet_from_reader(alloc: Global) -> ResultParsing<Packet<'static>> {
     let (_header, mut text) = CAPTURE.split_at(24);
-    let _packet = Packet::from_reader::<_, BigEndian>(alloc, &mut text, TsResolution::MicroSecond)?;
-    Ok(())
+    Packet::from_reader::<_, BigEndian>(alloc, &mut text, TsResolution::MicroSecond)
 }
 
-fn packet_to_owned(alloc: Global) -> ResultParsing<()> {
+fn packet_to_owned(alloc: Global) -> ResultParsing<Packet<'static>> {
     let (_header, text) = CAPTURE.split_at(24);
     let (_rest, packet) = Packet::from_slice::<BigEndian>(text, TsResolution::MicroSecond)?;
-    let _packet = packet.to_owned(alloc)?;
-    Ok(())
+    packet.to_owned(alloc)
 }
 
-fn packet_into_owned(alloc: Global) -> ResultParsing<()> {
+fn packet_into_owned(alloc: Global) -> ResultParsing<Packet<'static>> {
     let (_header, text) = CAPTURE.split_at(24);
     let (_rest, packet) = Packet::from_slice::<BigEndian>(text, TsResolution::MicroSecond)?;
-    let _packet = packet.into_owned(alloc)?;
-    Ok(())
+    packet.into_owned(alloc)
 }
 
-fn bytes_into_owned(alloc: Global) -> ResultParsing<()> {
-    let _bytes = CowBytes::Borrowed(&CAPTURE).into_owned(alloc)?;
-    Ok(())
-}
-
-fn fill_step(alloc: Global) -> ResultParsing<()> {
+fn fill_step(alloc: Global) -> ResultParsing<usize> {
     let mut fill = Fill::new(alloc, Told::new(Cursor::new(CAPTURE)));
-    let _taken = fill.step(10)?;
-    Ok(())
+    fill.step(10)
 }
 
-fn fill_more(alloc: Global) -> ResultParsing<()> {
+fn fill_more(alloc: Global) -> ResultParsing<bool> {
     let mut fill = Fill::new(alloc, Told::new(Cursor::new(CAPTURE)));
-    let _is_filled = fill.more(44)?;
-    Ok(())
+    fill.more(44)
 }

@@ -29,10 +29,27 @@ fn main(rt: HostRuntime) -> io::Result<()> {
 }
 
 // Prints how a call ended.
-fn tell(rt: &HostRuntime, name: &str, ended: ResultParsing<()>) -> io::Result<()> {
+fn tell<T: Drop>(rt: &HostRuntime, name: &str, ended: ResultParsing<T>) -> io::Result<()> {
     match &ended {
-        Ok(()) => println!(rt; "{name}: ok"),
+        Ok(_) => println!(rt; "{name}: ok"),
         Err(PcapError::OutOfMemory(_)) => println!(rt; "{name}: out of memory"),
         Err(_) => println!(rt; "{name}: another error"),
+    }
+}
+
+// Returns how the call for the next item of a capture ended, which has one.
+fn came<T: Drop>(next: Option<ResultParsing<T>>) -> ResultParsing<()> {
+    match next {
+        None => Err(PcapError::InvalidField("no item came")),
+        Some(Ok(_)) => Ok(()),
+        Some(Err(error)) => Err(error),
+    }
+}
+
+// Returns how a run ended, with or without this fault.
+fn without(fault: Option<PcapError>) -> ResultParsing<()> {
+    match fault {
+        None => Ok(()),
+        Some(error) => Err(error),
     }
 }

@@ -5,7 +5,7 @@ use crate::tell;
 use byteorder::BigEndian;
 use pcap_blocks::{
     CustomBinaryOption, CustomUtf8Option, EnhancedPacketOption, Ipv4Record, Ipv6Record,
-    PacketOption, Record, UnknownOption,
+    PacketOption, Record, UnknownOption, UnknownRecord,
 };
 use pcap_classic::{PcapError, ResultParsing};
 use std::alloc::Global;
@@ -25,21 +25,18 @@ pub(crate) fn make_calls(rt: &HostRuntime) -> io::Result<()> {
     tell(rt, "unknown record", unknown_record(alloc))
 }
 
-fn custom_bytes(alloc: Global) -> ResultParsing<()> {
+fn custom_bytes(alloc: Global) -> ResultParsing<CustomBinaryOption<'static>> {
     let option = CustomBinaryOption::from_slice::<BigEndian>(2989, &CUSTOM)?;
-    let _option = option.into_owned(alloc)?;
-    Ok(())
+    option.into_owned(alloc)
 }
 
-fn custom_text(alloc: Global) -> ResultParsing<()> {
+fn custom_text(alloc: Global) -> ResultParsing<CustomUtf8Option<'static>> {
     let option = CustomUtf8Option::from_slice::<BigEndian>(2988, &CUSTOM)?;
-    let _option = option.into_owned(alloc)?;
-    Ok(())
+    option.into_owned(alloc)
 }
 
-fn unknown_option(alloc: Global) -> ResultParsing<()> {
-    let _option = UnknownOption::new(99, 6, &CUSTOM).into_owned(alloc)?;
-    Ok(())
+fn unknown_option(alloc: Global) -> ResultParsing<UnknownOption<'static>> {
+    UnknownOption::new(99, 6, &CUSTOM).into_owned(alloc)
 }
 
 fn enhanced_options(alloc: Global) -> ResultParsing<()> {
@@ -58,29 +55,23 @@ fn packet_options(alloc: Global) -> ResultParsing<()> {
     Ok(())
 }
 
-fn ipv4(alloc: Global) -> ResultParsing<()> {
-    let _record = Ipv4Record::from_slice(alloc, &IPV4)?.into_owned(alloc)?;
-    Ok(())
+fn ipv4(alloc: Global) -> ResultParsing<Ipv4Record<'static>> {
+    Ipv4Record::from_slice(alloc, &IPV4)?.into_owned(alloc)
 }
 
-fn ipv6(alloc: Global) -> ResultParsing<()> {
-    let _record = Ipv6Record::from_slice(alloc, &IPV6)?.into_owned(alloc)?;
-    Ok(())
+fn ipv6(alloc: Global) -> ResultParsing<Ipv6Record<'static>> {
+    Ipv6Record::from_slice(alloc, &IPV6)?.into_owned(alloc)
 }
 
-fn record(alloc: Global, bytes: &[u8]) -> ResultParsing<()> {
+fn record(alloc: Global, bytes: &[u8]) -> ResultParsing<Record<'static>> {
     let (_rest, record) = Record::from_slice::<BigEndian>(alloc, bytes)?;
-    let _record = record.into_owned(alloc)?;
-    Ok(())
+    record.into_owned(alloc)
 }
 
-fn unknown_record(alloc: Global) -> ResultParsing<()> {
+fn unknown_record(alloc: Global) -> ResultParsing<UnknownRecord<'static>> {
     let (_rest, record) = Record::from_slice::<BigEndian>(alloc, &UNKNOWN_RECORD)?;
     match record {
-        Record::Unknown(record) => {
-            let _record = record.into_owned(alloc)?;
-            Ok(())
-        }
+        Record::Unknown(record) => record.into_owned(alloc),
         _ => Err(PcapError::InvalidField("it is of a known type")),
     }
 }

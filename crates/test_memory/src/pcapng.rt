@@ -1,21 +1,21 @@
 //! Calls on PcapNg captures. A refused call leaves section and interfaces as they were, and the same call then succeeds.
 
 use crate::bytes::{BLOCKS, INTERFACE_BLOCK, SECTION_BLOCK};
-use crate::tell;
+use crate::{came, tell, without};
 use pcap_file::pcapng::{
-    InterfaceDescriptionBlock, PcapNgParser, PcapNgReader, SectionHeaderBlock,
+    Block, InterfaceDescriptionBlock, PcapNgParser, PcapNgReader, SectionHeaderBlock,
 };
 use pcap_file::run::{NgCopied, NgRead, copy_pcapng, parse_pcapng, read_pcapng};
 use pcap_file::{PcapError, ResultParsing};
 use std::alloc::{AllocError, Global};
-use std::io::{self, Cursor};
+use std::io::{self, Cursor, Read};
 
 pub(crate) fn make_calls(rt: &HostRuntime) -> io::Result<()> {
     let alloc = rt.alloc();
-    tell(rt, "parse_pcapng", parse(alloc))?;
+    tell(rt, "parse_pcapng", parse_pcapng(alloc, &BLOCKS))?;
     tell(rt, "read_pcapng", read(alloc))?;
-    tell(rt, "PcapNgReader::next", next(alloc))?;
-    tell(rt, "PcapNgReader::next_header", next_header(alloc))?;
+    tell(rt, "PcapNgReader::next", next(alloc, false))?;
+    tell(rt, "PcapNgReader::next_header", next(alloc, true))?;
     tell(rt, "Block::parsed", parsed(alloc))?;
     tell(rt, "Block::into_owned", into_owned(alloc))?;
     next_blocks(rt, "an interface", &INTERFACE_BLOCK)?;
@@ -25,11 +25,6 @@ pub(crate) fn make_calls(rt: &HostRuntime) -> io::Result<()> {
 // Makes copies. They come last, so that the calls before them keep the numbers of their allocations.
 pub(crate) fn make_copies(rt: &HostRuntime) -> io::Result<()> {
     tell(rt, "copy_pcapng", copy(rt.alloc()))
-}
-
-fn parse(alloc: Global) -> ResultParsing<()> {
-    let _run = parse_pcapng(alloc, &BLOCKS)?;
-    Ok(())
 }
 
 // Checks that no interface is taken that then doesn't fit into the list.
@@ -51,10 +46,7 @@ fn read(alloc: Global) -> ResultParsing<()> {
 fn copy(alloc: Global) -> ResultParsing<()> {
     let mut capture = Cursor::new(BLOCKS);
     let NgCopied { fault, .. } = copy_pcapng(alloc, &mut capture, &mut io::sink(), 9);
-    match fault {
-        None => Ok(()),
-        Some(error) => Err(error),
-    }
+    without(fault)
 }
 
 // Returns whether the big-endian section is current, with the expected number of interfaces.
@@ -70,49 +62,45 @@ fn changed() -> PcapError {
     PcapError::InvalidField("a refused call changed what is in force")
 }
 
-fn next(alloc: Global) -> ResultParsing<()> {
+// Takes the section's interface and the packet after it: the blocks, or their headers.
+fn next(alloc: Global, are_lent: bool) -> ResultParsing<()> {
     let mut reader = PcapNgReader::new(alloc, Cursor::new(BLOCKS))?;
-    for count in 0..2 {
-        if !is_in_force(reader.section(), reader.interfaces(), count) {
-            return Err(PcapError::InvalidField("another state is in force"));
-        }
-        match reader.next() {
-            None => return Err(PcapError::InvalidField("no block came")),
-            Some(Ok(_block)) => {}
-            Some(Err(error)) => {
-                let is_left = is_in_force(reader.section(), reader.interfaces(), count);
-                return Err(if is_left && reader.next().is_none() {
-                    error
-                } else {
-                    changed()
-                });
-            }
-        }
-    }
-    Ok(())
+    take_in_force(&mut reader, 0, are_lent)?;
+    take_in_force(&mut reader, 1, are_lent)
 }
 
-fn next_header(alloc: Global) -> ResultParsing<()> {
-    let mut reader = PcapNgReader::new(alloc, Cursor::new(BLOCKS))?;
-    for count in 0..2 {
-        if !is_in_force(reader.section(), reader.interfaces(), count) {
-            return Err(PcapError::InvalidField("another state is in force"));
-        }
-        match reader.next_header() {
-            None => return Err(PcapError::InvalidField("no block came")),
-            Some(Ok(_header)) => {}
-            Some(Err(error)) => {
-                let is_left = is_in_force(reader.section(), reader.interfaces(), count);
-                let lends_nothing = reader.body().is_empty();
-                return Err(if is_left && lends_nothing && reader.next_header().is_none() {
-                    error
-                } else {
-                    changed()
-                });
-            }
-        }
+// Takes a block, or its header. If that is refused, `count` interfaces are current, nothing is lent and nothing more comes.
+fn take_in_force<R: Read + Drop>(
+    reader: &mut PcapNgReader<R>,
+    count: usize,
+    is_lent: bool,
+) -> ResultParsing<()> {
+    if !is_in_force(reader.section(), reader.interfaces(), count) {
+        return Err(PcapError::InvalidField("another state is in force"));
     }
-    Ok(())
+    let taken = take(reader, is_lent);
+    let is_left = is_in_force(reader.section(), reader.interfaces(), count)
+        && (!is_lent || reader.body().is_empty());
+    match taken {
+        Err(_) if !is_left || !is_over(reader, is_lent) => Err(changed()),
+        taken => taken,
+    }
+}
+
+fn take<R: Read + Drop>(reader: &mut PcapNgReader<R>, is_lent: bool) -> ResultParsing<()> {
+    if is_lent {
+        came(reader.next_header())
+    } else {
+        came(reader.next())
+    }
+}
+
+fn is_over<R: Read + Drop>(reader: &mut PcapNgReader<R>, is_lent: bool) -> bool {
+    if is_lent {
+        reader.next_header().is_none()
+    } else {
+        reader.next().is_none()
+    }
 }
 
 fn parsed(alloc: Global) -> ResultParsing<()> {
@@ -122,11 +110,10 @@ fn parsed(alloc: Global) -> ResultParsing<()> {
     Ok(())
 }
 
-fn into_owned(alloc: Global) -> ResultParsing<()> {
+fn into_owned(alloc: Global) -> ResultParsing<Block<'static>> {
     let (rest, mut parser) = PcapNgParser::new(alloc, &BLOCKS)?;
     let (_rest, block) = parser.next_block(rest)?;
-    let _block = block.into_owned(alloc)?;
-    Ok(())
+    block.into_owned(alloc)
 }
 
 // Returns a parser after the section and its interface.

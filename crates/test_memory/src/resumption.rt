@@ -1,7 +1,7 @@
 //! Calls on captures that come, or are supplied, a few bytes at a time, and on a packet that is lent.
 
 use crate::bytes::{BLOCKS, CAPTURE};
-use crate::tell;
+use crate::{came, tell};
 use pcap_file::pcap::PcapReader;
 use pcap_file::run::{Window, exact_pcap, exact_pcapng, pieces_fit, pieces_pcap, pieces_pcapng};
 use pcap_file::{PcapError, ResultParsing};
@@ -39,40 +39,24 @@ fn pieces_of_one_byte(alloc: Global) -> ResultParsing<()> {
 
 pub(crate) fn make_calls(rt: &HostRuntime) -> io::Result<()> {
     let alloc = rt.alloc();
-    tell(rt, "exact_pcap", exact(alloc))?;
-    tell(rt, "exact_pcapng", exact_blocks(alloc))?;
-    tell(rt, "pieces_pcap", pieces(alloc))?;
-    tell(rt, "pieces_pcapng", pieces_of_blocks(alloc))?;
-    tell(rt, "PcapReader::next_header", next_header(alloc))
-}
-
-fn exact(alloc: Global) -> ResultParsing<()> {
-    let (_run, _requests) = exact_pcap(alloc, &mut Window::new(&CAPTURE))?;
-    Ok(())
-}
-
-fn exact_blocks(alloc: Global) -> ResultParsing<()> {
-    let (_run, _requests) = exact_pcapng(alloc, &mut Window::new(&BLOCKS))?;
-    Ok(())
-}
-
-fn pieces(alloc: Global) -> ResultParsing<()> {
+    tell(
+        rt,
+        "exact_pcap",
+        exact_pcap(alloc, &mut Window::new(&CAPTURE)),
+    )?;
+    tell(
+        rt,
+        "exact_pcapng",
+        exact_pcapng(alloc, &mut Window::new(&BLOCKS)),
+    )?;
     let (front, back) = CAPTURE.split_at(30);
-    let (_run, _numbers) = pieces_pcap(alloc, &[front, back])?;
-    Ok(())
-}
-
-fn pieces_of_blocks(alloc: Global) -> ResultParsing<()> {
+    tell(rt, "pieces_pcap", pieces_pcap(alloc, &[front, back]))?;
     let (front, back) = BLOCKS.split_at(50);
-    let (_run, _numbers) = pieces_pcapng(alloc, &[front, back])?;
-    Ok(())
+    tell(rt, "pieces_pcapng", pieces_pcapng(alloc, &[front, back]))?;
+    tell(rt, "PcapReader::next_header", next_header(alloc))
 }
 
 fn next_header(alloc: Global) -> ResultParsing<()> {
     let mut reader = PcapReader::new(alloc, Cursor::new(CAPTURE))?;
-    match reader.next_header() {
-        None => Err(PcapError::InvalidField("no packet came")),
-        Some(Ok(_header)) => Ok(()),
-        Some(Err(error)) => Err(error),
-    }
+    came(reader.next_header())
 }

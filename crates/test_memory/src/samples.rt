@@ -18,20 +18,26 @@ pub(crate) fn make_calls(rt: &HostRuntime) -> io::Result<()> {
 
 fn next_head(alloc: Global) -> ResultParsing<()> {
     let mut reader = SampleReader::new(alloc, Cursor::new(LOG));
-    for _item in 0..2 {
-        match reader.next_head() {
-            None => return Err(PcapError::InvalidField("no item came")),
-            Some(Ok(_head)) => {}
-            Some(Err(_)) if reader.failed() => {
-                return Err(PcapError::InvalidField("no read failed"));
-            }
-            Some(Err(LogError::Stopped(error))) => return Err(error),
-            Some(Err(LogError::Refused(_))) => return Err(PcapError::InvalidField(
-                "no head is bad",
-            )),
-        }
+    lend(&mut reader)?;
+    lend(&mut reader)
+}
+
+// Holds the next item.
+fn lend(reader: &mut SampleReader<Cursor<[u8; 11]>>) -> ResultParsing<()> {
+    match reader.next_head() {
+        None => Err(PcapError::InvalidField("no item came")),
+        Some(Ok(_head)) => Ok(()),
+        Some(Err(_)) if reader.failed() => Err(PcapError::InvalidField("no read failed")),
+        Some(Err(error)) => Err(stopped(error)),
     }
-    Ok(())
+}
+
+// Returns why a call on a stream whose heads are good returned no item.
+fn stopped(error: LogError) -> PcapError {
+    match error {
+        LogError::Stopped(error) => error,
+        LogError::Refused(_) => PcapError::InvalidField("no head is bad"),
+    }
 }
 
 fn take(alloc: Global) -> ResultParsing<()> {
@@ -41,7 +47,6 @@ fn take(alloc: Global) -> ResultParsing<()> {
     match take_next(alloc, 3, &mut sample, &mut has_failed, &mut held) {
         Ok(Some((_head, _bytes))) => Ok(()),
         Ok(None) => Err(PcapError::InvalidField("no item came")),
-        Err(LogError::Stopped(error)) => Err(error),
-        Err(LogError::Refused(_)) => Err(PcapError::InvalidField("no head is bad")),
+        Err(error) => Err(stopped(error)),
     }
 }

@@ -1,7 +1,7 @@
 //! Calls that write captures. Each time, a beginning of the right bytes is written, and all of them if no memory is refused.
 
 use crate::bytes::{BLOCKS, CAPTURE, CONVERTED, PACKETS, WRITTEN};
-use crate::tell;
+use crate::{tell, without};
 use pcap_file::pcap::PcapHeader;
 use pcap_file::pcapng::ParsedBlock;
 use pcap_file::run::{
@@ -93,8 +93,5 @@ fn place_blocks(alloc: Global, header: PcapHeader, out: &mut Vec<u8>) -> ResultP
     let mut reader = PcapNgReader::new(alloc, BLOCKS.as_slice())?;
     let refuse = IfUnplaced::Refuse;
     let NgConverted { fault, .. } = convert_to_pcap(alloc, &mut reader, &mut writer, refuse, 9);
-    match fault {
-        None => Ok(()),
-        Some(error) => Err(error),
-    }
+    without(fault)
 }

@@ -6,8 +6,6 @@ mod captures;
 #[cfg(test)]
 mod cutting;
 #[cfg(test)]
-mod cutting_blocks;
-#[cfg(test)]
 mod resuming;
 #[cfg(test)]
 mod running;

@@ -1,7 +1,7 @@
 //! Runs over the parts of captures.
 
 use crate::captures::{BLOCK_LENGTHS, between, five_packets, is_packet, three_sections};
-use pcap_classic::pcap::{Packet, PcapHeader};
+use pcap_classic::pcap::{Packet, PcapHeader, PcapParser};
 use pcap_core::PcapError;
 use pcap_file::PcapNgParser;
 use pcap_file::pcapng::Block;
@@ -32,7 +32,32 @@ fn behind_part(alloc: Global, header: PcapHeader, part: &[u8], first: u8) -> Res
     if !matches!(run.rest, Rest::Clean) || run.used != part.len() {
         return Err(Fail::new("the run doesn't use its part"));
     }
-    behind(run.packets.as_slice(), first)
+    let next = behind(run.packets.as_slice(), first)?;
+    if behind_parser(&PcapParser::with_header(header)?, part, first)? != next {
+        return Err(Fail::new("a parser gives other packets"));
+    }
+    Ok(next)
+}
+
+// Does the same for a parser.
+fn behind_parser(parser: &PcapParser, part: &[u8], first: u8) -> Result<u8, Fail> {
+    let mut place = first;
+    let mut left = part;
+    for _ in 0..part.len() {
+        if left.is_empty() {
+            break;
+        }
+        let (rest, packet) = parser.next_packet(left)?;
+        if !is_packet(&packet, place) {
+            return Err(Fail::new("it is another packet"));
+        }
+        place = place.saturating_add(1);
+        left = rest;
+    }
+    if !left.is_empty() {
+        return Err(Fail::new("bytes are left"));
+    }
+    Ok(place)
 }
 
 // Does the same for these packets. Each must be the one at its index.

@@ -1,101 +1,67 @@
-//! Reads and writes that are interrupted, once or several times in a row.
+//! Reads and writes that are interrupted, once or several times in a row. `runs` describes the rows of the tables of runs.
 
-use crate::failing::{LINE, LINES};
-use crate::runs::{End, Run, end_of, ended, is_out};
-use capcopy_run::{WordList, run, run_words};
+use crate::captures::bytes_of;
+use crate::runs::{every_run, every_run_below};
+use crate::streams::kind_of;
+use capcopy_run::{WordList, run_words};
 use pcap_program::Uninterrupted;
 use std::alloc::Global;
 use std::io;
-use std::io::{BufReader, ErrorKind, Read};
+use std::io::{ErrorKind, Read};
 use std::test::*;
-use test_support::captures::{SECTIONS, big, front};
 use test_support::readers::Halting;
-use test_support::writers::Narrow;
+use test_support::rows::same;
 
-// Returns a stream of these bytes, twenty a read, in which calls fail with this kind from `fails_at` on.
-fn failing_at(
-    alloc: Global,
-    bytes: &[u8],
-    fails_at: usize,
-    fails_for: usize,
-    kind: ErrorKind,
-) -> Result<Halting, Fail> {
-    let mut stream = Halting::new(alloc, bytes, 20)?;
-    stream.fails_at = fails_at;
-    stream.fails_for = fails_for;
-    stream.kind = kind;
-    Ok(stream)
-}
-
-// Checks that a run of this word over the stream, with repeated reads, succeeds and writes these bytes.
-fn repeats(alloc: Global, word: &str, stream: Halting, written: &[u8]) -> Result<(), Fail> {
-    let at = stream.fails_at;
-    let mut input = BufReader::with_capacity(alloc, 40, Uninterrupted::new(stream))?;
-    let mut output = Vec::new(alloc);
-    let exit = run(alloc, &[word], &mut input, &mut output, 9);
-    is_out(output.as_slice(), written, at)?;
-    if exit.status() == 0 {
-        return Ok(());
-    }
-    Err(Fail::new(format_args!("{word} is not done at {at}")))
-}
-
-// Does the same with one, two and five failing calls from each of the first eight on.
-fn repeats_each(alloc: Global, word: &str, bytes: &[u8], written: &[u8]) -> Result<(), Fail> {
-    for fails_for in [1, 2, 5] {
-        for at in 1..9 {
-            let stream = failing_at(alloc, bytes, at, fails_for, ErrorKind::Interrupted)?;
-            repeats(alloc, word, stream, written)?;
-        }
-    }
-    Ok(())
-}
+/// One, two and five interrupted reads, from each of the first eight on. `#` is the first of these reads, or 0 if no read is interrupted.
+const REPEATED_READS: &str = "
+    list | big | room=40 step=20 fails_at=# fails_for=1 Interrupted repeated => 1 1335958313.152630000 98/98; => 0
+    list | big | room=40 step=20 fails_at=# fails_for=2 Interrupted repeated => 1 1335958313.152630000 98/98; => 0
+    list | big | room=40 step=20 fails_at=# fails_for=5 Interrupted repeated => 1 1335958313.152630000 98/98; => 0
+    copy | big | room=40 step=20 fails_at=# fails_for=1 Interrupted repeated => big => 0
+    copy | big | room=40 step=20 fails_at=# fails_for=2 Interrupted repeated => big => 0
+    copy | big | room=40 step=20 fails_at=# fails_for=5 Interrupted repeated => big => 0
+    blocks | sections | room=40 step=20 fails_at=# fails_for=1 Interrupted repeated => section big 1.0;1 interface 20 ok;2 section 28 ok;3 interface 20 ok; => 0
+    blocks | sections | room=40 step=20 fails_at=# fails_for=2 Interrupted repeated => section big 1.0;1 interface 20 ok;2 section 28 ok;3 interface 20 ok; => 0
+    blocks | sections | room=40 step=20 fails_at=# fails_for=5 Interrupted repeated => section big 1.0;1 interface 20 ok;2 section 28 ok;3 interface 20 ok; => 0
+";
 
 #[test]
 fn repeated_reads(rt: HostRuntime) -> Result<(), Fail> {
-    let bytes = big(rt.alloc())?;
-    let bytes = bytes.as_slice();
-    repeats_each(rt.alloc(), "list", bytes, LINE.as_bytes())?;
-    repeats_each(rt.alloc(), "copy", bytes, bytes)?;
-    repeats_each(rt.alloc(), "blocks", &SECTIONS, LINES.as_bytes())
+    every_run_below(rt.alloc(), REPEATED_READS, 9)
 }
 
-// Returns whether the word `list` over the bare stream succeeds and writes these bytes.
-fn repeats_words(alloc: Global, stream: Halting, written: &[u8]) -> Result<bool, Fail> {
+// Returns whether the word `list` over the bare big-endian capture, where this many reads are interrupted, succeeds and writes its line.
+fn repeats_words(alloc: Global, fails_for: usize) -> Result<bool, Fail> {
+    let mut stream = Halting::new(alloc, bytes_of(alloc, "big")?.as_slice(), 20)?;
+    stream.fails_at = 3;
+    stream.fails_for = fails_for;
+    stream.kind = ErrorKind::Interrupted;
     let words = [b"list".as_slice()];
     let mut output = Vec::new(alloc);
     let exit = run_words(alloc, &WordList::new(&words), stream, &mut output);
-    is_out(output.as_slice(), written, 0)?;
-    Ok(exit.status() == 0)
+    Ok(exit.status() == 0 && output.as_slice() == b"1 1335958313.152630000 98/98\n".as_slice())
 }
 
 #[test]
 fn repeated_reads_of_words(rt: HostRuntime) -> Result<(), Fail> {
-    let bytes = big(rt.alloc())?;
-    for fails_for in [1, 5] {
-        let kind = ErrorKind::Interrupted;
-        let stream = failing_at(rt.alloc(), bytes.as_slice(), 3, fails_for, kind)?;
-        assert!(rt;
-            repeats_words(rt.alloc(), stream, LINE.as_bytes())?,
-            "{fails_for}"
-        );
-    }
+    assert!(rt; repeats_words(rt.alloc(), 1)? && repeats_words(rt.alloc(), 5)?);
     Ok(())
 }
 
-// A stream that fails with each of these kinds in turn, and then gives one byte, 7, at each call.
+// A stream that fails with each of the kinds that these words name, and then gives one byte, 7, at each call.
 #[derive(Drop)]
 struct Failing<'a> {
-    kinds: &'a [ErrorKind],
-    calls: &'a mut usize,
+    kinds: &'a str,
+    calls: usize,
 }
 
 impl Read for Failing<'_> {
     fn read(&mut self, buf: &mut [u8]) -> io::Result<usize> {
-        let call = *self.calls;
-        *self.calls = call.saturating_add(1);
-        if call < self.kinds.len() {
-            return Err(io::Error::from(self.kinds[call]));
+        self.calls = self.calls.saturating_add(1);
+        let (kind, rest) = self.kinds.split_once(' ').unwrap_or((self.kinds, ""));
+        self.kinds = rest;
+        if let Some(kind) = kind_of(kind) {
+            return Err(io::Error::from(kind));
         }
         if buf.is_empty() {
             return Ok(0);
@@ -105,125 +71,87 @@ impl Read for Failing<'_> {
     }
 }
 
-// Returns whether a read of one byte reports the kind `wanted`, or gives the byte if that is None, after `wanted_calls` calls of a stream
-// that fails with each of these kinds in turn.
-fn tells(kinds: &[ErrorKind], wanted: Option<ErrorKind>, wanted_calls: usize) -> bool {
-    let mut calls = 0;
-    let mut stream = Uninterrupted::new(Failing {
-        kinds,
-        calls: &mut calls,
-    });
-    let mut byte = [0];
-    let kind = match &stream.read(&mut byte) {
-        Ok(_) => None,
-        Err(error) => Some(error.kind()),
-    };
-    let is_given = byte[0] == if wanted.is_none() { 7 } else { 0 };
-    kind == wanted && is_given && calls == wanted_calls
-}
+/// The kinds with which a stream fails in turn. Then what a read of one byte with repeated reads gives: the kind of its error if it fails,
+/// the byte, which a failed read leaves as it was, and how many calls of the stream it makes.
+const KINDS: &str = "
+    => 7 after 1
+    Interrupted => 7 after 2
+    Interrupted Interrupted Interrupted Interrupted Interrupted Interrupted Interrupted => 7 after 8
+    TimedOut => TimedOut 0 after 1
+    WouldBlock => WouldBlock 0 after 1
+    UnexpectedEof => UnexpectedEof 0 after 1
+    Interrupted BrokenPipe => BrokenPipe 0 after 2
+    Interrupted Interrupted WriteZero => WriteZero 0 after 3
+";
 
-const INTERRUPTED: ErrorKind = ErrorKind::Interrupted;
+// Formats what the read gives, in the words of a row.
+fn told_read(alloc: Global, kinds: &str) -> Result<String, Fail> {
+    let mut stream = Failing { kinds, calls: 0 };
+    let mut byte = [0];
+    let outcome = Uninterrupted::new(&mut stream).read(&mut byte);
+    let (byte, calls) = (byte[0], stream.calls);
+    Ok(match outcome {
+        Ok(_) => format!(in alloc; "{byte} after {calls}")?,
+        Err(error) => format!(in alloc; "{:?} {byte} after {calls}", error.kind())?,
+    })
+}
 
 #[test]
-fn told_kinds(rt: HostRuntime) {
-    assert!(rt; tells(&[], None, 1));
-    assert!(rt; tells(&[INTERRUPTED], None, 2));
-    assert!(rt; tells(&[INTERRUPTED; 7], None, 8));
-    for kind in [
-        ErrorKind::TimedOut,
-        ErrorKind::WouldBlock,
-        ErrorKind::UnexpectedEof,
-    ] {
-        assert!(rt; tells(&[kind], Some(kind), 1));
+fn told_kinds(rt: HostRuntime) -> Result<(), Fail> {
+    for row in KINDS.trim().lines() {
+        let (kinds, shown) = row.split_once("=>").ok_or("a row with no arrow")?;
+        same(told_read(rt.alloc(), kinds.trim())?.as_str(), shown.trim())?;
     }
-    let broken = ErrorKind::BrokenPipe;
-    assert!(rt; tells(&[INTERRUPTED, broken], Some(broken), 2));
-    let zero = ErrorKind::WriteZero;
-    assert!(rt; tells(&[INTERRUPTED, INTERRUPTED, zero], Some(zero), 3));
+    Ok(())
 }
 
-// Returns whether a run of this word over a stream whose fourth call fails ends with this kind of error.
-fn fails(alloc: Global, word: &str, bytes: &[u8], kind: ErrorKind) -> Result<bool, Fail> {
-    let stream = failing_at(alloc, bytes, 4, 1, kind)?;
-    let mut input = BufReader::with_capacity(alloc, 40, Uninterrupted::new(stream))?;
-    let mut output = Vec::new(alloc);
-    let exit = run(alloc, &[word], &mut input, &mut output, 9);
-    match end_of(&exit) {
-        End::Io(told) => Ok(told == kind),
-        _ => Ok(false),
-    }
-}
+/// Runs whose fourth read fails otherwise.
+const FAILED_READS: &str = "
+    list | big | room=40 step=20 fails_at=4 TimedOut repeated => => 3 TimedOut capcopy: input or output failed or ended early
+    list | big | room=40 step=20 fails_at=4 WouldBlock repeated => => 3 WouldBlock capcopy: input or output failed or ended early
+    list | big | room=40 step=20 fails_at=4 Other repeated => => 3 Other capcopy: input or output failed or ended early
+    copy | big | room=40 step=20 fails_at=4 TimedOut repeated => big ..24 => 3 TimedOut capcopy: input or output failed or ended early
+    copy | big | room=40 step=20 fails_at=4 WouldBlock repeated => big ..24 => 3 WouldBlock capcopy: input or output failed or ended early
+    copy | big | room=40 step=20 fails_at=4 Other repeated => big ..24 => 3 Other capcopy: input or output failed or ended early
+";
 
 #[test]
 fn failed_reads(rt: HostRuntime) -> Result<(), Fail> {
-    let bytes = big(rt.alloc())?;
-    for word in ["list", "copy"] {
-        for kind in [ErrorKind::TimedOut, ErrorKind::WouldBlock, ErrorKind::Other] {
-            assert!(rt; fails(rt.alloc(), word, bytes.as_slice(), kind)?, "{word}");
-        }
-    }
-    Ok(())
+    every_run(rt.alloc(), FAILED_READS)
 }
 
-// Returns whether a run of this word ends with this kind of error if this call of its output is interrupted or takes nothing. It must end
-// at that call, after it wrote these bytes.
-fn halts(
-    alloc: Global,
-    word: &str,
-    bytes: &[u8],
-    call: u64,
-    kind: ErrorKind,
-    written: &[u8],
-) -> Result<(), Fail> {
-    let words = [word];
-    let mut output = Narrow::halting(alloc, call, kind == ErrorKind::WriteZero);
-    let ran = ended(alloc, &Run::new(&words, bytes, 40, 9), &mut output)?;
-    is_out(output.out.as_slice(), written, 40)?;
-    if ran.is(End::Io(kind)) && output.calls == call {
-        return Ok(());
-    }
-    Err(Fail::new(format_args!("{word} ends otherwise where call {call} halts")))
-}
+/// Outputs that take ten bytes in a call, and of which one call is interrupted or takes nothing. The run must end at that call. The program
+/// flushes the output before the first packet, and after the section.
+const HALTED_WRITES: &str = "
+    list | big | room=40 halts_at=2 Interrupted => 1 1335958313.152630000 98/98; ..0 => 3 Interrupted capcopy: input or output failed or ended early
+    list | big | room=40 halts_at=2 WriteZero => 1 1335958313.152630000 98/98; ..0 => 3 WriteZero capcopy: input or output failed or ended early
+    list | big | room=40 halts_at=3 Interrupted => 1 1335958313.152630000 98/98; ..10 => 3 Interrupted capcopy: input or output failed or ended early
+    list | big | room=40 halts_at=3 WriteZero => 1 1335958313.152630000 98/98; ..10 => 3 WriteZero capcopy: input or output failed or ended early
+    list | big | room=40 halts_at=4 Interrupted => 1 1335958313.152630000 98/98; ..20 => 3 Interrupted capcopy: input or output failed or ended early
+    list | big | room=40 halts_at=4 WriteZero => 1 1335958313.152630000 98/98; ..20 => 3 WriteZero capcopy: input or output failed or ended early
+    blocks | sections | room=40 halts_at=1 Interrupted => section big 1.0;1 interface 20 ok;2 section 28 ok;3 interface 20 ok; ..0 => 3 Interrupted capcopy: input or output failed or ended early
+    blocks | sections | room=40 halts_at=1 WriteZero => section big 1.0;1 interface 20 ok;2 section 28 ok;3 interface 20 ok; ..0 => 3 WriteZero capcopy: input or output failed or ended early
+    blocks | sections | room=40 halts_at=2 Interrupted => section big 1.0;1 interface 20 ok;2 section 28 ok;3 interface 20 ok; ..10 => 3 Interrupted capcopy: input or output failed or ended early
+    blocks | sections | room=40 halts_at=2 WriteZero => section big 1.0;1 interface 20 ok;2 section 28 ok;3 interface 20 ok; ..10 => 3 WriteZero capcopy: input or output failed or ended early
+    blocks | sections | room=40 halts_at=4 Interrupted => section big 1.0;1 interface 20 ok;2 section 28 ok;3 interface 20 ok; ..16 => 3 Interrupted capcopy: input or output failed or ended early
+    blocks | sections | room=40 halts_at=4 WriteZero => section big 1.0;1 interface 20 ok;2 section 28 ok;3 interface 20 ok; ..16 => 3 WriteZero capcopy: input or output failed or ended early
+";
 
-// Does the same for both kinds, after the expected number of these bytes.
-fn halts_both(
-    alloc: Global,
-    word: &str,
-    bytes: &[u8],
-    call: u64,
-    lines: &str,
-    written: usize,
-) -> Result<(), Fail> {
-    let written = front(lines.as_bytes(), written);
-    halts(alloc, word, bytes, call, ErrorKind::Interrupted, written)?;
-    halts(alloc, word, bytes, call, ErrorKind::WriteZero, written)
-}
-
-// Checks an output that takes ten bytes in a call. The program flushes it before the first packet, and after the section.
 #[test]
 fn halted_writes(rt: HostRuntime) -> Result<(), Fail> {
-    let bytes = big(rt.alloc())?;
-    // the call that is interrupted or takes nothing, and how many bytes were written before it
-    for (call, written) in [(2, 0), (3, 10), (4, 20)] {
-        halts_both(rt.alloc(), "list", bytes.as_slice(), call, LINE, written)?;
-    }
-    for (call, written) in [(1, 0), (2, 10), (4, 16)] {
-        halts_both(rt.alloc(), "blocks", &SECTIONS, call, LINES, written)?;
-    }
-    Ok(())
+    every_run(rt.alloc(), HALTED_WRITES)
 }
+
+/// The same for calls that flush. A program that never flushes passes the first two rows, since it writes in those calls. In the third row
+/// it makes fewer calls, and in the fourth it writes more bytes before that call.
+const INTERRUPTED_FLUSHES: &str = "
+    list | big | room=40 halts_at=1 Interrupted => => 3 Interrupted capcopy: input or output failed or ended early
+    blocks | sections | room=40 halts_at=3 Interrupted => section big 1.0; => 3 Interrupted capcopy: input or output failed or ended early
+    list | big | room=40 halts_at=5 Interrupted => 1 1335958313.152630000 98/98; => 3 Interrupted capcopy: input or output failed or ended early
+    blocks | sections | room=40 halts_at=6 Interrupted => section big 1.0;1 interface 20 ok; => 3 Interrupted capcopy: input or output failed or ended early
+";
 
 #[test]
 fn interrupted_flushes(rt: HostRuntime) -> Result<(), Fail> {
-    let bytes = big(rt.alloc())?;
-    let kind = ErrorKind::Interrupted;
-    halts(rt.alloc(), "list", bytes.as_slice(), 1, kind, b"")?;
-    halts(
-        rt.alloc(),
-        "blocks",
-        &SECTIONS,
-        3,
-        kind,
-        b"section big 1.0\n",
-    )
+    every_run(rt.alloc(), INTERRUPTED_FLUSHES)
 }

@@ -1,188 +1,208 @@
-//! Runs of the program on inputs and outputs in memory, and how they end.
+//! Runs of the programs on inputs and outputs in memory, each as a row of a table describes it.
 //!
-//! These functions free what a run makes: a test gets a copy of the values to compare, or a failure.
+//! A row is `WORDS | INPUT | STREAMS => OUTPUT => END`.
+//!
+//! - WORDS are the words of the run. `pcapfile list` selects that action, and other words select those of `capcopy`.
+//! - INPUT has the bytes of the input: names of captures and digits. A text with semicolons has lines instead, which end where the
+//!   semicolons are. `..40` at the end leaves only the first 40 bytes. `bytes_of` reads INPUT and OUTPUT.
+//! - STREAMS says how the input and the output behave: `room=40` is an input with a buffer of 40 bytes. `Streams` describes each word. A
+//!   row without `room=` is run with each size in `ROOMS`.
+//! - OUTPUT has the bytes that the run must write, in the form of INPUT.
+//! - END says how the run must end: its status, what it says of its streams, and its message. `told` writes it.
+//!
+//! In some tables `#` stands for each number below an end (`every_run_below`), or for a text (`every_run_of`).
 
+use crate::captures::bytes_of;
+use crate::streams::Streams;
 use capcopy_run::{Message, run};
 use pcap_classic::PcapError;
-use pcap_program::Exit;
+use pcap_program::{Exit, Uninterrupted};
+use pcapfile_list::list;
 use std::alloc::Global;
-use std::io::{BufReader, ErrorKind, Write};
+use std::io::{BufReader, BufWriter, ErrorKind, Read, Write};
 use std::test::Fail;
 use test_support::readers::Halting;
-use test_support::rows::same;
+use test_support::writers::Narrow;
 
-/// The sizes of an input's buffer, in bytes. The smaller ones split headers and packets everywhere.
-pub(crate) const ROOMS: [usize; 5] = [1, 16, 17, 40, 65536];
+/// The sizes of an input's buffer, in bytes. The smaller ones split headers, packets and blocks everywhere.
+const ROOMS: [usize; 5] = [1, 16, 17, 40, 65536];
 
-/// The limit of lines or packets for a run over all.
-pub(crate) const ALL: u64 = 4_294_967_295;
-
-/// A run: its words, the bytes of its input, the size of the input's buffer, the most bytes of one read, the number of the read that
-/// fails, or 0, and the most lines or packets.
+// A row of a table, and the parts of its text.
 #[derive(Clone, Copy)]
-pub(crate) struct Run<'a> {
-    pub words: &'a [&'a str],
-    pub bytes: &'a [u8],
-    pub room: usize,
-    pub step: usize,
-    pub fails_at: usize,
-    pub kind: ErrorKind,
-    pub most: u64,
+struct Row<'a> {
+    text: &'a str,
+    words: &'a str,
+    input: &'a str,
+    streams: Streams,
+    output: &'a str,
+    end: &'a str,
 }
 
-impl<'a> Run<'a> {
-    /// Makes a run whose reads don't fail and give at most a thousand bytes.
-    pub fn new(words: &'a [&'a str], bytes: &'a [u8], room: usize, most: u64) -> Run<'a> {
-        Run {
-            words,
-            bytes,
-            room,
-            step: 1000,
-            fails_at: 0,
-            kind: ErrorKind::Other,
-            most,
-        }
+impl<'a> Row<'a> {
+    // Reads a row. Returns None if a bar or an arrow is missing, or a word for the streams is unknown.
+    fn of(text: &'a str) -> Option<Row<'a>> {
+        let (given, wanted) = text.split_once("=>")?;
+        let (output, end) = wanted.split_once("=>")?;
+        let (words, given) = given.split_once('|')?;
+        let (input, streams) = given.split_once('|')?;
+        Some(Row {
+            text,
+            words: words.trim(),
+            input,
+            streams: Streams::of(streams)?,
+            output,
+            end: end.trim(),
+        })
     }
 }
 
-/// Why a run ended.
-#[derive(Clone, Copy)]
-pub(crate) enum End {
-    Done,
-    Most,
-    Usage,
-    Io(ErrorKind),
-    Another,
-}
-
-/// How a run ended, how many bytes of its input were taken, how often the input was read, and how often nothing was left.
-#[derive(Clone, Copy)]
-pub(crate) struct Ran {
-    pub end: End,
-    pub status: u8,
-    pub taken: usize,
-    pub calls: usize,
-    pub ends: usize,
-}
-
-impl Ran {
-    /// Returns whether the run ended so, with the matching status.
-    pub fn is(self, end: End) -> bool {
-        match (self.end, end) {
-            (End::Done, End::Done) => self.status == 0,
-            (End::Most, End::Most) => self.status == 1,
-            (End::Usage, End::Usage) => self.status == 2,
-            (End::Io(kind), End::Io(wanted)) => self.status == 3 && kind == wanted,
-            _ => false,
-        }
+/// Checks the run of each row of a table. A table must have a row.
+pub(crate) fn every_run(alloc: Global, table: &str) -> Result<(), Fail> {
+    if table.trim().is_empty() {
+        return Err(Fail::new("a table without rows"));
     }
-}
-
-/// Returns why a run with this exit ended.
-pub(crate) fn end_of(exit: &Exit) -> End {
-    match exit {
-        Exit::Done => End::Done,
-        Exit::Most => End::Most,
-        Exit::Usage => End::Usage,
-        Exit::Io(PcapError::IoError(error)) => End::Io(error.kind()),
-        _ => End::Another,
+    for row in table.trim().lines() {
+        with_each_room(alloc, Row::of(row).ok_or("a row that is none")?)?;
     }
+    Ok(())
 }
 
-// Returns the exit of a run, and how it ended.
-fn exit_of<W: Write>(alloc: Global, given: &Run<'_>, output: &mut W) -> Result<(Exit, Ran), Fail> {
-    let mut stream = Halting::new(alloc, given.bytes, given.step)?;
-    stream.fails_at = given.fails_at;
-    stream.kind = given.kind;
-    let mut input = BufReader::with_capacity(alloc, given.room, stream)?;
-    let exit = run(alloc, given.words, &mut input, output, given.most);
-    let ahead = input.buffer().len();
-    let stream = input.get_ref();
-    let ran = Ran {
-        end: end_of(&exit),
-        status: exit.status(),
-        taken: stream.taken.saturating_sub(ahead),
-        calls: stream.calls,
-        ends: stream.ends,
+/// Does the same for each number below this one, which replaces `#` in the table.
+pub(crate) fn every_run_below(alloc: Global, table: &str, end: u32) -> Result<(), Fail> {
+    for number in 0..end {
+        every_run_of(alloc, table, format!(in alloc; "{number}")?.as_str())?;
+    }
+    Ok(())
+}
+
+/// Does the same with this text in place of `#`.
+pub(crate) fn every_run_of(alloc: Global, table: &str, text: &str) -> Result<(), Fail> {
+    every_run(alloc, table.replace(alloc, "#", text)?.as_str())
+}
+
+// Checks the run of a row, with each size of the input's buffer if the row names none.
+fn with_each_room(alloc: Global, row: Row) -> Result<(), Fail> {
+    let input = bytes_of(alloc, row.input)?;
+    let output = bytes_of(alloc, row.output)?;
+    let words = words_of(alloc, row.words)?;
+    let mut run = Run {
+        row,
+        words: words.as_slice(),
+        input: input.as_slice(),
+        output: output.as_slice(),
     };
-    Ok((exit, ran))
-}
-
-/// Returns how a run ended that writes to this output.
-pub(crate) fn ended<W: Write>(alloc: Global, given: &Run<'_>, output: &mut W) -> Result<Ran, Fail> {
-    let (_exit, ran) = exit_of(alloc, given, output)?;
-    Ok(ran)
-}
-
-/// Checks that a run wrote what it had to. Otherwise it returns a failure with both lengths.
-pub(crate) fn is_out(out: &[u8], wanted: &[u8], room: usize) -> Result<(), Fail> {
-    if out == wanted {
-        return Ok(());
+    if row.streams.room > 0 {
+        return run.check(alloc);
     }
-    let (len, wanted_len) = (out.len(), wanted.len());
-    Err(Fail::new(format_args!(
-        "{len} bytes are out behind {room}, and not the {wanted_len} that have to be"
-    )))
-}
-
-/// Returns how a run ended, after it checks that the run wrote exactly these bytes.
-pub(crate) fn writes(alloc: Global, given: &Run<'_>, wanted: &[u8]) -> Result<Ran, Fail> {
-    let mut output = Vec::new(alloc);
-    let ran = ended(alloc, given, &mut output)?;
-    is_out(output.as_slice(), wanted, given.room)?;
-    Ok(ran)
-}
-
-/// Does the same, and checks its line on standard error.
-pub(crate) fn says(alloc: Global, given: &Run<'_>, wanted: &[u8], line: &str) -> Result<Ran, Fail> {
-    let mut output = Vec::new(alloc);
-    let (exit, ran) = exit_of(alloc, given, &mut output)?;
-    let message = Message(&exit);
-    let told = format!(in alloc; "{message}")?;
-    same(told.as_str(), line)?;
-    is_out(output.as_slice(), wanted, given.room)?;
-    Ok(ran)
-}
-
-/// Checks that a run of these words over this input ends so with each buffer, and writes these bytes.
-pub(crate) fn behind_each<'a>(
-    alloc: Global,
-    words: &'a [&'a str],
-    bytes: &'a [u8],
-    most: u64,
-    wanted: &[u8],
-    end: End,
-) -> Result<(), Fail> {
     for room in ROOMS {
-        let ran = writes(alloc, &Run::new(words, bytes, room, most), wanted)?;
-        if !ran.is(end) {
-            return Err(Fail::new(format_args!(
-                "it ends otherwise behind {room}, with status {}",
-                ran.status
-            )));
-        }
+        run.row.streams.room = room;
+        run.check(alloc)?;
     }
     Ok(())
 }
 
-/// Checks that it ends at the most lines or packets with each buffer, writes these bytes, takes the expected number of bytes, and reads
-/// no further.
-pub(crate) fn stops_behind_each<'a>(
-    alloc: Global,
-    words: &'a [&'a str],
-    bytes: &'a [u8],
-    most: u64,
-    wanted: &[u8],
-    taken: usize,
-) -> Result<(), Fail> {
-    for room in ROOMS {
-        let ran = writes(alloc, &Run::new(words, bytes, room, most), wanted)?;
-        if !ran.is(End::Most) || ran.taken != taken || ran.ends > 0 {
-            return Err(Fail::new(format_args!(
-                "it takes {} bytes behind {room}, and ends with status {}",
-                ran.taken, ran.status
-            )));
+// Returns the words of this text, which spaces separate.
+fn words_of(alloc: Global, text: &str) -> Result<Vec<&str>, Fail> {
+    let mut words = Vec::new(alloc);
+    for word in text.split(' ') {
+        if !word.is_empty() {
+            words.push(word)?;
         }
     }
-    Ok(())
+    Ok(words)
+}
+
+// A run of a row.
+#[derive(Clone, Copy)]
+struct Run<'a> {
+    row: Row<'a>,
+    words: &'a [&'a str],
+    input: &'a [u8],
+    output: &'a [u8],
+}
+
+impl Run<'_> {
+    // Checks what the run writes, and how it ends.
+    fn check(&self, alloc: Global) -> Result<(), Fail> {
+        let streams = &self.row.streams;
+        if streams.is_buffered {
+            let narrow = Narrow::new(alloc, 1000, true);
+            let mut output = BufWriter::with_capacity(alloc, 1000, narrow)?;
+            let told = self.ends(alloc, &mut output)?;
+            return self.agrees(told.as_str(), output.get_ref());
+        }
+        let is_idle = streams.kind == ErrorKind::WriteZero;
+        let mut output = if streams.halts_at > 0 {
+            Narrow::halting(alloc, streams.halts_at, is_idle)
+        } else {
+            Narrow::new(alloc, streams.space, false)
+        };
+        let told = self.ends(alloc, &mut output)?;
+        self.agrees(told.as_str(), &output)
+    }
+
+    // Returns a failure if the run had to end or write otherwise, or to end at another call of the output.
+    fn agrees(&self, told: &str, output: &Narrow) -> Result<(), Fail> {
+        let (calls, halts_at) = (output.calls, self.row.streams.halts_at);
+        let is_last = halts_at == 0 || calls == halts_at;
+        if told.trim() == self.row.end && output.out.as_slice() == self.output && is_last {
+            return Ok(());
+        }
+        let (len, room, row) = (output.out.len(), self.row.streams.room, self.row.text);
+        Err(Fail::new(format_args!(
+            "{told}, with {len} bytes in {calls} calls, behind {room}, at the row {row}"
+        )))
+    }
+
+    // Runs the program, and tells how it ends.
+    fn ends<W: Write>(&self, alloc: Global, output: &mut W) -> Result<String, Fail> {
+        let streams = &self.row.streams;
+        let mut stream = Halting::new(alloc, self.input, streams.step)?;
+        stream.fails_at = streams.fails_at;
+        stream.fails_for = streams.fails_for;
+        stream.kind = streams.kind;
+        let ended = if streams.repeats {
+            self.exit(alloc, Uninterrupted::new(&mut stream), output)
+        } else {
+            self.exit(alloc, &mut stream, output)
+        };
+        let (exit, ahead) = ended?;
+        stream.taken = stream.taken.saturating_sub(ahead);
+        told(alloc, &exit, &stream)
+    }
+
+    // Returns the exit of the program over this input, and how many bytes are left in the input's buffer.
+    fn exit<R: Read + Drop, W: Write>(
+        &self,
+        alloc: Global,
+        input: R,
+        output: &mut W,
+    ) -> Result<(Exit, usize), Fail> {
+        let streams = &self.row.streams;
+        let mut input = BufReader::with_capacity(alloc, streams.room, input)?;
+        let exit = if self.row.words == "pcapfile list" {
+            list(alloc, None, &mut input, output, streams.most)
+        } else {
+            run(alloc, self.words, &mut input, output, streams.most)
+        };
+        Ok((exit, input.buffer().len()))
+    }
+}
+
+// Tells the status of a run, what its end says of its streams, and the message of `capcopy` for it.
+fn told(alloc: Global, exit: &Exit, input: &Halting) -> Result<String, Fail> {
+    let (status, message) = (exit.status(), Message(exit));
+    let (taken, ends, calls) = (input.taken, input.ends, input.calls);
+    let told = match exit {
+        Exit::Most => {
+            format!(in alloc; "{status} after {taken} bytes and {ends} ends {message}")
+        }
+        Exit::Usage => format!(in alloc; "{status} after {calls} reads {message}"),
+        Exit::Io(PcapError::IoError(error)) => {
+            let kind = error.kind();
+            format!(in alloc; "{status} {kind:?} {message}")
+        }
+        _ => format!(in alloc; "{status} {message}"),
+    };
+    Ok(told?)
 }

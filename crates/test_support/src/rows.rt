@@ -9,12 +9,19 @@ use std::fmt::Debug;
 use std::io::ErrorKind;
 use std::test::Fail;
 
+// Returns the digits of a row, and the result of a call.
+fn halves(row: &str) -> Result<(&str, &str), Fail> {
+    match row.split_once("=>") {
+        Some((digits, shown)) => Ok((digits, shown.trim())),
+        None => Err(Fail::from("a row with no arrow")),
+    }
+}
+
 /// Returns the rows of a table: the digits, and the result of a call.
 pub fn rows<'a>(alloc: Global, table: &'a str) -> Result<Vec<(&'a str, &'a str)>, Fail> {
     let mut rows = Vec::new(alloc);
-    for line in table.trim().lines() {
-        let (digits, shown) = line.split_once("=>").ok_or("a row with no arrow")?;
-        rows.push((digits, shown.trim()))?;
+    for row in table.trim().lines() {
+        rows.push(halves(row)?)?;
     }
     Ok(rows)
 }
@@ -27,8 +34,12 @@ pub fn every_row<F: Fn(Global, &[u8]) -> Result<String, Fail>>(
 ) -> Result<(), Fail>
     requires { F.IsAlwaysCallable call }
 {
+    if table.trim().is_empty() {
+        return Err(Fail::from("a table without rows"));
+    }
     for row in table.trim().lines() {
-        one_row(alloc, row, &call)?;
+        let (digits, shown) = halves(row)?;
+        one_row(alloc, digits, shown, &call)?;
     }
     Ok(())
 }
@@ -36,15 +47,15 @@ pub fn every_row<F: Fn(Global, &[u8]) -> Result<String, Fail>>(
 // Does the same for one row.
 fn one_row<F: Fn(Global, &[u8]) -> Result<String, Fail>>(
     alloc: Global,
-    row: &str,
+    digits: &str,
+    shown: &str,
     call: &F,
 ) -> Result<(), Fail>
     requires { F.IsAlwaysCallable call.now }
 {
-    let (digits, shown) = row.split_once("=>").ok_or("a row with no arrow")?;
     let bytes = bytes(alloc, digits)?;
     let told = call(alloc, bytes.as_slice())?;
-    same(told.as_str(), shown.trim())
+    same(told.as_str(), shown)
 }
 
 /// Returns a failure with both texts if they differ.
@@ -55,45 +66,11 @@ pub fn same(told: &str, shown: &str) -> Result<(), Fail> {
     Err(Fail::new(format_args!("{told} in place of {shown}")))
 }
 
-/// Checks a row in which `..` is replaced by a list: the digits of its members, and after the arrow their texts, as the rows of a table
-/// have them.
-pub fn whole_list<F: Fn(Global, &[u8]) -> Result<String, Fail>>(
-    alloc: Global,
-    row: &str,
-    table: &str,
-    call: F,
-) -> Result<(), Fail>
-    requires { F.IsAlwaysCallable call }
-{
-    let (digits, shown) = list(alloc, table)?;
-    let (before, after) = row.split_once("=>").ok_or("a row with no arrow")?;
-    let before = before.replace(alloc, "..", digits.as_str())?;
-    let after = after.replace(alloc, "..", shown.as_str())?;
-    let row = format!(in alloc; "{before}=>{after}")?;
-    one_row(alloc, row.as_str(), &call)
-}
-
-// Returns the digits of a list, and its text, from a table with a row for each of its members.
-fn list(alloc: Global, table: &str) -> Result<(String, String), Fail> {
-    let mut digits = String::new(alloc);
-    let mut shown = String::new(alloc);
-    for (member, text) in rows(alloc, table)? {
-        if !shown.is_empty() {
-            shown.push_str(", ")?;
-        }
-        digits.push_str(member)?;
-        shown.push_str(text)?;
-    }
-    Ok((digits, shown))
-}
-
 /// Returns the bytes of these digits. White space between them is ignored.
 pub fn bytes(alloc: Global, digits: &str) -> Result<Vec<u8>, Fail> {
-    let mut pairs = Vec::new(alloc);
-    for digit in digits.bytes() {
-        if !digit.is_ascii_whitespace() {
-            pairs.push(digit)?;
-        }
+    let mut pairs = String::new(alloc);
+    for word in digits.split_ascii_whitespace() {
+        pairs.push_str(word)?;
     }
     Ok(hex::decode(alloc, pairs)?)
 }
@@ -120,10 +97,11 @@ pub fn told<T: Debug + Drop>(
     alloc: Global,
     outcome: ResultParsing<(&[u8], T)>,
 ) -> Result<String, Fail> {
-    match outcome {
-        Ok((rest, value)) => Ok(format!(in alloc; "{rest:?} {value:?}")?),
-        Err(error) => Ok(format!(in alloc; "{}", refusal(&error))?),
-    }
+    let text = match &outcome {
+        Ok((rest, value)) => format!(in alloc; "{rest:?} {value:?}"),
+        Err(error) => String::from_str(alloc, refusal(error)),
+    };
+    Ok(text?)
 }
 
 /// Does the same for a call without a remainder.
@@ -131,10 +109,11 @@ pub fn told_alone<T: Debug + Drop>(
     alloc: Global,
     outcome: ResultParsing<T>,
 ) -> Result<String, Fail> {
-    match outcome {
-        Ok(value) => Ok(format!(in alloc; "{value:?}")?),
-        Err(error) => Ok(format!(in alloc; "{}", refusal(&error))?),
-    }
+    let text = match &outcome {
+        Ok(value) => format!(in alloc; "{value:?}"),
+        Err(error) => String::from_str(alloc, refusal(error)),
+    };
+    Ok(text?)
 }
 
 // Returns why a call gives no value: the message of an `InvalidField`, or the kind of the error. Too few bytes are an early end.

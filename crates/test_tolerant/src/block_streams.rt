@@ -1,153 +1,148 @@
 //! Lenient reading of blocks from streams that give few bytes at once, end early or fail.
 
-use crate::block_rows::{ENDS, NUMBERS, OPTIONS};
-use crate::blocks::told_end;
+use crate::block_rows;
+use crate::blocks::put_block;
+use crate::tables::{every_call, told_end};
 use pcap_core::PcapError;
-use pcap_tolerant_captures::{LentAsIs, PcapNgReaderAsIs};
+use pcap_tolerant_captures::PcapNgReaderAsIs;
 use std::alloc::Global;
 use std::io::ErrorKind;
 use std::test::Fail;
 use test_support::captures::front;
 use test_support::readers::Halting;
-use test_support::rows::{bytes, rows};
+use test_support::rows::{bytes, same};
 
 type Reader = PcapNgReaderAsIs<Halting>;
+
+// Appends the next block, or why there is none. Returns whether the caller has to ask the reader again: after a block, and also after a
+// refused block, behind which the reader must give nothing more. After a failed read, this function asks the reader once more itself.
+fn put_next(alloc: Global, reader: &mut Reader, text: &mut String) -> Result<bool, Fail> {
+    match reader.next_header() {
+        Some(Ok(lent)) => {
+            let head = (lent.header.type_, lent.flaws.as_slice());
+            put_block(text, head, reader.parser(), &reader.enhanced(lent.header)?)?;
+            return Ok(true);
+        }
+        Some(Err(PcapError::IoError(error))) => {
+            let is_over = reader.next_header().is_none() && reader.text().is_empty();
+            let (kind, failed) = (error.kind(), reader.failed());
+            write!(text, "; {kind:?}, is over {is_over}, failed {failed}")?;
+        }
+        Some(Err(error)) => {
+            write!(text, "; {}", told_end(alloc, &error)?)?;
+            return Ok(true);
+        }
+        None => {}
+    }
+    Ok(false)
+}
+
+// Formats the blocks of a stream, why no other follows, and whatever the reader still gives after that.
+fn told(alloc: Global, stream: Halting) -> Result<String, Fail> {
+    let mut reader = PcapNgReaderAsIs::new(alloc, stream);
+    let mut text = String::new(alloc);
+    for _ in 0..99 {
+        if !put_next(alloc, &mut reader, &mut text)? {
+            break;
+        }
+    }
+    let (_, text) = text.split_once("; ").unwrap_or(("", ""));
+    Ok(String::from_str(alloc, text)?)
+}
+
+// Returns whether the capture of a row is read as it says, `step` bytes at a time. If bytes are missing, the reader reports the end of the
+// stream, and gives nothing more.
+fn is_told(alloc: Global, row: &str, step: usize) -> Result<bool, Fail> {
+    let (digits, text) = row.split_once(" => ").ok_or("a row with no arrow")?;
+    let capture = bytes(alloc, digits)?;
+    let told = told(alloc, Halting::new(alloc, capture.as_slice(), step)?)?;
+    match (told.split_once("UnexpectedEof"), text.split_once("needs ")) {
+        (Some((told, end)), Some((text, _))) => {
+            Ok(told == text && end == ", is over true, failed false")
+        }
+        _ => Ok(told.as_str() == text),
+    }
+}
+
+#[test]
+fn blocks_of_streams(rt: HostRuntime) -> Result<(), Fail> {
+    for table in [block_rows::OPTIONS, block_rows::NUMBERS, block_rows::ENDS] {
+        for row in table.trim().lines() {
+            for step in [1, 7, 100] {
+                assert!(rt; is_told(rt.alloc(), row, step)?, "{step} at a time: {row}");
+            }
+        }
+    }
+    Ok(())
+}
 
 // A section header of 28 bytes, an interface of 20 and a packet of 36.
 const CAPTURE: &str =
     "0a0d0d0a 1c000000 4d3c2b1a 01000000 ffffffff ffffffff 1c000000 01000000 14000000 01000000 00000400 14000000 06000000 24000000 00000000 00000000 07000000 01000000 01000000 aa000000 24000000";
 
-// Formats a block that the reader lends: its type and flaw, and of a packet its own flaw and its time.
-fn told_block(alloc: Global, reader: &Reader, lent: &LentAsIs) -> Result<String, Fail> {
-    let type_ = lent.header.type_;
-    let flaws = &lent.flaws;
-    match reader.enhanced(lent.header)? {
-        None => Ok(format!(in alloc; "{type_:?} {flaws:?}")?),
-        Some(read) => {
-            let wrong = &read.flaws;
-            let time = match (&read.packet, reader.parser()) {
-                (Some(packet), Some(parser)) => {
-                    parser.timestamp(packet.interface_id, packet.timestamp)
-                }
-                _ => None,
-            };
-            Ok(format!(in alloc; "{type_:?} {flaws:?} {wrong:?} {time:?}")?)
-        }
-    }
+// Appends the length of the next block, how many bytes were taken up to its end, and how many the reader lends as its text and as its body.
+fn put_taken(reader: &mut Reader, text: &mut String) -> Result<(), Fail> {
+    let lent = reader.next_header().ok_or("a block")??;
+    let (len, taken) = (lent.header.initial_len, reader.get_ref().taken);
+    let (text_len, body_len) = (reader.text().len(), reader.body().len());
+    Ok(write!(
+        text,
+        "{len} {taken} {text_len} {body_len} {:?}; ",
+        lent.flaws
+    )?)
 }
 
-// Formats a capture that comes `step` bytes at a time: each block, and why no other follows. If bytes are missing at its end, it reports
-// the end of the stream.
-fn told(alloc: Global, capture: &[u8], step: usize) -> Result<String, Fail> {
-    let stream = Halting::new(alloc, capture, step)?;
+// Formats that for the three blocks of the capture, and how the stream ends.
+fn told_taken(alloc: Global, step: usize) -> Result<String, Fail> {
+    let capture = bytes(alloc, CAPTURE)?;
+    let stream = Halting::new(alloc, capture.as_slice(), step)?;
     let mut reader = PcapNgReaderAsIs::new(alloc, stream);
     let mut text = String::new(alloc);
-    for _ in 0..99 {
-        let end = match reader.next_header() {
-            None => break,
-            Some(Ok(lent)) => told_block(alloc, &reader, &lent)?,
-            Some(Err(PcapError::IoError(_))) => String::from_str(alloc, "needs ")?,
-            Some(Err(e)) => told_end(alloc, &e)?,
-        };
-        if !text.is_empty() {
-            text.push_str("; ")?;
-        }
-        text.push_str(end.as_str())?;
+    for _ in 0..3 {
+        put_taken(&mut reader, &mut text)?;
     }
+    let is_over = reader.next_header().is_none() && reader.text().is_empty();
+    write!(text, "is over {is_over}, failed {}", reader.failed())?;
     Ok(text)
-}
-
-fn is_told(alloc: Global, digits: &str, text: &str, step: usize) -> Result<bool, Fail> {
-    let capture = bytes(alloc, digits)?;
-    let told = told(alloc, capture.as_slice(), step)?;
-    if told.as_str().ends_with("needs ") {
-        return Ok(text.starts_with(told.as_str()));
-    }
-    Ok(told.as_str() == text)
-}
-
-// Returns whether all captures of a table are read as it says, `step` bytes at a time.
-fn are_told(alloc: Global, table: &str, step: usize) -> Result<bool, Fail> {
-    for (digits, text) in rows(alloc, table)? {
-        if !is_told(alloc, digits, text, step)? {
-            return Ok(false);
-        }
-    }
-    Ok(true)
-}
-
-#[test]
-fn blocks_of_streams(rt: HostRuntime) -> Result<(), Fail> {
-    for step in [1, 7, 100] {
-        assert!(rt; are_told(rt.alloc(), OPTIONS, step)?);
-        assert!(rt; are_told(rt.alloc(), NUMBERS, step)?);
-        assert!(rt; are_told(rt.alloc(), ENDS, step)?);
-    }
-    Ok(())
-}
-
-// Returns the bytes of the small capture.
-fn capture(alloc: Global) -> Result<Vec<u8>, Fail> {
-    bytes(alloc, CAPTURE)
-}
-
-// Returns how many bytes were taken up to the end of the next block, and how many the reader lends as its text and as its body.
-fn taken(reader: &mut Reader) -> Result<[usize; 3], Fail> {
-    let lent = reader.next_header().ok_or("a block")??;
-    let len = lent.header.initial_len as usize;
-    let is_lent = reader.text().len() == len && lent.flaws.is_empty();
-    let text = if is_lent { len } else { 0 };
-    Ok([reader.get_ref().taken, text, reader.body().len()])
 }
 
 #[test]
 fn nothing_is_taken_ahead(rt: HostRuntime) -> Result<(), Fail> {
-    let bytes = capture(rt.alloc())?;
+    let taken = "28 28 28 16 []; 20 48 20 8 []; 36 84 36 24 []; is over true, failed false";
     for step in [1, 7, 100] {
-        let stream = Halting::new(rt.alloc(), bytes.as_slice(), step)?;
-        let mut reader = PcapNgReaderAsIs::new(rt.alloc(), stream);
-        assert!(rt; taken(&mut reader)? == [28, 28, 16]);
-        assert!(rt; taken(&mut reader)? == [48, 20, 8]);
-        assert!(rt; taken(&mut reader)? == [84, 36, 24]);
-        assert!(rt; reader.next_header().is_none() && reader.text().is_empty() && !reader.failed());
+        same(told_taken(rt.alloc(), step)?.as_str(), taken)?;
     }
     Ok(())
 }
 
-// Returns how many blocks come from the first `len` bytes of the capture if one call fails. It checks that the next block fails so, for
-// good.
-fn ends(alloc: Global, len: usize, fails_at: usize, kind: ErrorKind) -> Result<usize, Fail> {
-    let bytes = capture(alloc)?;
-    let mut stream = Halting::new(alloc, front(bytes.as_slice(), len), 100)?;
+// The length of the truncated capture, the number of the read that fails, or 0 if none does, and the blocks before the end. Each block
+// takes one read for its head and one for the rest.
+const ENDS: &str = "
+    3 0 => UnexpectedEof, is over true, failed false
+    27 0 => UnexpectedEof, is over true, failed false
+    29 0 => SectionHeader []; UnexpectedEof, is over true, failed false
+    47 0 => SectionHeader []; UnexpectedEof, is over true, failed false
+    60 0 => SectionHeader []; InterfaceDescription []; UnexpectedEof, is over true, failed false
+    83 0 => SectionHeader []; InterfaceDescription []; UnexpectedEof, is over true, failed false
+    84 1 => TimedOut, is over true, failed true
+    84 2 => TimedOut, is over true, failed true
+    84 3 => SectionHeader []; TimedOut, is over true, failed true
+    84 4 => SectionHeader []; TimedOut, is over true, failed true
+    84 6 => SectionHeader []; InterfaceDescription []; TimedOut, is over true, failed true";
+
+// Formats the blocks of a stream that is truncated or fails.
+fn told_ending(alloc: Global, words: &str, _given: &[u8]) -> Result<String, Fail> {
+    let (len, fails_at) = words.split_once(' ').ok_or("a length")?;
+    let len = len.parse::<usize>().ok().ok_or("a length")?;
+    let fails_at = fails_at.parse::<usize>().ok().ok_or("a number")?;
+    let capture = bytes(alloc, CAPTURE)?;
+    let mut stream = Halting::new(alloc, front(capture.as_slice(), len), 100)?;
     stream.fails_at = fails_at;
-    stream.kind = kind;
-    let mut reader = PcapNgReaderAsIs::new(alloc, stream);
-    for n in 0..4 {
-        match reader.next_header() {
-            Some(Ok(_)) => {}
-            Some(Err(PcapError::IoError(e))) if e.kind() == kind => {
-                let is_over = reader.next_header().is_none() && reader.text().is_empty();
-                let tells = reader.failed() == (fails_at > 0);
-                return Ok(if is_over && tells { n } else { 9 });
-            }
-            _ => return Ok(8),
-        }
-    }
-    Ok(7)
+    stream.kind = ErrorKind::TimedOut;
+    told(alloc, stream)
 }
 
 #[test]
 fn early_ends_and_failed_reads(rt: HostRuntime) -> Result<(), Fail> {
-    // the length of the truncated capture, and how many blocks come before its end
-    for (len, blocks) in [(3, 0), (27, 0), (29, 1), (47, 1), (60, 2), (83, 2)] {
-        assert_eq!(rt; ends(rt.alloc(), len, 0, ErrorKind::UnexpectedEof)?, blocks);
-    }
-    // the read that fails: each block takes one read for its head and one for the rest
-    for (fails_at, blocks) in [(1, 0), (2, 0), (3, 1), (4, 1), (6, 2)] {
-        assert_eq!(rt;
-            ends(rt.alloc(), 84, fails_at, ErrorKind::TimedOut)?,
-            blocks
-        );
-    }
-    Ok(())
+    every_call(rt.alloc(), ENDS, told_ending)
 }

@@ -1,32 +1,31 @@
 //! The search for the next blocks after corrupt bytes in a PcapNg capture.
 
 use crate::again_rows::{BEFORE, BETWEEN, SECTIONS};
-use crate::blocks::told_end;
 use pcap_tolerant_captures::PcapNgParserAsIs;
 use pcap_tolerant_captures::resync::{resync, resync_section};
 use std::alloc::Global;
 use std::test::Fail;
 use test_support::rows::every_row;
 
-// Formats the place as the rows have it.
-fn told_place(alloc: Global, place: Option<usize>) -> Result<String, Fail> {
+// Appends a place as the rows have it.
+fn put_place(text: &mut String, place: Option<usize>) -> Result<(), Fail> {
     match place {
-        None => Ok(String::from_str(alloc, "none")?),
-        Some(at) => Ok(format!(in alloc; "{at}")?),
+        None => text.push_str("none")?,
+        Some(at) => write!(text, "{at}")?,
     }
+    Ok(())
 }
 
 // Formats where runs of one, two and three blocks are found after the first block, and where a section header is.
 fn told(alloc: Global, capture: &[u8]) -> Result<String, Fail> {
-    let (left, opened) = match PcapNgParserAsIs::new(alloc, capture) {
-        Ok(opened) => opened,
-        Err(e) => return told_end(alloc, &e),
-    };
-    let one = told_place(alloc, resync(&opened.parser, left, 1))?;
-    let two = told_place(alloc, resync(&opened.parser, left, 2))?;
-    let three = told_place(alloc, resync(&opened.parser, left, 3))?;
-    let section = told_place(alloc, resync_section(left))?;
-    Ok(format!(in alloc; "{one}, {two}, {three}, {section}")?)
+    let (left, opened) = PcapNgParserAsIs::new(alloc, capture)?;
+    let mut text = String::new(alloc);
+    for k in 1..4 {
+        put_place(&mut text, resync(&opened.parser, left, k))?;
+        text.push_str(", ")?;
+    }
+    put_place(&mut text, resync_section(left))?;
+    Ok(text)
 }
 
 #[test]

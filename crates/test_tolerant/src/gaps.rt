@@ -1,55 +1,55 @@
 //! Messages about skipped bytes.
 
+use crate::tables::every_call;
 use pcap_core::rules::Rule;
-use pcapfile_as_is::{Gap, LeftOut, Position, Scrap, put_gap};
+use pcapfile_as_is::{LeftOut, Position, Scrap, put_gap};
 use std::alloc::Global;
+use std::test::Fail;
 use test_support::writers::Narrow;
 
-const NO_PACKETS: &str =
-    "a: 7 bytes at byte 24 are no packets, and are left out by rule 3: PacketHeader incl_len > 0x40000\n";
+// What seven bytes behind a header of 24 bytes are, and the message about them.
+const GAPS: &str = "
+    packets => a: 7 bytes at byte 24 are no packets, and are left out by rule 3: PacketHeader incl_len > 0x40000
+    blocks => a: 7 bytes at byte 24 are no blocks, and are left out
+    packet => a: 7 bytes at byte 24 are of a packet that is cut short, and are left out
+    block => a: 7 bytes at byte 24 are of a block that is cut short, and are left out";
 
-const NO_BLOCKS: &str = "a: 7 bytes at byte 24 are no blocks, and are left out\n";
-
-const PACKET: &str = "a: 7 bytes at byte 24 are of a packet that is cut short, and are left out\n";
-
-const BLOCK: &str = "a: 7 bytes at byte 24 are of a block that is cut short, and are left out\n";
-
-// Returns the line that is written about a gap.
-fn line_of(alloc: Global, gap: &Gap) -> Vec<u8> {
-    let mut output = Narrow::new(alloc, 4096, true);
-    match put_gap(alloc, &mut output, "a: ", gap) {
-        Ok(()) => output.out,
-        Err(_) => Vec::new(alloc),
-    }
-}
-
-// Returns whether exactly one line, `line`, reports seven bytes that are skipped after a header.
-fn has_line(alloc: Global, scrap: Scrap, rule: Option<Rule>, line: &str) -> bool {
-    let left_out = LeftOut {
+// Returns the bytes that are left out, or None if the word is unknown.
+fn left_out(words: &str) -> Option<LeftOut> {
+    let (scrap, rule) = match words {
+        "packets" => (Scrap::NoPackets, Some(Rule::IncludedTooLong)),
+        "blocks" => (Scrap::NoBlocks, None),
+        "packet" => (Scrap::PacketFront, None),
+        "block" => (Scrap::BlockFront, None),
+        _ => return None,
+    };
+    Some(LeftOut {
         bytes: 7,
         scrap,
         rule,
-    };
+    })
+}
+
+// Formats the line that is written about a gap. The first call about the bytes must give a gap, and the second one none.
+fn line(alloc: Global, words: &str, _given: &[u8]) -> Result<String, Fail> {
     let mut position = Position::new(24);
-    let Some(gap) = position.pass(left_out) else {
-        return false;
-    };
-    let is_once = position.pass(left_out).is_none();
-    is_once && line_of(alloc, &gap).as_slice() == line.as_bytes()
+    let left_out = left_out(words).ok_or("an unknown word")?;
+    let gap = position.pass(left_out).ok_or("no gap")?;
+    if position.pass(left_out).is_some() {
+        return Err("a second gap")?;
+    }
+    let mut output = Narrow::new(alloc, 4096, true);
+    if put_gap(alloc, &mut output, "a: ", &gap).is_err() {
+        return Err("a failed write")?;
+    }
+    let text = str::from_utf8(output.out.as_slice()).unwrap_or_default();
+    match text.split_once('\n') {
+        Some((line, "")) => Ok(String::from_str(alloc, line)?),
+        _ => Err("not one line")?,
+    }
 }
 
 #[test]
-fn lines_of_gaps(rt: HostRuntime) {
-    let alloc = rt.alloc();
-    assert!(rt;
-        has_line(
-            alloc,
-            Scrap::NoPackets,
-            Some(Rule::IncludedTooLong),
-            NO_PACKETS
-        )
-    );
-    assert!(rt; has_line(alloc, Scrap::NoBlocks, None, NO_BLOCKS));
-    assert!(rt; has_line(alloc, Scrap::PacketFront, None, PACKET));
-    assert!(rt; has_line(alloc, Scrap::BlockFront, None, BLOCK));
+fn lines_of_gaps(rt: HostRuntime) -> Result<(), Fail> {
+    every_call(rt.alloc(), GAPS, line)
 }

@@ -1,5 +1,5 @@
-//! Tests of lenient reading, and of finding packets and blocks after corrupt bytes. The small captures and lists were written by hand,
-//! with one packet or a few bytes made wrong.
+//! Tests of lenient reading, of finding packets and blocks after corrupt bytes, and of mending blocks. The small captures and lists were
+//! written by hand, with one packet or a few bytes made wrong.
 #![tactic(auto)]
 
 #[cfg(test)]
@@ -25,11 +25,7 @@ mod copies;
 #[cfg(test)]
 mod gaps;
 #[cfg(test)]
-mod interfaces;
-#[cfg(test)]
-mod names;
-#[cfg(test)]
-mod options;
+mod mending;
 #[cfg(test)]
 mod packets;
 #[cfg(test)]
@@ -39,8 +35,8 @@ mod run_rows;
 #[cfg(test)]
 mod runs;
 #[cfg(test)]
-mod sound;
-#[cfg(test)]
 mod streams;
+#[cfg(test)]
+mod tables;
 #[cfg(test)]
 mod told;

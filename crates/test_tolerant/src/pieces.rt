@@ -1,142 +1,104 @@
-//! Lenient reading of classic captures that come in pieces. The capture was written by hand.
+//! Lenient reading of classic captures that come in pieces. The rows were written by hand.
 
-use crate::runs::behind_header;
+use crate::copies::{TORN, whole_in};
+use crate::tables::{every_call, told_end};
 use pcap_classic::run::pieces_fit;
-use pcap_core::PcapError;
-use pcap_items::Rest;
-use pcap_tolerant::{HeadAsIs, OwnedAsIs, OwnedRunAsIs, pieces_pcap_as_is};
+use pcap_tolerant::{HeadAsIs, OwnedAsIs, pieces_pcap_as_is};
 use std::alloc::Global;
 use std::test::Fail;
 use test_support::captures::{back, front};
+use test_support::rows::bytes;
 
-// A valid packet of one byte; one whose original length is 0; a valid one; one with a fraction of 5 seconds; and one more byte.
-const PACKETS: &str = "
-    00000001 00000002 00000001 00000001 aa  00000001 00000002 00000001 00000000 bb
-    00000001 00000002 00000000 00000000     00000001 004c4b40 00000000 00000000  cc";
-
-// Where the packets end, counted from the start of the header.
-const ENDS: [usize; 4] = [41, 58, 74, 90];
-
-// Each packet: its numbers, the first rule that it breaks, and its bytes.
-const TOLD: &str = "1 2 1 1 None [170]; 1 2 1 0 Some(IncludedPastOriginal) [187]; 1 2 0 0 None []; \
-    1 5000000 0 0 Some(FractionTooLarge) []; 90 bytes, Needs(15)";
-
-fn told_packet(alloc: Global, packet: &OwnedAsIs) -> Result<String, Fail> {
-    let HeadAsIs {
-        ts_sec,
-        fraction,
-        incl_len,
-        orig_len,
-        flaws,
-    } = packet.head;
-    let first = flaws.first();
-    let data = packet.packet().data;
-    Ok(format!(in alloc; "{ts_sec} {fraction} {incl_len} {orig_len} {first:?} {data:?}")?)
+// Returns whether a packet lends the numbers and flaws of its head, and its bytes.
+fn lends(owned: &OwnedAsIs) -> bool {
+    let packet = owned.packet();
+    let head = HeadAsIs {
+        ts_sec: packet.ts_sec,
+        fraction: packet.fraction,
+        incl_len: packet.incl_len,
+        orig_len: packet.orig_len,
+        flaws: packet.flaws,
+    };
+    head == owned.head && packet.data == owned.data.as_slice()
 }
 
-fn told_run(alloc: Global, run: &OwnedRunAsIs) -> Result<String, Fail> {
-    let mut text = String::new(alloc);
-    for packet in run.packets.iter() {
-        text.push_str(told_packet(alloc, packet)?.as_str())?;
-        text.push_str("; ")?;
+// Formats the result of the run over these pieces under a limit, and how many packets end in each piece and those before it. It returns a
+// failure if a packet lends something else than it holds.
+fn told(alloc: Global, pieces: &[&[u8]], limit: u32) -> Result<String, Fail> {
+    if !pieces_fit(pieces) {
+        return Err("too long")?;
     }
-    let used = run.used;
-    let rest = &run.rest;
-    text.push_str(format!(in alloc; "{used} bytes, {rest:?}")?.as_str())?;
-    Ok(text)
+    match pieces_pcap_as_is(alloc, pieces, limit) {
+        Ok((run, numbers)) => {
+            if !run.packets.iter().all(lends) {
+                return Err("a packet lends something else")?;
+            }
+            let (packets, used, rest) = (&run.packets, run.used, &run.rest);
+            Ok(format!(in alloc; "{numbers:?} {packets:?}, {used} bytes, {rest:?}")?)
+        }
+        Err(error) => told_end(alloc, &error),
+    }
 }
 
-// Returns what each of the three pieces between two cuts holds, and the numbers after each.
-fn cut(
-    alloc: Global,
-    capture: &[u8],
-    first: usize,
-    second: usize,
-) -> Result<(OwnedRunAsIs, Vec<usize>), Fail> {
+// The packets of the torn capture, and the rest.
+const PACKETS: &str =
+    "[OwnedAsIs { head: HeadAsIs { ts_sec: 1, fraction: 2, incl_len: 1, orig_len: 1, flaws: Flaws { fraction_too_large: false, included_too_long: false, original_too_long: false, included_past_original: false } }, data: [170] }, OwnedAsIs { head: HeadAsIs { ts_sec: 1, fraction: 2, incl_len: 1, orig_len: 0, flaws: Flaws { fraction_too_large: false, included_too_long: false, original_too_long: false, included_past_original: true } }, data: [187] }, OwnedAsIs { head: HeadAsIs { ts_sec: 1, fraction: 2, incl_len: 0, orig_len: 0, flaws: Flaws { fraction_too_large: false, included_too_long: false, original_too_long: false, included_past_original: false } }, data: [] }, OwnedAsIs { head: HeadAsIs { ts_sec: 1, fraction: 5000000, incl_len: 0, orig_len: 0, flaws: Flaws { fraction_too_large: true, included_too_long: false, original_too_long: false, included_past_original: false } }, data: [] }], 90 bytes, Needs(15)";
+
+// Returns whether the three pieces between two cuts of the torn capture give its packets, each in the piece with its last byte.
+fn are_packets(alloc: Global, capture: &[u8], cuts: (usize, usize)) -> Result<bool, Fail> {
+    let (first, second) = cuts;
     let pieces = [
         front(capture, first),
         back(front(capture, second), first),
         back(capture, second),
     ];
-    if !pieces_fit(&pieces) {
-        return Err("too long")?;
-    }
-    Ok(pieces_pcap_as_is(alloc, &pieces, 0)?)
-}
-
-// Returns how many packets end in the first `bytes` bytes.
-fn ended(bytes: usize) -> usize {
-    ENDS.iter().filter(|end| **end <= bytes).count()
+    let told = told(alloc, &pieces, 0)?;
+    let numbers = (whole_in(first), whole_in(second));
+    let wanted = format!(in alloc; "[{}, {}, 4] {PACKETS}", numbers.0, numbers.1)?;
+    Ok(told.as_str() == wanted.as_str())
 }
 
 #[test]
 fn every_cutting_gives_the_same(rt: HostRuntime) -> Result<(), Fail> {
-    let alloc = rt.alloc();
-    let capture = behind_header(alloc, PACKETS)?;
+    let capture = bytes(rt.alloc(), TORN)?;
     for first in 0..=91 {
         for second in first..=91 {
-            let (run, numbers) = cut(alloc, capture.as_slice(), first, second)?;
-            let wanted = [ended(first), ended(second), 4];
             assert!(rt;
-                numbers.as_slice() == wanted.as_slice(),
+                are_packets(rt.alloc(), capture.as_slice(), (first, second))?,
                 "cut at {first} and {second}"
             );
-            let told = told_run(alloc, &run)?;
-            assert!(rt; told.as_str() == TOLD, "cut at {first} and {second}");
         }
     }
     Ok(())
 }
 
-// Returns the rest after a packet header with this stored length and none of its data, under this limit.
-fn rest_under(alloc: Global, packet: &str, limit: u32) -> Result<Rest, Fail> {
-    let capture = behind_header(alloc, packet)?;
-    let pieces = [front(capture.as_slice(), 30), back(capture.as_slice(), 30)];
-    if !pieces_fit(&pieces) {
-        return Err("too long")?;
+// A limit, the lengths of pieces, and the result of the run over them.
+const PIECES: &str = r#"
+    // a stored length above the limit, and one at the limit
+    262144 in 30 10: a1b2c3d4 00020004 00000000 00000000 0000ffff 00000001  00000001 00000002 00040001 00040001 => [0, 0] [], 24 bytes, Refused(InvalidField("PacketHeader incl_len > 0x40000"))
+    262145 in 30 10: a1b2c3d4 00020004 00000000 00000000 0000ffff 00000001  00000001 00000002 00040001 00040001 => [0, 0] [], 24 bytes, Needs(262145)
+    // no piece, an empty one, and truncated and malformed headers
+    0 in => needs 24
+    0 in 0 => needs 24
+    0 in 3 0 1: a1b2c3 d4 => needs 20
+    0 in 30 9: ffffffffffffffffffffffffffffffffffffffffffffffffffffffffffff 000000000000000000 => invalid PcapHeader wrong magic number
+"#;
+
+// Formats the result of the run over these bytes under the limit and in the pieces that the words name.
+fn told_pieces(alloc: Global, words: &str, given: &[u8]) -> Result<String, Fail> {
+    let (limit, lengths) = words.split_once(" in").ok_or("a limit")?;
+    let limit = limit.parse::<u32>().ok().ok_or("a limit")?;
+    let mut pieces = Vec::new(alloc);
+    let mut left = given;
+    for length in lengths.split_whitespace() {
+        let length = length.parse::<usize>().ok().ok_or("a length")?;
+        pieces.push(front(left, length))?;
+        left = back(left, length);
     }
-    let (run, _numbers) = pieces_pcap_as_is(alloc, &pieces, limit)?;
-    Ok(run.rest)
+    told(alloc, pieces.as_slice(), limit)
 }
 
 #[test]
-fn the_limit_is_the_callers(rt: HostRuntime) -> Result<(), Fail> {
-    let alloc = rt.alloc();
-    let long = "00000001 00000002 00040001 00040001";
-    let rest = rest_under(alloc, long, 262144)?;
-    assert!(rt;
-        matches!(
-            rest,
-            Rest::Refused(PcapError::InvalidField("PacketHeader incl_len > 0x40000"))
-        )
-    );
-    let rest = rest_under(alloc, long, 262145)?;
-    assert!(rt; matches!(rest, Rest::Needs(262145)));
-    Ok(())
-}
-
-// Returns how many bytes of a header are missing, or 0 if it is refused.
-fn lack(alloc: Global, pieces: &[&[u8]]) -> Option<usize> {
-    if !pieces_fit(pieces) {
-        return None;
-    }
-    match pieces_pcap_as_is(alloc, pieces, 0) {
-        Err(PcapError::IncompleteBuffer(n)) => Some(n),
-        Err(PcapError::InvalidField(_)) => Some(0),
-        _ => None,
-    }
-}
-
-#[test]
-fn headers_that_open_no_capture(rt: HostRuntime) {
-    let alloc = rt.alloc();
-    let rows: [(&[&[u8]], usize); 4] = [
-        (&[], 24),
-        (&[&[]], 24),
-        (&[&[0xa1, 0xb2, 0xc3], &[], &[0xd4]], 20),
-        (&[&[0xff; 30], &[0; 9]], 0),
-    ];
-    for (pieces, wanted) in rows {
-        assert_eq!(rt; lack(alloc, pieces), Some(wanted));
-    }
+fn limits_and_headers(rt: HostRuntime) -> Result<(), Fail> {
+    every_call(rt.alloc(), PIECES, told_pieces)
 }

@@ -2,21 +2,19 @@
 #![tactic(auto)]
 
 #[cfg(test)]
-mod built;
+mod calls;
 #[cfg(test)]
 mod failing;
 #[cfg(test)]
-mod long;
+mod options;
 #[cfg(test)]
-mod packets;
+mod padded;
 #[cfg(test)]
 mod raw;
 #[cfg(test)]
+mod records;
+#[cfg(test)]
 mod refused;
-#[cfg(test)]
-mod refused_options;
-#[cfg(test)]
-mod refused_records;
 #[cfg(test)]
 mod rows;
 #[cfg(test)]

@@ -1,6 +1,7 @@
 //! Written blocks, one a row: the byte order of their section, all their bytes, and their value.
 //!
-//! The rows were made by a model of the format in plain Python, and tests/model/run compares them with it.
+//! A model of the format in plain Python made the rows, except those of `EACH_KIND`, which were written by hand. tests/model/run compares
+//! all of them with the model.
 
 pub(crate) const SECTIONS: &str = r#"
     big 0a0d0d0a 0000001c 1a2b3c4d 00010000 ffffffff ffffffff 0000001c => SectionHeader(SectionHeaderBlock { magic: 439041101, major_version: 1, minor_version: 0, section_length: -1, options: [] })
@@ -120,4 +121,22 @@ pub(crate) const WHOLE: &str = r#"
     little 03000000 18000000 0c030201 01020304 05060708 18000000 => SimplePacket(SimplePacketBlock { original_len: 16909068, data_: Borrowed([1, 2, 3, 4, 5, 6, 7, 8]) })
     little 09000000 14000000 01020304 05060708 14000000 => SystemdJournalExport(SystemdJournalExportBlock { journal_entry: Borrowed([1, 2, 3, 4, 5, 6, 7, 8]) })
     little ad0b0080 14000000 01020304 05060708 14000000 => Unknown(UnknownBlock { type_: Unknown(2147486637), length: 8, value: Borrowed([1, 2, 3, 4, 5, 6, 7, 8]) })
+"#;
+
+// One of each kind of block with an option or a record, and numbers of different bytes. These rows were written by hand.
+pub(crate) const EACH_KIND: &str = r#"
+    big 0a0d0d0a 00000028 1a2b3c4d 00010002 00000000 00000304 00030002 6f730000 00000000 00000028 => SectionHeader(SectionHeaderBlock { magic: 439041101, major_version: 1, minor_version: 2, section_length: 772, options: [OS("os")] })
+    little 0a0d0d0a 28000000 4d3c2b1a 01000200 04030000 00000000 03000200 6f730000 00000000 28000000 => SectionHeader(SectionHeaderBlock { magic: 1295788826, major_version: 1, minor_version: 2, section_length: 772, options: [OS("os")] })
+    big 00000001 00000014 00010000 00000000 00000014 => InterfaceDescription(InterfaceDescriptionBlock { linktype: ETHERNET, reserved: 0, snaplen: 0, options: [] })
+    little 01000000 14000000 01000000 00000000 14000000 => InterfaceDescription(InterfaceDescriptionBlock { linktype: ETHERNET, reserved: 0, snaplen: 0, options: [] })
+    big 00000001 00000028 03040506 0708090a 00090001 06000000 01020003 07080900 00000000 00000028 => InterfaceDescription(InterfaceDescriptionBlock { linktype: Unknown(772), reserved: 1286, snaplen: 117967114, options: [IfTsResol(6), Unknown(UnknownOption { code: 258, length: 3, value: Borrowed([7, 8, 9]) })] })
+    little 01000000 28000000 04030605 0a090807 09000100 06000000 02010300 07080900 00000000 28000000 => InterfaceDescription(InterfaceDescriptionBlock { linktype: Unknown(772), reserved: 1286, snaplen: 117967114, options: [IfTsResol(6), Unknown(UnknownOption { code: 258, length: 3, value: Borrowed([7, 8, 9]) })] })
+    big 00000002 00000030 00010203 04050607 08090a0b 00000002 00000c0d eeff0000 00020004 01020304 00000000 00000030 => Packet(PacketBlock { interface_id: 1, drop_count: 515, timestamp: 289644378304612875, captured_len: 2, original_len: 3085, data_: Borrowed([238, 255]), options: [Flags(16909060)] })
+    little 02000000 30000000 01000302 07060504 0b0a0908 02000000 0d0c0000 eeff0000 02000400 04030201 00000000 30000000 => Packet(PacketBlock { interface_id: 1, drop_count: 515, timestamp: 289644378304612875, captured_len: 2, original_len: 3085, data_: Borrowed([238, 255]), options: [Flags(16909060)] })
+    big 00000006 00000040 00000001 04050607 08090a0b 00000003 00000003 ddeeff00 00040008 01020304 05060708 0bac0006 01020304 68690000 00000000 00000040 => EnhancedPacket(EnhancedPacketBlock { interface_id: 1, timestamp: 289644378304612875, captured_len: 3, original_len: 3, data_: Borrowed([221, 238, 255]), options: [DropCount(72623859790382856), CustomUtf8(CustomUtf8Option { code: 2988, pen: 16909060, value: "hi" })] })
+    little 06000000 40000000 01000000 07060504 0b0a0908 03000000 03000000 ddeeff00 04000800 08070605 04030201 ac0b0600 04030201 68690000 00000000 40000000 => EnhancedPacket(EnhancedPacketBlock { interface_id: 1, timestamp: 289644378304612875, captured_len: 3, original_len: 3, data_: Borrowed([221, 238, 255]), options: [DropCount(72623859790382856), CustomUtf8(CustomUtf8Option { code: 2988, pen: 16909060, value: "hi" })] })
+    big 00000005 00000034 00000001 04050607 08090a0b 00030008 01020304 05060708 00050008 01020304 05060708 00000000 00000034 => InterfaceStatistics(InterfaceStatisticsBlock { interface_id: 1, timestamp: 289644378304612875, options: [IsbEndTime(72623859790382856), IsbIfDrop(72623859790382856)] })
+    little 05000000 34000000 01000000 07060504 0b0a0908 03000800 04030201 08070605 05000800 08070605 04030201 00000000 34000000 => InterfaceStatistics(InterfaceStatisticsBlock { interface_id: 1, timestamp: 289644378304612875, options: [IsbEndTime(72623859790382856), IsbIfDrop(72623859790382856)] })
+    big 00000004 00000034 00010009 0a000001 61620063 00000000 01020001 ee000000 00000000 00020004 646e7331 00000000 00000034 => NameResolution(NameResolutionBlock { records: [Ipv4(Ipv4Record { ip_addr: Borrowed([10, 0, 0, 1]), names: ["ab", "c"] }), Unknown(UnknownRecord { type_: 258, length: 1, value: Borrowed([238]) })], options: [NsDnsName("dns1")] })
+    little 04000000 34000000 01000900 0a000001 61620063 00000000 02010100 ee000000 00000000 02000400 646e7331 00000000 34000000 => NameResolution(NameResolutionBlock { records: [Ipv4(Ipv4Record { ip_addr: Borrowed([10, 0, 0, 1]), names: ["ab", "c"] }), Unknown(UnknownRecord { type_: 258, length: 1, value: Borrowed([238]) })], options: [NsDnsName("dns1")] })
 "#;

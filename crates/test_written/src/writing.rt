@@ -1,122 +1,20 @@
-//! Writers that have begun a capture, and the bytes that they write for a block.
+//! Writers that have begun a capture, and checks of the bytes or the refusal that a call gives.
 
-use pcap_blocks::{EnhancedPacketBlock, InterfaceDescriptionBlock};
-use pcap_core::{CowBytes, DataLink, Endianness, PcapError, ResultParsing};
+use crate::calls::{Call, parsed, put};
+use pcap_core::{Endianness, PcapError, ResultParsing};
 use pcap_written::{PcapNgBlock, PcapNgWriter};
 use std::alloc::Global;
+use std::test::Fail;
 use test_support::captures::back;
 use test_support::rows::are_digits;
+use test_support::writers::Narrow;
 
-// A block that any writer here can write next, in either byte order: an enhanced packet of the second interface.
-const NEXT: [(Endianness, &str); 2] = [
-    (
-        Endianness::Big,
-        "00000006 00000024 00000001 00000002 00000003 00000001 00000004 ff000000 00000024",
-    ),
-    (
-        Endianness::Little,
-        "06000000 24000000 01000000 02000000 03000000 01000000 04000000 ff000000 24000000",
-    ),
-];
-
-// Returns that block as a value.
-fn next_packet(alloc: Global) -> EnhancedPacketBlock<'static> {
-    EnhancedPacketBlock {
-        interface_id: 1,
-        timestamp: 0x0000_0002_0000_0003,
-        captured_len: 1,
-        original_len: 4,
-        data_: CowBytes::Borrowed(&[0xff]),
-        options: Vec::new(alloc),
-    }
-}
-
-// Returns an interface without options.
-pub(crate) fn interface(alloc: Global) -> InterfaceDescriptionBlock<'static> {
-    InterfaceDescriptionBlock {
-        linktype: DataLink::ETHERNET,
-        reserved: 0,
-        snaplen: 0,
-        options: Vec::new(alloc),
-    }
-}
-
-// Returns a writer of a section in this byte order that has described two interfaces.
-pub(crate) fn begun(alloc: Global, order: Endianness) -> ResultParsing<PcapNgWriter<Vec<u8>>> {
-    let mut writer = PcapNgWriter::with_endianness(alloc, order, Vec::new(alloc))?;
-    for _ in 0..2u8 {
-        writer.write_pcapng_block(&interface(alloc))?;
-    }
-    Ok(writer)
-}
-
-// Returns whether a call succeeded with true.
+/// Returns whether a call succeeded with true.
 pub(crate) fn holds<E: Drop>(answer: Result<bool, E>) -> bool {
     matches!(answer, Ok(true))
 }
 
-// Returns whether the bytes are the first `count` of these digits.
-pub(crate) fn are_digits_up_to(bytes: &[u8], digits: &str, count: usize) -> bool {
-    let mut seen = 0usize;
-    for (place, sign) in digits.bytes().enumerate() {
-        if seen == count.saturating_mul(2) {
-            return are_digits(bytes, digits.get(..place).unwrap_or(""));
-        }
-        if !sign.is_ascii_whitespace() {
-            seen = seen.saturating_add(1);
-        }
-    }
-    are_digits(bytes, digits) && bytes.len() == count
-}
-
-// Returns whether a block is written next, as these digits.
-fn writes<B: PcapNgBlock>(writer: &mut PcapNgWriter<Vec<u8>>, block: &B, digits: &str) -> bool {
-    let before = writer.get_ref().len();
-    let is_written = writer.write_pcapng_block(block).is_ok();
-    is_written && are_digits(back(writer.get_ref().as_slice(), before), digits)
-}
-
-// Returns whether a block is written as these bytes after a section in this byte order and two interfaces.
-pub(crate) fn goes_out<B: PcapNgBlock>(
-    alloc: Global,
-    order: Endianness,
-    block: &B,
-    wanted: &[u8],
-) -> bool {
-    match begun(alloc, order) {
-        Ok(mut writer) => {
-            let before = writer.get_ref().len();
-            let is_written = writer.write_pcapng_block(block).is_ok();
-            is_written && back(writer.get_ref().as_slice(), before) == wanted
-        }
-        Err(_) => false,
-    }
-}
-
-// Does the same for digits.
-fn goes_out_as<B: PcapNgBlock>(alloc: Global, order: Endianness, block: &B, digits: &str) -> bool {
-    match begun(alloc, order) {
-        Ok(mut writer) => writes(&mut writer, block, digits),
-        Err(_) => false,
-    }
-}
-
-// Returns whether a block is written as the first of these digits in big-endian byte order, and as the second in little-endian.
-pub(crate) fn is_written<B: PcapNgBlock>(alloc: Global, block: &B, digits: [&str; 2]) -> bool {
-    let [big, little] = digits;
-    goes_out_as(alloc, Endianness::Big, block, big)
-        && goes_out_as(alloc, Endianness::Little, block, little)
-}
-
-// Returns whether a call was refused with this message.
-pub(crate) fn is_refused(answer: &ResultParsing<()>, message: &str) -> bool {
-    match answer {
-        Ok(_) => false,
-        Err(error) => has_message(error, message),
-    }
-}
-
-// Returns whether an error is an `InvalidField` with this message.
+/// Returns whether an error is an `InvalidField` with this message.
 pub(crate) fn has_message(error: &PcapError, message: &str) -> bool {
     match error {
         PcapError::InvalidField(said) => *said == message,
@@ -124,25 +22,117 @@ pub(crate) fn has_message(error: &PcapError, message: &str) -> bool {
     }
 }
 
-// Returns whether a block is refused with this message, nothing is written, and the writer has not failed.
-fn refuses<B: PcapNgBlock>(writer: &mut PcapNgWriter<Vec<u8>>, block: &B, message: &str) -> bool {
-    let before = writer.get_ref().len();
-    let is_told = is_refused(&writer.write_pcapng_block(block), message);
-    is_told && writer.get_ref().len() == before && !writer.failed()
+/// Returns a writer of a section in this byte order that has described two interfaces.
+pub(crate) fn begun<'a>(
+    order: Endianness,
+    alloc: Global,
+    output: &'a mut Narrow,
+) -> ResultParsing<PcapNgWriter<&'a mut Narrow>> {
+    let mut writer = PcapNgWriter::with_endianness(alloc, order, output)?;
+    let interface = Call {
+        kind: "interface",
+        what: "plain",
+        count: 0,
+        number: 0,
+        bytes: &[],
+        letters: "",
+    };
+    put(alloc, &mut writer, interface)?;
+    put(alloc, &mut writer, interface)?;
+    Ok(writer)
 }
 
-// Returns whether, in each byte order, a block is refused with this message and leaves no trace: nothing is written, the writer has not
-// failed, and it writes the next block.
-pub(crate) fn leaves_no_trace<B: PcapNgBlock>(alloc: Global, block: &B, message: &str) -> bool {
-    let mut is_so = true;
-    for (order, next) in NEXT {
-        is_so &= match begun(alloc, order) {
-            Ok(mut writer) => {
-                refuses(&mut writer, block, message)
-                    && writes(&mut writer, &next_packet(alloc), next)
-            }
-            Err(_) => false,
-        };
+/// Returns whether a block is written as these bytes after a section in this byte order and two interfaces.
+pub(crate) fn goes_out<B: PcapNgBlock>(
+    alloc: Global,
+    order: Endianness,
+    block: &B,
+    wanted: &[u8],
+) -> ResultParsing<bool> {
+    let mut output = Narrow::new(alloc, usize::MAX, true);
+    let mut writer = begun(order, alloc, &mut output)?;
+    let before = writer.get_ref().out.len();
+    writer.write_pcapng_block(block)?;
+    Ok(back(writer.get_ref().out.as_slice(), before) == wanted)
+}
+
+/// Returns whether a call writes these digits, or is refused with this message. Nothing is then written, and the writer hasn't failed.
+pub(crate) fn tells(
+    alloc: Global,
+    writer: &mut PcapNgWriter<&mut Narrow>,
+    call: Call<'_>,
+    answer: &str,
+) -> bool {
+    let before = writer.get_ref().out.len();
+    let calls = writer.get_ref().calls;
+    let (order, interfaces) = (writer.endianness(), writer.interfaces());
+    let told = put(alloc, writer, call);
+    let is_as_before = writer.get_ref().calls == calls
+        && writer.endianness() == order
+        && writer.interfaces() == interfaces;
+    let has_failed = writer.failed();
+    let added = back(writer.get_ref().out.as_slice(), before);
+    !has_failed
+        && match &told {
+            Ok(_) => are_digits(added, answer),
+            Err(error) => has_message(error, answer) && is_as_before && added.is_empty(),
+        }
+}
+
+/// Returns whether the call of a row is answered as the row says, for the first of its numbers.
+pub(crate) fn tells_row(
+    alloc: Global,
+    writer: &mut PcapNgWriter<&mut Narrow>,
+    row: &str,
+) -> Result<bool, Fail> {
+    let (call, number, answer) = parsed(row, &[], "")?;
+    let number = number.parse::<u32>().ok().ok_or("a row with no number")?;
+    Ok(tells(alloc, writer, Call { number, ..call }, answer))
+}
+
+/// Where a row is tried: behind a section in this byte order and its two interfaces. Afterwards another row is written.
+#[derive(Clone, Copy)]
+pub(crate) struct Place<'a> {
+    /// The byte order of the section.
+    pub order: Endianness,
+    /// The row that is written afterwards.
+    pub next: &'a str,
+    /// The bytes of values.
+    pub bytes: &'a [u8],
+    /// The letters of texts.
+    pub letters: &'a str,
+}
+
+impl Place<'_> {
+    // Returns whether a call is answered as expected here, and the next row is written.
+    fn leaves(self, alloc: Global, call: Call<'_>, answer: &str) -> Result<bool, Fail> {
+        let mut output = Narrow::new(alloc, usize::MAX, true);
+        let mut writer = begun(self.order, alloc, &mut output)?;
+        let is_told = tells(alloc, &mut writer, call, answer);
+        Ok(is_told && tells_row(alloc, &mut writer, self.next)?)
     }
-    is_so
+
+    /// Checks that the calls of a row, one for each number, are answered as the row says. Otherwise it returns a failure that names the
+    /// number and the row.
+    pub(crate) fn check(self, alloc: Global, row: &str) -> Result<(), Fail> {
+        let (call, numbers, answer) = parsed(row, self.bytes, self.letters)?;
+        for word in numbers.split(',') {
+            let number = word.parse::<u32>().ok().ok_or("a row with no number")?;
+            if !self.leaves(alloc, Call { number, ..call }, answer)? {
+                return Err(Fail::new(format_args!("{word}: {row}")));
+            }
+        }
+        Ok(())
+    }
+
+    /// Checks each row of a table. A table must have a row.
+    pub(crate) fn check_all(self, alloc: Global, table: &str) -> Result<(), Fail> {
+        if table.trim().is_empty() {
+            return Err(Fail::new("a table without rows"));
+        }
+        for row in table.trim().lines() {
+            self.check(alloc, row)?;
+        }
+        Ok(())
+    }
 }
