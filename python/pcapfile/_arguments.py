@@ -10,6 +10,9 @@ from typing import Any, Optional, Tuple
 
 _NAMES = (str, bytes, os.PathLike)
 
+# The nanoseconds of a second.
+_SECOND = 1_000_000_000
+
 
 def wrong_type(name: str, value: Any, wanted: str) -> TypeError:
     """Returns the error for an argument of another type than is wanted."""
@@ -33,12 +36,31 @@ def of_32_bits(name: str, value: Any) -> int:
     return whole(name, value, 0, (1 << 32) - 1)
 
 
-def nanoseconds(name: str, value: Any, wanted: str = "a number of seconds") -> int:
-    """Returns seconds as nanoseconds."""
+class Default:
+    """The default of an argument, which differs from the same value that a caller gives."""
+
+    def __init__(self, value: Any) -> None:
+        self.value = value
+
+    def __repr__(self) -> str:
+        return repr(self.value)
+
+
+def truth(name: str, value: Any) -> bool:
+    """Returns True or False, also of numpy."""
+    if isinstance(value, bool) or getattr(getattr(value, "dtype", None), "kind", None) == "b":
+        return bool(value)
+    raise wrong_type(name, value, "True or False")
+
+
+def nanoseconds(name: str, value: Any, wanted: str = "a number of seconds", unit: int = 1) -> int:
+    """Returns seconds as nanoseconds. It rounds a float to the nearest multiple of `unit` nanoseconds."""
     if isinstance(value, (str, bytes, bytearray)):
         raise wrong_type(name, value, wanted)
     try:
-        return round(Fraction(value if isinstance(value, (Rational, Decimal)) else float(value)) * 1_000_000_000)
+        if isinstance(value, (Rational, Decimal)):
+            return round(Fraction(value) * _SECOND)
+        return round(Fraction(float(value)) * _SECOND / unit) * unit
     except TypeError:
         raise wrong_type(name, value, wanted) from None
     except (ValueError, OverflowError):

@@ -4,6 +4,7 @@ import asyncio
 from builtins import open as _open
 from typing import Any, AsyncIterator, Optional, Union
 
+from . import _reading
 from ._arguments import is_name, stream
 from ._blocks import BlockCapture
 from ._capture import Capture
@@ -78,6 +79,7 @@ class _InThread:
 
     def __init__(self, name: Name) -> None:
         self._file = _open(name, "rb", buffering=0)
+        _reading.begin(self._file)
         self.close = self._file.close
 
     async def read(self, count: int) -> bytes:

@@ -2,7 +2,7 @@
 
 import ctypes
 import struct
-from typing import TYPE_CHECKING, Any, Iterator, List, Optional
+from typing import TYPE_CHECKING, Any, Iterator, List, Optional, TypeVar
 
 from . import _library
 from ._common import BATCH, Packets, make
@@ -19,6 +19,9 @@ from ._windows import Window
 # A packet in the layout in which the library returns it: block type, interface, original length, timestamp in the interface's
 # units, address of the data, and length of the data.
 _PACKET = struct.Struct("@IIIQPN")
+
+
+_Opened = TypeVar("_Opened", bound="BlockCapture")
 
 
 class BlockCapture(Packets):
@@ -163,5 +166,5 @@ class BlockCapture(Packets):
             for cut, end in zip(here, ends)
         ]
 
-    def __enter__(self) -> "BlockCapture":
+    def __enter__(self: _Opened) -> _Opened:
         return self

@@ -2,7 +2,7 @@
 
 import ctypes
 import struct
-from typing import TYPE_CHECKING, Any, Iterator, List, NamedTuple, Optional
+from typing import TYPE_CHECKING, Any, Iterator, List, NamedTuple, Optional, TypeVar
 
 from . import _columns, _library
 from ._common import BATCH, Packets, Take, make
@@ -109,6 +109,9 @@ class Walk:
         found, bytes_here = ctypes.c_size_t(), _library.Bytes(_library.address_of(data), len(data))
         status = _library.resync(self.head, bytes_here, IN_A_ROW, found, _library.Error())
         return place + found.value if status == _library.OK else None
+
+
+_Opened = TypeVar("_Opened", bound="Capture")
 
 
 class Capture(Packets):
@@ -234,5 +237,5 @@ class Capture(Packets):
         begins: List[int] = [cut.offset for cut in cuts[: found.value]]
         return [Stretch(begin, end) for begin, end in zip(begins, [*begins[1:], len(window.data)])]
 
-    def __enter__(self) -> "Capture":
+    def __enter__(self: _Opened) -> _Opened:
         return self

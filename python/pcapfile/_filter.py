@@ -16,6 +16,9 @@ _SNAPLEN = 262144
 # The largest time in nanoseconds that 64 bits hold.
 _LATE = 2**63 - 1
 
+# The unit to which a float is rounded, in nanoseconds. Today's times as floats are about 240 nanoseconds apart.
+_MICROSECOND = 1000
+
 # The units of datetime64 that have a fixed length, in nanoseconds. The length of years and months varies.
 _UNITS = {
     "W": Fraction(604800 * 10**9),
@@ -73,7 +76,7 @@ def nanoseconds_of(name: str, moment: Optional[Moment]) -> Optional[int]:
     if getattr(getattr(moment, "dtype", None), "kind", None) == "M":
         return _of_numpy(name, moment)
     if not isinstance(moment, datetime.datetime):
-        return _arguments.nanoseconds(name, moment, "a datetime with a zone, a datetime64, or seconds since 1970")
+        return _arguments.nanoseconds(name, moment, "a datetime with a zone, a datetime64, or seconds since 1970", _MICROSECOND)
     if moment.tzinfo is None:
         raise ValueError(f"{name} is {moment}, and has no time zone; use for example datetime.timezone.utc")
     since = moment - datetime.datetime(1970, 1, 1, tzinfo=datetime.timezone.utc)

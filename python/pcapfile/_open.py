@@ -4,9 +4,9 @@ import os
 import stat
 import weakref
 from builtins import open as _open
-from typing import Any, Callable, Dict, Optional, Tuple, Union
+from typing import Any, Callable, Dict, Literal, Optional, Tuple, Union, overload
 
-from . import _arguments
+from . import _arguments, _reading
 from ._as_is import CaptureAsIs
 from ._blocks import BlockCapture
 from ._blocks_as_is import BlockCaptureAsIs
@@ -20,6 +20,14 @@ Name = Union[str, bytes, "os.PathLike[Any]"]
 
 # The type of a section header, with which every PcapNg capture begins.
 _SECTION = b"\x0a\x0d\x0d\x0a"
+
+
+@overload
+def parse(data: Data, *, strict: Literal[True] = True, gaps: bool = False) -> Union[Capture, BlockCapture]: ...
+@overload
+def parse(data: Data, *, strict: Literal[False], gaps: bool = False) -> Union[CaptureAsIs, BlockCaptureAsIs]: ...
+@overload
+def parse(data: Data, *, strict: bool, gaps: bool = False) -> Union[Capture, BlockCapture]: ...
 
 
 def parse(data: Data, *, strict: bool = True, gaps: bool = False) -> Union[Capture, BlockCapture]:
@@ -40,6 +48,18 @@ def parse(data: Data, *, strict: bool = True, gaps: bool = False) -> Union[Captu
         <pcap capture, 138 bytes>
     """
     return capture_of(Memory(data), strict=strict, gaps=gaps)
+
+
+@overload
+def open(
+    file: Union[Name, int, Any], *, strict: Literal[True] = True, gaps: bool = False, follow: bool = False
+) -> Union[Capture, BlockCapture]: ...
+@overload
+def open(
+    file: Union[Name, int, Any], *, strict: Literal[False], gaps: bool = False, follow: bool = False
+) -> Union[CaptureAsIs, BlockCaptureAsIs]: ...
+@overload
+def open(file: Union[Name, int, Any], *, strict: bool, gaps: bool = False, follow: bool = False) -> Union[Capture, BlockCapture]: ...
 
 
 def open(
@@ -80,6 +100,7 @@ def open(
         wanted = "a name, the number of a descriptor, or an object with `readinto` or `read`"
         return _of_stream(_arguments.stream("file", file, ("readinto", "read"), wanted), strict, gaps)
     stream = _open(file, "rb", buffering=0)
+    _reading.begin(stream)
     status = os.fstat(stream.fileno())
     try:
         if stat.S_ISREG(status.st_mode) and status.st_size > 0:
@@ -123,7 +144,9 @@ def _of_descriptor(number: int, strict: bool, gaps: bool) -> Union[Capture, Bloc
     except BaseException:
         os.close(number)
         raise
-    begun.own(_open(number, "rb", buffering=0))
+    own = _open(number, "rb", buffering=0)
+    _reading.begin(own)
+    begun.own(own)
     return capture
 
 
@@ -163,6 +186,7 @@ def _is_remembered(stream: Any) -> bool:
 def in_file(path: Name, stretch: Optional[Stretch] = None) -> Union[Capture, BlockCapture]:
     """Returns the capture in a regular file, or a stretch of it. It raises a ValueError for other and for compressed files."""
     stream = _open(path, "rb", buffering=0)
+    _reading.begin(stream)
     try:
         if not stat.S_ISREG(os.fstat(stream.fileno()).st_mode):
             raise ValueError("only a capture in a regular file has parts")

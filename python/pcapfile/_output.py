@@ -5,7 +5,7 @@ import os
 from builtins import open as _open
 from typing import Any, List, Optional, Tuple, Union
 
-from . import _arguments
+from . import _arguments, _reading
 
 Name = Union[str, bytes, "os.PathLike[Any]"]
 
@@ -14,13 +14,14 @@ UNSPECIFIED = b"\xff" * 8
 
 
 class Output:
-    """A file that the Writer opened, or an object that has `write`. After a write has failed, each later one raises an OSError."""
+    """A file that the Writer opened, or an object that has `write`. After a write has failed, each later one raises an OSError. After
+    the end each raises a ValueError."""
 
     # True if several packets may be written together.
     joins = True
 
     def __init__(self, file: Any, is_mine: bool) -> None:
-        self._file, self._is_mine, self._has_failed = file, is_mine, False
+        self._file, self._is_mine, self._has_failed, self._is_closed = file, is_mine, False, False
 
     def front(self, text: bytes) -> None:
         """Writes a header, or a block that later packets need."""
@@ -43,14 +44,16 @@ class Output:
         self._write(text)
 
     @property
-    def has_failed(self) -> bool:
+    def is_over(self) -> bool:
         """Whether an earlier write failed, or the output is closed."""
-        return self._has_failed
+        return self._has_failed or self._is_closed
 
     def check(self) -> None:
-        """Raises an OSError if an earlier write failed, or if the output is closed."""
+        """Raises a ValueError if the output is closed, and an OSError if an earlier write failed."""
+        if self._is_closed:
+            raise ValueError("the Writer is closed")
         if self._has_failed:
-            raise OSError("an earlier write failed, or the Writer is closed")
+            raise OSError("an earlier write failed")
 
     def _write(self, text: Union[bytes, memoryview]) -> None:
         self.check()
@@ -65,14 +68,14 @@ class Output:
 
     def close(self) -> None:
         try:
-            if not self._has_failed and hasattr(self._file, "flush"):
+            if not self.is_over and hasattr(self._file, "flush"):
                 self._file.flush()
         finally:
             self.abandon()
 
     def abandon(self) -> None:
         """Closes the file without flushing it, if the Writer opened it."""
-        self._has_failed = True
+        self._is_closed = True
         if self._is_mine:
             self._file.close()
 
@@ -117,7 +120,7 @@ class Numbered(Output):
     def _opened(self) -> Any:
         stem, extension = os.path.splitext(self._name)
         name = f"{stem}-{len(self.files) + 1:05}{extension}"
-        file = _open(name, "wb")
+        file = _emptied(name)
         self.files.append(name)
         return file
 
@@ -163,10 +166,17 @@ class Numbered(Output):
         self._length, self._begin = sum(map(len, self._front)), None
 
 
+def _emptied(name: Name) -> Any:
+    """Opens a file for writing, and empties it. It raises a ValueError, and leaves the file as it is, if a capture reads it."""
+    _reading.check(name)
+    return _open(name, "wb")
+
+
 def limits_of(file: Any, append: bool, max_bytes: Optional[int], max_seconds: Optional[float]) -> Tuple[Optional[int], Optional[int]]:
     """Checks the limits of a Writer's files. Returns the most bytes of a file, and the most nanoseconds from its first packet to the
     next file, or None."""
     is_numbered = max_bytes is not None or max_seconds is not None
+    append = _arguments.truth("append", append)
     if (append or is_numbered) and not _arguments.is_name(file):
         raise _arguments.wrong_type("file", file, "the name of a file if append, max_bytes or max_seconds is given")
     if append and is_numbered:
@@ -183,5 +193,5 @@ def output_of(file: Any, most_bytes: Optional[int], most_time: Optional[int]) ->
     if most_bytes is not None or most_time is not None:
         return Numbered(file, most_bytes, most_time)
     if _arguments.is_name(file):
-        return Output(_open(file, "wb"), True)
+        return Output(_emptied(file), True)
     return Output(_arguments.stream("file", file, ("write",), "a name, or an object that has `write`"), False)

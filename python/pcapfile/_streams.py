@@ -6,6 +6,7 @@ import threading
 import time
 from typing import Any, Callable, Iterator, Optional
 
+from . import _reading
 from ._extension import Open
 from ._windows import CHUNK, Rooms, Window
 
@@ -69,6 +70,7 @@ class Growing:
 
     def __init__(self, name: Any) -> None:
         self._file = open(name, "rb", buffering=0)
+        _reading.begin(self._file)
 
     def readinto(self, room: memoryview) -> int:
         while True:

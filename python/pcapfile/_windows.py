@@ -130,6 +130,8 @@ class _OfFile(Window):
     """A window over the bytes of a file between two offsets, which it reads piece by piece."""
 
     def __init__(self, file: "File", begin: int, end: int, data: memoryview) -> None:
+        # The walk keeps the file open, so that no Writer empties it.
+        self._file = file
         self._descriptor, self._next, self._end = file.descriptor(), begin, end
         super().__init__(file.open, data, begin)
         self.left.len = 0

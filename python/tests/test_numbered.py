@@ -111,8 +111,21 @@ class Numbered(InFolder):
         writer.write(b"b", 2)
         writer.close()
         self.assertEqual(files(), [HEADER + packet(1, 0, b"a"), HEADER + packet(2, 0, b"b")])
-        with self.assertRaises(OSError):
+        with self.assertRaises(ValueError):
             writer.write(b"c", 3)
+
+    def test_a_file_that_a_capture_reads(self):
+        """The second file is being read. The Writer leaves it as it is, and goes on when the capture is closed."""
+        Path("out-00002.pcap").write_bytes(HEADER + packet(9, 0, b"z"))
+        writer = pcapfile.Writer("out.pcap", max_bytes=1)
+        writer.write(b"a", 1)
+        with pcapfile.open("out-00002.pcap") as capture:
+            with self.assertRaisesRegex(ValueError, "is being read"):
+                writer.write(b"b", 2)
+            self.assertEqual([bytes(each) for each in capture], [b"z"])
+        writer.write(b"b", 2)
+        writer.close()
+        self.assertEqual(files(), [HEADER + packet(1, 0, b"a"), HEADER + packet(2, 0, b"b")])
 
 
 if __name__ == "__main__":

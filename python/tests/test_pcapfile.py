@@ -200,6 +200,13 @@ class Refusals(unittest.TestCase):
 
 
 class Library(unittest.TestCase):
+    def test_the_names_that_it_lists(self):
+        """`dir` lists the public names, also those that are imported on first use, and no name that it imports for itself."""
+        ran = subprocess.run([sys.executable, "-c", "import pcapfile; print(*dir(pcapfile))"], capture_output=True, text=True, check=True)
+        names = ran.stdout.split()
+        self.assertLessEqual({*pcapfile.__all__, "convert", "aopen", "ProgramError", "__doc__", "__version__"}, set(names))
+        self.assertEqual([it for it in names if it not in pcapfile.__all__ and not it.startswith("__")], [])
+
     def test_one_that_is_not_there(self):
         named = {**os.environ, "PCAPFILE_LIBRARY": "/nowhere/libpcapfile.so"}
         ran = subprocess.run([sys.executable, "-c", "import pcapfile"], env=named, capture_output=True, text=True)

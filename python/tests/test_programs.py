@@ -69,6 +69,15 @@ class Programs(InFolder):
         with self.assertWarnsRegex(pcapfile.CaptureWarning, "20 bytes at byte 43 are of a packet that is cut short"):
             self.assertEqual(pcapfile.info("a.pcap", repaired=True)["packets"], 1)
 
+    def test_info_of_a_malformed_capture(self):
+        """The second packet stores more bytes than it had. The call neither raises nor warns, and describes the first packet."""
+        Path("a.pcap").write_bytes(HEADER + packet(7, 0, b"abc") + packet(9, 0, b"defgh", 4))
+        with warnings.catch_warnings():
+            warnings.simplefilter("error")
+            told = pcapfile.info("a.pcap")
+        self.assertEqual((told["status"], told["packets"], told["stored"], told["latest"]), (1, 1, 3, "7.000000000"))
+        self.assertIn("refused at byte 43 by rule 5", told["check"])
+
     def test_info_of_interfaces(self):
         named = interface(113, 0, option(2, b"eth7") + option(0, b""))
         Path("a.pcapng").write_bytes(SECTION + interface(1) + named + enhanced(1, 5_000_000, b"abc"))

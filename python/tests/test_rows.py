@@ -178,7 +178,7 @@ class Rows(unittest.TestCase):
             pcapfile.Writer(Full()).write_rows(rows, text)
         writer = pcapfile.Writer(io.BytesIO())
         writer.close()
-        with self.assertRaises(OSError):
+        with self.assertRaises(ValueError):
             writer.write_rows(rows, text)
 
 

@@ -156,6 +156,10 @@ class Writers(unittest.TestCase):
                 file.write(SECTION)
             for words in ({"link": 65536}, {"link": -1}, {"snaplen": 1 << 32}, {"byteorder": "middle"}, {"link": 65536, "max_bytes": 9}):
                 self.assertRaises(ValueError, pcapfile.Writer, name, **words)
+            wrong = {"nanoseconds": ("x", 1, None), "append": ("x",), "link": ("1",), "snaplen": (None,), "like": (name,)}
+            for word, values in wrong.items():
+                for value in values:
+                    self.assertRaises(TypeError, pcapfile.Writer, name, **{word: value})
             with open(name, "rb") as file:
                 self.assertEqual(file.read(), SECTION)
             self.assertEqual(os.listdir(room), ["capture.pcapng"])
@@ -331,6 +335,95 @@ class Writers(unittest.TestCase):
             self.assertRaisesRegex(ValueError, "compressed", pcapfile.Writer, name, append=True)
             self.assertRaises(TypeError, pcapfile.Writer, io.BytesIO(), append=True)
 
+    def test_arguments_that_contradict_the_file_or_the_other_capture(self):
+        """A file that is continued keeps its properties, and so does a capture like another one. Equal arguments are accepted."""
+        classic = {"format": "pcap", "link": 113, "snaplen": 60, "byteorder": "big", "nanoseconds": False}
+        blocks = {"format": "pcapng", "link": 113, "snaplen": 60, "byteorder": "big"}
+        others = {"format": "pcap", "link": 101, "snaplen": 61, "byteorder": "little", "nanoseconds": True}
+        with tempfile.TemporaryDirectory() as room:
+            name = os.path.join(room, "it")
+            for words in (classic, blocks):
+                whole = written(**words)
+                with open(name, "wb") as file:
+                    file.write(whole)
+                with pcapfile.parse(whole) as capture:
+                    for word, value in words.items():
+                        other = "pcapng" if (word, value) == ("format", "pcap") else others[word]
+                        wanted = f"^{word} is {other!r}, "
+                        with self.subTest(words=words, word=word):
+                            self.assertRaisesRegex(ValueError, wanted, pcapfile.Writer, name, append=True, **{word: other})
+                            self.assertRaisesRegex(ValueError, wanted, pcapfile.Writer, name, like=capture, **{word: other})
+                            with open(name, "rb") as file:
+                                self.assertEqual(file.read(), whole)
+                with pcapfile.Writer(name, append=True, **words) as writer:
+                    writer.write(b"more", TIME)
+                with pcapfile.open(name) as capture:
+                    self.assertEqual([(bytes(p), p.link) for p in capture][-2:], [(b"abc", 113), (b"more", 113)])
+                with pcapfile.parse(whole) as capture:
+                    same = classic if words is classic else {"format": "pcapng", "byteorder": "big"}
+                    self.assertEqual(self.copied(capture, like=capture, **same), self.copied(capture, like=capture))
+            # Without a link type the Writer adds no interface, which contradicts nothing.
+            pcapfile.Writer(name, append=True, link=None).close()
+            with open(name, "wb") as file:
+                file.write(SECTION)
+            self.assertRaisesRegex(ValueError, "^link is 1, ", pcapfile.Writer, name, append=True, link=1)
+
+    def test_no_writer_empties_the_file_that_a_capture_reads(self):
+        """The file keeps its bytes, by whatever name the Writer has it. After the capture is closed or gone, the Writer empties it."""
+        whole = written()
+        with tempfile.TemporaryDirectory() as room:
+            names = [os.path.join(room, it) for it in ("it.pcap", "soft.pcap", "hard.pcap", "n-00001.pcap")]
+            with open(names[0], "wb") as file:
+                file.write(whole)
+            os.symlink("it.pcap", names[1])
+            os.link(names[0], names[2])
+            os.link(names[0], names[3])
+            (part,) = pcapfile.parts(names[0], 1)
+
+            def refuses(**words):
+                for name in names[:3]:
+                    with self.assertRaisesRegex(ValueError, "is being read"):
+                        pcapfile.Writer(name, **words)
+                self.assertRaisesRegex(ValueError, "is being read", pcapfile.Writer, os.path.join(room, "n.pcap"), max_bytes=500, **words)
+                with open(names[0], "rb") as file:
+                    self.assertEqual(file.read(), whole)
+
+            for opened in (
+                pcapfile.open,
+                lambda name: pcapfile.open(name, strict=False),
+                lambda name: pcapfile.open(name, follow=True),
+                lambda name: pcapfile.open(os.open(name, os.O_RDONLY)),
+                lambda _: part.open(),
+            ):
+                with opened(names[1]) as capture:
+                    refuses()
+                    refuses(like=capture)
+                    self.assertEqual(bytes(next(iter(capture))), b"")
+            packets = iter(pcapfile.open(names[0]))
+            next(packets)
+            refuses()
+            del packets
+            pcapfile.Writer(names[1]).close()
+            self.assertEqual(os.path.getsize(names[0]), 24)
+            with pcapfile.Writer(names[0]) as writer:
+                writer.write(b"abc", 5)
+            capture = pcapfile.open(names[0])
+            del capture
+            pcapfile.Writer(names[0]).close()
+
+    def test_appending_to_the_file_that_a_capture_reads(self):
+        """The capture ends where the file ended when it was opened."""
+        with tempfile.TemporaryDirectory() as room:
+            for form in ("pcap", "pcapng"):
+                name = os.path.join(room, form)
+                with open(name, "wb") as file:
+                    file.write(written(format=form))
+                with pcapfile.open(name) as capture, pcapfile.Writer(name, like=capture, append=True) as writer:
+                    for packet in capture:
+                        writer.write(bytes(packet), time_ns=packet.time_ns)
+                with pcapfile.open(name) as capture:
+                    self.assertEqual([bytes(p) for p in capture], 2 * [b"abc"[:n] for n in range(4)])
+
     def appended(self, data, *calls):
         """Returns the file with these bytes after a Writer goes on with it and makes these calls."""
         with tempfile.TemporaryDirectory() as room:
@@ -340,7 +433,7 @@ class Writers(unittest.TestCase):
             with pcapfile.Writer(name, append=True) as writer:
                 for call in calls:
                     call(writer)
-            self.assertRaises(OSError, writer.write, b"a", 1)
+            self.assertRaises(ValueError, writer.write, b"a", 1)
             with open(name, "rb") as file:
                 return file.read()
 
@@ -425,6 +518,36 @@ class Writers(unittest.TestCase):
                 self.assertEqual([p.timestamp for p in capture], [0, units])
         self.assertRaises(ValueError, pcapfile.Writer(io.BytesIO(), "pcapng").write, b"", -1)
 
+    def test_floats_are_rounded_to_microseconds(self):
+        """The nearest microsecond of a float is the one that its decimal digits show. Other times stay exact."""
+        file = io.BytesIO()
+        with pcapfile.Writer(file, nanoseconds=False) as writer:
+            for time in (1700000000.1, 1700000000.100001, 1700000000.999999, 4294967295.999999, 0.000001, 1700000000.9999999):
+                writer.write(b"x", time)
+        with pcapfile.parse(file.getvalue()) as capture:
+            wanted = [(1700000000, 100000), (1700000000, 100001), (1700000000, 999999), (4294967295, 999999), (0, 1), (1700000001, 0)]
+            self.assertEqual([(p.seconds, p.nanoseconds // 1000) for p in capture], wanted)
+        file = io.BytesIO()
+        exact = [Fraction(TIME * 10**9 + 1, 10**9), Decimal("1335958313.000000001"), datetime.datetime.fromtimestamp(TIME, datetime.timezone.utc)]
+        with pcapfile.Writer(file) as writer:
+            for time in exact:
+                writer.write(b"x", time)
+            writer.write(b"x", time_ns=TIME * 10**9 + 1)
+            writer.write(b"x", 1700000000.1)
+        with pcapfile.parse(file.getvalue()) as capture:
+            ones = [TIME * 10**9 + n for n in (1, 1, 0, 1)]
+            self.assertEqual([p.time_ns for p in capture], [*ones, 1700000000_100000000])
+
+    def test_copies_by_float_keep_microseconds(self):
+        """Each time of a capture in microseconds survives a copy by `time`."""
+        times = [(seconds, n * 7919 % 10**6) for n in range(2000) for seconds in (0, TIME, 1_700_000_000, 2**32 - 1)]
+        data = given.HEADER + b"".join(given.packet(*time, b"") for time in times)
+        file = io.BytesIO()
+        with pcapfile.parse(data) as capture, pcapfile.Writer(file, like=capture) as writer:
+            for packet in capture:
+                writer.write(bytes(packet), packet.time, original_length=packet.original_length)
+        self.assertEqual(file.getvalue(), data)
+
     def test_a_failed_write_leaves_a_beginning(self):
         for words in ({"format": "pcap"}, {"format": "pcapng"}):
             whole = written(**words)
@@ -439,6 +562,8 @@ class Writers(unittest.TestCase):
                     self.assertEqual(file.data, whole[:room])
                     if writer is not None:
                         self.assertRaises(OSError, writer.write, b"a", 1)
+                        writer.close()
+                        self.assertRaisesRegex(ValueError, "closed", writer.write, b"a", 1)
                 else:
                     self.fail("a file took more than it had room for")
                 self.assertEqual(file.data, whole[:room])
@@ -456,7 +581,7 @@ class Writers(unittest.TestCase):
             name = os.path.join(room, "capture.pcapng")
             with pcapfile.Writer(name, "pcapng") as writer:
                 writer.write(b"abc", TIME, 5, 98)
-            self.assertRaises(OSError, writer.write, b"a", 1)
+            self.assertRaises(ValueError, writer.write, b"a", 1)
             with pcapfile.open(name) as capture:
                 self.assertEqual([(p.seconds, p.nanoseconds, bytes(p.data)) for p in capture], [(TIME, 5, b"abc")])
 
