@@ -244,6 +244,7 @@ BLOCKS = "pcapfile: {{0}}: {} blocks of {} are left out\n"
 ONE_BLOCK = "pcapfile: {{0}}: 1 block of {} is left out\n"
 OPENING = "pcapfile: {0}: options of the first section and interface are left out\n"
 TORN, EMPTY = "pcapfile: in: cut short at byte {}\n", "pcapfile: in: is empty\n"
+REFUSED = "refused at byte {} by rule {}: {}"
 WORDS = ["in", "-o", "out"]
 
 
@@ -260,13 +261,13 @@ def try_faults(tally):
                 tally.fails(f"{len(capture)} bytes cut at {at}, to {to}", words, {"in": capture[:at]}, AT_FAULT, said)
     longer = struct.pack(">IIII", 1, 0, 2, 1) + b"hi"
     rows = (
-        ("a packet longer than on the wire", captures[0][0] + longer, "PacketHeader incl_len > orig_len"),
-        ("no capture", b"\1these are 24 or more bytes", "PcapHeader wrong magic number"),
-        ("a block of 13 bytes", captures[1][0] + struct.pack(">III", 255, 13, 0), "Block: (initial_len % 4) != 0"),
+        ("a packet longer than on the wire", captures[0][0], longer, REFUSED.format(len(captures[0][0]), 5, "PacketHeader incl_len > orig_len")),
+        ("no capture", b"", b"\1these are 24 or more bytes", "Invalid field value: PcapHeader wrong magic number"),
+        ("a block of 13 bytes", captures[1][0], struct.pack(">III", 255, 13, 0), REFUSED.format(len(captures[1][0]), 7, "Block: (initial_len % 4) != 0")),
     )
-    for name, capture, rule in rows:
-        for held in ({"in": capture}, {"in": capture, "out": b"old"}):
-            tally.fails(name, WORDS, held, AT_FAULT, f"pcapfile: in: Invalid field value: {rule}\n")
+    for name, before, refused, said in rows:
+        for held in ({"in": before + refused}, {"in": before + refused, "out": b"old"}):
+            tally.fails(name, WORDS, held, AT_FAULT, f"pcapfile: in: {said}\n")
 
 
 def try_files(tally):

@@ -69,6 +69,17 @@ def try_parts(tally, help):
                 joins(tally, help, f"{name} parts, joined", made, capture)
 
 
+def try_left(tally, help):
+    """Checks that a message names the part of an earlier run that has the next number, and that such parts stay."""
+    capture, ends = help.classic("<", 0xA1B2C3D4, 1000, 1, help.FEW)
+    header, texts = pieces(capture, ends)
+    each = numbered([header + it for it in texts])
+    behind = f"out-{len(texts) + 1:05}.pcap"
+    for left, is_told in (({}, False), (dict.fromkeys(each, b"old"), False), ({behind: b"old"}, True), ({f"out-{len(texts) + 2:05}.pcap": b"old"}, False)):
+        said = f"pcapfile: {behind}: is left from an earlier run, and is no part of in\n" if is_told else ""
+        expects(tally, help, f"parts beside {sorted(left)}", {"in": capture, **left}, ["cut", "in", "--every", "1", "-o", "out.pcap"], each, DONE, said)
+
+
 def heaped(header, texts, size):
     """Returns parts that end with the packet at which they reach this many bytes."""
     parts = [header]
@@ -444,5 +455,5 @@ def try_block_ranges(tally, help, found):
 
 
 def try_all(tally, help):
-    for tries in (try_parts, try_spans, try_sizes, try_ranges, try_faults, try_pipes, try_special, try_blocks):
+    for tries in (try_parts, try_left, try_spans, try_sizes, try_ranges, try_faults, try_pipes, try_special, try_blocks):
         tries(tally, help)

@@ -27,7 +27,8 @@ def files(capture):
     for magic in ("a1b2cd34", "34cdb2a1"):
         yield bytes.fromhex(magic) + capture[4:], "has packet headers of 24 bytes, as a modified libpcap writes them; 'pcapfile repair' makes it a plain capture"
     yield b"snoop\0\0\0" + bytes(8) + capture, CONVERTS.format("snoop")
-    yield ERF * 3, CONVERTS.format("ERF")
+    for records in (ERF, ERF * 3, ERF * 5, ERF * 2 + ERF[:15], ERF * 2 + ERF[:16], ERF * 4 + bytes(40)):
+        yield records, CONVERTS.format("ERF")
     for page in (b"<!DOCTYPE html>\n<html>", b"  \n<HTML lang=en>", b"<!doctype HTML"):
         yield page, "is an HTML page, not a capture"
     for text in (b"a text", b"\n\ttwo lines\r\nof it\n" * 99, b"4\n48 0 0 0\n", b"1" * 600 + b"\xff"):
@@ -43,7 +44,8 @@ def try_names(tally, help):
         with tempfile.TemporaryDirectory() as folder:
             code, written, told = cutting.ran(tally, folder, "info", "--json", "-", given=content)
         tally.note(f"JSON of {content[:8]}", (code, told) != (AT_FAULT, f"pcapfile: -: {said}\n") and f"it said {told!r}", written.count(b"\n") != 1 and f"it wrote {written}")
-    for content in (bytes(40), b"\x0b", b"a text\0", ERF[:12], b"\xc3\xa4"):
+    other = (ERF[:12], ERF[:79], ERF + bytes(40), ERF * 3 + bytes(40))
+    for content in (bytes(40), b"\x0b", b"a text\0", b"\xc3\xa4", *other):
         with tempfile.TemporaryDirectory() as folder:
             help.put(folder, "in", content)
             code, written, told = cutting.ran(tally, folder, "check", "in")

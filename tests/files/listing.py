@@ -146,8 +146,7 @@ class Lists:
         refused = sum(row[3] is None for row, _ in rows_of(whole))
         status, said = max(status, AT_FAULT * (refused > 0)), malformed(refused) + said
         for piped in (False, True):
-            # A pipe can't be read again to find where its last packet begins.
-            told = re.sub("cut short at byte .*", "cut short", said.format("-")) if piped else said.format("in")
+            told = without_byte(said.format("-")) if piped else said.format("in")
             dated, rows = UTC_HEADING + "".join(utc_csv(whole)), HEADING + "".join(csv(whole))
             for form, wanted in ((("--utc",), "".join(utc(whole))), (("--csv",), rows), (BOTH, dated)):
                 ended = self.run({"in": capture}, form, piped)
@@ -160,6 +159,11 @@ class Lists:
                 found != objects(whole) and f"it has {found}, and not {objects(whole)}",
                 out and not out.endswith("\n") and "its last line has no end",
             )
+
+
+def without_byte(said):
+    """Returns the message on a pipe, which can't be read again to find where its last packet begins."""
+    return re.sub("refused at byte .* by rule .*?: ", "Invalid field value: ", re.sub("cut short at byte .*", "cut short", said))
 
 
 def try_classic(lists):
@@ -205,7 +209,7 @@ def try_cut(lists):
                 lists.lists(f"cut at {at} of {len(capture)}", capture[:at], AT_FAULT, said, whole)
     capture, _ = lib.classic("<", 0xA1B23C4D, 1, lib.RAW, lib.FEW)
     longer = struct.pack("<IIII", 1, 0, 2, 1) + b"hi"
-    said = "pcapfile: {0}: Invalid field value: PacketHeader incl_len > orig_len\n"
+    said = f"pcapfile: {{0}}: refused at byte {len(capture)} by rule 5: PacketHeader incl_len > orig_len\n"
     lists.lists("a packet longer than on the wire", capture + longer, AT_FAULT, said, capture)
 
 

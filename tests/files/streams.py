@@ -201,6 +201,22 @@ def try_other_names(tally):
             tally.note(f"a format of {name}", status != USAGE and f"it ended with {status}", ACTS.search(said) and said)
 
 
+def try_twice(tally):
+    """Checks that the program refuses to read standard input twice, before it writes anything."""
+    lists = (["check"], ["check", "--as-is"], ["info"], ["info", "--json"], ["list"], ["list", "--csv"], ["list", "--as-is"])
+    writing = (["merge", "-o", "out"], ["merge", "--append", "-o", "out"], ["join", "-o", "out"])
+    for words in (*lists, *writing):
+        for names in (["-", "-"], ["-", "in", "-"]):
+            with Folder(tally.program, **{"in": CAPTURE, "out": b"old"}) as folder:
+                ended = folder.run(*words, *names)
+                said = f"error: '-' is given twice, but standard input can be read only once\nFor more information, try 'pcapfile {words[0]} --help'.\n"
+                tally.note(
+                    f"{' '.join(words)} of {' '.join(names)}",
+                    ended != (USAGE, b"", said) and f"it ended with {ended}",
+                    folder.get("out") != b"old" and "the output differs",
+                )
+
+
 def try_remedies(tally):
     """Checks that the last line names a way to read more if a malformed capture ends a word, and that no line does otherwise."""
     for words, remedy in (
@@ -302,5 +318,5 @@ def try_about(tally):
 
 
 def try_all(tally):
-    for tries in (try_about, try_closed, try_unread, try_shown, try_other_names, try_remedies, try_foreign, try_times, try_first_block):
+    for tries in (try_about, try_closed, try_unread, try_shown, try_other_names, try_twice, try_remedies, try_foreign, try_times, try_first_block):
         tries(tally)

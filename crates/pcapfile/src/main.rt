@@ -104,6 +104,9 @@ fn tell_refusal(rt: &HostRuntime, word: &str, refusal: Refusal) -> io::Result<u8
         Refusal::Value(argument, forms) => eprintln!(rt;
             "error: the value of --{argument} is wrong; write it as {forms}"
         )?,
+        Refusal::Twice => eprintln!(rt;
+            "error: '-' is given twice, but standard input can be read only once"
+        )?,
         Refusal::Zone => eprintln!(rt;
             "error: the system's time zone can't be read; set TZ, or give a time with its zone"
         )?,

@@ -5,7 +5,7 @@ use clap::ArgMatches;
 use pcapfile_command::words;
 use pcapfile_command::words::Word;
 use pcapfile_cut::{Changes, Range, Shift, TsResolution};
-use pcapfile_files::{Console, Inputs, PCAP_EXTENSIONS, PCAPNG_EXTENSIONS};
+use pcapfile_files::{Console, Inputs, PCAP_EXTENSIONS, PCAPNG_EXTENSIONS, STANDARD};
 use pcapfile_lines::Form;
 use pcapfile_merge::PacketOrder;
 use pcapfile_run::Format;
@@ -45,6 +45,8 @@ pub(crate) enum Refusal {
     Value(&'static str, &'static str),
     /// The system's zone can't be read.
     Zone,
+    /// Standard input is named more than once.
+    Twice,
     /// Memory ran out.
     OutOfMemory(AllocError),
 }
@@ -81,14 +83,14 @@ impl<'a> Task<'a> {
         words: &'a ArgMatches<'_>,
     ) -> Result<Task<'a>, Refusal> {
         Ok(match word {
-            Word::Check if words.get_flag(words::AS_IS) => Task::CheckAsIs(inputs(words)),
-            Word::Check => Task::Check(checking(words)),
+            Word::Check if words.get_flag(words::AS_IS) => Task::CheckAsIs(inputs(words)?),
+            Word::Check => Task::Check(checking(words)?),
             Word::Info => Task::Info(informing(rt, words)?),
-            Word::List if words.get_flag(words::AS_IS) => Task::ListAsIs(files(words)),
+            Word::List if words.get_flag(words::AS_IS) => Task::ListAsIs(files(words)?),
             Word::List => Task::List(listing(rt, words)?),
             Word::Convert => Task::Convert(conversion(rt, words)?),
             Word::Cut => Task::Cut(cutting(rt, words)?),
-            Word::Join => Task::Join(joining(words)),
+            Word::Join => Task::Join(joining(words)?),
             Word::Merge => Task::Merge(merging(rt, words)?),
             Word::Sort => Task::Sort(sorting(words)),
             Word::Repair => Task::Repair(repairing(words)?),
@@ -174,16 +176,31 @@ fn is_repaired(words: &ArgMatches) -> bool {
     words.get_flag(words::REPAIRED) || words.get_flag(words::AS_IS)
 }
 
-fn files<'a>(words: &'a ArgMatches<'_>) -> &'a [&'a str] {
-    words.get_strs(words::FILES).unwrap_or_default()
+// Returns the names of the files that a command reads.
+fn files<'a>(words: &'a ArgMatches<'_>) -> Result<&'a [&'a str], Refusal> {
+    once(words.get_strs(words::FILES).unwrap_or_default())
+}
+
+// Returns these names of files. Refuses them if several are standard input, whose bytes can be read once.
+fn once<'a>(names: &'a [&'a str]) -> Result<&'a [&'a str], Refusal> {
+    let mut is_named = false;
+    for name in names {
+        if *name == STANDARD {
+            if is_named {
+                return Err(Refusal::Twice);
+            }
+            is_named = true;
+        }
+    }
+    Ok(names)
 }
 
 // Returns the names of the files and folders that a command reads.
-fn inputs<'a>(words: &'a ArgMatches<'_>) -> Inputs<'a> {
-    Inputs {
-        names: files(words),
+fn inputs<'a>(words: &'a ArgMatches<'_>) -> Result<Inputs<'a>, Refusal> {
+    Ok(Inputs {
+        names: files(words)?,
         is_recursive: words.get_flag(words::RECURSIVE),
-    }
+    })
 }
 
 // Returns the format that the extension of a file's name stands for, if it stands for one.
@@ -325,17 +342,17 @@ fn cutting<'a>(rt: &HostRuntime, words: &ArgMatches<'a>) -> Result<Cutting<'a>, 
 }
 
 // Returns the arguments of the word `join`.
-fn joining<'a>(words: &'a ArgMatches<'_>) -> Joining<'a> {
-    Joining {
-        parts: words.get_strs(words::PARTS_IN).unwrap_or_default(),
+fn joining<'a>(words: &'a ArgMatches<'_>) -> Result<Joining<'a>, Refusal> {
+    Ok(Joining {
+        parts: once(words.get_strs(words::PARTS_IN).unwrap_or_default())?,
         out: words.get_str(words::OUT).unwrap_or_default(),
-    }
+    })
 }
 
 // Returns the arguments of the word `list`.
 fn listing<'a>(rt: &HostRuntime, words: &'a ArgMatches<'_>) -> Result<Listing<'a>, Refusal> {
     Ok(Listing {
-        names: files(words),
+        names: files(words)?,
         form: form(words),
         most: words.get_one(words::COUNT),
         choice: choice(rt, words)?,
@@ -361,7 +378,7 @@ fn form(words: &ArgMatches) -> Option<Form> {
 fn merging<'a>(rt: &HostRuntime, words: &'a ArgMatches<'_>) -> Result<Merge<'a>, Refusal> {
     let out = words.get_str(words::OUT).unwrap_or_default();
     Ok(Merge {
-        names: files(words),
+        names: files(words)?,
         order: packet_order(words),
         to: format(words, out).unwrap_or(Format::PcapNg),
         out,
@@ -388,17 +405,17 @@ fn sorting<'a>(words: &ArgMatches<'a>) -> Sorting<'a> {
 }
 
 // Returns the arguments of the word `check`.
-fn checking<'a>(words: &'a ArgMatches<'_>) -> Checking<'a> {
-    Checking {
-        inputs: inputs(words),
+fn checking<'a>(words: &'a ArgMatches<'_>) -> Result<Checking<'a>, Refusal> {
+    Ok(Checking {
+        inputs: inputs(words)?,
         bodies: words.get_flag(words::BODIES),
-    }
+    })
 }
 
 // Returns the arguments of the word `info`.
 fn informing<'a>(rt: &HostRuntime, words: &'a ArgMatches<'_>) -> Result<Informing<'a>, Refusal> {
     Ok(Informing {
-        inputs: inputs(words),
+        inputs: inputs(words)?,
         form: reporting(words),
         in_total: words.get_flag(words::TOTAL),
         with_digest: words.get_flag(words::HASH),

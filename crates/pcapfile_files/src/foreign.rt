@@ -14,6 +14,9 @@ const MAGIC: usize = 4;
 /// The length of a record's header in an ERF file, in bytes.
 const ERF_HEADER: usize = 16;
 
+/// The most records by which an ERF file is recognized. Other bytes are often a plausible record, and rarely several.
+const ERF_RECORDS: u32 = 4;
+
 /// The first second of 1990, since 1970. Earlier times are taken for other bytes.
 const YEAR_1990: u32 = 631_152_000;
 
@@ -233,14 +236,28 @@ fn is_text(bytes: &[u8]) -> bool {
         || matches!(*byte, b' ' | b'\t' | b'\r' | b'\n'))
 }
 
-// Returns whether the bytes begin with a record of an ERF file: a plausible time, a known type, and a length that holds the header.
+// Returns whether the bytes begin with records of an ERF file. Up to four of them are looked at, as far as they lie in the bytes.
 fn is_erf(bytes: &[u8]) -> bool {
-    let Some(head) = bytes.get(..ERF_HEADER) else {
-        return false;
-    };
+    let mut left = bytes;
+    for record in 0..ERF_RECORDS {
+        let Some(length) = erf_length(left) else {
+            return record > 0 && left.len() < ERF_HEADER;
+        };
+        let Some(rest) = left.get(length..) else {
+            return record > 0;
+        };
+        left = rest;
+    }
+    true
+}
+
+// Returns the length of an ERF record if its header is plausible: a time since 1990, a known type, and a length that holds the header.
+fn erf_length(bytes: &[u8]) -> Option<usize> {
+    let head = bytes.get(..ERF_HEADER)?;
     let seconds = u32::from_le_bytes([head[4], head[5], head[6], head[7]]);
-    let length = u16::from_be_bytes([head[10], head[11]]);
-    seconds >= YEAR_1990
+    let length = usize::from(u16::from_be_bytes([head[10], head[11]]));
+    let is_plausible = seconds >= YEAR_1990
         && (1..=48).contains(&(head[8] & 0x7F))
-        && usize::from(length) >= ERF_HEADER
+        && length >= ERF_HEADER;
+    if is_plausible { Some(length) } else { None }
 }

@@ -29,5 +29,5 @@ pub use shown::{NOT_UTF8, Shown, ShownJson};
 pub use standard::keep_standard_streams;
 pub use tell::{
     AT_FAULT, FAILED, UNREAD, USAGE, status_of, tell_changed, tell_error, tell_exit, tell_foreign,
-    tell_io, tell_misnamed, tell_other_file, tell_unwritten,
+    tell_io, tell_misnamed, tell_other_file, tell_refused, tell_unwritten,
 };

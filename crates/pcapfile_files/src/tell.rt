@@ -8,6 +8,7 @@ use crate::console::Console;
 use crate::foreign::Foreign;
 use crate::shown::{NOT_UTF8, Shown};
 use pcap_core::PcapError;
+use pcap_core::rules::Rule;
 use pcap_program::Exit;
 use std::io;
 use std::io::ErrorKind;
@@ -77,6 +78,17 @@ pub fn tell_error(console: &Console, name: &str, error: &PcapError) -> io::Resul
         )?,
         error => eprintln!(console.for_line(); "pcapfile: {shown}: {error}")?,
     }
+    Ok(AT_FAULT)
+}
+
+/// Prints that a capture is refused at this byte, and by which rule, and returns the exit status.
+pub fn tell_refused(console: &Console, name: &str, byte: u64, rule: Rule) -> io::Result<u8> {
+    let shown = Shown(name);
+    let (number, text) = (rule.number(), rule.text());
+    console.note_fault();
+    eprintln!(console.for_line();
+        "pcapfile: {shown}: refused at byte {byte} by rule {number}: {text}"
+    )?;
     Ok(AT_FAULT)
 }
 

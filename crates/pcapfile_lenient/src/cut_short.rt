@@ -1,7 +1,9 @@
-//! Messages on truncated captures, with the byte at which they are truncated.
+//! Messages on truncated and malformed captures, with the byte of the item that is truncated or malformed.
 
-use pcap_file::PcapError;
-use pcapfile_files::{AT_FAULT, Console, STANDARD, Shown, buffered, tell_error, tell_foreign};
+use pcap_file::{PcapError, Rule};
+use pcapfile_files::{
+    AT_FAULT, Console, STANDARD, Shown, buffered, tell_error, tell_foreign, tell_refused,
+};
 use pcapfile_run::{Checked, End, Format, check_blocks, check_packets, format_of};
 use std::fs::File;
 use std::io::ErrorKind;
@@ -11,14 +13,14 @@ use std::{fs, io};
 const STANDARD_INPUT: &str = "/proc/self/fd/0";
 
 /// Prints why the capture with this name can't be read to its end, as `tell_error` does, and returns the exit status. If a file is
-/// truncated, the message has the byte at which its last packet or block begins. A pipe can't be read again to find that byte.
+/// truncated or malformed, the message has the byte at which that packet or block begins. A pipe can't be read again to find that byte.
 pub fn tell_fault(console: &Console, name: &str, error: &PcapError) -> io::Result<u8> {
-    if !is_cut_short(error) {
+    if !is_cut_short(error) && error.rule().is_none() {
         return tell_error(console, name, error);
     }
-    match end_of(console, name) {
-        Ok(Some(byte)) => tell_cut_short(console, name, byte),
-        // The first error is the one to report.
+    // If the file can't be checked, the first error is the one to report.
+    match checked_again(console, name) {
+        Ok(Some(checked)) => tell_checked(console, name, error, &checked),
         _ => tell_error(console, name, error),
     }
 }
@@ -50,8 +52,36 @@ fn is_cut_short(error: &PcapError) -> bool {
     }
 }
 
-// Returns the byte at which a capture is truncated, if it is a regular file.
-fn end_of(console: &Console, name: &str) -> io::Result<Option<u64>> {
+// Prints the error with the byte at which the check of the same capture ends, if it ends for the same reason.
+fn tell_checked(
+    console: &Console,
+    name: &str,
+    error: &PcapError,
+    checked: &Checked,
+) -> io::Result<u8> {
+    match &checked.end {
+        End::Short if is_cut_short(error) => tell_cut_short(console, name, checked.bytes),
+        End::Unread(end) if is_cut_short(error) && is_cut_short(end) => {
+            tell_cut_short(console, name, checked.bytes)
+        }
+        // A file that is no capture breaks a rule at its beginning.
+        End::Breaks(rule) if error.rule() == Some(*rule) && checked.bytes > 0 => {
+            tell_malformed(console, name, checked.bytes, *rule)
+        }
+        _ => tell_error(console, name, error),
+    }
+}
+
+// Prints that a capture is refused at this byte by this rule, or what the file is that is no capture.
+fn tell_malformed(console: &Console, name: &str, byte: u64, rule: Rule) -> io::Result<u8> {
+    if tell_foreign(console, name)? {
+        return Ok(AT_FAULT);
+    }
+    tell_refused(console, name, byte, rule)
+}
+
+// Checks a capture from its beginning, if it is a regular file.
+fn checked_again(console: &Console, name: &str) -> io::Result<Option<Checked>> {
     let path = if name == STANDARD {
         STANDARD_INPUT
     } else {
@@ -61,20 +91,8 @@ fn end_of(console: &Console, name: &str) -> io::Result<Option<u64>> {
         return Ok(None);
     }
     let mut input = buffered(console.alloc(), File::open(console.rt(), path)?)?;
-    let checked = match format_of(&mut input)? {
+    Ok(Some(match format_of(&mut input)? {
         Format::Pcap => check_packets(console.alloc(), input),
         Format::PcapNg => check_blocks(console.alloc(), input),
-    };
-    Ok(place_of(&checked))
-}
-
-// Returns the byte at which a capture with this check is truncated, if it is.
-fn place_of(checked: &Checked) -> Option<u64> {
-    match &checked.end {
-        End::Short => Some(checked.bytes),
-        End::Unread(PcapError::IoError(error)) if error.kind() == ErrorKind::UnexpectedEof => {
-            Some(checked.bytes)
-        }
-        _ => None,
-    }
+    }))
 }

@@ -4,7 +4,7 @@ use crate::account::Account;
 use crate::source::Exceptions;
 use pcap_file::PcapError;
 use pcapfile_cut::Outcome;
-use pcapfile_files::{AT_FAULT, Console, Count, Shown, tell_error};
+use pcapfile_files::{AT_FAULT, Console, Count, Shown, tell_error, tell_refused};
 use std::io;
 
 /// Reports the error that ended a cut early, if any, and at which byte, and returns the exit status. `place` is the byte at
@@ -23,17 +23,12 @@ pub fn tell_outcome(
         return tell_error(console, out, error);
     }
     let byte = place.saturating_add(outcome.bytes);
-    let shown = Shown(from);
     if let Some(rule) = error.rule() {
-        let (number, text) = (rule.number(), rule.text());
-        console.note_fault();
-        eprintln!(console.for_line();
-            "pcapfile: {shown}: refused at byte {byte} by rule {number}: {text}"
-        )?;
-        return Ok(AT_FAULT);
+        return tell_refused(console, from, byte, rule);
     }
     match error {
         PcapError::IoError(_) if !outcome.read_failed => {
+            let shown = Shown(from);
             console.note_fault();
             eprintln!(console.for_line(); "pcapfile: {shown}: cut short at byte {byte}")?;
             Ok(AT_FAULT)

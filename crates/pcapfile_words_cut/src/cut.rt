@@ -13,8 +13,8 @@ use pcapfile_selected::{
     tell_exceptions, tell_outcome, tests_of,
 };
 use std::alloc::Global;
-use std::io;
 use std::io::{BufWriter, Read, Write};
+use std::{fs, io};
 
 /// The arguments of `cut`.
 #[derive(Drop)]
@@ -200,10 +200,23 @@ fn cut_source<S: Source>(
             return Ok(status);
         }
         match source.is_at_end() {
-            Ok(true) => break,
+            Ok(true) => return tell_earlier(console, asked, number.saturating_add(1)),
             Ok(false) => {}
             Err(error) => return tell_io(console, asked.from, &error),
         }
+    }
+    Ok(0)
+}
+
+// Reports that a part of an earlier run has the number behind the last part, if there is one, since a pattern such as `out-*.pcap` names it
+// too.
+fn tell_earlier(console: &Console, asked: &Cutting, number: u64) -> io::Result<u8> {
+    let name = part_name(console.alloc(), asked.out, number)?;
+    if fs::symlink_metadata(console.rt(), name.as_str()).is_ok() {
+        let (name, from) = (Shown(name.as_str()), Shown(asked.from));
+        eprintln!(console.for_line();
+            "pcapfile: {name}: is left from an earlier run, and is no part of {from}"
+        )?;
     }
     Ok(0)
 }
