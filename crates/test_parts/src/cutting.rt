@@ -8,14 +8,14 @@ use std::alloc::{AllocError, Global};
 use std::test::*;
 use test_support::captures::{LITTLE_HEAD, front};
 
-// What a row asks for.
+// The question of a row.
 #[derive(Clone, Copy)]
 pub(crate) struct Asked<'a> {
     pub what: &'a str,
     pub number: usize,
 }
 
-// Returns the capture of a row with its bytes, what is asked for, and what is told.
+// Returns the bytes of a row's capture, the question that the row asks about them, and the answer.
 fn parsed<'a>(alloc: Global, row: &'a str) -> Result<(Vec<u8>, Asked<'a>, &'a str), Fail> {
     let (asked, told) = row.trim().split_once(" => ").ok_or("a row with no arrow")?;
     let (name, rest) = asked.split_once(' ').ok_or("a row of one word")?;

@@ -62,7 +62,7 @@ pub(crate) fn every_run(alloc: Global, table: &str) -> Result<(), Fail> {
         return Err(Fail::new("a table without rows"));
     }
     for row in table.trim().lines() {
-        with_each_room(alloc, Row::of(row).ok_or("a row that is none")?)?;
+        with_each_room(alloc, Row::of(row).ok_or("a malformed row")?)?;
     }
     Ok(())
 }

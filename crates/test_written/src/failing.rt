@@ -162,7 +162,7 @@ fn whole(alloc: Global, rows: &[Row<'_>]) -> Result<Vec<u8>, Fail> {
     Ok(whole)
 }
 
-// Checks what is told of the script.
+// Runs a check of the whole script.
 fn check<F: Fn(Global, Script<'_>) -> Result<(), Fail>>(alloc: Global, call: F) -> Result<(), Fail>
     requires { F.IsAlwaysCallable call }
 {
