@@ -513,11 +513,18 @@ def completed(capture, number, at, order, interfaces):
     return Mending(number, at, None, None, False)
 
 
+def contains_blocks(capture, at, order, found):
+    """Returns whether the block at this offset is longer than the longest packet, and blocks go on inside its first bytes."""
+    return isinstance(found, tuple) and len(found[2]) + 12 > MOST and stands_behind(bytes(capture[at : at + WINDOW]), 1, order) is not None
+
+
 def blocks_and_gaps(whole, at):
     """Yields the blocks from the section header at this offset on, their changed lengths, and the gaps between them."""
     capture, order, count, interfaces, reported = bytearray(whole), ">", 0, [], None
     while at < len(capture):
         found = framed(capture, at, order)
+        if contains_blocks(capture, at, order, found):
+            found = CUT
         if isinstance(found, tuple):
             change = mended_stored(capture, count + 1, at, found, interfaces) or (at != reported and oversized(count + 1, at, found))
             reported = at if change and change.is_guess else reported
@@ -971,6 +978,28 @@ def try_memory(tally, help):
         tally.note(f"the memory for {name}", most_used * 1024 > most and f"it is {most_used} KiB, and not at most {most} bytes")
 
 
+def try_long_block(tally, help):
+    """Checks that a wrong length above the longest packet's, behind which a long capture goes on, costs no more memory than what is looked at
+    at once."""
+    head = help.block("<", SECTION, struct.pack("<IHHq", 0x1A2B3C4D, 1, 0, -1)) + help.block("<", INTERFACE, struct.pack("<HHI", 1, 0, 0))
+    draw = random.Random(25)
+    sizes = [draw.randrange(100, 1500, 4) for _ in range(700)]
+    packets = [help.block("<", ENHANCED, struct.pack("<IIIII", 0, 0, k, size, size) + bytes(size)) for k, size in enumerate(sizes)]
+    packet, count = packets[0], 100 * len(packets)
+    wrong = packet[:4] + struct.pack("<I", len(packet) | 1 << 25) + packet[8:]
+    capture = head + wrong + b"".join(packets) * 100
+    with tempfile.TemporaryDirectory() as folder:
+        help.put(folder, "in", capture)
+        words = [sys.executable, "-c", MEASURE, tally.program, "check", "--as-is", "in"]
+        ended = subprocess.run(words, cwd=folder, capture_output=True, check=True).stdout.decode()
+    *lines, end = ended.splitlines()
+    status, most_used = map(int, end.split())
+    mended = f"in: block 3 at byte {len(head)}: its stored length is {len(packet)} and not {len(packet) | 1 << 25}"
+    sound = f"in: pcapng, {count + 3} blocks, {len(capture)} bytes; 1 with flaws"
+    tally.note("a wrong length of a long capture", lines != [mended, sound] and f"its lines are {lines}", status != AT_FAULT and f"the status is {status}")
+    tally.note("the memory for a wrong length", most_used > 16384 and f"it is {most_used} KiB")
+
+
 def try_all(tally, help):
-    for tries in (try_each, try_by_hand, try_repairs, try_sound, try_several, try_statuses, try_memory):
+    for tries in (try_each, try_by_hand, try_repairs, try_sound, try_several, try_statuses, try_memory, try_long_block):
         tries(tally, help)

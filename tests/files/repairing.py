@@ -257,6 +257,7 @@ def captures(help):
     for size in (MOST - 3, MOST + 1):
         yield f"a block of {size} bytes that is cut short", few + struct.pack("<III", 9, size, 0) + few
     yield "a block of more bytes", few + block("<", 9, bytes(MOST)) + few
+    yield "a block of more bytes that contains blocks", few + block("<", 9, few[28:] * 2 + bytes(MOST)) + few
     for size in (2097152 - 524320 - 9, 2097152 - 524320 + 3, 2621440):
         yield f"a gap of {size} bytes", few + b"\xff" * size + few[28:] + b"\xff" * 77 + few
         yield f"{size} bytes before a section", b"\0" * size + few

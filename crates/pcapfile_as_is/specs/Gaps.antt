@@ -4,11 +4,11 @@ use Rattle.std.specs.Fmt.{decimal}
 use Rattle.pcap_core.specs.declared.rules.Rule.{Rule}
 use Rattle.pcap_core.specs.Faults.{rule_message}
 use Rattle.pcap_core.specs.Rules.{number_of}
+use Rattle.pcap_damaged.specs.declared.scrap.LeftOut.{LeftOut}
+use Rattle.pcap_damaged.specs.declared.scrap.Scrap.{Scrap}
+use Rattle.pcap_damaged.specs.declared.scrap.Scrap.TheVariants.{NoPackets, NoBlocks, PacketFront, BlockFront, OtherHeader, OtherLink, Undescribed}
 use Rattle.pcapfile_as_is.specs.declared.gaps.Gap.{Gap}
-use Rattle.pcapfile_as_is.specs.declared.gaps.LeftOut.{LeftOut}
 use Rattle.pcapfile_as_is.specs.declared.gaps.Position.{Position}
-use Rattle.pcapfile_as_is.specs.declared.gaps.Scrap.{Scrap}
-use Rattle.pcapfile_as_is.specs.declared.gaps.Scrap.TheVariants.{NoPackets, NoBlocks, PacketFront, BlockFront, OtherHeader, OtherLink, Undescribed}
 
 -- The words for the kind of such bytes.
 abbrev pub scrap_text : Scrap → List ℕ

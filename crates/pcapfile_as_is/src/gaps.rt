@@ -7,40 +7,11 @@ ghost use Rattle.pcapfile_as_is.specs.Gaps.{gap_behind, gap_line, gap_text, reas
 
 use crate::counted::Counted;
 use pcap_core::rules::Rule;
+use pcap_damaged::{LeftOut, Scrap};
 use pcap_program::{Exit, put_line};
 use std::alloc::{AllocError, Global};
 use std::fmt;
 use std::io::Write;
-
-/// The kind of bytes that are left out.
-#[derive(Clone, Copy, Debug, PartialEq, Eq)]
-pub enum Scrap {
-    /// Corrupt bytes between packet records.
-    NoPackets,
-    /// Corrupt bytes between blocks.
-    NoBlocks,
-    /// The beginning of a truncated packet record.
-    PacketFront,
-    /// The beginning of a truncated block.
-    BlockFront,
-    /// The header of another capture.
-    OtherHeader,
-    /// Packets of another link type.
-    OtherLink,
-    /// Blocks of an interface that isn't described.
-    Undescribed,
-}
-
-/// The bytes of a capture that were left out so far.
-#[derive(Clone, Copy, Debug, PartialEq, Eq)]
-pub struct LeftOut {
-    /// The number of bytes.
-    pub bytes: u64,
-    /// The kind of the last of them.
-    pub scrap: Scrap,
-    /// The rule that is broken at the beginning of those last bytes, if any.
-    pub rule: Option<Rule>,
-}
 
 /// A gap: consecutive bytes that are left out of a capture.
 #[derive(Clone, Copy, Debug, PartialEq, Eq)]
@@ -64,19 +35,18 @@ pub struct Position {
     pub left_out: u64,
 }
 
-impl Scrap {
-    fn text(self) -> &'static str
-        ensures { result.now ≡ scrap_text self }
-    {
-        match self {
-            Scrap::NoPackets => "no packets",
-            Scrap::NoBlocks => "no blocks",
-            Scrap::PacketFront => "of a packet that is cut short",
-            Scrap::BlockFront => "of a block that is cut short",
-            Scrap::OtherHeader => "the header of another capture",
-            Scrap::OtherLink => "packets of another link type",
-            Scrap::Undescribed => "blocks of an interface that is not described",
-        }
+// Returns the words for the kind of bytes that are left out.
+fn text_of(scrap: Scrap) -> &'static str
+    ensures { result.now ≡ scrap_text scrap }
+{
+    match scrap {
+        Scrap::NoPackets => "no packets",
+        Scrap::NoBlocks => "no blocks",
+        Scrap::PacketFront => "of a packet that is cut short",
+        Scrap::BlockFront => "of a block that is cut short",
+        Scrap::OtherHeader => "the header of another capture",
+        Scrap::OtherLink => "packets of another link type",
+        Scrap::Undescribed => "blocks of an interface that is not described",
     }
 }
 
@@ -128,7 +98,7 @@ impl fmt::Display for Gap {
 
     fn fmt<W: fmt::Write>(&self, f: &mut fmt::Formatter<W>) -> fmt::Result {
         let (bytes, place) = (self.bytes, self.place);
-        let scrap = self.scrap.text();
+        let scrap = text_of(self.scrap);
         write!(
             f,
             "{bytes} bytes at byte {place} are {scrap}, and are left out"

@@ -27,7 +27,7 @@ pub use checked::CheckedAsIs;
 pub use counted::{Counted, Spot, Told};
 pub use flaw_telling::tell_flaws;
 pub use flaws::FlawLines;
-pub use gaps::{Gap, LeftOut, Position, Scrap, put_gap};
+pub use gaps::{Gap, Position, put_gap};
 pub use listed::PacketLines;
 pub use mended::repaired;
 pub use repairs::Repairs;

@@ -1,8 +1,10 @@
 -- This file defines what a repair made of a capture.
-use Rattle.std.specs.Prelude.{ℕ, ◌+◌, ◌==◌, Bool, not, if◌then◌else◌}
+use Rattle.std.specs.Prelude.{ℕ, ◌+◌, ◌==◌, Bool, not, Option, None, Some, if◌then◌else◌}
 use Rattle.pcapfile_lenient.specs.declared.summary.Outcome.{Outcome}
 use Rattle.pcapfile_lenient.specs.declared.summary.Outcome.TheVariants.{Kept, Repaired, Guessed}
 use Rattle.pcapfile_lenient.specs.declared.summary.Summary.{Summary}
+use Rattle.pcapfile_rows.specs.Changes.{is_guessed, is_left_out}
+use Rattle.pcapfile_rows.specs.declared.change.Change.{Change}
 
 -- The worse of two outcomes: a guess is worse than a repair, and a repair is worse than a sound item.
 abbrev pub worse : Outcome → Outcome → Outcome
@@ -25,3 +27,7 @@ if_any n bad = if n == 0 then Kept else bad
 abbrev pub outcome_of : Summary → Outcome
 outcome_of summary = worse (if_any summary.guessed Guessed) (worse summary.opening
     (if_any (summary.repaired + (summary.left_out + summary.skipped)) Repaired))
+
+-- What becomes of the packet or block that a report is about, unless it is left out.
+abbrev pub change_outcome : Change → Option Outcome
+change_outcome change = if is_left_out change then None else Some (if is_guessed change then Guessed else Repaired)

@@ -2,18 +2,16 @@
 
 ghost use Rattle.std.specs.Prelude.{None};
 
-use crate::lost::FirstSection;
+use crate::changes::LeftOutHeads;
 use crate::noted::{NotedBlocks, NotedPackets, rules_of};
-use crate::opening::{Found, Guessed, Opening};
 use crate::report::{Report, Reporting};
-use crate::rows::Rows;
-use crate::standing::{BlockRows, HEADER, PacketRows, Standing, Stop};
+use crate::standing::{BlockRows, FileRows, PacketRows, Standing, Stop};
 use crate::summary::{Outcome, Summary, Tally};
-use crate::variants::LeftOutHeads;
-use pcap_file::{Endianness, PcapError, ResultParsing};
+use pcap_file::{Endianness, PcapError, ResultParsing, TsResolution};
 use pcap_program::Exit;
 use pcapfile_as_is::{BlockRepairs, Counted, Position, Repairs, Spot};
 use pcapfile_files::{Console, Watched};
+use pcapfile_rows::{FirstSection, Found, Guessed, HEADER, Opening};
 use pcapfile_run::Format;
 use std::alloc::{AllocError, Global};
 use std::io::{ErrorKind, Read};
@@ -239,7 +237,7 @@ impl Making {
     }
 
     // Returns the rows that the items come from.
-    fn rows(&self) -> &Rows {
+    fn rows(&self) -> &FileRows {
         match self {
             Making::Packets(packets) => packets.rows.rows(),
             Making::Blocks(blocks) => blocks.rows.rows(),
@@ -347,7 +345,7 @@ impl Repaired {
     }
 
     // Reports what was left out or changed before the next item.
-    fn tell_row(&mut self, rows: &Rows) -> Result<(), AllocError> {
+    fn tell_row(&mut self, rows: &FileRows) -> Result<(), AllocError> {
         if let Some(gap) = self.position.pass(rows.left_out()) {
             self.report.tell_gap(&gap);
         }
@@ -488,15 +486,15 @@ fn tell_section(
 
 // Returns the message on a guessed header.
 fn text_of(alloc: Global, guessed: &Guessed) -> Result<String, AllocError> {
-    let order = match guessed.header.magic_number {
-        0xA1B2_C3D4 | 0xA1B2_3C4D => "big",
-        _ => "little",
+    let order = match guessed.order {
+        Endianness::Big => "big",
+        Endianness::Little => "little",
     };
-    let resolution = match guessed.header.magic_number {
-        0xA1B2_C3D4 | 0xD4C3_B2A1 => "micro",
-        _ => "nano",
+    let resolution = match guessed.resolution {
+        TsResolution::MicroSecond => "micro",
+        TsResolution::NanoSecond => "nano",
     };
-    let link = u32::from(guessed.header.datalink);
+    let link = guessed.link;
     let how = if guessed.is_link_assumed {
         ", which is assumed"
     } else {

@@ -1,11 +1,13 @@
 //! Reports of repairs, as lines or as a JSON object.
 
-use crate::packets::Change;
+use crate::changes::{ChangeMessage, outcome_of, spot_of};
 use crate::summary::{Outcome, Summary, Tally};
+use pcap_damaged::Scrap;
 use pcap_file::Rule;
 use pcap_program::Uninterrupted;
-use pcapfile_as_is::{Counted, Gap, Scrap, Spot};
+use pcapfile_as_is::{Counted, Gap, Spot};
 use pcapfile_files::{Console, Notes, OUTPUT, Shown, ShownJson};
+use pcapfile_rows::Change;
 use pcapfile_run::Format;
 use serde_json::{Map, Value, put};
 use std::alloc::{AllocError, Global};
@@ -77,7 +79,10 @@ impl fmt::Display for Action<'_> {
     fn fmt<W: fmt::Write>(&self, f: &mut fmt::Formatter<W>) -> fmt::Result {
         match self {
             Action::Skip(gap) => write!(f, "{gap}"),
-            Action::Change(change) => write!(f, "{change}"),
+            Action::Change(change) => {
+                let message = ChangeMessage(*change);
+                write!(f, "{message}")
+            }
             Action::Text(text) => f.write_str(text),
         }
     }
@@ -206,13 +211,13 @@ impl Report {
 
     /// Reports what becomes of a packet or block, when the reader is behind what is counted.
     pub(crate) fn tell_change(&mut self, change: Change, counted: &Counted) {
-        let outcome = change.outcome();
+        let outcome = outcome_of(&change);
         match (change, outcome) {
             (Change::Unconfirmed(_), _) => self.tally.doubt_last(),
             (_, Some(outcome)) => self.tally.expect(outcome),
             (_, None) => {}
         }
-        let Spot { number, place } = change.spot(counted);
+        let Spot { number, place } = spot_of(&change, counted);
         self.tell(&Entry {
             number: Some(number),
             place,

@@ -1,10 +1,12 @@
 //! Captures that are read leniently.
 
+use pcap_damaged::{LeftOut, Scrap};
 use pcap_file::{PcapError, ResultParsing};
 use pcap_program::Exit;
-use pcapfile_as_is::{BlockPacketLines, Counted, Gap, LeftOut, Position, Scrap, Teller};
+use pcapfile_as_is::{BlockPacketLines, Counted, Gap, Position, Teller};
 use pcapfile_files::{Console, Shown, open_watched, tell_changed};
-use pcapfile_lenient::{Change, HEADER, LeftOutHeads, Named, Rows, Standing, Stop};
+use pcapfile_lenient::{FileRows, LeftOutHeads, Named, Standing, Stop, message_of};
+use pcapfile_rows::{Change, HEADER};
 use pcapfile_run::Format;
 use std::alloc::{AllocError, Global};
 use std::io::Write;
@@ -85,7 +87,7 @@ impl Telling {
             Format::PcapNg if counts_blocks => Named::Block,
             Format::PcapNg => Named::AnyBlock,
         };
-        change.text(alloc, named, &self.position.counted)
+        message_of(alloc, change, named, &self.position.counted)
     }
 
     /// Reports the packets or blocks before the next gap or report, and returns that. `None` after the end. It returns
@@ -118,7 +120,7 @@ impl Telling {
     }
 
     // Returns the gap or the report that ended a row, if that is new.
-    fn between(&mut self, rows: &Rows) -> Option<Between> {
+    fn between(&mut self, rows: &FileRows) -> Option<Between> {
         if let Some(gap) = self.pass(rows.left_out()) {
             return Some(Between::Gap(gap));
         }
@@ -185,7 +187,7 @@ fn opening_of(standing: &Standing) -> (Format, u64) {
 }
 
 // Returns the rows of the capture, if it has packets or blocks.
-fn rows_of(standing: &Standing) -> Option<&Rows> {
+fn rows_of(standing: &Standing) -> Option<&FileRows> {
     match standing {
         Standing::Packets(_, rows) => Some(rows.rows()),
         Standing::Blocks(rows) => Some(rows.rows()),

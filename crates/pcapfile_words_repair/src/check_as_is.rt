@@ -7,7 +7,7 @@ use pcapfile_as_is::{CheckedAsIs, FlawLines, put_gap};
 use pcapfile_files::{
     Console, EachFile, Inputs, OUTPUT, Shown, read_files, tell_changed, tell_error, tell_unwritten,
 };
-use pcapfile_lenient::Change;
+use pcapfile_rows::Change;
 use pcapfile_run::{Checked, End, end_of};
 use std::alloc::Global;
 use std::io;

@@ -1,7 +1,7 @@
 //! Headers that the command line gives.
 
 use pcap_file::{Endianness, TsResolution};
-use pcapfile_lenient::{Opening, header_with, magic_of};
+use pcapfile_rows::{Opening, header_for};
 
 /// Returns where the header comes from: from a text such as `little,micro,1`, from a guess with this link type, if it is given, or
 /// from the capture. `None` if the text is no header.
@@ -26,5 +26,5 @@ pub fn opening_of(header: Option<&str>, is_guess: bool, link: Option<u32>) -> Op
         _ => return None,
     };
     let number: u32 = number.parse().ok()?;
-    Some(Opening::Given(header_with(magic_of(order, resolution), number)))
+    Some(Opening::Given(header_for(order, resolution, number)))
 }

@@ -5,7 +5,8 @@ use pcapfile_files::{
     AT_FAULT, Console, OUTPUT, STANDARD, Shown, USAGE, open_watched, tell_changed, tell_error,
     tell_foreign, tell_io, write_named,
 };
-use pcapfile_lenient::{Opening, Outcome, Repaired, Reporting, tell_unopened};
+use pcapfile_lenient::{Outcome, Repaired, Reporting, tell_unopened};
+use pcapfile_rows::Opening;
 use std::io;
 use std::io::{BufWriter, Write};
 

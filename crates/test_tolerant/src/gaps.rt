@@ -2,7 +2,8 @@
 
 use crate::tables::every_call;
 use pcap_core::rules::Rule;
-use pcapfile_as_is::{LeftOut, Position, Scrap, put_gap};
+use pcap_damaged::{LeftOut, Scrap};
+use pcapfile_as_is::{Position, put_gap};
 use std::alloc::Global;
 use std::test::Fail;
 use test_support::writers::Narrow;

@@ -1,8 +1,9 @@
 //! Packets of a PcapNg capture whose stored length is wrong, although the lengths of their block are right.
 
+use crate::change::Change;
 use crate::frames::number_at;
 use crate::in_force::InForce;
-use crate::packets::{Change, LIMIT};
+use crate::packets::LIMIT;
 use crate::window::Window;
 use pcap_file::Endianness;
 use pcap_file::pcap::PACKET_LIMIT;
@@ -35,7 +36,11 @@ const OPTION: usize = 4;
 /// stored length and well-formed options do not fill the block. It is the original length, or the snapshot length, if that does;
 /// and otherwise, if the data would go on past the block, up to the end of the block, by a guess. It is a guess too if the original
 /// length is above the limit, since the numbers beside it may then be as wrong.
-pub(crate) fn mend_stored(in_force: &InForce, window: &mut Window, len: usize) -> Option<Change> {
+pub(crate) fn mend_stored<R>(
+    in_force: &InForce,
+    window: &mut Window<R>,
+    len: usize,
+) -> Option<Change> {
     let order = in_force.order();
     let bytes = window.shown().get(..len)?;
     if number_at(order, bytes, 0)? != ENHANCED {
@@ -58,20 +63,20 @@ pub(crate) fn mend_stored(in_force: &InForce, window: &mut Window, len: usize) -
     })
 }
 
-/// Returns whether the block at the front of the window, of this many bytes, is an enhanced packet whose lengths are 0, without options,
+/// Returns whether the block at the front of these bytes, of this length, is an enhanced packet whose lengths are 0, without options,
 /// and which has more bytes nonetheless. Such a block is what zero bytes over a packet leave.
-pub(crate) fn is_zero_packet(in_force: &InForce, window: &Window, len: usize) -> bool {
-    let bytes = window.shown().get(..len).unwrap_or_default();
+pub(crate) fn is_zero_packet(in_force: &InForce, shown: &[u8], len: usize) -> bool {
+    let bytes = shown.get(..len).unwrap_or_default();
     let front = bytes.get(STORED..DATA + OPTION).unwrap_or_default();
     number_at(in_force.order(), bytes, 0) == Some(ENHANCED)
         && len > DATA + OPTION + TRAILER
         && front.iter().all(|byte| *byte == 0)
 }
 
-/// Returns whether the block at the front of the window, of this many bytes, is a packet with an original length that no packet has.
-pub(crate) fn is_oversized(in_force: &InForce, window: &Window, len: usize) -> bool {
+/// Returns whether the block at the front of these bytes, of this length, is a packet with an original length that no packet has.
+pub(crate) fn is_oversized(in_force: &InForce, shown: &[u8], len: usize) -> bool {
     let order = in_force.order();
-    let bytes = window.shown().get(..len).unwrap_or_default();
+    let bytes = shown.get(..len).unwrap_or_default();
     let holds_packet = matches!(number_at(order, bytes, 0), Some(OBSOLETE | ENHANCED));
     let original = number_at(order, bytes, ORIGINAL).unwrap_or(0);
     holds_packet && len >= DATA + TRAILER && original > LIMIT

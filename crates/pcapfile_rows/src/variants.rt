@@ -7,28 +7,16 @@ use pcap_file::pcap::PACKET_LIMIT;
 use pcap_file::{PcapParser, ResultParsing};
 use pcap_variants::{Variant, variant_of};
 use std::alloc::Global;
-use std::fmt;
+use std::io::BufRead;
 
 /// The length of a packet's head, in bytes.
 const HEAD: usize = 16;
 
-/// The message that a capture of a variant is read as a plain one.
-#[derive(Clone, Copy)]
-pub struct LeftOutHeads(pub Variant);
-
-impl fmt::Display for LeftOutHeads {
-    fn fmt<W: fmt::Write>(&self, f: &mut fmt::Formatter<W>) -> fmt::Result {
-        let further = self.0.further;
-        write!(
-            f,
-            "{further}: the {} further bytes of each are left out, and bytes are counted without them",
-            further.len()
-        )
-    }
-}
-
 /// Makes the capture in the window a plain one if it is of a variant, and returns that variant.
-pub(crate) fn make_plain(alloc: Global, window: &mut Window) -> ResultParsing<Option<Variant>> {
+pub(crate) fn make_plain<R: BufRead>(
+    alloc: Global,
+    window: &mut Window<R>,
+) -> ResultParsing<Option<Variant>> {
     if is_plain(window)? {
         return Ok(None);
     }
@@ -43,7 +31,7 @@ pub(crate) fn make_plain(alloc: Global, window: &mut Window) -> ResultParsing<Op
 
 // Returns whether the first packet of the capture in the window is before another one of a plain capture, or the capture is of no
 // variant by its first bytes. It reads no further than that head.
-fn is_plain(window: &mut Window) -> ResultParsing<bool> {
+fn is_plain<R: BufRead>(window: &mut Window<R>) -> ResultParsing<bool> {
     let bytes = window.shown();
     if bytes.starts_with(b"\xa1\xb2\xcd\x34") || bytes.starts_with(b"\x34\xcd\xb2\xa1") {
         return Ok(false);

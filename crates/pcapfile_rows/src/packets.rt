@@ -1,7 +1,6 @@
 //! Packets of a damaged classic capture: which of its bytes are packets.
 
-use crate::describing::Undescribed;
-use crate::summary::Outcome;
+use crate::change::Change;
 use crate::window::Window;
 use pcap_damaged::{
     NEAR, Numbers, Weight, begins_capture, begins_near, can_be_this_long, follows, head_at, resync,
@@ -9,18 +8,17 @@ use pcap_damaged::{
 };
 use pcap_file::pcap::{PACKET_LIMIT, PcapHeader};
 use pcap_file::{Endianness, PcapParser, ResultParsing, Rule, TsResolution};
-use pcapfile_as_is::{Counted, Spot};
-use std::alloc::{AllocError, Global};
-use std::{fmt, io};
+use std::io;
+use std::io::BufRead;
 
 /// The longest packet that lenient reading returns, in bytes.
-pub(crate) const LIMIT: u32 = 16_777_216;
+pub const LIMIT: u32 = 16_777_216;
 
 /// The length of a packet's head, in bytes.
 const HEAD: usize = 16;
 
 /// The length of a capture's header, in bytes.
-pub(crate) const HEADER: usize = 24;
+pub const HEADER: usize = 24;
 
 /// The number of nanoseconds in a microsecond.
 const MICROSECOND: u32 = 1_000;
@@ -85,128 +83,6 @@ pub(crate) enum Here {
     Torn,
 }
 
-/// What the reader reports about a packet or a block that it returns.
-#[derive(Clone, Copy)]
-pub enum Change {
-    /// The length of the next packet or block is changed.
-    Length {
-        /// The length that it had.
-        stated: u32,
-        /// The length that it has now.
-        length: u32,
-        /// Whether the new length is a guess.
-        is_guess: bool,
-    },
-    /// The next packet is a guess: it is one of a short run behind corrupt bytes.
-    Found,
-    /// The next packet is a guess: it has no data, and the capture is damaged, or all numbers of its head are 0.
-    Empty,
-    /// The packet in the next block is a guess: no packet has its original length.
-    Oversized,
-    /// The last packet, of this many bytes, is a guess: nothing confirms where it ends.
-    Unconfirmed(usize),
-    /// The end of the next block is missing, and is written again: of its bytes so many are there, and so many are written.
-    CutOff {
-        /// The number of bytes that are there.
-        present: usize,
-        /// The number of bytes that are written.
-        whole: usize,
-    },
-    /// The interface of the next packet is not described.
-    Undescribed(Undescribed),
-}
-
-/// How a message names a packet or a block.
-#[derive(Clone, Copy)]
-pub enum Named {
-    /// A packet, by its number.
-    Packet,
-    /// A block, by its number.
-    Block,
-    /// A block where only packets are counted.
-    AnyBlock,
-}
-
-impl Named {
-    // Returns the name of the packet or block with this number.
-    fn name(self, alloc: Global, number: u64) -> Result<String, AllocError> {
-        match self {
-            Named::Packet => format!(in alloc; "packet {number}"),
-            Named::Block => format!(in alloc; "block {number}"),
-            Named::AnyBlock => format!(in alloc; "a block"),
-        }
-    }
-}
-
-impl Change {
-    /// Returns the number and the place of the packet or block, when the reader is behind what is counted.
-    pub(crate) fn spot(&self, counted: &Counted) -> Spot {
-        match *self {
-            Change::Unconfirmed(len) => Spot {
-                number: counted.items,
-                place: counted.bytes.saturating_sub(len as u64),
-            },
-            _ => Spot {
-                number: counted.items.saturating_add(1),
-                place: counted.bytes,
-            },
-        }
-    }
-
-    /// Returns what becomes of the packet or block, unless it is left out.
-    pub(crate) fn outcome(&self) -> Option<Outcome> {
-        match *self {
-            Change::Length {
-                is_guess: false,
-                ..
-            }
-            | Change::CutOff { .. } => Some(Outcome::Repaired),
-            Change::Length { .. }
-            | Change::Found
-            | Change::Empty
-            | Change::Oversized
-            | Change::Unconfirmed(_) => Some(Outcome::Guessed),
-            Change::Undescribed(undescribed) => undescribed.fate.outcome(),
-        }
-    }
-
-    /// Returns the message on a packet or block, when the reader is behind what is counted.
-    pub fn text(
-        &self,
-        alloc: Global,
-        named: Named,
-        counted: &Counted,
-    ) -> Result<String, AllocError> {
-        let Spot { number, place } = self.spot(counted);
-        let item = named.name(alloc, number)?;
-        format!(in alloc; "{item} at byte {place}: {self}")
-    }
-}
-
-/// Writes what is done with the packet or block, and why.
-impl fmt::Display for Change {
-    fn fmt<W: fmt::Write>(&self, f: &mut fmt::Formatter<W>) -> fmt::Result {
-        match *self {
-            Change::Length {
-                stated,
-                length,
-                is_guess,
-            } => {
-                let how = if is_guess { ", by a guess" } else { "" };
-                write!(f, "its stored length is {length} and not {stated}{how}")
-            }
-            Change::Found => f.write_str("kept, a guess: it may lie inside another packet"),
-            Change::Empty => f.write_str("kept, a guess: it has no data"),
-            Change::Oversized => write!(f, "kept, a guess: its original length is above {LIMIT}"),
-            Change::Unconfirmed(_) => f.write_str("kept, a guess: nothing confirms where it ends"),
-            Change::CutOff { .. } => f.write_str(
-                "its end is missing: its packet is kept, without options that are cut off or break rules",
-            ),
-            Change::Undescribed(undescribed) => write!(f, "{undescribed}"),
-        }
-    }
-}
-
 impl Packets {
     /// Returns the packets after a header.
     pub(crate) fn new(header: PcapHeader) -> ResultParsing<Packets> {
@@ -267,13 +143,13 @@ impl Packets {
     }
 
     /// Finds out what is at the front of the window.
-    pub(crate) fn look(&mut self, window: &mut Window) -> io::Result<Here> {
+    pub(crate) fn look<R: BufRead>(&mut self, window: &mut Window<R>) -> io::Result<Here> {
         let here = self.look_at(window)?;
         self.is_damaged = self.is_damaged || is_damage(here);
         Ok(here)
     }
 
-    fn look_at(&mut self, window: &mut Window) -> io::Result<Here> {
+    fn look_at<R: BufRead>(&mut self, window: &mut Window<R>) -> io::Result<Here> {
         window.reach(HEADER)?;
         if begins_capture(window.shown()) {
             return Ok(Here::Header);
@@ -293,7 +169,7 @@ impl Packets {
     }
 
     // Finds out how long the run of packets is that resynchronization found.
-    fn begin_run(&mut self, window: &mut Window, head: Numbers) -> io::Result<()> {
+    fn begin_run<R: BufRead>(&mut self, window: &mut Window<R>, head: Numbers) -> io::Result<()> {
         self.is_found = false;
         self.is_reported = false;
         self.time = Some(head.seconds);
@@ -302,7 +178,7 @@ impl Packets {
     }
 
     // Returns the number of bytes in the run of packets at the front of the window, if it may lie inside a packet, and otherwise 0.
-    fn short_run(&self, window: &mut Window) -> io::Result<usize> {
+    fn short_run<R: BufRead>(&self, window: &mut Window<R>) -> io::Result<usize> {
         let bound = self.longest.min(self.limit()) as usize;
         window.reach(bound.saturating_add(HEAD + PACKET_LIMIT as usize + ROW))?;
         let bytes = window.shown();
@@ -344,7 +220,7 @@ impl Packets {
     }
 
     // Finds out whether the head at the front of the window is that of a packet.
-    fn judge(&mut self, window: &mut Window, head: Numbers) -> io::Result<Here> {
+    fn judge<R: BufRead>(&mut self, window: &mut Window<R>, head: Numbers) -> io::Result<Here> {
         let time = self.time_by(Some(head));
         let end = HEAD.saturating_add(head.included as usize);
         if head.included <= LIMIT && window.reach(end.saturating_add(HEAD))? {
@@ -365,9 +241,9 @@ impl Packets {
 
     // Takes a packet behind which another one follows, unless its stored length is doubtful and packets go on inside its data, or its
     // head is zero bytes behind a guess or, in a damaged capture, behind a packet whose end nothing confirms.
-    fn take_confirmed(
+    fn take_confirmed<R: BufRead>(
         &mut self,
-        window: &mut Window,
+        window: &mut Window<R>,
         head: Numbers,
         time: u32,
     ) -> io::Result<Here> {
@@ -378,7 +254,10 @@ impl Packets {
         if head.included > head.original || head.included > self.limit() {
             let end = HEAD.saturating_add(head.included as usize);
             window.reach(end.saturating_add(ROW))?;
-            if self.length_before_packets(window, head, time).is_some() {
+            if self
+                .length_before_packets(window.shown(), head, time)
+                .is_some()
+            {
                 return self.look_on(window, head, time);
             }
         }
@@ -386,8 +265,7 @@ impl Packets {
     }
 
     // Returns the length of the data before the first place inside it from which packets go on, if the packet of this head can have it.
-    fn length_before_packets(&self, window: &Window, head: Numbers, time: u32) -> Option<u32> {
-        let bytes = window.shown();
+    fn length_before_packets(&self, bytes: &[u8], head: Numbers, time: u32) -> Option<u32> {
         let data = bytes.get(HEAD..).unwrap_or_default();
         let length = resync(&self.parser, time, data, head.included as usize)? as u32;
         if !can_be_this_long(&self.parser, time, bytes, length) {
@@ -398,13 +276,18 @@ impl Packets {
 
     // Takes a packet whose length nothing speaks against, unless a better length is found, or its time is far from the one before and
     // no packets go on behind it.
-    fn stand(&mut self, window: &mut Window, head: Numbers, time: u32) -> io::Result<Here> {
+    fn stand<R: BufRead>(
+        &mut self,
+        window: &mut Window<R>,
+        head: Numbers,
+        time: u32,
+    ) -> io::Result<Here> {
         let end = HEAD.saturating_add(head.included as usize);
         let behind = window.shown().get(end..).unwrap_or_default();
         if follows(&self.parser, time, behind) {
             return Ok(self.take(window, head));
         }
-        if let Some((length, is_guess)) = self.whole_length(window, head, time) {
+        if let Some((length, is_guess)) = self.whole_length(window.shown(), head, time) {
             return Ok(self.change(window, head, length, is_guess));
         }
         if !can_be_this_long(&self.parser, time, window.shown(), head.included)
@@ -416,7 +299,12 @@ impl Packets {
     }
 
     // Takes a packet that is longer than the snapshot length if nothing else speaks against it, and its next packets stand too.
-    fn exceed(&mut self, window: &mut Window, head: Numbers, time: u32) -> io::Result<Here> {
+    fn exceed<R: BufRead>(
+        &mut self,
+        window: &mut Window<R>,
+        head: Numbers,
+        time: u32,
+    ) -> io::Result<Here> {
         let weight = weigh(&self.unlimited, head.seconds, window.shown());
         if weight != Weight::Stands || !self.stand_behind(window, head)? {
             return self.look_on(window, head, time);
@@ -430,7 +318,7 @@ impl Packets {
     }
 
     // Takes a packet, and notes that nothing confirms where it ends.
-    fn take_unconfirmed(&mut self, window: &mut Window, head: Numbers) -> Here {
+    fn take_unconfirmed<R>(&mut self, window: &mut Window<R>, head: Numbers) -> Here {
         let was_reported = self.is_reported;
         let here = self.take(window, head);
         if !was_reported {
@@ -440,7 +328,7 @@ impl Packets {
     }
 
     // Returns whether the next packets behind the one of this head stand too, whatever their length, as far as there are any.
-    fn stand_behind(&self, window: &mut Window, head: Numbers) -> io::Result<bool> {
+    fn stand_behind<R: BufRead>(&self, window: &mut Window<R>, head: Numbers) -> io::Result<bool> {
         let most = (BEHIND + 1) * (HEAD + PACKET_LIMIT as usize);
         window.reach(most.saturating_add(ROW))?;
         let mut here = head;
@@ -471,8 +359,7 @@ impl Packets {
 
     // Returns the length of the whole packet, or of as much of it as the capture stores, if packets go on there, and whether that is
     // a guess.
-    fn whole_length(&self, window: &Window, head: Numbers, time: u32) -> Option<(u32, bool)> {
-        let bytes = window.shown();
+    fn whole_length(&self, bytes: &[u8], head: Numbers, time: u32) -> Option<(u32, bool)> {
         let length = head.original.min(self.limit());
         if length == head.included || !can_be_this_long(&self.parser, time, bytes, length) {
             return None;
@@ -488,8 +375,7 @@ impl Packets {
     }
 
     // Returns whether a packet of this head, with its stored length, is before one whose stored length is wrong.
-    fn is_before_misstated(&self, window: &Window, head: Numbers, time: u32) -> bool {
-        let bytes = window.shown();
+    fn is_before_misstated(&self, bytes: &[u8], head: Numbers, time: u32) -> bool {
         if !can_be_this_long(&self.parser, time, bytes, head.included) {
             return false;
         }
@@ -515,7 +401,7 @@ impl Packets {
     }
 
     // Takes the packet of this head, and puts its head in the form of the first header. A packet that is a guess is reported first.
-    fn take(&mut self, window: &mut Window, head: Numbers) -> Here {
+    fn take<R>(&mut self, window: &mut Window<R>, head: Numbers) -> Here {
         if let Some(change) = self.guess(head) {
             self.is_reported = true;
             self.is_settled = true;
@@ -554,12 +440,17 @@ impl Packets {
     }
 
     // Finds out whether packets go on behind a head whose length is wrong, so that the bytes between may be its data.
-    fn look_on(&mut self, window: &mut Window, head: Numbers, time: u32) -> io::Result<Here> {
+    fn look_on<R: BufRead>(
+        &mut self,
+        window: &mut Window<R>,
+        head: Numbers,
+        time: u32,
+    ) -> io::Result<Here> {
         let sure = window.reach_row()?;
-        if self.is_before_misstated(window, head, time) {
+        if self.is_before_misstated(window.shown(), head, time) {
             return Ok(self.take(window, head));
         }
-        if let Some((length, is_guess)) = self.whole_length(window, head, time) {
+        if let Some((length, is_guess)) = self.whole_length(window.shown(), head, time) {
             return Ok(self.change(window, head, length, is_guess));
         }
         let behind = window.shown().get(HEAD..).unwrap_or_default();
@@ -584,7 +475,13 @@ impl Packets {
     }
 
     // Puts another length into the head at the front of the window. Behind a guess the length is one too, and so may be what follows.
-    fn change(&mut self, window: &mut Window, head: Numbers, length: u32, is_guess: bool) -> Here {
+    fn change<R>(
+        &mut self,
+        window: &mut Window<R>,
+        head: Numbers,
+        length: u32,
+        is_guess: bool,
+    ) -> Here {
         let is_guess = is_guess || self.was_reported;
         if self.was_reported && !self.is_found {
             self.find();

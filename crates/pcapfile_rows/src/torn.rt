@@ -3,7 +3,7 @@
 use crate::frames::number_at;
 use crate::in_force::InForce;
 use crate::stored::{limit, padded};
-use crate::window::{IN_A_ROW, Window};
+use crate::window::IN_A_ROW;
 use pcap_file::Endianness;
 use pcap_tolerant_captures::resync::resync_in as first_blocks;
 use pcapfile_mended::complete;
@@ -30,16 +30,15 @@ const STORED: usize = 20;
 /// The length of what is behind the body of a block, in bytes.
 const TRAILER: usize = 4;
 
-/// Returns the whole text of the packet block at the front of the window, if the input ends inside it, but behind the packet's data.
+/// Returns the whole text of the packet block that these last bytes of an input begin, if the input ends behind the packet's data.
 /// `None` if the bytes speak against that.
 pub(crate) fn complete_last(
     alloc: Global,
     in_force: &InForce,
-    window: &Window,
+    bytes: &[u8],
 ) -> Result<Option<Vec<u8>>, AllocError> {
     let order = in_force.order();
     let most = limit(in_force, 0);
-    let bytes = window.shown();
     if is_cut_off(order, most, bytes).is_none() {
         return Ok(None);
     }

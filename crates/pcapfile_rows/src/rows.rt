@@ -2,22 +2,22 @@
 
 ghost use Rattle.std.specs.Prelude.{None};
 
+use crate::change::{Change, Changed};
 use crate::describing::{Describing, Next};
 use crate::frames::mend_frame;
 use crate::in_force::InForce;
 use crate::lost::{Lost, section_text};
-use crate::packets::{Change, HEADER, Here, LIMIT, Packets};
+use crate::packets::{HEADER, Here, LIMIT, Packets};
 use crate::stored::{is_oversized, is_zero_packet, mend_stored};
-use crate::summary::Outcome;
 use crate::torn::complete_last;
-use crate::window::{IN_A_ROW, Sought, Window};
+use crate::window::{IN_A_ROW, Sought, WINDOW, Window};
+use pcap_damaged::{LeftOut, Scrap};
 use pcap_file::pcap::PcapHeader;
 use pcap_file::{PcapError, ResultParsing, Rule};
 use pcap_tolerant_captures::resync::resync_in as first_blocks;
-use pcapfile_as_is::{LeftOut, Scrap};
 use std::alloc::{AllocError, Global};
 use std::io;
-use std::io::Read;
+use std::io::{BufRead, Read};
 
 /// The first bytes of a section header.
 pub(crate) const SECTION: [u8; 4] = [0x0A, 0x0D, 0x0D, 0x0A];
@@ -56,10 +56,10 @@ enum Step {
 
 /// The packets or blocks of a capture that follow each other in a row. A read returns no byte at the end of a row, which is at corrupt
 /// bytes or at the end of the capture. Corrupt bytes are skipped, and the next read goes on after them.
-pub struct Rows {
+pub struct Rows<R> {
     alloc: Global,
     kind: Kind,
-    window: Window,
+    window: Window<R>,
     /// The number of buffered bytes that belong to a packet or block.
     ready: usize,
     /// The whole text of the last block, if its end was missing, when the window is empty; or of a first section header that was lost.
@@ -82,7 +82,7 @@ pub struct Rows {
 }
 
 // It is written out, so that crates above this one call it and prove no drop of the fields.
-impl Drop for Rows {
+impl<R: Drop> Drop for Rows<R> {
     fn drop(self) {
         let Rows {
             alloc: _,
@@ -100,15 +100,6 @@ impl Drop for Rows {
             is_at_end: _,
         } = self;
     }
-}
-
-/// The last report on a packet or block, and how many there were so far.
-#[derive(Clone, Copy)]
-pub struct Changed {
-    /// The number of reports.
-    pub count: u64,
-    /// The last of them.
-    pub last: Option<Change>,
 }
 
 impl Kind {
@@ -137,13 +128,13 @@ impl Kind {
     }
 }
 
-impl Rows {
+impl<R: BufRead + Drop> Rows<R> {
     /// Returns the rows of the packets that the window shows next, read by a parser with the header.
     pub(crate) fn of_packets(
         alloc: Global,
         header: PcapHeader,
-        window: Window,
-    ) -> ResultParsing<Rows> {
+        window: Window<R>,
+    ) -> ResultParsing<Rows<R>> {
         let kind = Kind::Packets(Packets::new(header)?);
         Ok(Rows::new(alloc, kind, window, Describing::off(alloc)))
     }
@@ -152,9 +143,9 @@ impl Rows {
     /// the errors are those of the first bytes.
     pub(crate) fn of_blocks(
         alloc: Global,
-        mut window: Window,
+        mut window: Window<R>,
         describing: Describing,
-    ) -> ResultParsing<Rows> {
+    ) -> ResultParsing<Rows<R>> {
         let refusal = match open(alloc, &mut window) {
             Ok((in_force, len)) => {
                 let mut rows = Rows::new(alloc, Kind::Blocks(in_force), window, describing);
@@ -181,9 +172,9 @@ impl Rows {
     pub(crate) fn of_lost(
         alloc: Global,
         lost: Lost,
-        mut window: Window,
+        mut window: Window<R>,
         describing: Describing,
-    ) -> ResultParsing<Rows> {
+    ) -> ResultParsing<Rows<R>> {
         let text = section_text(alloc, lost.order)?;
         let (in_force, len) = first_section(alloc, text.as_slice())?;
         window.pass(lost.place);
@@ -193,8 +184,10 @@ impl Rows {
         rows.leave_out(lost.place as u64, Scrap::NoBlocks, None);
         Ok(rows)
     }
+}
 
-    fn new(alloc: Global, kind: Kind, window: Window, describing: Describing) -> Rows {
+impl<R> Rows<R> {
+    fn new(alloc: Global, kind: Kind, window: Window<R>, describing: Describing) -> Rows<R> {
         let left_out = LeftOut {
             bytes: 0,
             scrap: kind.garbage(),
@@ -241,12 +234,12 @@ impl Rows {
     }
 
     /// Returns the descriptions of interfaces that are written before the next block, as the last report says.
-    pub(crate) fn descriptions(&self) -> &[u8] {
+    pub fn descriptions(&self) -> &[u8] {
         self.describing.text()
     }
 
     /// Returns whether the link type of the section's packets is a guess.
-    pub(crate) fn is_guess(&self) -> bool {
+    pub fn is_guess(&self) -> bool {
         self.describing.is_guess()
     }
 
@@ -258,6 +251,41 @@ impl Rows {
         self.last.get(self.given..).unwrap_or_default()
     }
 
+    // Returns whether the packets have the link type of the capture.
+    fn keeps_packets(&self) -> bool {
+        match &self.kind {
+            Kind::Packets(packets) => packets.is_kept(),
+            Kind::Blocks(_) => true,
+        }
+    }
+
+    // Notes a report.
+    fn note(&mut self, change: Change) {
+        self.changed = Changed {
+            count: self.changed.count.saturating_add(1),
+            last: Some(change),
+        };
+    }
+
+    // Skips the last bytes of the capture, which are of a truncated item.
+    fn pass_torn(&mut self) {
+        let len = self.window.shown().len();
+        self.window.pass(len);
+        let scrap = self.kind.torn();
+        self.leave_out(len as u64, scrap, None);
+        self.is_at_end = true;
+    }
+
+    fn leave_out(&mut self, bytes: u64, scrap: Scrap, rule: Option<Rule>) {
+        self.left_out = LeftOut {
+            bytes: self.left_out.bytes.saturating_add(bytes),
+            scrap,
+            rule,
+        };
+    }
+}
+
+impl<R: BufRead> Rows<R> {
     // Finds the next packet or block. At the end of a row none is ready.
     fn find_next(&mut self) -> io::Result<()> {
         for _ in 0..u64::MAX {
@@ -313,14 +341,6 @@ impl Rows {
         Ok(Step::Done)
     }
 
-    // Returns whether the packets have the link type of the capture.
-    fn keeps_packets(&self) -> bool {
-        match &self.kind {
-            Kind::Packets(packets) => packets.is_kept(),
-            Kind::Blocks(_) => true,
-        }
-    }
-
     // Takes a step before a block, or before other bytes of a PcapNg capture.
     fn step_before(&mut self, front: Front) -> io::Result<Step> {
         if self.is_leaving_out && !matches!(front, Front::Block(_)) {
@@ -331,21 +351,32 @@ impl Rows {
             Front::Block(len) => return self.pass_block(len),
             Front::Garbage(rule) => self.pass_blocks(rule)?,
             Front::Missing(n) => {
-                if self.window.show(n)? {
+                let end = self.window.shown().len().saturating_add(n);
+                if self.contains_blocks(end)? {
+                    self.pass_blocks(None)?;
+                } else if self.window.reach(end)? {
                     return Ok(Step::Further);
+                } else {
+                    self.pass_end(n)?;
                 }
-                self.pass_end(n)?;
             }
         }
         Ok(Step::Done)
     }
 
-    // Notes a report.
-    fn note(&mut self, change: Change) {
-        self.changed = Changed {
-            count: self.changed.count.saturating_add(1),
-            last: Some(change),
+    // Returns whether the block at the front of the window, which has at least `len` bytes, is longer than the longest packet, and blocks
+    // go on inside its first bytes. Its length is then taken for wrong before the rest is read, which may be all of a long capture.
+    fn contains_blocks(&mut self, len: usize) -> io::Result<bool> {
+        if len <= LIMIT as usize {
+            return Ok(false);
+        }
+        let Kind::Blocks(in_force) = &self.kind else {
+            return Ok(false);
         };
+        self.window.reach(WINDOW)?;
+        let shown = self.window.shown();
+        let inside = shown.get(1..shown.len().min(WINDOW)).unwrap_or_default();
+        Ok(first_blocks(in_force.order(), inside, IN_A_ROW).is_some())
     }
 
     // Takes a block of this many bytes, or leaves it out. First it mends the stored length of its packet, reports a guess, and describes
@@ -355,17 +386,17 @@ impl Rows {
             return Ok(Step::Done);
         };
         self.is_leaving_out = false;
-        if is_zero_packet(in_force, &self.window, len) {
+        if is_zero_packet(in_force, self.window.shown(), len) {
             self.window.pass(len);
             self.leave_out(len as u64, Scrap::NoBlocks, None);
             return Ok(Step::Done);
         }
         if let Some(change) = mend_stored(in_force, &mut self.window, len) {
-            self.is_reported = change.outcome() == Some(Outcome::Guessed);
+            self.is_reported = matches!(change, Change::Length { is_guess: true, .. });
             self.note(change);
             return Ok(Step::Done);
         }
-        if !self.is_reported && is_oversized(in_force, &self.window, len) {
+        if !self.is_reported && is_oversized(in_force, self.window.shown(), len) {
             self.is_reported = true;
             self.note(Change::Oversized);
             return Ok(Step::Done);
@@ -465,7 +496,7 @@ impl Rows {
             self.note(change);
             return Ok(true);
         }
-        let Some(text) = complete_last(self.alloc, in_force, &self.window)? else {
+        let Some(text) = complete_last(self.alloc, in_force, self.window.shown())? else {
             return Ok(false);
         };
         match self.describing.judge(in_force, self.window.shown())? {
@@ -484,26 +515,9 @@ impl Rows {
         self.window.pass(len);
         Ok(true)
     }
-
-    // Skips the last bytes of the capture, which are of a truncated item.
-    fn pass_torn(&mut self) {
-        let len = self.window.shown().len();
-        self.window.pass(len);
-        let scrap = self.kind.torn();
-        self.leave_out(len as u64, scrap, None);
-        self.is_at_end = true;
-    }
-
-    fn leave_out(&mut self, bytes: u64, scrap: Scrap, rule: Option<Rule>) {
-        self.left_out = LeftOut {
-            bytes: self.left_out.bytes.saturating_add(bytes),
-            scrap,
-            rule,
-        };
-    }
 }
 
-impl Read for Rows {
+impl<R: BufRead> Read for Rows<R> {
     ghost remaining = { λ rows. None };
 
     fn read(&mut self, buf: &mut [u8]) -> io::Result<usize> {
@@ -538,7 +552,7 @@ fn front_of(in_force: &mut InForce, bytes: &[u8]) -> Result<Front, AllocError> {
 }
 
 // Returns what the first section header in the window puts in force, and the length of this header.
-fn open(alloc: Global, window: &mut Window) -> ResultParsing<(InForce, usize)> {
+fn open<R: BufRead>(alloc: Global, window: &mut Window<R>) -> ResultParsing<(InForce, usize)> {
     for _ in 0..u64::MAX {
         match first_section(alloc, window.shown()) {
             Err(PcapError::IncompleteBuffer(n)) => {
@@ -553,7 +567,10 @@ fn open(alloc: Global, window: &mut Window) -> ResultParsing<(InForce, usize)> {
 }
 
 /// Returns whether the window begins with a section header, which may not be longer than the longest packet.
-pub(crate) fn begins_section(alloc: Global, window: &mut Window) -> ResultParsing<bool> {
+pub(crate) fn begins_section<R: BufRead>(
+    alloc: Global,
+    window: &mut Window<R>,
+) -> ResultParsing<bool> {
     for _ in 0..u64::MAX {
         match first_section(alloc, window.shown()) {
             Ok(_) => return Ok(true),

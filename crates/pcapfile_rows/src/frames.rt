@@ -1,10 +1,11 @@
 //! Blocks of a damaged PcapNg capture, one of whose two lengths is wrong.
 
-use crate::packets::Change;
+use crate::change::Change;
 use crate::window::{IN_A_ROW, Window};
 use pcap_file::Endianness;
 use pcap_tolerant_captures::resync::resync_in as first_blocks;
 use std::io;
+use std::io::BufRead;
 
 /// The length of the shortest block, in bytes.
 const SHORTEST: usize = 12;
@@ -13,7 +14,10 @@ const SHORTEST: usize = 12;
 const LENGTH: usize = 4;
 
 /// Puts the right length into the block at the front of the window, if one of its two lengths says where the next blocks begin.
-pub(crate) fn mend_frame(order: Endianness, window: &mut Window) -> io::Result<Option<Change>> {
+pub(crate) fn mend_frame<R: BufRead>(
+    order: Endianness,
+    window: &mut Window<R>,
+) -> io::Result<Option<Change>> {
     let sure = window.reach_row()?;
     let bytes = window.shown();
     let behind = bytes.get(SHORTEST..).unwrap_or_default();

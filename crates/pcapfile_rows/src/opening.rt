@@ -1,6 +1,12 @@
 //! The header of a capture whose own one is lost.
 
+ghost use Rattle.std.specs.Prelude.{◌≡◌, IsTrue};
+ghost use Rattle.pcap_core.specs.Link.{Link};
+ghost use Rattle.pcap_classic.specs.Magic.{is_magic, magic_for};
+ghost use Rattle.pcap_classic.specs.PacketText.{packet_limit};
+
 use crate::lost::FirstSection;
+use crate::packets::HEADER;
 use crate::window::Window;
 use byteorder::{BigEndian, LittleEndian};
 use pcap_altered::is_transferred;
@@ -9,10 +15,15 @@ use pcap_file::pcap::{PACKET_LIMIT, PcapHeader};
 use pcap_file::{DataLink, Endianness, PcapParser, ResultParsing, TsResolution};
 use pcap_variants::Variant;
 use std::alloc::Global;
-use std::io;
+use std::io::BufRead;
 
-/// The magic numbers of classic captures, in the order in which they are tried.
-const MAGICS: [u32; 4] = [0xD4C3_B2A1, 0xA1B2_C3D4, 0x4D3C_B2A1, 0xA1B2_3C4D];
+/// The byte orders and resolutions of classic captures, in the order in which they are tried.
+const KINDS: [(Endianness, TsResolution); 4] = [
+    (Endianness::Little, TsResolution::MicroSecond),
+    (Endianness::Big, TsResolution::MicroSecond),
+    (Endianness::Little, TsResolution::NanoSecond),
+    (Endianness::Big, TsResolution::NanoSecond),
+];
 
 /// The length of a packet's head, in bytes.
 const HEAD: usize = 16;
@@ -63,50 +74,49 @@ pub(crate) struct Run {
 /// A header that was guessed.
 #[derive(Clone, Copy)]
 pub struct Guessed {
-    /// The header.
-    pub header: PcapHeader,
-    /// Whether its link type is assumed.
+    /// Its byte order.
+    pub order: Endianness,
+    /// Its resolution.
+    pub resolution: TsResolution,
+    /// Its link type.
+    pub link: u32,
+    /// Whether the link type is assumed.
     pub is_link_assumed: bool,
 }
 
-/// Returns a header with this magic number and link type.
-pub fn header_with(magic_number: u32, link: u32) -> PcapHeader {
-    PcapHeader {
-        magic_number,
-        version_major: 2,
-        version_minor: 4,
-        ts_correction: 0,
-        ts_accuracy: 0,
-        snaplen: PACKET_LIMIT,
-        datalink: DataLink::from(link),
+impl Guessed {
+    /// Returns the header.
+    pub fn header(&self) -> PcapHeader
+        ensures valid { IsTrue (is_magic result.magic_number) }
+        ensures magic { result.magic_number ≡ magic_for self.now.order self.now.resolution }
+        ensures link { Link self.now.link result.datalink }
+        ensures snaplen { result.snaplen ≡ packet_limit }
+    {
+        header_for(self.order, self.resolution, self.link)
     }
 }
 
-/// Returns the magic number of this byte order and resolution.
-pub fn magic_of(order: Endianness, resolution: TsResolution) -> u32 {
-    match (order, resolution) {
-        (Endianness::Little, TsResolution::MicroSecond) => 0xD4C3_B2A1,
-        (Endianness::Big, TsResolution::MicroSecond) => 0xA1B2_C3D4,
-        (Endianness::Little, TsResolution::NanoSecond) => 0x4D3C_B2A1,
-        (Endianness::Big, TsResolution::NanoSecond) => 0xA1B2_3C4D,
-    }
+/// Returns a header with this byte order, resolution and link type. Its snapshot length is the limit of a packet.
+pub fn header_for(order: Endianness, resolution: TsResolution, link: u32) -> PcapHeader
+    ensures valid { IsTrue (is_magic result.magic_number) }
+    ensures magic { result.magic_number ≡ magic_for order resolution }
+    ensures link { Link link result.datalink }
+    ensures snaplen { result.snaplen ≡ packet_limit }
+{
+    let mut header = PcapHeader::default();
+    header.set_endianness(order);
+    header.set_ts_resolution(resolution);
+    header.snaplen = PACKET_LIMIT;
+    header.datalink = DataLink::from(link);
+    header
 }
 
-/// Returns the byte order and the resolution of a header.
-pub(crate) fn kind_of(header: &PcapHeader) -> (Endianness, TsResolution) {
-    match header.magic_number {
-        0xA1B2_C3D4 => (Endianness::Big, TsResolution::MicroSecond),
-        0xA1B2_3C4D => (Endianness::Big, TsResolution::NanoSecond),
-        0x4D3C_B2A1 => (Endianness::Little, TsResolution::NanoSecond),
-        _ => (Endianness::Little, TsResolution::MicroSecond),
-    }
-}
-
-/// Returns the bytes of a header.
-pub(crate) fn bytes_of(header: &PcapHeader) -> [u8; 24] {
-    match header.magic_number {
-        0xA1B2_C3D4 | 0xA1B2_3C4D => header.to_bytes::<BigEndian>(),
-        _ => header.to_bytes::<LittleEndian>(),
+/// Returns the bytes of a parser's header.
+pub(crate) fn header_bytes(parser: &PcapParser) -> [u8; HEADER] {
+    let header = parser.header();
+    match header.endianness() {
+        Endianness::Big => header.to_bytes::<BigEndian>(),
+        Endianness::Little => header.to_bytes::<LittleEndian>(),
     }
 }
 
@@ -126,9 +136,9 @@ impl Run {
 
 /// Undoes a text-mode transfer of the capture in the window, if there was one: the capture then begins with a section header, or has a
 /// longer run of packets. Returns whether it is undone.
-pub(crate) fn undo_transfer(
+pub(crate) fn undo_transfer<R: BufRead>(
     alloc: Global,
-    window: &mut Window,
+    window: &mut Window<R>,
     link: Option<u32>,
 ) -> ResultParsing<bool> {
     let sure = window.reach_row()?;
@@ -164,16 +174,18 @@ pub(crate) fn guess_in(
 ) -> ResultParsing<(Run, Option<Guessed>)> {
     let mut longest = Run::NONE;
     let mut best = None;
-    for magic in MAGICS {
-        let header = header_with(magic, link.unwrap_or(ETHERNET));
-        let parser = PcapParser::with_header(header)?;
+    for (order, resolution) in KINDS {
+        let guessed = Guessed {
+            order,
+            resolution,
+            link: link.unwrap_or(ETHERNET),
+            is_link_assumed: link.is_none(),
+        };
+        let parser = PcapParser::with_header(guessed.header())?;
         let run = run_of(&parser, bytes, bound);
         if run.packets >= FEWEST && run.packets > longest.packets {
             longest = run;
-            best = Some(Guessed {
-                header,
-                is_link_assumed: link.is_none(),
-            });
+            best = Some(guessed);
         }
     }
     Ok((longest, best))

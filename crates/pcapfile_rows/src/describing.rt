@@ -1,14 +1,16 @@
 //! Interfaces that their section doesn't describe.
 
+ghost use Rattle.std.specs.Prelude.{◌≡◌};
+ghost use Rattle.pcapfile_rows.specs.Changes.{is_guessed_fate, is_guessed_source, is_left_out_fate};
+
 use crate::frames::number_at;
 use crate::in_force::InForce;
-use crate::summary::Outcome;
 use pcap_file::{DataLink, Endianness, PcapError, TsResolution};
 use pcap_written::Unput;
 use pcapfile_mended::{Described, describe};
 use std::alloc::Global;
+use std::io;
 use std::io::ErrorKind;
-use std::{fmt, io};
 
 /// The most interfaces that are described at once. A higher number of an interface is taken for corrupt.
 const MOST: usize = 16;
@@ -185,70 +187,34 @@ fn common_limit(one: u32, other: u32) -> u32 {
     if one == other { one } else { 0 }
 }
 
-/// Writes what becomes of the packets, and why.
-impl fmt::Display for Undescribed {
-    fn fmt<W: fmt::Write>(&self, f: &mut fmt::Formatter<W>) -> fmt::Result {
-        let interface = self.interface;
-        if let Fate::Described(link, source) = self.fate {
-            let how = source.text();
-            return write!(
-                f,
-                "interface {interface} is not described: a description of link type {link}{how} is written before it"
-            );
-        }
-        let fate = self.fate.text();
-        write!(f, "interface {interface} is not described: {fate}")
-    }
-}
-
 impl Source {
     // Returns whether the packets after such a description are guesses.
-    fn is_guess(self) -> bool {
+    fn is_guess(self) -> bool
+        ensures { result ≡ is_guessed_source self }
+    {
         match self {
             Source::Others | Source::Header => false,
             Source::Link | Source::Assumed => true,
         }
     }
-
-    // Returns the message on a description that is written.
-    fn text(self) -> &'static str {
-        match self {
-            Source::Others => ", like those of the other interfaces of its section,",
-            Source::Header => ", as --header gives it,",
-            Source::Link => " and times in microseconds, which makes its packets guesses,",
-            Source::Assumed =>
-                ", which is assumed, and times in microseconds, which makes its packets guesses,",
-        }
-    }
 }
 
 impl Fate {
-    /// Returns what becomes of the next packet, unless it is left out.
-    pub(crate) fn outcome(self) -> Option<Outcome> {
+    /// Returns whether the packets are guesses.
+    pub fn is_guess(self) -> bool
+        ensures { result ≡ is_guessed_fate self }
+    {
         match self {
-            Fate::Described(_, source) if !source.is_guess() => Some(Outcome::Repaired),
-            Fate::Described(..) | Fate::Kept => Some(Outcome::Guessed),
-            Fate::OthersDiffer | Fate::TooHigh | Fate::Disputed => None,
+            Fate::Described(_, source) => source.is_guess(),
+            Fate::Kept => true,
+            Fate::OthersDiffer | Fate::TooHigh | Fate::Disputed => false,
         }
     }
 
-    // Returns the message on packets whose interface gets no description.
-    fn text(self) -> &'static str {
-        match self {
-            Fate::Described(..) => "it is described",
-            Fate::Kept =>
-                "packets are kept without a description; 'pcapfile repair --guess' writes one, with the link type of --link LINK",
-            Fate::OthersDiffer =>
-                "its packets are left out, since the interfaces of its section differ in link type or in how they count time",
-            Fate::TooHigh =>
-                "its packets are left out, since its number is far above those of the described interfaces",
-            Fate::Disputed =>
-                "its packets are left out, since a later description differs from that written before",
-        }
-    }
-
-    // Returns whether the packets are left out.
-    fn is_left_out(self) -> bool {
+    /// Returns whether the packets are left out.
+    pub fn is_left_out(self) -> bool
+        ensures { result ≡ is_left_out_fate self }
+    {
         match self {
             Fate::Described(..) | Fate::Kept => false,
             Fate::OthersDiffer | Fate::TooHigh | Fate::Disputed => true,
@@ -325,7 +291,7 @@ impl Describing {
             _ if self.has_left_out(interface) && fate.is_left_out() => return Ok(Next::LeaveOut),
             _ => self.reported = Some(undescribed),
         }
-        self.is_guess = self.is_guess || fate.outcome() == Some(Outcome::Guessed);
+        self.is_guess = self.is_guess || fate.is_guess();
         Ok(Next::Report(undescribed))
     }
 

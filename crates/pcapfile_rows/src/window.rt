@@ -4,22 +4,17 @@ use crate::packets::ROW;
 use crate::undo::Undo;
 use pcap_damaged::resync as first_packets;
 use pcap_file::{Endianness, PcapParser};
-use pcap_program::Uninterrupted;
 use pcap_tolerant_captures::resync::{resync_in as first_blocks, resync_section};
 use pcap_variants::Variant;
-use pcapfile_files::Watched;
 use std::alloc::Global;
 use std::io;
-use std::io::{BufRead, BufReader};
+use std::io::BufRead;
 
 /// The number of blocks without a fault in a row that resynchronization needs.
 pub(crate) const IN_A_ROW: usize = 2;
 
 /// The number of bytes that are looked at at once.
-const WINDOW: usize = 2_097_152;
-
-/// A buffered capture.
-type Input = BufReader<Uninterrupted<Watched>>;
+pub(crate) const WINDOW: usize = 2_097_152;
 
 /// The items to look for after corrupt bytes.
 #[derive(Clone, Copy)]
@@ -43,8 +38,8 @@ pub(crate) struct Passed {
 
 /// A window over the next bytes of an input: as many as were requested, or more, up to the end of the input.
 #[derive(Drop)]
-pub(crate) struct Window {
-    input: Input,
+pub(crate) struct Window<R> {
+    input: R,
     room: Vec<u8>,
     /// The number of bytes in the buffer that were consumed.
     passed: usize,
@@ -79,9 +74,9 @@ impl Sought<'_> {
     }
 }
 
-impl Window {
+impl<R> Window<R> {
     /// Returns a window over an input from which nothing was read yet.
-    pub(crate) fn new(alloc: Global, input: Input) -> Window {
+    pub(crate) fn new(alloc: Global, input: R) -> Window<R> {
         Window {
             input,
             room: Vec::new(alloc),
@@ -131,6 +126,39 @@ impl Window {
         self.passed = self.passed.saturating_add(bytes);
     }
 
+    // Returns the number of places at which a row doesn't go on after the bytes in the window.
+    fn sure(&self, is_all: bool) -> usize {
+        let len = self.shown().len();
+        if is_all {
+            return len;
+        }
+        len.saturating_sub(ROW)
+    }
+
+    /// Puts other bytes into the window, from this offset on.
+    pub(crate) fn put(&mut self, offset: usize, bytes: &[u8]) {
+        let from = self.passed.saturating_add(offset);
+        for (place, byte) in self.room.iter_mut().skip(from).zip(bytes) {
+            *place = *byte;
+        }
+    }
+
+    // Drops the consumed bytes once they outnumber the rest, so that a move never copies more bytes than were consumed.
+    fn let_go(&mut self) {
+        let len = self.room.len();
+        if self.passed >= len {
+            self.room.clear();
+        } else if self.passed > len - self.passed {
+            self.room.copy_within(self.passed..len, 0);
+            self.room.truncate(len - self.passed);
+        } else {
+            return;
+        }
+        self.passed = 0;
+    }
+}
+
+impl<R: BufRead> Window<R> {
     /// Extends the window by this many bytes, and returns whether there are as many.
     pub(crate) fn show(&mut self, more: usize) -> io::Result<bool> {
         self.let_go();
@@ -159,23 +187,6 @@ impl Window {
     pub(crate) fn reach_row(&mut self) -> io::Result<usize> {
         let is_all = !self.reach(WINDOW)?;
         Ok(self.sure(is_all))
-    }
-
-    // Returns the number of places at which a row doesn't go on after the bytes in the window.
-    fn sure(&self, is_all: bool) -> usize {
-        let len = self.shown().len();
-        if is_all {
-            return len;
-        }
-        len.saturating_sub(ROW)
-    }
-
-    /// Puts other bytes into the window, from this offset on.
-    pub(crate) fn put(&mut self, offset: usize, bytes: &[u8]) {
-        let from = self.passed.saturating_add(offset);
-        for (place, byte) in self.room.iter_mut().skip(from).zip(bytes) {
-            *place = *byte;
-        }
     }
 
     /// Skips bytes up to the first place where these items are found. It looks at enough bytes at once to be sure that the place is the
@@ -217,19 +228,5 @@ impl Window {
         }
         self.input.consume(len);
         Ok(len > 0 || self.undo.is_some())
-    }
-
-    // Drops the consumed bytes once they outnumber the rest, so that a move never copies more bytes than were consumed.
-    fn let_go(&mut self) {
-        let len = self.room.len();
-        if self.passed >= len {
-            self.room.clear();
-        } else if self.passed > len - self.passed {
-            self.room.copy_within(self.passed..len, 0);
-            self.room.truncate(len - self.passed);
-        } else {
-            return;
-        }
-        self.passed = 0;
     }
 }
