@@ -79,6 +79,8 @@ class Folder:
 
 
 COPY = ("convert", "--to", "pcap", "in", "-o")
+# What a run prints that finds an unfinished file.
+DELETED = "pcapfile: out.part: deleted, since no run is writing it\n"
 
 
 def try_links(tally):
@@ -264,20 +266,20 @@ def try_parts(tally):
 
 
 def try_unfinished(tally):
-    """Checks that a run removes what an ended run left. It leaves the files that another run writes, and
+    """Checks that a run deletes what an ended run left, and reports that. It leaves the files that another run writes, and
     files that no run made."""
     with Folder(tally.program, **{"in": CAPTURE, "out.part": b"left", "out": b"old"}) as folder:
         ended = folder.run(*COPY, "out")
         tally.note(
             "an unfinished file of a run that was ended",
-            ended != (DONE, b"", "") and f"it ended with {ended}",
+            ended != (DONE, b"", DELETED) and f"it ended with {ended}",
             folder.names() != ["in", "out"] and f"it left {folder.names()}",
             folder.get("out") != CAPTURE and "it was not replaced",
         )
     with Folder(tally.program, **{"in": CAPTURE, "victim": b"victim"}) as folder:
         os.link(folder.at("victim"), folder.at("out.part"))
         ended = folder.run(*COPY, "out")
-        tally.note("an unfinished file with another name", ended[0] != DONE and f"it ended with {ended}", folder.get("victim") != b"victim" and "the other name is lost")
+        tally.note("an unfinished file with another name", ended != (DONE, b"", DELETED) and f"it ended with {ended}", folder.get("victim") != b"victim" and "the other name is lost")
     for name, make in (
         ("a link", lambda at: os.symlink("victim", at)),
         ("a link that leads nowhere", lambda at: os.symlink("none", at)),
@@ -339,7 +341,7 @@ def try_ended_runs(tally):
                 second != (FAILED, b"", "pcapfile: out.part: another run is writing it\n") and f"the second run ended with {second}",
                 run.returncode != -number and f"it ended with {run.returncode}",
                 spared != b"old" and "the output was changed",
-                ended != (DONE, b"", "") and f"the next one ended with {ended}",
+                ended != (DONE, b"", DELETED) and f"the next one ended with {ended}",
                 (folder.get("out"), folder.names()) != (CAPTURE, ["in", "out"]) and f"the next one left {folder.names()}",
             )
 

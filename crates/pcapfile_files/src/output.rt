@@ -59,7 +59,7 @@ struct Unfinished<'a> {
 impl Unfinished<'_> {
     // Creates the file.
     fn create(&self, console: &Console) -> Result<File, Refusal> {
-        part::create(console.rt(), self.part.as_str(), self.replaced.is_some())
+        part::create(console, self.part.as_str(), self.replaced.is_some())
     }
 
     // Prints why the file can't be created, and returns the exit status.

@@ -1,5 +1,7 @@
 //! The temporary files that hold outputs until they are complete.
 
+use crate::console::Console;
+use crate::shown::Shown;
 use std::alloc::{AllocError, Global};
 use std::fs::{File, Metadata, OpenOptions, Permissions, TryLockError};
 use std::io::ErrorKind;
@@ -57,13 +59,18 @@ fn beginning(name: &str, most: usize) -> &str {
     ""
 }
 
-/// Creates the file at this path, and locks it against other runs until it is closed. Deletes a file that an interrupted run left.
-pub(crate) fn create(rt: &HostRuntime, path: &str, is_private: bool) -> Result<File, Refusal> {
+/// Creates the file at this path, and locks it against other runs until it is closed. Deletes a file that no run is writing, and prints
+/// that.
+pub(crate) fn create(console: &Console, path: &str, is_private: bool) -> Result<File, Refusal> {
+    let rt = console.rt();
     match create_locked(rt, path, is_private) {
         Err(Refusal::Io(error)) if error.kind() == ErrorKind::AlreadyExists => {}
         made => return made,
     }
-    remove_left(rt, path)?;
+    if remove_left(rt, path)? {
+        let part = Shown(path);
+        eprintln!(console.for_line(); "pcapfile: {part}: deleted, since no run is writing it")?;
+    }
     match create_locked(rt, path, is_private) {
         Err(Refusal::Io(error)) if error.kind() == ErrorKind::AlreadyExists => Err(Refusal::Held),
         made => made,
@@ -87,11 +94,12 @@ fn create_locked(rt: &HostRuntime, path: &str, is_private: bool) -> Result<File,
     Ok(file)
 }
 
-// Deletes a leftover file that no run has locked. A run locks what it writes, and deletes only what it has locked.
-fn remove_left(rt: &HostRuntime, path: &str) -> Result<(), Refusal> {
+// Deletes a leftover file that no run has locked, and returns whether there was one. A run locks what it writes, and deletes only what
+// it has locked.
+fn remove_left(rt: &HostRuntime, path: &str) -> Result<bool, Refusal> {
     let found = match fs::symlink_metadata(rt, path) {
         Ok(found) => found,
-        Err(error) if error.kind() == ErrorKind::NotFound => return Ok(()),
+        Err(error) if error.kind() == ErrorKind::NotFound => return Ok(false),
         Err(error) => return Err(Refusal::Io(error)),
     };
     if !found.is_file() {
@@ -109,7 +117,7 @@ fn remove_left(rt: &HostRuntime, path: &str) -> Result<(), Refusal> {
         return Err(Refusal::Held);
     }
     match fs::remove_file(rt, path) {
-        Ok(()) => Ok(()),
+        Ok(()) => Ok(true),
         Err(_) => Err(Refusal::InTheWay),
     }
 }
