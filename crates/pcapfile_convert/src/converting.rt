@@ -1,5 +1,7 @@
 //! Converting a capture from one format to the other.
 
+ghost use Rattle.std.specs.Prelude.{◌≡◌, Some, false};
+
 use crate::left_out::LeftOut;
 use crate::with_fcs::{Again, HEADER, has_reserved_bits, header_with_more, put_packets};
 use pcap_file::pcap::{PACKET_LIMIT, PcapHeader};
@@ -32,12 +34,20 @@ pub struct Converted {
 
 impl Converted {
     /// Returns the outcome of the conversion of a capture that can't be opened.
-    pub fn unread(error: PcapError) -> Converted {
+    pub fn unread(error: PcapError) -> Converted
+        ensures fault { result.fault ≡ Some error }
+        ensures no_write_failed { result.write_failed ≡ false }
+        ensures no_lost_bits { result.has_lost_bits ≡ false }
+    {
         Converted::whole(Some(error), false)
     }
 
     // Returns the outcome of a conversion that left nothing out.
-    fn whole(fault: Option<PcapError>, write_failed: bool) -> Converted {
+    fn whole(fault: Option<PcapError>, write_failed: bool) -> Converted
+        ensures fault { result.fault ≡ fault }
+        ensures write_failed { result.write_failed ≡ write_failed }
+        ensures no_lost_bits { result.has_lost_bits ≡ false }
+    {
         Converted {
             left_out: LeftOut::default(),
             has_lost_bits: false,
