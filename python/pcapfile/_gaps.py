@@ -40,6 +40,7 @@ _CAPTURE = re.compile(
 # Where a section header may be, or a block of at most LONGEST_BLOCK bytes, whose length is a multiple of 4 and not 0. Elsewhere the
 # library refuses a block. The keys are the magic numbers of sections in each byte order, and 0 before the first section.
 _SECTION, _SECTION_TYPE = rb"\x0a\x0d\x0d\x0a", 0x0A0D0D0A
+_KNOWN_TYPES = (1, 2, 3, 4, 5, 6, 9, _SECTION_TYPE)
 _FOURS = b"[" + b"".join(b"\\x%02x" % number for number in range(0, 256, 4)) + b"]"
 _BLOCK = {
     0: re.compile(_SECTION),
@@ -170,29 +171,45 @@ def place_of_packets(header: _library.Header, left: memoryview, begin: int, boun
 
 def place_of_blocks(window: Window, section: _library.Section, bound: int) -> Optional[int]:
     """Returns the first place before `bound` where a section header is, or blocks follow each other, or fewer to the end of the bytes
-    that are left."""
-    left = left_of(window)
-    for found in _BLOCK[section.magic_number].finditer(left, 0, min(len(left), bound + 7)):
-        if found.start() < bound and _is_row_of_blocks(window, section, left[found.start() :]):
-            return found.start()
-    return None
+    that are left. If the first of them has an unknown type, and blocks go on inside it with one of a known type, that is the place: a
+    byte beside its place, a block seems to have another type and 256 times its length, and 256 blocks of one length seem to be one."""
+    left, first, end = left_of(window), None, bound
+    for found in _BLOCK[section.magic_number].finditer(left):
+        place = found.start()
+        if place >= end:
+            break
+        row = _row_at(window, section, left, place)
+        if row is not None and row.is_known:
+            return place
+        if row is not None and first is None:
+            first, end = place, row.end
+    return first
 
 
-def _is_row_of_blocks(window: Window, section: _library.Section, left: memoryview) -> bool:
+class _Row(NamedTuple):
+    """The first of the blocks at a place where blocks go on: where it ends, and whether its type is known."""
+
+    end: int
+    is_known: bool
+
+
+def _row_at(window: Window, section: _library.Section, left: memoryview, place: int) -> Optional[_Row]:
     here, block, error = _library.Section.from_buffer_copy(section), _library.BlockAsIs(), _library.Error()
+    row: Optional[_Row] = None
     for _ in range(BLOCKS_IN_A_ROW):
-        part = left[:LONGEST_BLOCK]
+        part = left[place : place + LONGEST_BLOCK]
         bytes_here = _library.Bytes(_library.address_of(part), len(part))
         block.body, block.packet.bytes = _library.no_bytes(), _library.no_bytes()
         status = _library.take_block_as_is(here, bytes_here, block, _library.BlockFlaw(), 0, error)
         if status == _library.NO_MEMORY:
             raise error_of(status, error, window.offset)
         if status != _library.OK:
-            return False
-        left = left[len(part) - bytes_here.len :]
-        if block.type == _SECTION_TYPE or len(left) == 0:
-            return True
-    return True
+            return None
+        place += len(part) - bytes_here.len
+        row = row or _Row(place, block.type in _KNOWN_TYPES)
+        if block.type == _SECTION_TYPE or place == len(left):
+            break
+    return row
 
 
 def message_of(gap: Gap) -> str:

@@ -91,6 +91,12 @@ class Gaps(unittest.TestCase):
             found = [shown(it) for it in pcapfile.parse(data, strict=False, gaps=True)]
             self.assertEqual(found, with_texts(wanted))
 
+    def test_many_blocks_of_one_length_are_not_one(self):
+        # A byte before a block its length seems 256 times as large, and 256 of these blocks seem to be one.
+        wanted = [Gap(AT, 33, Rule.BLOCK_LENGTHS_DIFFER, ""), *[b"abc\0"] * 520]
+        found = pcapfile.parse(CAPTURE + e(b"abcd")[:33] + e(b"abc\0") * 520, strict=False, gaps=True)
+        self.assertEqual([shown(it) for it in found], with_texts(wanted))
+
     def test_of_a_file_again_and_again(self):
         with tempfile.TemporaryDirectory() as folder:
             for number, (data, wanted) in enumerate(ALL):

@@ -295,20 +295,20 @@ impl Walk {
         // At a place before the bound, more bytes change nothing.
         let bound = if is_end { bytes.len() } else { bytes.len() - ROW * longest };
         for place in 0..bound {
-            match self.goes_on(&bytes[place..]) {
-                Ok(true) => return Step::Corrupt(place, None, true),
-                Ok(false) => {}
+            match self.place_from(bytes, place) {
+                Ok(Some(found)) => return Step::Corrupt(found, None, true),
+                Ok(None) => {}
                 Err(error) => return Step::Fail(error),
             }
         }
         Step::Corrupt(bound, None, is_end)
     }
 
-    /// Returns whether reading goes on at the front of these bytes. Fails if an allocation does.
-    fn goes_on(&self, bytes: &[u8]) -> Result<bool, Error> {
+    /// Returns where reading goes on, if packets or blocks go on at this place. Fails if an allocation does.
+    fn place_from(&self, bytes: &[u8], place: usize) -> Result<Option<usize>, Error> {
         match self.is_ng {
-            true => blocks_go_on(self.section, bytes),
-            false => Ok(self.packets_go_on(bytes)),
+            true => place_of_blocks(self.section, bytes, place),
+            false => Ok(self.packets_go_on(&bytes[place..]).then_some(place)),
         }
     }
 
@@ -388,25 +388,49 @@ fn capture_at(bytes: &[u8]) -> Result<Option<Header>, usize> {
     }
 }
 
-/// Returns whether these bytes begin with a section header, or with some blocks that follow each other, or with fewer to their end. Fails if
-/// an allocation does.
-fn blocks_go_on(section: Section, bytes: &[u8]) -> Result<bool, Error> {
-    let (mut section, mut left) = (section, bytes);
+/// The first of the blocks at a place where blocks go on.
+struct FirstBlock {
+    len: usize,
+    /// Whether its type is known.
+    is_known: bool,
+}
+
+/// Returns where blocks go on, if they do at this place. If the first of them has an unknown type, and blocks go on inside it with one of a
+/// known type, that is their place: a byte beside its place, a block seems to have another type and 256 times its length, and 256 blocks of
+/// one length seem to be one. Fails if an allocation does.
+fn place_of_blocks(section: Section, bytes: &[u8], place: usize) -> Result<Option<usize>, Error> {
+    let Some(first) = first_of_row(section, &bytes[place..])? else {
+        return Ok(None);
+    };
+    let inside = if first.is_known { 0..0 } else { place + 1..place + first.len };
+    for inner in inside {
+        if first_of_row(section, &bytes[inner..])?.is_some_and(|it| it.is_known) {
+            return Ok(Some(inner));
+        }
+    }
+    Ok(Some(place))
+}
+
+/// Returns the first block if these bytes begin with a section header, or with some blocks that follow each other, or with fewer to their
+/// end. Fails if an allocation does.
+fn first_of_row(section: Section, bytes: &[u8]) -> Result<Option<FirstBlock>, Error> {
+    let (mut section, mut left, mut first) = (section, bytes, None);
     for _ in 0..BLOCKS {
         let seen = &left[..left.len().min(LONGEST_BLOCK)];
         let mut blocks = Blocks::at(section, seen).as_is();
-        match blocks.take_one() {
-            Ok(found) if found.block.type_ == 0x0a0d_0d0a => return Ok(true),
-            Ok(_) => {}
+        let type_ = match blocks.take_one() {
+            Ok(found) => found.block.type_,
             Err(Error::NoMemory) => return Err(Error::NoMemory),
-            Err(_) => return Ok(false),
-        }
-        (section, left) = (*blocks.section(), &left[seen.len() - blocks.rest().len()..]);
-        if left.is_empty() {
-            return Ok(true);
+            Err(_) => return Ok(None),
+        };
+        let len = seen.len() - blocks.rest().len();
+        first = first.or(Some(FirstBlock { len, is_known: matches!(type_, 1..=6 | 9 | 0x0a0d_0d0a) }));
+        (section, left) = (*blocks.section(), &left[len..]);
+        if type_ == 0x0a0d_0d0a || left.is_empty() {
+            break;
         }
     }
-    Ok(true)
+    Ok(first)
 }
 
 /// Reads a damaged capture of either format in memory: an iterator over packets that borrow from it, and gaps. Every byte after the
@@ -430,7 +454,7 @@ fn blocks_go_on(section: Section, bytes: &[u8]) -> Result<bool, Error> {
 /// Packets that break a rule are returned with it. A packet of a classic capture is a gap if packets follow each other inside it and not
 /// after it: then its length is wrong. So are two all-zero headers, and the header of another capture, by which the packets after it are
 /// read. Where reading goes on after corrupt bytes is a guess, since corrupt bytes may look like packets: three packets with data follow
-/// each other there without a flaw, or two blocks, or fewer to the end.
+/// each other there without a flaw, or two blocks, or fewer to the end. A block of a known type wins inside one of an unknown type.
 ///
 /// An error is the last item: the bytes do not begin a capture, or an allocation failed.
 #[derive(Clone, Debug)]

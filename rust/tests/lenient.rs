@@ -179,6 +179,16 @@ fn blocks_go_on_at_any_place() {
     assert_found(&bytes, &[gap, data(b"ijkl")]);
 }
 
+/// A byte before a block its length seems 256 times as large, and 256 of these blocks seem to be one.
+#[test]
+fn many_blocks_of_one_length_are_not_one() {
+    let bytes = [SECTION, INTERFACE, &block(b"efgh")[..33], &block(b"abc\0").repeat(520)].concat();
+    let mut wanted = vec![Seen::Gap(60, 33, Some(Error::Invalid(Rule::BlockLengthsDiffer)))];
+    wanted.resize(521, data(b"abc\0"));
+    let found: Vec<_> = Lenient::parse(&bytes).map(|found| seen(found.unwrap().into_owned())).collect();
+    assert_eq!(found, wanted);
+}
+
 /// An enhanced packet whose data pass its body, and one whose flags have two bytes.
 #[test]
 fn a_packet_without_room_is_a_gap_and_one_with_a_flaw_is_returned() {

@@ -26,7 +26,7 @@ HERE = os.path.dirname(os.path.abspath(__file__))
 sys.path.insert(0, os.path.join(os.path.dirname(HERE), "damage"))
 sys.dont_write_bytecode = True
 import captures
-from damages import BLOCKS_ONLY, CLASSIC_ONLY, KINDS
+from damages import BLOCKS_ONLY, CLASSIC_ONLY, KINDS, Damaged
 
 PACKETS = 100
 # Kinds whose captures have no beginning that lenient reading knows, or whose lengths are wrong.
@@ -46,8 +46,7 @@ def drawn(kind, number, seed):
     """Returns a sound capture, and the same with damage of this kind, or with none."""
     draw = random.Random(f"{seed} {kind} {number}")
     is_blocks = kind in BLOCKS_ONLY or kind not in CLASSIC_ONLY and draw.randrange(2) == 0
-    make = captures.with_a_capture_in_it if draw.randrange(8) == 0 else captures.sound
-    sound = make(draw, draw.choice("<>"), draw.choice((10**6, 10**9)), is_blocks, PACKETS)
+    sound = captures.maker(draw)(draw, draw.choice("<>"), draw.choice((10**6, 10**9)), is_blocks, PACKETS)
     return sound, KINDS[kind](draw, sound) if kind in KINDS else None
 
 
@@ -79,14 +78,24 @@ def flawed_block(draw, order):
     return captures.block(order, kind, body)
 
 
+def uniform(seed, order):
+    """Returns a sound capture of blocks of one length, and the same with two wrong lengths of one block."""
+    sound = captures.uniform(random.Random(f"{seed} uniform {order}"), order, 10**6, True, PACKETS)
+    damaged = Damaged(sound)
+    place = sound.places[3]
+    for at in (place.start + 4, place.end - 4):
+        damaged.overwrite(at, b"\xff" * 4)
+    return sound, damaged
+
+
 def samples(asked):
-    for kind in [*KINDS, "none"]:
-        for number in range(asked.count):
-            sound, damaged = drawn(kind, number, asked.seed)
-            path = os.path.join(asked.folder, f"{kind} {number}".replace(" ", "_"))
-            with open(path, "wb") as file:
-                file.write(sound.bytes if damaged is None else damaged.bytes)
-            yield Sample(f"{kind} {number}", kind, sound, damaged, path)
+    made = [(kind, number, *drawn(kind, number, asked.seed)) for kind in [*KINDS, "none"] for number in range(asked.count)]
+    made += [("blocks of one length", number, *uniform(asked.seed, order)) for number, order in enumerate("<>")]
+    for kind, number, sound, damaged in made:
+        path = os.path.join(asked.folder, f"{kind} {number}".replace(" ", "_"))
+        with open(path, "wb") as file:
+            file.write(sound.bytes if damaged is None else damaged.bytes)
+        yield Sample(f"{kind} {number}", kind, sound, damaged, path)
     for number in range(asked.count):
         draw = random.Random(f"{asked.seed} flaws {number}")
         order, path = draw.choice("<>"), os.path.join(asked.folder, f"flaws_{number}")

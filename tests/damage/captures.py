@@ -8,6 +8,8 @@ LARGEST = 262144
 MAGICS = {0xA1B2C3D4: 10**6, 0xA1B23C4D: 10**9}
 SECTION, INTERFACE, PACKET = 0x0A0D0D0A, 1, 6
 BILLION = 10**9
+# How many times as many packets a uniform capture has: 256 of them may look like one that begins a byte before.
+UNIFORM = 6
 # A packet: its time in nanoseconds, its length on the wire, and its data.
 Packet = collections.namedtuple("Packet", "time wire data")
 # The place of a packet: its first byte, the first byte of its data and the byte after them, and its end.
@@ -83,6 +85,18 @@ def sound(draw, order, per, is_blocks, count, begin=None, snaplens=(65535, 26214
     return made
 
 
+def uniform(draw, order, per, is_blocks, count):
+    """Returns a sound capture of many packets of one size that end in zero bytes, as short frames of Ethernet do."""
+    made = Capture(order, per, is_blocks)
+    made.bytes += front(order, per, is_blocks)
+    time = draw.randrange(1, 1_900_000_000) * per
+    size, step = draw.choice((60, 64, draw.randrange(20, 100))), draw.choice((per, draw.randrange(per)))
+    for _ in range(UNIFORM * count):
+        time += step
+        made.put(Packet(time * (BILLION // per), size, draw.randbytes(size - 18) + bytes(18)))
+    return made
+
+
 def with_a_capture_in_it(draw, order, per, is_blocks, count):
     """Returns a sound capture, some of whose packets carry parts of another one, as when a capture is copied over the network."""
     other = sound(draw, order, per, False, count)
@@ -93,3 +107,8 @@ def with_a_capture_in_it(draw, order, per, is_blocks, count):
         made.put(Packet(time, 1448, bytes(other.bytes[at : at + 1448])))
         at += 1448
     return made
+
+
+def maker(draw):
+    """Returns one of the functions here that make a sound capture."""
+    return draw.choice((sound,) * 6 + (uniform, with_a_capture_in_it))

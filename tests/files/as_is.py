@@ -44,6 +44,8 @@ MESSAGES = {
     1913: "PacketOption: Flags length != 4",
 }
 SECTION, INTERFACE, OBSOLETE, SIMPLE, ENHANCED = 0x0A0D0D0A, 1, 2, 3, 6
+# The types of blocks that the library knows.
+KNOWN = (*range(1, 7), 9, SECTION)
 NO_HEADER = "if its header is lost, --guess guesses one, and --header ORDER,RESOLUTION,LINK gives one"
 TOO_FEW = "--guess finds no four packets or two blocks in a row; --header ORDER,RESOLUTION,LINK gives a header"
 NO_SECTION = "begins with blocks that have no section header; 'pcapfile repair --guess' or --header keeps them"
@@ -384,9 +386,15 @@ def may_stand(order, most):
 
 
 def stands_behind(capture, start, order):
-    """Returns the first offset from this one on at which blocks go on, or None."""
+    """Returns the first offset from this one on at which blocks go on, or None; or if the first of them has an unknown type, the first
+    offset inside it at which blocks go on with one of a known type."""
     places = (it.start() for it in may_stand(order, len(capture) >> 24).finditer(capture, start))
-    return next((it for it in places if stand(capture, it, order)), None)
+    standing = ((it, framed(capture, it, order)) for it in places if stand(capture, it, order))
+    first = next(standing, None)
+    if first is None or first[1][1] in KNOWN:
+        return first and first[0]
+    inside = itertools.takewhile(lambda it: it[0] < first[0] + len(first[1][2]) + 12, standing)
+    return next((at for at, found in inside if found[1] in KNOWN), first[0])
 
 
 def rows_without_section(capture):
@@ -755,9 +763,20 @@ def block_captures(help):
         yield f"{size} bytes of blocks", whole[:size]
     for name, wrong in (("zeros", bytes(40)), ("a short block", b"\1\0\0\0\4\0\0\0" + bytes(8)), ("text", b"this is no block, at all")):
         yield f"blocks and {name}", whole + wrong + whole
+    for order in "<>":
+        yield f"many blocks of one length, order {order}", blocks_of_one_length(help, order)
     yield "two lengths", whole + struct.pack("<III", 99, 12, 16)
     yield "a section that gives no order", whole + help.block("<", SECTION, bytes(16))
     yield "a section with no room", whole + help.block("<", SECTION, struct.pack("<III", 0x1A2B3C4D, 1, 0))
+
+
+def blocks_of_one_length(help, order):
+    """Returns a capture of 600 packets of one size that end in zero bytes. One of them has two wrong lengths."""
+    numbers = [struct.pack(order + "IIIII", 0, 0, k, 60, 60) for k in range(600)]
+    blocks = [help.block(order, ENHANCED, it + bytes([1]) * 42 + bytes(18)) for it in numbers]
+    blocks[3] = blocks[3][:4] + b"\xff" * 4 + blocks[3][8:-4] + b"\xff" * 4
+    section = help.block(order, SECTION, struct.pack(order + "IHHq", 0x1A2B3C4D, 1, 0, -1))
+    return b"".join((section, help.block(order, INTERFACE, struct.pack(order + "HHI", 1, 0, 65535)), *blocks))
 
 
 def gaps():

@@ -1,1 +1,4 @@
 pub mod Changes
+pub mod Opened
+pub mod Places
+pub mod Rows

@@ -3,8 +3,10 @@
 ghost use Rattle.std.specs.Prelude.{◌≡◌};
 ghost use Rattle.pcapfile_rows.specs.Changes.{is_guessed_fate, is_guessed_source, is_left_out_fate};
 
-use crate::frames::number_at;
 use crate::in_force::InForce;
+use crate::numbers::{
+    DESCRIPTION, ENHANCED, INTERFACE, LENGTH, OBSOLETE, SECTION, SIMPLE, STATISTICS, number_at,
+};
 use pcap_file::{DataLink, Endianness, PcapError, TsResolution};
 use pcap_written::Unput;
 use pcapfile_mended::{Described, describe};
@@ -15,32 +17,8 @@ use std::io::ErrorKind;
 /// The most interfaces that are described at once. A higher number of an interface is taken for corrupt.
 const MOST: usize = 16;
 
-/// The offset of the first length in a block.
-const LENGTH: usize = 4;
-
 /// The length of the shortest block whose body has room for an interface, in bytes.
-const SHORTEST: u32 = 16;
-
-/// The offset of the interface in a packet or in statistics.
-const INTERFACE: usize = 8;
-
-/// The type of a section header.
-const SECTION: u32 = 0x0A0D_0D0A;
-
-/// The type of an interface description.
-const DESCRIPTION: u32 = 1;
-
-/// The type of an obsolete packet.
-const PACKET: u32 = 2;
-
-/// The type of a simple packet.
-const SIMPLE: u32 = 3;
-
-/// The type of statistics.
-const STATISTICS: u32 = 5;
-
-/// The type of an enhanced packet.
-const ENHANCED: u32 = 6;
+const WITH_INTERFACE: u32 = 16;
 
 /// Where the description of an interface comes from.
 #[derive(Clone, Copy)]
@@ -248,12 +226,16 @@ impl Describing {
     }
 
     /// Returns the descriptions that the last report is about.
-    pub(crate) fn text(&self) -> &[u8] {
+    pub(crate) fn text(&self) -> &[u8]
+        ensures { result.now ≡ self.now.text.items }
+    {
         self.text.as_slice()
     }
 
     /// Returns whether the link type of the section's packets is a guess.
-    pub(crate) fn is_guess(&self) -> bool {
+    pub(crate) fn is_guess(&self) -> bool
+        ensures { result ≡ self.now.is_guess }
+    {
         self.is_guess
     }
 
@@ -391,15 +373,15 @@ pub(crate) fn names_a_near_interface(in_force: &InForce, bytes: &[u8]) -> bool {
 
 // Returns the interface of the packet or statistics at the front of these bytes.
 fn interface_in(order: Endianness, bytes: &[u8]) -> Option<u32> {
-    if number_at(order, bytes, LENGTH)? < SHORTEST {
+    if number_at(order, bytes, LENGTH)? < WITH_INTERFACE {
         return None;
     }
     let number = number_at(order, bytes, INTERFACE)?;
     match (number_at(order, bytes, 0)?, order) {
         (SIMPLE, _) => Some(0),
         (ENHANCED | STATISTICS, _) => Some(number),
-        (PACKET, Endianness::Big) => Some(number >> 16),
-        (PACKET, Endianness::Little) => Some(number & 0xFFFF),
+        (OBSOLETE, Endianness::Big) => Some(number >> 16),
+        (OBSOLETE, Endianness::Little) => Some(number & 0xFFFF),
         _ => None,
     }
 }

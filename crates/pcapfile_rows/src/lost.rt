@@ -2,10 +2,9 @@
 
 use crate::describing::names_a_near_interface;
 use crate::in_force::InForce;
+use crate::places::first_blocks;
 use crate::rows::SECTION;
-use crate::window::IN_A_ROW;
 use pcap_file::{Endianness, PcapError, PcapNgWriter, ResultParsing};
-use pcap_tolerant_captures::resync::resync_in as first_blocks;
 use std::alloc::Global;
 
 /// The fewest blocks in a row that are taken for a section without its header.
@@ -72,7 +71,7 @@ pub(crate) fn lost_blocks_in(
 ) -> ResultParsing<Option<Lost>> {
     let header = section_text(alloc, order)?;
     let (_rest, mut in_force) = InForce::open(alloc, header.as_slice())?;
-    let Some(place) = first_blocks(order, bytes, IN_A_ROW) else {
+    let Some(place) = first_blocks(order, bytes) else {
         return Ok(None);
     };
     let row = bytes.get(place..).unwrap_or_default();

@@ -1,5 +1,8 @@
 //! Damaged captures whose packets or blocks were found.
 
+ghost use Rattle.std.specs.Prelude.{IfOk};
+ghost use Rattle.pcapfile_rows.specs.Opened.{BeginsWith, HasOpening, OpensWithHeader, bytes_in};
+
 use crate::describing::{Describing, Supposed};
 use crate::lost::{FirstSection, Lost, lost_blocks, lost_blocks_in};
 use crate::opening::{ETHERNET, Found, Opening, guess_in, header_bytes, run_of, undo_transfer};
@@ -34,7 +37,7 @@ pub enum Opened<R> {
 pub struct FoundPackets<R> {
     /// The header.
     pub header: PcapHeader,
-    /// The bytes of the header.
+    /// The bytes of the header: those of the capture, or of a given or guessed header as it is written.
     pub opening: Vec<u8>,
     /// The packets.
     pub rows: Rows<R>,
@@ -43,7 +46,9 @@ pub struct FoundPackets<R> {
 impl<R: BufRead + Drop> Opened<R> {
     /// Returns the packets or blocks of a capture, and its variant of classic captures, if it is of one. The errors are those of reads and
     /// of memory.
-    pub fn new(alloc: Global, input: R) -> ResultParsing<(Opened<R>, Option<Variant>)> {
+    pub fn new(alloc: Global, input: R) -> ResultParsing<(Opened<R>, Option<Variant>)>
+        ensures opening { IfOk result (λ x. OpensWithHeader x.0) }
+    {
         let mut window = Window::new(alloc, input);
         window.show(HEADER)?;
         let variant = make_plain(alloc, &mut window)?;
@@ -56,11 +61,9 @@ impl<R: BufRead + Drop> Opened<R> {
 
     /// Returns the same with a given or guessed header if the capture has none, and what was found at the beginning. Undescribed interfaces
     /// are described.
-    pub fn opened_as(
-        alloc: Global,
-        input: R,
-        opening: Opening,
-    ) -> ResultParsing<(Opened<R>, Found)> {
+    pub fn opened_as(alloc: Global, input: R, opening: Opening) -> ResultParsing<(Opened<R>, Found)>
+        ensures opening { IfOk result (λ x. OpensWithHeader x.0) }
+    {
         let mut found = Found {
             guessed: None,
             is_undone: false,
@@ -77,7 +80,9 @@ impl<R: BufRead + Drop> Opened<R> {
     }
 
     // Returns the items under the capture's own header. It notes whether blocks are left out with a lost section header.
-    fn own(alloc: Global, mut window: Window<R>, found: &mut Found) -> ResultParsing<Opened<R>> {
+    fn own(alloc: Global, mut window: Window<R>, found: &mut Found) -> ResultParsing<Opened<R>>
+        ensures { IfOk result OpensWithHeader }
+    {
         window.show(HEADER)?;
         found.variant = make_plain(alloc, &mut window)?;
         let error = match header_in(window.shown()) {
@@ -102,7 +107,9 @@ impl<R: BufRead + Drop> Opened<R> {
         mut window: Window<R>,
         header: PcapHeader,
         found: &mut Found,
-    ) -> ResultParsing<Opened<R>> {
+    ) -> ResultParsing<Opened<R>>
+        ensures { IfOk result OpensWithHeader }
+    {
         let sure = window.reach_row()?;
         let parser = PcapParser::with_header(header)?;
         let resolution = parser.header().ts_resolution();
@@ -127,7 +134,9 @@ impl<R: BufRead + Drop> Opened<R> {
         mut window: Window<R>,
         link: Option<u32>,
         found: &mut Found,
-    ) -> ResultParsing<Opened<R>> {
+    ) -> ResultParsing<Opened<R>>
+        ensures { IfOk result OpensWithHeader }
+    {
         found.is_undone = undo_transfer(alloc, &mut window, link)?;
         if !found.is_undone {
             found.variant = make_plain(alloc, &mut window)?;
@@ -164,7 +173,10 @@ impl<R: BufRead + Drop> Opened<R> {
         alloc: Global,
         header: PcapHeader,
         mut window: Window<R>,
-    ) -> ResultParsing<Opened<R>> {
+    ) -> ResultParsing<Opened<R>>
+        requires { BeginsWith header (bytes_in window) }
+        ensures { IfOk result OpensWithHeader }
+    {
         let bytes = window.shown().get(..HEADER).unwrap_or_default();
         let opening = Vec::from_slice(alloc, bytes)?;
         window.pass(HEADER);
@@ -176,7 +188,9 @@ impl<R: BufRead + Drop> Opened<R> {
         alloc: Global,
         parser: &PcapParser,
         window: Window<R>,
-    ) -> ResultParsing<Opened<R>> {
+    ) -> ResultParsing<Opened<R>>
+        ensures { IfOk result OpensWithHeader }
+    {
         let opening = Vec::from_slice(alloc, &header_bytes(parser))?;
         Opened::of_packets(alloc, *parser.header(), opening, window)
     }
@@ -187,7 +201,10 @@ impl<R: BufRead + Drop> Opened<R> {
         header: PcapHeader,
         opening: Vec<u8>,
         window: Window<R>,
-    ) -> ResultParsing<Opened<R>> {
+    ) -> ResultParsing<Opened<R>>
+        requires { HasOpening header opening.items }
+        ensures { IfOk result OpensWithHeader }
+    {
         let rows = Rows::of_packets(alloc, header, window)?;
         Ok(Opened::Packets(FoundPackets {
             header,
@@ -203,7 +220,9 @@ impl<R: BufRead + Drop> Opened<R> {
         error: PcapError,
         window: Window<R>,
         describing: Describing,
-    ) -> ResultParsing<Opened<R>> {
+    ) -> ResultParsing<Opened<R>>
+        ensures { IfOk result OpensWithHeader }
+    {
         let is_of_blocks = window.shown().first() == Some(&FIRST_OF_BLOCKS);
         match Rows::of_blocks(alloc, window, describing) {
             Ok(rows) => Ok(Opened::Blocks(rows)),
@@ -221,13 +240,18 @@ impl<R: BufRead + Drop> Opened<R> {
         window: Window<R>,
         describing: Describing,
         found: &mut Found,
-    ) -> ResultParsing<Opened<R>> {
+    ) -> ResultParsing<Opened<R>>
+        ensures { IfOk result OpensWithHeader }
+    {
         found.section = FirstSection::Written(lost.order);
         Ok(Opened::Blocks(Rows::of_lost(alloc, lost, window, describing)?))
     }
 }
 
-fn header_in(bytes: &[u8]) -> ResultParsing<PcapHeader> {
-    let (_rest, header) = PcapHeader::from_slice(bytes)?;
+fn header_in(bytes: &[u8]) -> ResultParsing<PcapHeader>
+    ensures { IfOk result (λ header. BeginsWith header bytes.now) }
+{
+    let front = &bytes[..bytes.len().min(HEADER)];
+    let (_rest, header) = PcapHeader::from_slice(front)?;
     Ok(header)
 }

@@ -3,6 +3,8 @@
 ghost use Rattle.std.specs.Prelude.{◌≡◌, IsTrue};
 ghost use Rattle.pcap_core.specs.Link.{Link};
 ghost use Rattle.pcap_classic.specs.Magic.{is_magic, magic_for};
+ghost use Rattle.pcap_classic.specs.Parser.{header_of};
+ghost use Rattle.pcap_classic.specs.Written.{written_header};
 ghost use Rattle.pcap_classic.specs.PacketText.{packet_limit};
 
 use crate::lost::FirstSection;
@@ -112,7 +114,9 @@ pub fn header_for(order: Endianness, resolution: TsResolution, link: u32) -> Pca
 }
 
 /// Returns the bytes of a parser's header.
-pub(crate) fn header_bytes(parser: &PcapParser) -> [u8; HEADER] {
+pub(crate) fn header_bytes(parser: &PcapParser) -> [u8; HEADER]
+    ensures { result ≡ written_header (header_of parser.now) }
+{
     let header = parser.header();
     match header.endianness() {
         Endianness::Big => header.to_bytes::<BigEndian>(),

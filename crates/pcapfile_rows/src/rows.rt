@@ -1,29 +1,28 @@
 //! Rows of packets or blocks in a capture, without the corrupt bytes between them.
 
-ghost use Rattle.std.specs.Prelude.{None};
+ghost use Rattle.std.specs.Prelude.{◌≡◌, None};
+ghost use Rattle.pcapfile_rows.specs.Rows.{changed_of, descriptions_of, is_at_end, is_link_guessed, left_out_of, others_of};
 
 use crate::change::{Change, Changed};
 use crate::describing::{Describing, Next};
 use crate::frames::mend_frame;
 use crate::in_force::InForce;
 use crate::lost::{Lost, section_text};
+use crate::numbers::SHORTEST;
 use crate::packets::{HEADER, Here, LIMIT, Packets};
+use crate::places::first_blocks;
 use crate::stored::{is_oversized, is_zero_packet, mend_stored};
 use crate::torn::complete_last;
-use crate::window::{IN_A_ROW, Sought, WINDOW, Window};
+use crate::window::{Sought, WINDOW, Window};
 use pcap_damaged::{LeftOut, Scrap};
 use pcap_file::pcap::PcapHeader;
 use pcap_file::{PcapError, ResultParsing, Rule};
-use pcap_tolerant_captures::resync::resync_in as first_blocks;
 use std::alloc::{AllocError, Global};
 use std::io;
 use std::io::{BufRead, Read};
 
 /// The first bytes of a section header.
 pub(crate) const SECTION: [u8; 4] = [0x0A, 0x0D, 0x0D, 0x0A];
-
-/// The length of the shortest block, in bytes.
-const SHORTEST: usize = 12;
 
 /// The kind of the items in a capture.
 #[derive(Drop)]
@@ -214,32 +213,44 @@ impl<R> Rows<R> {
     }
 
     /// Returns what was left out so far.
-    pub fn left_out(&self) -> LeftOut {
+    pub fn left_out(&self) -> LeftOut
+        ensures { result ≡ left_out_of self.now }
+    {
         self.left_out
     }
 
     /// Returns whether the capture is at its end.
-    pub fn is_at_end(&self) -> bool {
+    pub fn is_at_end(&self) -> bool
+        ensures { result ≡ is_at_end self.now }
+    {
         self.is_at_end
     }
 
     /// Returns the number of packets that were left out for their link type, and of blocks for their interface.
-    pub fn others(&self) -> u64 {
+    pub fn others(&self) -> u64
+        ensures { result ≡ others_of self.now }
+    {
         self.others
     }
 
     /// Returns the reports so far.
-    pub fn changed(&self) -> Changed {
+    pub fn changed(&self) -> Changed
+        ensures { result ≡ changed_of self.now }
+    {
         self.changed
     }
 
     /// Returns the descriptions of interfaces that are written before the next block, as the last report says.
-    pub fn descriptions(&self) -> &[u8] {
+    pub fn descriptions(&self) -> &[u8]
+        ensures { result.now ≡ descriptions_of self.now }
+    {
         self.describing.text()
     }
 
     /// Returns whether the link type of the section's packets is a guess.
-    pub fn is_guess(&self) -> bool {
+    pub fn is_guess(&self) -> bool
+        ensures { result ≡ is_link_guessed self.now }
+    {
         self.describing.is_guess()
     }
 
@@ -261,10 +272,9 @@ impl<R> Rows<R> {
 
     // Notes a report.
     fn note(&mut self, change: Change) {
-        self.changed = Changed {
-            count: self.changed.count.saturating_add(1),
-            last: Some(change),
-        };
+        let changed = &mut self.changed;
+        changed.count = changed.count.saturating_add(1);
+        changed.last = Some(change);
     }
 
     // Skips the last bytes of the capture, which are of a truncated item.
@@ -277,11 +287,10 @@ impl<R> Rows<R> {
     }
 
     fn leave_out(&mut self, bytes: u64, scrap: Scrap, rule: Option<Rule>) {
-        self.left_out = LeftOut {
-            bytes: self.left_out.bytes.saturating_add(bytes),
-            scrap,
-            rule,
-        };
+        let left_out = &mut self.left_out;
+        left_out.bytes = left_out.bytes.saturating_add(bytes);
+        left_out.scrap = scrap;
+        left_out.rule = rule;
     }
 }
 
@@ -376,7 +385,7 @@ impl<R: BufRead> Rows<R> {
         self.window.reach(WINDOW)?;
         let shown = self.window.shown();
         let inside = shown.get(1..shown.len().min(WINDOW)).unwrap_or_default();
-        Ok(first_blocks(in_force.order(), inside, IN_A_ROW).is_some())
+        Ok(first_blocks(in_force.order(), inside).is_some())
     }
 
     // Takes a block of this many bytes, or leaves it out. First it mends the stored length of its packet, reports a guess, and describes
@@ -469,12 +478,9 @@ impl<R: BufRead> Rows<R> {
         let last = self.window.shown();
         let goes_on = match &self.kind {
             Kind::Packets(_) => false,
-            Kind::Blocks(in_force) => first_blocks(
-                in_force.order(),
-                last.get(1..).unwrap_or_default(),
-                IN_A_ROW,
-            )
-            .is_some(),
+            Kind::Blocks(in_force) => {
+                first_blocks(in_force.order(), last.get(1..).unwrap_or_default()).is_some()
+            }
         };
         if goes_on || last.len().saturating_add(missing) > LIMIT as usize {
             return self.pass_blocks(None);

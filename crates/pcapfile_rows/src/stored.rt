@@ -1,36 +1,14 @@
 //! Packets of a PcapNg capture whose stored length is wrong, although the lengths of their block are right.
 
 use crate::change::Change;
-use crate::frames::number_at;
 use crate::in_force::InForce;
+use crate::numbers::{
+    DATA, ENHANCED, INTERFACE, OBSOLETE, OPTION, ORIGINAL, STORED, TRAILER, number_at,
+};
 use crate::packets::LIMIT;
 use crate::window::Window;
 use pcap_file::Endianness;
 use pcap_file::pcap::PACKET_LIMIT;
-
-/// The type of an obsolete packet, whose numbers have the places of an enhanced one's.
-const OBSOLETE: u32 = 2;
-
-/// The type of an enhanced packet.
-const ENHANCED: u32 = 6;
-
-/// The offset of an enhanced packet's interface in its block.
-const INTERFACE: usize = 8;
-
-/// The offset of its stored length.
-const STORED: usize = 20;
-
-/// The offset of its original length.
-const ORIGINAL: usize = 24;
-
-/// The offset of its data.
-const DATA: usize = 28;
-
-/// The length of what is behind the body of a block, in bytes.
-const TRAILER: usize = 4;
-
-/// The length of an option's head, in bytes.
-const OPTION: usize = 4;
 
 /// Puts another stored length into the enhanced packet at the front of the window, whose block has this many bytes, if data of the
 /// stored length and well-formed options do not fill the block. It is the original length, or the snapshot length, if that does;

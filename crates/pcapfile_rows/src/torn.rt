@@ -1,34 +1,14 @@
 //! The last block of a truncated PcapNg capture, which may have all of its packet.
 
-use crate::frames::number_at;
 use crate::in_force::InForce;
+use crate::numbers::{
+    DATA, ENHANCED, HEAD, LENGTH, OBSOLETE, OPTION, SIMPLE, SIMPLE_DATA, STORED, TRAILER, number_at,
+};
+use crate::places::first_blocks;
 use crate::stored::{limit, padded};
-use crate::window::IN_A_ROW;
 use pcap_file::Endianness;
-use pcap_tolerant_captures::resync::resync_in as first_blocks;
 use pcapfile_mended::complete;
 use std::alloc::{AllocError, Global};
-
-/// The type of a simple packet.
-const SIMPLE: u32 = 3;
-
-/// The offset of the first length in a block.
-const LENGTH: usize = 4;
-
-/// The length of a block's head, in bytes.
-const HEAD: usize = 8;
-
-/// The offset of a simple packet's data in its block.
-const SIMPLE_DATA: usize = 12;
-
-/// The offset of the data of any other packet.
-const DATA: usize = 28;
-
-/// The offset of their stored length.
-const STORED: usize = 20;
-
-/// The length of what is behind the body of a block, in bytes.
-const TRAILER: usize = 4;
 
 /// Returns the whole text of the packet block that these last bytes of an input begin, if the input ends behind the packet's data.
 /// `None` if the bytes speak against that.
@@ -67,7 +47,7 @@ fn is_cut_off(order: Endianness, most: u32, bytes: &[u8]) -> Option<()> {
     if type_ == SIMPLE && room > 0 {
         return None;
     }
-    if first_blocks(order, behind, IN_A_ROW).is_some() {
+    if first_blocks(order, behind).is_some() {
         return None;
     }
     let options = bytes.get(from..last.min(bytes.len())).unwrap_or_default();
@@ -85,7 +65,9 @@ fn data_end(order: Endianness, type_: u32, most: u32, bytes: &[u8]) -> Option<us
             let original = number_at(order, bytes, HEAD)?;
             Some((original.min(most) as usize).saturating_add(SIMPLE_DATA))
         }
-        2 | 6 => Some((number_at(order, bytes, STORED)? as usize).saturating_add(DATA)),
+        OBSOLETE | ENHANCED => Some(
+            (number_at(order, bytes, STORED)? as usize).saturating_add(DATA),
+        ),
         _ => None,
     }
 }
@@ -105,7 +87,7 @@ fn begin_options(order: Endianness, bytes: &[u8], room: usize) -> bool {
         if code == 0 {
             return true;
         }
-        let len = padded(size as usize).saturating_add(LENGTH);
+        let len = padded(size as usize).saturating_add(OPTION);
         let Some(more) = room_left.checked_sub(len) else {
             return false;
         };

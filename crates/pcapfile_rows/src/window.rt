@@ -1,17 +1,18 @@
 //! Looking ahead at the bytes of a capture before they are read.
 
+ghost use Rattle.std.specs.Prelude.{◌≡◌};
+ghost use Rattle.pcapfile_rows.specs.Opened.{bytes_in};
+
 use crate::packets::ROW;
+use crate::places::first_blocks;
 use crate::undo::Undo;
 use pcap_damaged::resync as first_packets;
 use pcap_file::{Endianness, PcapParser};
-use pcap_tolerant_captures::resync::{resync_in as first_blocks, resync_section};
+use pcap_tolerant_captures::resync::resync_section;
 use pcap_variants::Variant;
 use std::alloc::Global;
 use std::io;
 use std::io::BufRead;
-
-/// The number of blocks without a fault in a row that resynchronization needs.
-pub(crate) const IN_A_ROW: usize = 2;
 
 /// The number of bytes that are looked at at once.
 pub(crate) const WINDOW: usize = 2_097_152;
@@ -68,7 +69,7 @@ impl Sought<'_> {
     fn first(self, bytes: &[u8], bound: usize) -> Option<usize> {
         match self {
             Sought::Packets(parser, time) => first_packets(parser, time, bytes, bound),
-            Sought::Blocks(order) => first_blocks(order, bytes, IN_A_ROW),
+            Sought::Blocks(order) => first_blocks(order, bytes),
             Sought::Section => resync_section(bytes),
         }
     }
@@ -117,7 +118,9 @@ impl<R> Window<R> {
     }
 
     /// Returns the bytes in the window.
-    pub(crate) fn shown(&self) -> &[u8] {
+    pub(crate) fn shown(&self) -> &[u8]
+        ensures { result.now ≡ bytes_in self.now }
+    {
         self.room.get(self.passed..).unwrap_or_default()
     }
 
