@@ -5,12 +5,12 @@
  * the translator that wrote this file, nor the compiler that you use.
  *
  * Toolchain: rattle-kit-13f logic dac8208d650f15bf
- * Proof of the crate pcapfile_c: logic=proved functions=138 axioms=3 target=x86_64-unknown-linux-gnu cpu=x86-64-v2
+ * Proof of the crate pcapfile_c: logic=proved functions=146 axioms=3 target=x86_64-unknown-linux-gnu cpu=x86-64-v2
  * sum=dac8208d650f15bf native=nat,char,string
- * Sources: sha256 9c6bc74a49b006cea5bf73b8fcac313df1019778a34512488a79c570ff685774
- * (of src and specs of pcap_blocks, pcap_classic, pcap_core, pcap_items, pcap_ng, pcap_options, pcap_parts,
- * pcap_raw_options, pcap_times, pcap_tolerant, pcap_tolerant_blocks, pcap_tolerant_captures, pcap_written, pcapfile_c,
- * pcapfile_values)
+ * Sources: sha256 212e6a11f22a2acc591267cfc5e0f81ab6d74098fc5d98e2e8ef91ac82eb7fa6
+ * (of src and specs of pcap_blocks, pcap_classic, pcap_core, pcap_damaged, pcap_items, pcap_ng, pcap_options,
+ * pcap_parts, pcap_raw_options, pcap_times, pcap_tolerant, pcap_tolerant_blocks, pcap_tolerant_captures, pcap_written,
+ * pcapfile_c, pcapfile_values)
  *
  * MIT licence: see LICENSE and NOTICE.
  * It holds parts of byteorder (MIT): see LICENSE.NAME of each, and NOTICE.
@@ -152,6 +152,7 @@ INLINE void deallocate(ptr p) { free(p); }
 
 
 typedef struct { u8 f0; u32 f1; } t_8_32;
+typedef struct { u8 f0; u64 f1; } t_8_64;
 typedef struct { ptr f0; u64 f1; } t_p_64;
 
 
@@ -160,6 +161,7 @@ int32_t pcapfile_cut_blocks_at_least(ptr v1, u64 v2, ptr v3, u64 v4, ptr v5, ptr
 int32_t pcapfile_cut_packets(ptr v1, ptr v2, u64 v3, ptr v4, ptr v5);
 int32_t pcapfile_cut_packets_at_least(ptr v1, u64 v2, ptr v3, u64 v4, ptr v5, ptr v6);
 int32_t pcapfile_fcs_len(u32 v1);
+int32_t pcapfile_judge_packet(ptr v1, u32 v2, ptr v3, u8 v4, ptr v5, ptr v6);
 int32_t pcapfile_link_type(u32 v1);
 int32_t pcapfile_push_put(ptr v1, ptr v2, u64 v3, u64 v4);
 int32_t pcapfile_push_space(ptr v1, ptr v2, u64 v3, u64 v4, ptr v5);
@@ -197,6 +199,8 @@ int32_t pcapfile_take_packets(ptr v1, ptr v2, ptr v3, u64 v4, ptr v5, ptr v6);
 int32_t pcapfile_push_next(ptr v1, ptr v2, u64 v3, ptr v4, ptr v5);
 int32_t pcapfile_take_any(ptr v1, ptr v2, ptr v3, u64 v4, ptr v5, ptr v6);
 int32_t pcapfile_push_packets(ptr v1, ptr v2, u64 v3, ptr v4, u64 v5, ptr v6, ptr v7);
+int32_t pcapfile_skip_to_blocks(ptr v1, ptr v2, u8 v3, ptr v4, ptr v5, ptr v6);
+int32_t pcapfile_skip_to_packets(ptr v1, u32 v2, ptr v3, u8 v4, ptr v5, ptr v6, ptr v7);
 int32_t pcapfile_put_section(ptr v1, ptr v2, u64 v3, ptr v4, ptr v5);
 int32_t pcapfile_put_section_with(ptr v1, ptr v2, u64 v3, ptr v4, u64 v5, ptr v6, ptr v7);
 
@@ -294,7 +298,7 @@ static const u8 static_102[34] = "SectionHeader: too many interfaces";
 static const u8 static_104[5] = "0.2.0";
 static const u8 static_105[4] = {10,13,13,10};
 static const u8 switch_table_pcap_options_refusal_PcapErrorFromRefusal_from[40] = "\035(\037\037 (\035\027&\025%+-:#+\027(2311/1/-02'+\037/00/'(\0321!";
-static _Alignas(8) const u8 switch_table_pcapfile_rule_name_274[320] = {12,0,0,0,0,0,0,0,16,0,0,0,0,0,0,0,15,0,0,0,0,0,0,0,15,0,0,0,0,0,0,0,20,0,0,0,0,0,0,0,12,0,0,0,0,0,0,
+static _Alignas(8) const u8 switch_table_pcapfile_rule_name_290[320] = {12,0,0,0,0,0,0,0,16,0,0,0,0,0,0,0,15,0,0,0,0,0,0,0,15,0,0,0,0,0,0,0,20,0,0,0,0,0,0,0,12,0,0,0,0,0,0,
 0,14,0,0,0,0,0,0,0,13,0,0,0,0,0,0,0,18,0,0,0,0,0,0,0,14,0,0,0,0,0,0,0,15,0,0,0,0,0,0,0,17,0,0,0,0,0,
 0,0,16,0,0,0,0,0,0,0,11,0,0,0,0,0,0,0,14,0,0,0,0,0,0,0,18,0,0,0,0,0,0,0,14,0,0,0,0,0,0,0,9,0,0,0,0,0,
 0,0,19,0,0,0,0,0,0,0,19,0,0,0,0,0,0,0,18,0,0,0,0,0,0,0,18,0,0,0,0,0,0,0,20,0,0,0,0,0,0,0,25,0,0,0,0,
@@ -313,105 +317,111 @@ static _Alignas(4) const u8 switch_table_pcapfile_take_block_as_is[160] = {1,0,0
 0,0,114,7,0,0,115,7,0,0,116,7,0,0,117,7,0,0,118,7,0,0,119,7,0,0,120,7,0,0,121,7,0,0,122,7,0,0,123,7,
 0,0,20,0,0,0,21,0,0,0,22,0,0,0,23,0,0,0,24,0,0,0,25,0,0,0,26,0,0,0};
 static _Alignas(8) const struct __attribute__((packed)) { ptr f0; ptr f1; ptr f2; ptr f3; ptr f4; ptr f5; ptr f6; ptr f7; ptr f8; ptr f9; ptr f10; ptr f11; ptr f12; ptr f13; ptr f14; ptr f15; ptr f16; ptr f17; ptr f18; ptr f19; ptr f20; ptr f21; ptr f22; ptr f23; ptr f24; ptr f25; ptr f26; ptr f27; ptr f28; ptr f29; ptr f30; ptr f31; ptr f32; ptr f33; ptr f34; ptr f35; ptr f36; ptr f37; ptr f38; ptr f39; } switch_table_pcapfile_rule_name = { (ptr)static_46, (ptr)static_47, (ptr)static_48, (ptr)static_49, (ptr)static_50, (ptr)static_51, (ptr)static_52, (ptr)static_53, (ptr)static_54, (ptr)static_55, (ptr)static_56, (ptr)static_57, (ptr)static_58, (ptr)static_59, (ptr)static_60, (ptr)static_61, (ptr)static_62, (ptr)static_63, (ptr)static_64, (ptr)static_65, (ptr)static_66, (ptr)static_67, (ptr)static_68, (ptr)static_69, (ptr)static_70, (ptr)static_71, (ptr)static_72, (ptr)static_73, (ptr)static_74, (ptr)static_75, (ptr)static_76, (ptr)static_77, (ptr)static_78, (ptr)static_79, (ptr)static_80, (ptr)static_81, (ptr)static_82, (ptr)static_83, (ptr)static_84, (ptr)static_85 };
-static _Alignas(8) const struct __attribute__((packed)) { ptr f0; ptr f1; ptr f2; ptr f3; ptr f4; ptr f5; ptr f6; ptr f7; ptr f8; ptr f9; ptr f10; ptr f11; ptr f12; ptr f13; ptr f14; ptr f15; ptr f16; ptr f17; ptr f18; ptr f19; ptr f20; ptr f21; ptr f22; ptr f23; ptr f24; ptr f25; ptr f26; ptr f27; ptr f28; ptr f29; ptr f30; ptr f31; ptr f32; ptr f33; ptr f34; ptr f35; ptr f36; ptr f37; ptr f38; ptr f39; } switch_table_pcapfile_rule_text_275 = { (ptr)static_0, (ptr)static_1, (ptr)static_2, (ptr)static_3, (ptr)static_4, (ptr)static_5, (ptr)static_6, (ptr)static_7, (ptr)static_8, (ptr)static_9, (ptr)static_10, (ptr)static_11, (ptr)static_12, (ptr)static_13, (ptr)static_14, (ptr)static_15, (ptr)static_16, (ptr)static_17, (ptr)static_18, (ptr)static_19, (ptr)static_20, (ptr)static_21, (ptr)static_22, (ptr)static_23, (ptr)static_24, (ptr)static_25, (ptr)static_26, (ptr)static_27, (ptr)static_28, (ptr)static_29, (ptr)static_30, (ptr)static_31, (ptr)static_32, (ptr)static_33, (ptr)static_34, (ptr)static_35, (ptr)static_36, (ptr)static_37, (ptr)static_38, (ptr)static_39 };
+static _Alignas(8) const struct __attribute__((packed)) { ptr f0; ptr f1; ptr f2; ptr f3; ptr f4; ptr f5; ptr f6; ptr f7; ptr f8; ptr f9; ptr f10; ptr f11; ptr f12; ptr f13; ptr f14; ptr f15; ptr f16; ptr f17; ptr f18; ptr f19; ptr f20; ptr f21; ptr f22; ptr f23; ptr f24; ptr f25; ptr f26; ptr f27; ptr f28; ptr f29; ptr f30; ptr f31; ptr f32; ptr f33; ptr f34; ptr f35; ptr f36; ptr f37; ptr f38; ptr f39; } switch_table_pcapfile_rule_text_291 = { (ptr)static_0, (ptr)static_1, (ptr)static_2, (ptr)static_3, (ptr)static_4, (ptr)static_5, (ptr)static_6, (ptr)static_7, (ptr)static_8, (ptr)static_9, (ptr)static_10, (ptr)static_11, (ptr)static_12, (ptr)static_13, (ptr)static_14, (ptr)static_15, (ptr)static_16, (ptr)static_17, (ptr)static_18, (ptr)static_19, (ptr)static_20, (ptr)static_21, (ptr)static_22, (ptr)static_23, (ptr)static_24, (ptr)static_25, (ptr)static_26, (ptr)static_27, (ptr)static_28, (ptr)static_29, (ptr)static_30, (ptr)static_31, (ptr)static_32, (ptr)static_33, (ptr)static_34, (ptr)static_35, (ptr)static_36, (ptr)static_37, (ptr)static_38, (ptr)static_39 };
 
 static void pcap_ng_pcapng_block_Block_from_slice(ptr v1, u8 v2, ptr v3, u64 v4) {
 	u8 v5;
-	u64 v6, v7;
-	ptr v8;
+	u32 v6;
+	u64 v7, v8;
+	ptr v9;
 	if (v4 >= 12) goto L0;
 	su64(v1, 1);
 	st8(v1+8, 0);
 	st_bytes(v1+9, 0, 7);
 	su64(v1+16, 12ull - v4);
 	clear(v1+24, 80);
-	goto L15;
+	goto L17;
 L0:;
-	u32 v9 = lu32(v3), v10 = !v2 ? (u32)__builtin_bswap32(v9) : v9;
-	if (v10 != 168627466) { v5 = v2; goto L2; }
+	u8 v10 = v2 == 0;
+	u32 v11 = lu32(v3), v12 = v10 ? (u32)__builtin_bswap32(v11) : v11;
+	if (v12 != 168627466) goto L3;
 	switch ((u32)__builtin_bswap32(lu32(v3+8))) {
-	case 439041101: v5 = 0; goto L2;
-	case 1295788826: goto L1;
-	default: v8 = (ptr)static_5; v7 = 40; goto L14;
+	case 439041101: goto L1;
+	case 1295788826: goto L2;
+	default: v9 = (ptr)static_5; v8 = 40; goto L16;
 	}
 L1:
-	v5 = 1;
-L2:;
-	u32 v11 = lu32(v3+4), v12 = (v5 & 1) ? v11 : (u32)__builtin_bswap32(v11);
-	if (v12 & 3) { v8 = (ptr)static_6; v7 = 29; goto L14; }
-	if (v12 < 12) { v8 = (ptr)static_7; v7 = 23; goto L14; }
-	u64 v13 = (u64)v12;
-	if (v4 >= v13) goto L3;
+	v6 = (u32)__builtin_bswap32(lu32(v3+4)); v5 = 0; goto L4;
+L2:
+	v6 = lu32(v3+4); v5 = 1; goto L4;
+L3:;
+	u32 v13 = lu32(v3+4);
+	v5 = v2; v6 = v10 ? (u32)__builtin_bswap32(v13) : v13;
+L4:
+	if (v6 & 3) { v9 = (ptr)static_6; v8 = 29; goto L16; }
+	if (v6 < 12) { v9 = (ptr)static_7; v8 = 23; goto L16; }
+	u64 v14 = (u64)v6;
+	if (v4 >= v14) goto L5;
 	su64(v1, 1);
 	st8(v1+8, 0);
 	st_bytes(v1+9, 0, 7);
-	su64(v1+16, v13 - v4);
+	su64(v1+16, v14 - v4);
 	clear(v1+24, 80);
-	goto L15;
-L3:;
-	u64 v14 = v13 - 12;
-	ptr v15 = at(v3+8, v14);
-	u32 v16 = lu32(v15);
-	u64 v17 = v4 - v13;
-	if ((!v5 ? (u32)__builtin_bswap32(v16) : v16) != v12) goto L13;
-	switch (v10) {
-	case 168627466: v6 = 0; goto L12;
-	case 1: goto L4;
-	case 2: goto L5;
-	case 3: goto L6;
-	case 4: goto L7;
-	case 5: goto L8;
-	case 6: goto L9;
-	case 9: goto L10;
-	default: goto L11;
+	goto L17;
+L5:;
+	u64 v15 = v14 - 12;
+	ptr v16 = at(v3+8, v15);
+	u32 v17 = lu32(v16);
+	u64 v18 = v4 - v14;
+	if ((!v5 ? (u32)__builtin_bswap32(v17) : v17) != v6) goto L15;
+	switch (v12) {
+	case 168627466: v7 = 0; goto L14;
+	case 1: goto L6;
+	case 2: goto L7;
+	case 3: goto L8;
+	case 4: goto L9;
+	case 5: goto L10;
+	case 6: goto L11;
+	case 9: goto L12;
+	default: goto L13;
 	}
-L4:
-	v6 = 1; goto L12;
-L5:
-	v6 = 2; goto L12;
 L6:
-	v6 = 3; goto L12;
+	v7 = 1; goto L14;
 L7:
-	v6 = 4; goto L12;
+	v7 = 2; goto L14;
 L8:
-	v6 = 5; goto L12;
+	v7 = 3; goto L14;
 L9:
-	v6 = 6; goto L12;
+	v7 = 4; goto L14;
 L10:
-	v6 = 7; goto L12;
+	v7 = 5; goto L14;
 L11:
-	v6 = ((u64)v10 << 32) | 8;
+	v7 = 6; goto L14;
 L12:
+	v7 = 7; goto L14;
+L13:
+	v7 = ((u64)v12 << 32) | 8;
+L14:
 	su64(v1, 0);
-	su64(v1+8, (u64)(v15+4));
-	su64(v1+16, v17);
-	su64(v1+24, v6);
-	su32(v1+32, v12);
+	su64(v1+8, (u64)(v16+4));
+	su64(v1+16, v18);
+	su64(v1+24, v7);
+	su32(v1+32, v6);
 	su32(v1+36, 0);
 	su64(v1+40, 0);
 	sup(v1+48, v3+8);
-	su64(v1+56, v14);
+	su64(v1+56, v15);
 	su64(v1+64, 0);
-	su32(v1+72, v12);
+	su32(v1+72, v6);
 	st8(v1+76, v5);
 	clear(v1+77, 27);
-	goto L15;
-L13:
+	goto L17;
+L15:
 	su64(v1, 1);
 	st8(v1+8, 2);
 	st_bytes(v1+9, 0, 7);
 	su64(v1+16, (u64)(ptr)static_8);
 	su64(v1+24, 38);
 	clear(v1+32, 72);
-	goto L15;
-L14:
+	goto L17;
+L16:
 	su64(v1, 1);
 	st8(v1+8, 2);
 	st_bytes(v1+9, 0, 7);
-	su64(v1+16, (u64)v8);
-	su64(v1+24, v7);
+	su64(v1+16, (u64)v9);
+	su64(v1+24, v8);
 	clear(v1+32, 72);
-L15:
+L17:
 	return;
 }
 static APART u64 core_slice_words_skip_far_52f9(ptr v1, u64 v2, u64 v3) {
@@ -2564,7 +2574,7 @@ L0:
 L1:
 	v4 = v11; v5 = v11; v6 = v11 & 0xffffffffffff0000ull; v7 = v12; v8 = (u64)v13 << 8; v3 = 3; goto L3;
 L2:;
-	u64 v15 = (u64)ldp(at((ptr)&switch_table_pcapfile_rule_text_275, (u64)v10 * 8));
+	u64 v15 = (u64)ldp(at((ptr)&switch_table_pcapfile_rule_text_291, (u64)v10 * 8));
 	v4 = v15; v5 = v15; v6 = v15 & 0xffffffffffff0000ull; v7 = ld8(at((ptr)switch_table_pcap_options_refusal_PcapErrorFromRefusal_from, (u64)v10)); v3 = 2; v8 = 0;
 L3:
 	st8(v1, v3);
@@ -6928,6 +6938,404 @@ L21:
 L22:
 	return v57;
 }
+static u8 pcap_damaged_row_is_row(ptr v1, u8 v2, u32 v3, ptr v4, u64 v5, u64 v6) {
+	u64 v7, v10, v13, v16;
+	u32 v8, v12, v14, v18;
+	u8 v9, v15, v19;
+	ptr v11, v17;
+	u8 v20 = v2 & 1;
+	u32 v21 = ld32(v1);
+	switch (v21) {
+	case 2712847316u: case 2712812621u: goto L0;
+	default: v13 = v6; v14 = v3; v15 = v20; v16 = v5; v17 = v4; goto L6;
+	}
+L0:
+	v7 = v6; v8 = v3; v9 = v20; v10 = v5; v11 = v4;
+L1:
+	if (v10 < 16) { v19 = 0; goto L11; }
+	u32 v22 = (u32)__builtin_bswap32(lu32(v11)), v23 = (u32)__builtin_bswap32(lu32(v11+4));
+	u32 v24 = lu32(v11+8), v25 = (u32)__builtin_bswap32(v24);
+	u64 v26 = v10 - 16;
+	u32 v27 = lu32(v11+12), v28 = (u32)__builtin_bswap32(v27);
+	switch (v21) {
+	case 3569595041u: case 2712847316u: goto L2;
+	default: v12 = v23; goto L3;
+	}
+L2:
+	if (v23 > 4294967) { v19 = 0; goto L11; }
+	v12 = v23 * 1000;
+L3:
+	if ((v25 > 262144) | (v28 > 262144) || v28 < v25) { v19 = 0; goto L11; }
+	u64 v29 = (u64)__builtin_bswap64(((u64)v24 << 32) | (u64)v27), v30 = v29 & 4294967295u;
+	if (v26 < v30) { v19 = 0; goto L11; }
+	u64 v31 = (u64)v22;
+	ptr v32 = at(v11+16, v30);
+	u64 v33 = v26 - v30;
+	u32 v34 = (u32)v29;
+	if (!v34) { v19 = 0; goto L11; }
+	u32 v35 = ld32(v1+16);
+	if (!((!v35 ? 262144 : (v35 < 262144 ? v35 : 262144)) >= v34 && v12 < 1000000000)) { v19 = 0; goto L11; }
+	if (!v9) goto L4;
+	u64 v36 = (u64)v8;
+	if (v31 + 86400 >= v36 && v36 + 86400 >= v31) goto L5;
+	v19 = 0; goto L11;
+L4:
+	if (v22 <= 262144) { v19 = 0; goto L11; }
+L5:;
+	u64 v37 = v7 - 1;
+	if (!v33 || !v37) { v19 = 1; goto L11; }
+	v7 = v37; v8 = v22; v10 = v33; v11 = v32; v9 = 1; goto L1;
+L6:
+	if (v16 < 16) { v19 = 0; goto L11; }
+	u32 v38 = lu32(v17), v39 = lu32(v17+4);
+	u64 v40 = lu64(v17+8);
+	u32 v41 = (u32)v40;
+	u64 v42 = v16 - 16;
+	u32 v43 = (u32)(v40 >> 32);
+	switch (v21) {
+	case 3569595041u: case 2712847316u: goto L7;
+	default: v18 = v39; goto L8;
+	}
+L7:
+	if (v39 > 4294967) { v19 = 0; goto L11; }
+	v18 = v39 * 1000;
+L8:
+	if ((v41 > 262144) | (v40 > 0x40000ffffffffull) || v43 < v41) { v19 = 0; goto L11; }
+	u64 v44 = v40 & 524287;
+	if (v42 < v44) { v19 = 0; goto L11; }
+	u64 v45 = (u64)v38;
+	ptr v46 = at(v17+16, v44);
+	u64 v47 = v42 - v44;
+	u32 v48 = (u32)v40;
+	if (!v48) { v19 = 0; goto L11; }
+	u32 v49 = ld32(v1+16);
+	if (!((!v49 ? 262144 : (v49 < 262144 ? v49 : 262144)) >= v48 && v18 < 1000000000)) { v19 = 0; goto L11; }
+	if (!v15) goto L9;
+	u64 v50 = (u64)v14;
+	if (v45 + 86400 >= v50 && v50 + 86400 >= v45) goto L10;
+	v19 = 0; goto L11;
+L9:
+	if (v38 <= 262144) { v19 = 0; goto L11; }
+L10:;
+	u64 v51 = v13 - 1;
+	if (!(!v47 || !v51)) { v13 = v51; v14 = v38; v16 = v47; v17 = v46; v15 = 1; goto L6; }
+	v19 = 1;
+L11:
+	return v19;
+}
+static u8 pcap_damaged_weight_ends_well(ptr v1, u32 v2, u32 v3, ptr v4, u64 v5) {
+	u16 v6, v7;
+	u32 v8, v9, v10, v11;
+	u8 v12;
+	u64 v13 = (u64)v3 + 16;
+	if (v13 > v5) { v12 = 0; goto L8; }
+	ptr v14 = at(v4, v13);
+	u64 v15 = v5 - v13;
+	if (v5 == v13) { v12 = 1; goto L8; }
+	if (v15 < 24) goto L3;
+	switch ((u32)__builtin_bswap32(lu32(v14))) {
+	case 2712812621u: case 2712847316u: goto L0;
+	case 1295823521: case 3569595041u: goto L1;
+	default: goto L3;
+	}
+L0:
+	v6 = (u16)__builtin_bswap16(lu16(v14+4)); v7 = (u16)__builtin_bswap16(lu16(v14+6)); goto L2;
+L1:
+	v6 = lu16(v14+4); v7 = lu16(v14+6);
+L2:
+	if (v6 == 2 && v7 == 4) { v12 = 1; goto L8; }
+L3:;
+	u8 v16 = v15 < 16;
+	switch (ld32(v1)) {
+	case 2712847316u: case 2712812621u: goto L4;
+	default: goto L5;
+	}
+L4:
+	if (v16) goto L7;
+	v8 = (u32)__builtin_bswap32(lu32(v14)); v9 = (u32)__builtin_bswap32(lu32(v14+4)); v10 = (u32)__builtin_bswap32(lu32(v14+8)); v11 = (u32)__builtin_bswap32(lu32(v14+12)); goto L6;
+L5:
+	if (v16) goto L7;
+	v8 = lu32(v14); v9 = lu32(v14+4); v10 = lu32(v14+8); v11 = lu32(v14+12);
+L6:
+	if (v10 >= 262145) goto L7;
+	if (!((v10 | v8) != 0 || v9 || v11)) goto L7;
+	u64 v17 = (u64)v2, v18 = (u64)v8;
+	if (v18 + 86400 >= v17 && v17 + 86400 >= v18) { v12 = 1; goto L8; }
+L7:;
+	u8 v19 = pcap_damaged_row_is_row(v1, 0, 0, v14, v15, 4);
+	v12 = v19;
+L8:
+	return v12;
+}
+static void pcap_classic_pcap_packet_Packet_from_slice_4da0(ptr v1, ptr v2, u64 v3, u8 v4) {
+	u32 v5;
+	u64 v6, v9, v10;
+	ptr v7, v8;
+	_Alignas(8) u8 v11[32];
+	if (v3 >= 16) goto L0;
+	v8 = (ptr)0; v9 = 16ull - v3; v10 = 0; goto L3;
+L0:;
+	u32 v12 = (u32)__builtin_bswap32(lu32(v2)), v13 = (u32)__builtin_bswap32(lu32(v2+4));
+	u32 v14 = lu32(v2+8), v15 = (u32)__builtin_bswap32(v14);
+	u64 v16 = v3 - 16;
+	u32 v17 = lu32(v2+12), v18 = (u32)__builtin_bswap32(v17);
+	if (v4 == 1) { v5 = v13; goto L1; }
+	if (v13 > 4294967) { v7 = (ptr)static_1; v6 = 40; goto L2; }
+	v5 = v13 * 1000;
+L1:
+	if (v15 > 262144) { v7 = (ptr)static_2; v6 = 31; goto L2; }
+	if (v18 > 262144) { v7 = (ptr)static_3; v6 = 31; goto L2; }
+	if (v18 >= v15) goto L4;
+	v7 = (ptr)static_4; v6 = 32;
+L2:
+	v8 = (ptr)2ull; v9 = (u64)v7; v10 = v6;
+L3:
+	clear(v11, 32);
+	su64(v1, 1);
+	sup(v1+8, v8);
+	su64(v1+16, v9);
+	su64(v1+24, v10);
+	clear(v1+32, 40);
+	copy(v1+72, v11, 32);
+	goto L6;
+L4:;
+	u64 v19 = (u64)__builtin_bswap64(((u64)v14 << 32) | (u64)v17), v20 = v19 & 4294967295u;
+	if (v16 >= v20) goto L5;
+	su64(v1, 1);
+	sup(v1+8, (ptr)0);
+	su64(v1+16, v20 - v16);
+	clear(v1+24, 80);
+	goto L6;
+L5:
+	su64(v1, 0);
+	sup(v1+8, at(v2+16, v20));
+	su64(v1+16, v16 - v20);
+	su64(v1+24, ((u64)v5 << 32) | (u64)v12);
+	su32(v1+32, (u32)v19);
+	su32(v1+36, (u32)(v19 >> 32));
+	su64(v1+40, 0);
+	sup(v1+48, v2+16);
+	su64(v1+56, v20);
+	clear(v1+64, 40);
+L6:
+	return;
+}
+static void pcap_classic_pcap_packet_Packet_from_slice_7f02(ptr v1, ptr v2, u64 v3, u8 v4) {
+	u32 v5;
+	u64 v6, v9, v10;
+	ptr v7, v8;
+	_Alignas(8) u8 v11[32];
+	if (v3 >= 16) goto L0;
+	v8 = (ptr)0; v9 = 16ull - v3; v10 = 0; goto L3;
+L0:;
+	u32 v12 = lu32(v2), v13 = lu32(v2+4);
+	u64 v14 = lu64(v2+8);
+	u32 v15 = (u32)v14;
+	u64 v16 = v3 - 16;
+	u32 v17 = (u32)(v14 >> 32);
+	if (v4 == 1) { v5 = v13; goto L1; }
+	if (v13 > 4294967) { v7 = (ptr)static_1; v6 = 40; goto L2; }
+	v5 = v13 * 1000;
+L1:
+	if (v15 > 262144) { v7 = (ptr)static_2; v6 = 31; goto L2; }
+	if (v14 > 0x40000ffffffffull) { v7 = (ptr)static_3; v6 = 31; goto L2; }
+	if (v17 >= v15) goto L4;
+	v7 = (ptr)static_4; v6 = 32;
+L2:
+	v8 = (ptr)2ull; v9 = (u64)v7; v10 = v6;
+L3:
+	clear(v11, 32);
+	su64(v1, 1);
+	sup(v1+8, v8);
+	su64(v1+16, v9);
+	su64(v1+24, v10);
+	clear(v1+32, 40);
+	copy(v1+72, v11, 32);
+	goto L6;
+L4:;
+	u64 v18 = v14 & 524287;
+	if (v16 >= v18) goto L5;
+	su64(v1, 1);
+	sup(v1+8, (ptr)0);
+	su64(v1+16, v18 - v16);
+	clear(v1+24, 80);
+	goto L6;
+L5:
+	su64(v1, 0);
+	sup(v1+8, at(v2+16, v18));
+	su64(v1+16, v16 - v18);
+	su64(v1+24, ((u64)v5 << 32) | (u64)v12);
+	su32(v1+32, v15);
+	su32(v1+36, v17);
+	su64(v1+40, 0);
+	sup(v1+48, v2+16);
+	su64(v1+56, v18);
+	clear(v1+64, 40);
+L6:
+	return;
+}
+static void core_result_ResultFromResidualErrResidual_from_residual_553b(ptr v1, u8 v2) {
+	u64 v3 = ld64(at((ptr)switch_table_pcapfile_rule_text, (u64)v2 * 8));
+	ptr v4 = ldp(at((ptr)&switch_table_pcapfile_rule_text_291, (u64)v2 * 8));
+	su64(v1, 1);
+	st8(v1+8, 2);
+	clear(v1+9, 7);
+	sup(v1+16, v4);
+	su64(v1+24, v3);
+	clear(v1+32, 72);
+	return;
+}
+static void pcap_tolerant_as_is_PacketAsIs_from_slice_4da0(ptr v1, ptr v2, u64 v3, u8 v4, u32 v5) {
+	u8 v6, v17;
+	u32 v7, v10, v11, v12, v13, v14, v16, v18, v19, v20, v21, v22;
+	ptr v8;
+	u64 v9, v15, v23, v24;
+	_Alignas(8) u8 v25[104] = {0};
+	_Alignas(1) u8 v26[40];
+	if (v3 >= 16) goto L0;
+	clear(v25+24, 80);
+	clear(v26, 40);
+	v8 = (ptr)0; v15 = 16ull - v3; v6 = v7 = v9 = v10 = v11 = v12 = v13 = v14 = 0; goto L1;
+L0:;
+	u32 v27 = (u32)__builtin_bswap32(lu32(v2)), v28 = (u32)__builtin_bswap32(lu32(v2+4));
+	u32 v29 = (u32)__builtin_bswap32(lu32(v2+8));
+	u64 v30 = v3 - 16;
+	u32 v31 = (u32)__builtin_bswap32(lu32(v2+12));
+	u8 v32 = (v28 > 4294967) & (!(v4 & 1)), v33 = v31 > 262144, v34 = v29 > v31;
+	if (!(v34 | (v33 | v32))) { v16 = 0; goto L3; }
+	if ((v5 > 262144 ? v5 : 262144) >= v29) goto L2;
+	core_result_ResultFromResidualErrResidual_from_residual_553b(v25, 2);
+	u8 v35 = ld8(v25+8);
+	u64 v36 = ld64(v25+16);
+	u32 v37 = ld32(v25+24), v38 = ld32(v25+28), v39 = ld32(v25+32), v40 = ld32(v25+36);
+	u32 v41 = ld32(v25+40);
+	u8 v42 = ld8(v25);
+	u64 v43 = (u64)ld_bytes(v25+9, 7) & 0xffffffffffffffull;
+	u32 v44 = ld32(v25+44);
+	ptr v45 = ldp(v25+48);
+	u64 v46 = ld64(v25+56);
+	copy(v26, v25+64, 40);
+	if (!v42) { v17 = v35; v18 = v41; v19 = v40; v20 = v39; v21 = v38; v22 = v37; v23 = v36; v24 = v43; goto L4; }
+	v6 = v35; v7 = v44; v8 = v45; v9 = v46; v10 = v41; v11 = v40; v12 = v39; v13 = v38; v14 = v37; v15 = v36;
+L1:
+	su64(v1, 1);
+	sup(v1+8, (ptr)(u64)v6);
+	su64(v1+16, v15);
+	su32(v1+24, v14);
+	su32(v1+28, v13);
+	su32(v1+32, v12);
+	su32(v1+36, v11);
+	su32(v1+40, v10);
+	su32(v1+44, v7);
+	sup(v1+48, v8);
+	su64(v1+56, v9);
+	copy(v1+64, v26, 40);
+	goto L6;
+L2:
+	v16 = (v33 ? 65536u : 0u) | (v29 > 262144 ? 256u : 0u) | (v34 ? 16777216u : 0u) | (u32)v32;
+L3:;
+	u64 v47 = (u64)(v2+16);
+	v17 = (u8)v47; v18 = v16; v19 = v31; v20 = v29; v21 = v28; v22 = v27; v23 = v30; v24 = (v47 >> 8) & 0xffffffffffffffull;
+L4:;
+	u64 v48 = (u64)v20;
+	if (v23 >= v48) goto L5;
+	su64(v1, 1);
+	sup(v1+8, (ptr)0);
+	su64(v1+16, v48 - v23);
+	clear(v1+24, 80);
+	goto L6;
+L5:;
+	ptr v49 = (ptr)((v24 << 8) | (u64)v17);
+	su64(v1, 0);
+	sup(v1+8, at(v49, v48));
+	su64(v1+16, v23 - v48);
+	su32(v1+24, v22);
+	su32(v1+28, v21);
+	su32(v1+32, v20);
+	su32(v1+36, v19);
+	su32(v1+40, v18);
+	su32(v1+44, 0);
+	sup(v1+48, v49);
+	su64(v1+56, v48);
+	clear(v1+64, 40);
+L6:
+	return;
+}
+static void pcap_tolerant_as_is_PacketAsIs_from_slice_7f02(ptr v1, ptr v2, u64 v3, u8 v4, u32 v5) {
+	u8 v6, v17;
+	u32 v7, v10, v11, v12, v13, v14, v16, v18, v19, v20, v21, v22;
+	ptr v8;
+	u64 v9, v15, v23, v24;
+	_Alignas(8) u8 v25[104] = {0};
+	_Alignas(1) u8 v26[40];
+	if (v3 >= 16) goto L0;
+	clear(v25+24, 80);
+	clear(v26, 40);
+	v8 = (ptr)0; v15 = 16ull - v3; v6 = v7 = v9 = v10 = v11 = v12 = v13 = v14 = 0; goto L1;
+L0:;
+	u32 v27 = lu32(v2), v28 = lu32(v2+4), v29 = lu32(v2+8);
+	u64 v30 = v3 - 16;
+	u32 v31 = lu32(v2+12);
+	u8 v32 = !(v4 & 1) && v28 > 4294967, v33 = v31 > 262144, v34 = v29 > v31;
+	if (!(v34 | (v33 | v32))) { v16 = 0; goto L3; }
+	if ((v5 > 262144 ? v5 : 262144) >= v29) goto L2;
+	core_result_ResultFromResidualErrResidual_from_residual_553b(v25, 2);
+	u8 v35 = ld8(v25+8);
+	u64 v36 = ld64(v25+16);
+	u32 v37 = ld32(v25+24), v38 = ld32(v25+28), v39 = ld32(v25+32), v40 = ld32(v25+36);
+	u32 v41 = ld32(v25+40);
+	u8 v42 = ld8(v25);
+	u64 v43 = (u64)ld_bytes(v25+9, 7) & 0xffffffffffffffull;
+	u32 v44 = ld32(v25+44);
+	ptr v45 = ldp(v25+48);
+	u64 v46 = ld64(v25+56);
+	copy(v26, v25+64, 40);
+	if (!v42) { v17 = v35; v18 = v41; v19 = v40; v20 = v39; v21 = v38; v22 = v37; v23 = v36; v24 = v43; goto L4; }
+	v6 = v35; v7 = v44; v8 = v45; v9 = v46; v10 = v41; v11 = v40; v12 = v39; v13 = v38; v14 = v37; v15 = v36;
+L1:
+	su64(v1, 1);
+	sup(v1+8, (ptr)(u64)v6);
+	su64(v1+16, v15);
+	su32(v1+24, v14);
+	su32(v1+28, v13);
+	su32(v1+32, v12);
+	su32(v1+36, v11);
+	su32(v1+40, v10);
+	su32(v1+44, v7);
+	sup(v1+48, v8);
+	su64(v1+56, v9);
+	copy(v1+64, v26, 40);
+	goto L6;
+L2:
+	v16 = (v33 ? 65536u : 0u) | (v29 > 262144 ? 256u : 0u) | (v34 ? 16777216u : 0u) | (u32)v32;
+L3:;
+	u64 v47 = (u64)(v2+16);
+	v17 = (u8)v47; v18 = v16; v19 = v31; v20 = v29; v21 = v28; v22 = v27; v23 = v30; v24 = (v47 >> 8) & 0xffffffffffffffull;
+L4:;
+	u64 v48 = (u64)v20;
+	if (v23 >= v48) goto L5;
+	su64(v1, 1);
+	sup(v1+8, (ptr)0);
+	su64(v1+16, v48 - v23);
+	clear(v1+24, 80);
+	goto L6;
+L5:;
+	ptr v49 = (ptr)((v24 << 8) | (u64)v17);
+	su64(v1, 0);
+	sup(v1+8, at(v49, v48));
+	su64(v1+16, v23 - v48);
+	su32(v1+24, v22);
+	su32(v1+28, v21);
+	su32(v1+32, v20);
+	su32(v1+36, v19);
+	su32(v1+40, v18);
+	su32(v1+44, 0);
+	sup(v1+48, v49);
+	su64(v1+56, v48);
+	clear(v1+64, 40);
+L6:
+	return;
+}
 static u32 pcap_core_link_U32FromDataLink_from(u8 v1, u32 v2) {
 	u32 v3;
 	switch (v1) {
@@ -7784,6 +8192,62 @@ L16:
 	copy(v1+88, v23, 16);
 L17:
 	return;
+}
+static t_8_64 pcap_tolerant_resync_resync(ptr v1, ptr v2, u64 v3, u64 v4) {
+	u64 v5, v6, v7, v8, v10;
+	ptr v9;
+	u8 v11;
+	_Alignas(8) u8 v12[104];
+	if (!v3) { v10 = v11 = 0; goto L11; }
+	u8 v13 = v4 == 0;
+	v5 = 0;
+L0:
+	if (v13) { v10 = 0; v11 = 1; goto L11; }
+	v6 = v4; v7 = v3 - v5; v8 = (u64)at(v2, v5);
+L1:
+	clear(v12, 104);
+	u32 v14 = ld32(v1);
+	u8 v15 = (v14 != 2712847316u) & (v14 != 3569595041u);
+	switch (v14) {
+	case 2712847316u: case 2712812621u: goto L2;
+	default: goto L3;
+	}
+L2:
+	pcap_classic_pcap_packet_Packet_from_slice_4da0(v12, (ptr)v8, v7, v15);
+	goto L4;
+L3:
+	pcap_classic_pcap_packet_Packet_from_slice_7f02(v12, (ptr)v8, v7, v15);
+L4:;
+	u64 v16 = ld64(v12+8), v17 = ld64(v12+16), v18 = ld64(v12+32);
+	u8 v19 = ld8(v12+40);
+	u64 v20 = ld64(v12+48), v21 = ld64(v12+64);
+	if (ld8(v12)) goto L8;
+	if (v18 & 4294967295u) goto L5;
+	if (v19 != 1 || !v21) goto L10;
+	v9 = (ptr)v20; goto L9;
+L5:
+	if (v17) goto L6;
+	if (v19 != 1 || !v21) { M1: v10 = v5; v11 = 1; goto L11; }
+	deallocate((ptr)v20);
+	goto M1;
+L6:;
+	u64 v22 = v6 - 1;
+	if (v19 != 1 || !v21) goto L7;
+	deallocate((ptr)v20);
+L7:
+	if (!v22) goto M1;
+	v6 = v22; v7 = v17; v8 = v16; goto L1;
+L8:
+	if ((v16 & 255) != 4 || !v18) goto L10;
+	v9 = (ptr)v17;
+L9:
+	deallocate(v9);
+L10:;
+	u64 v23 = v5 + 1;
+	if (v23 != v3) { v5 = v23; goto L0; }
+	v10 = v11 = 0;
+L11:
+	return (t_8_64){v11, v10};
 }
 static void pcapfile_values_reasons_Reason_from_number(ptr v1, u32 v2) {
 	u8 v3, v4, v5;
@@ -9349,6 +9813,73 @@ static APART RARE u32 pcapfile_c_push_batches_take_first_packets(ptr v1, ptr v2,
 L0:
 	return v7;
 }
+static u8 pcap_tolerant_captures_resync_header_stands(u8 v1, ptr v2, u64 v3) {
+	ptr v4;
+	u8 v5, v6;
+	_Alignas(8) u8 v7[104];
+	pcap_ng_pcapng_block_Block_from_slice(v7, v1, v2, v3);
+	if (ld8(v7)) goto L0;
+	u8 v8 = !ld8(v7+24) && ld64(v7+56) > 15;
+	if (ld8(v7+40) != 1 || !ld64(v7+64)) { v6 = v8; goto L2; }
+	v4 = v7+48; v5 = v8; goto L1;
+L0:
+	if (ld8(v7+8) != 4 || !ld64(v7+32)) { v6 = 0; goto L2; }
+	v4 = v7+16; v5 = 0;
+L1:
+	deallocate(ldp(v4));
+	v6 = v5;
+L2:
+	return v6;
+}
+static t_8_64 pcap_tolerant_captures_resync_resync_in(u8 v1, ptr v2, u64 v3) {
+	u64 v4, v5, v8, v10;
+	u8 v6, v7, v11;
+	ptr v9;
+	_Alignas(8) u8 v12[104];
+	if (!v3) { v10 = v11 = 0; goto L9; }
+	v4 = 0;
+L0:;
+	ptr v13 = at(v2, v4);
+	u64 v14 = v3 - v4;
+	u8 v15 = pcap_tolerant_captures_resync_header_stands(v1, v13, v14);
+	if (v15) { M0: v10 = v4; v11 = 1; goto L9; }
+	v5 = (u64)v13; v7 = v1; v8 = v14; v6 = 0;
+L1:
+	pcap_ng_pcapng_block_Block_from_slice(v12, v7, (ptr)v5, v8);
+	if (ld8(v12)) goto L6;
+	u64 v16 = ld64(v12+8), v17 = ld64(v12+16);
+	u8 v18 = ld8(v12+40);
+	ptr v19 = ldp(v12+48);
+	u64 v20 = ld64(v12+64);
+	u8 v21 = ld8(v12+76);
+	if (!(ld8(v12+24) || ld64(v12+56) > 15)) goto L5;
+	u8 v22 = v18 != 1 || !v20;
+	if (v17) goto L2;
+	if (v22) goto L4;
+	deallocate(v19);
+	goto L4;
+L2:
+	if (v22) goto L3;
+	deallocate(v19);
+L3:
+	if (!v6) { v5 = v16; v7 = v21; v8 = v17; v6 = 1; goto L1; }
+L4:
+	goto M0;
+L5:
+	if (v18 != 1 || !v20) goto L8;
+	v9 = v19; goto L7;
+L6:
+	if (ld8(v12+8) != 4 || !ld64(v12+32)) goto L8;
+	v9 = ldp(v12+16);
+L7:
+	deallocate(v9);
+L8:;
+	u64 v23 = v4 + 1;
+	if (v23 != v3) { v4 = v23; goto L0; }
+	v10 = v11 = 0;
+L9:
+	return (t_8_64){v11, v10};
+}
 int32_t pcapfile_cut_blocks(ptr v1, ptr v2, u64 v3, ptr v4, ptr v5, u64 v6, ptr v7, ptr v8) {
 	u32 v9;
 	st64(v4, 0);
@@ -9394,6 +9925,229 @@ L0:
 }
 int32_t pcapfile_fcs_len(u32 v1) {
 	return (int32_t)(!(v1 & 67108864) ? 4294967295u : (v1 >> 27) & 30);
+}
+int32_t pcapfile_judge_packet(ptr v1, u32 v2, ptr v3, u8 v4, ptr v5, ptr v6) {
+	u32 v7, v8, v9, v10, v11, v13, v14, v15, v16, v17, v21, v35;
+	u64 v12, v18, v22, v25, v26, v27, v28, v29, v30, v31, v32, v33, v34;
+	u16 v19, v20, v23, v24;
+	_Alignas(8) u8 v36[104], v38[96];
+	_Alignas(4) u8 v37[28];
+	st64(v38, 0);
+	u32 v39 = ld32(v1);
+	switch (v39) {
+	case 1295823521: case 2712812621u: case 2712847316u: case 3569595041u: goto L0;
+	default: goto L43;
+	}
+L0:;
+	t_8_32 v40 = pcap_core_link_DataLinkFromU32_from(ld32(v1+20));
+	u64 v41 = lu64(v1+12);
+	u16 v42 = ld16(v1+4);
+	u32 v43 = ld32(v1+8);
+	u16 v44 = ld16(v1+6);
+	st32(v37, v39);
+	st16(v37+4, v42);
+	st16(v37+6, v44);
+	st32(v37+8, v43);
+	sup(v37+12, (ptr)v41);
+	su64(v37+20, ((u64)v40.f1 << 32) | (u64)v40.f0);
+	ptr v45 = lup(v3);
+	u64 v46 = lu64(v3+8);
+	u8 v47 = v4 != 0, v48 = v46 < 16;
+	u64 v49 = v41 >> 32;
+	u32 v50 = (u32)v49;
+	switch (v39) {
+	case 2712847316u: case 2712812621u: goto L1;
+	default: goto L2;
+	}
+L1:
+	if (v48) goto L3;
+	v7 = (u32)__builtin_bswap32(lu32(v45+8)); goto L5;
+L2:
+	if (!v48) goto L4;
+L3:
+	if (v47) goto L12;
+	v12 = 16ull - v46; goto L11;
+L4:
+	v7 = lu32(v45+8);
+L5:;
+	u64 v51 = v46 - 16, v52 = (u64)v7, v53 = v52 + 16;
+	if (v51 >= v53) goto L6;
+	if (v47) goto L12;
+	v12 = v53 - v51; goto L11;
+L6:;
+	u64 v54 = v52 + 1048640;
+	if (v54 <= v51) goto L12;
+	ptr v55 = at(v45+16, v52);
+	u8 v56 = v51 - v52 < 16;
+	switch (v39) {
+	case 2712847316u: case 2712812621u: goto L7;
+	default: goto L8;
+	}
+L7:
+	if (v56) goto L10;
+	v8 = (u32)__builtin_bswap32(lu32(v55)); v9 = (u32)__builtin_bswap32(lu32(v55+4)); v10 = (u32)__builtin_bswap32(lu32(v55+8)); v11 = (u32)__builtin_bswap32(lu32(v55+12)); goto L9;
+L8:
+	if (v56) goto L10;
+	v8 = lu32(v55); v9 = lu32(v55+4); v10 = lu32(v55+8); v11 = lu32(v55+12);
+L9:
+	if (v10 >= 262145) goto L10;
+	if (!((v10 | v8) != 0 || v9 || v11)) goto L10;
+	u64 v57 = (u64)v2, v58 = (u64)v8;
+	u8 v59 = v58 + 86400 >= v57 && v57 + 86400 >= v58;
+	if (v47 | v59) goto L12;
+	v12 = v59 ? 0 : v54 - v51; goto L11;
+L10:
+	if (v47) goto L12;
+	v12 = v54 - v51;
+L11:
+	st64(v38+8, v12);
+	clear(v38+16, 80);
+	u32 v60 = pcapfile_values_errors_tell(v38, v6);
+	v35 = v60; goto L44;
+L12:
+	switch (v39) {
+	case 2712847316u: case 2712812621u: goto L13;
+	default: goto L14;
+	}
+L13:
+	if (v48) goto L36;
+	u32 v61 = lu32(v45+8);
+	v13 = v61; v14 = (u32)__builtin_bswap32(lu32(v45)); v15 = (u32)__builtin_bswap32(lu32(v45+4)); v16 = (u32)__builtin_bswap32(v61); v17 = (u32)__builtin_bswap32(lu32(v45+12)); goto L15;
+L14:
+	if (v48) goto L36;
+	u32 v62 = lu32(v45+8);
+	v13 = v62; v14 = lu32(v45); v15 = lu32(v45+4); v16 = v62; v17 = lu32(v45+12);
+L15:;
+	u64 v63 = v46 - 16;
+	u8 v64 = pcap_damaged_weight_ends_well(v37, v2, v16, v45, v46);
+	if (v64) goto L42;
+	if (!v17) goto L16;
+	if (v17 > (!v49 ? 262144 : (v50 < 262144 ? v50 : 262144))) goto L16;
+	u64 v65 = (u64)v15;
+	if ((((v39 != 2712847316u) & (v39 != 3569595041u)) ? v65 : v65 * 1000) >= 1000000000) goto L16;
+	u64 v66 = (u64)v2, v67 = (u64)v14;
+	if (!(v67 + 86400 >= v66 && v66 + 86400 >= v67)) goto L16;
+	u8 v68 = pcap_damaged_weight_ends_well(v37, v2, v17, v45, v46);
+	if (!v68) goto L16;
+	v25 = (u64)v17 + 16; goto L32;
+L16:
+	if (!v16) goto L22;
+	if ((!v49 ? 262144 : (v50 < 262144 ? v50 : 262144)) < v16) goto L22;
+	u8 v69 = ((v39 == 2712847316u) | (v39 == 3569595041u) && v15 > 4294967) || (v17 > 262144) | (v17 < v16);
+	if (v69) goto L22;
+	u64 v70 = (u64)v16, v71 = v63 < v70 ? v63 : v70;
+	if (!v63) goto L35;
+	v18 = 0;
+L17:;
+	ptr v72 = at(v45+16, v18);
+	u64 v73 = v63 - v18;
+	if (v73 < 24) goto L21;
+	switch ((u32)__builtin_bswap32(lu32(v72))) {
+	case 2712812621u: case 2712847316u: goto L18;
+	case 1295823521: case 3569595041u: goto L19;
+	default: goto L21;
+	}
+L18:
+	v19 = (u16)__builtin_bswap16(lu16(v72+4)); v20 = (u16)__builtin_bswap16(lu16(v72+6)); goto L20;
+L19:
+	v19 = lu16(v72+4); v20 = lu16(v72+6);
+L20:
+	if (v19 == 2 && v20 == 4) goto L22;
+L21:;
+	u8 v74 = pcap_damaged_row_is_row(v37, 1, v2, v72, v73, 2);
+	if (v74) goto L22;
+	u8 v75 = pcap_damaged_row_is_row(v37, 0, 0, v72, v73, 4);
+	if (!v75) goto L34;
+L22:
+	switch (v39) {
+	case 2712847316u: case 2712812621u: goto L23;
+	default: goto L24;
+	}
+L23:
+	if (v48) goto L36;
+	v21 = (u32)__builtin_bswap32(v13); goto L25;
+L24:
+	if (v48) goto L36;
+	v21 = v13;
+L25:;
+	u64 v76 = v46 - 1, v77 = (u64)v21 + 15, v78 = v76 < v77 ? v76 : v77;
+	v22 = 0;
+L26:;
+	ptr v79 = at(v45+1, v22);
+	u64 v80 = v76 - v22;
+	if (v80 < 24) goto L30;
+	switch ((u32)__builtin_bswap32(lu32(v79))) {
+	case 2712812621u: case 2712847316u: goto L27;
+	case 1295823521: case 3569595041u: goto L28;
+	default: goto L30;
+	}
+L27:
+	v23 = (u16)__builtin_bswap16(lu16(v79+4)); v24 = (u16)__builtin_bswap16(lu16(v79+6)); goto L29;
+L28:
+	v23 = lu16(v79+4); v24 = lu16(v79+6);
+L29:
+	if (v23 == 2 && v24 == 4) goto L31;
+L30:;
+	u8 v81 = pcap_damaged_row_is_row(v37, 1, v2, v79, v80, 2);
+	if (v81) goto L31;
+	u8 v82 = pcap_damaged_row_is_row(v37, 0, 0, v79, v80, 4);
+	if (!v82) goto L33;
+L31:
+	v25 = v22 + 1;
+L32:
+	st64(v5, v25);
+	v35 = 0; goto L44;
+L33:;
+	u64 v83 = v22 + 1;
+	if (v83 != v78) { v22 = v83; goto L26; }
+	if (!v21) goto L36;
+	goto L42;
+L34:;
+	u64 v84 = v18 + 1;
+	if (v84 != v71) { v18 = v84; goto L17; }
+L35:
+	if (v46 >= v70 + 16) goto L42;
+L36:;
+	u64 v85 = (u64)v45;
+	u8 v86 = (v39 != 2712847316u) & (v39 != 3569595041u);
+	switch (v39) {
+	case 2712847316u: case 2712812621u: goto L37;
+	default: v29 = v85; v31 = v46; v30 = 4; goto L39;
+	}
+L37:
+	v26 = v85; v28 = v46; v27 = 4;
+L38:
+	pcap_tolerant_as_is_PacketAsIs_from_slice_4da0(v36, (ptr)v26, v28, v86, 0);
+	u64 v87 = ld64(v36+8), v88 = ld64(v36+16), v89 = ld64(v36+24), v90 = ld64(v36+32);
+	if (ld8(v36)) { v32 = v87; v33 = v88; v34 = v90; goto L41; }
+	if (!(v89 || v90)) { v35 = 8; goto L44; }
+	u64 v91 = v27 - 1;
+	if (!v88 || !v91) goto L40;
+	v26 = v87; v27 = v91; v28 = v88; goto L38;
+L39:
+	pcap_tolerant_as_is_PacketAsIs_from_slice_7f02(v36, (ptr)v29, v31, v86, 0);
+	u64 v92 = ld64(v36+8), v93 = ld64(v36+16), v94 = ld64(v36+24), v95 = ld64(v36+32);
+	if (ld8(v36)) { v32 = v92; v33 = v93; v34 = v95; goto L41; }
+	if (!(v94 || v95)) { v35 = 8; goto L44; }
+	u64 v96 = v30 - 1;
+	if (!(!v93 || !v96)) { v29 = v92; v30 = v96; v31 = v93; goto L39; }
+L40:
+	st64(v5, 0);
+	v35 = 0; goto L44;
+L41:
+	if ((v32 & 255) != 4 || !v34) { v35 = 8; goto L44; }
+	deallocate((ptr)v33);
+	v35 = 8; goto L44;
+L42:
+	st64(v5, 0);
+	v35 = 0; goto L44;
+L43:
+	su32(v6, 1);
+	su32(v6+4, 0);
+	su64(v6+8, 0);
+	v35 = 3;
+L44:
+	return (int32_t)(v35);
 }
 int32_t pcapfile_link_type(u32 v1) {
 	t_8_32 v2 = pcap_core_link_DataLinkFromU32_from(v1 & 65535);
@@ -9835,107 +10589,36 @@ L25:
 	return (int32_t)(v16);
 }
 int32_t pcapfile_resync(ptr v1, ptr v2, u64 v3, ptr v4, ptr v5) {
-	u64 v6, v7, v8, v10, v11, v12, v14, v15, v16, v18, v19, v20, v22;
-	ptr v9, v13, v17, v21;
-	u32 v23;
-	u32 v24 = ld32(v1);
-	switch (v24) {
+	u32 v6;
+	_Alignas(4) u8 v7[28];
+	u32 v8 = ld32(v1);
+	switch (v8) {
 	case 1295823521: case 2712812621u: case 2712847316u: case 3569595041u: goto L0;
-	default: goto L16;
+	default: goto L1;
 	}
 L0:;
-	ptr v25 = lup(v2);
-	u64 v26 = lu64(v2+8);
-	if (!v26) { v23 = 8; goto L17; }
-	if (!v3) { v22 = 0; goto L14; }
-	switch (v24) {
-	case 2712847316u: v6 = 0; goto L1;
-	case 2712812621u: v10 = 0; goto L5;
-	case 3569595041u: v14 = 0; goto L9;
-	default: v18 = 0; goto L12;
-	}
+	t_8_32 v9 = pcap_core_link_DataLinkFromU32_from(ld32(v1+20));
+	ptr v10 = (ptr)lu64(v1+12);
+	u16 v11 = ld16(v1+4);
+	u32 v12 = ld32(v1+8);
+	u16 v13 = ld16(v1+6);
+	st32(v7, v8);
+	st16(v7+4, v11);
+	st16(v7+6, v13);
+	st32(v7+8, v12);
+	sup(v7+12, v10);
+	su64(v7+20, ((u64)v9.f1 << 32) | (u64)v9.f0);
+	t_8_64 v14 = pcap_tolerant_resync_resync(v7, lup(v2), lu64(v2+8), v3);
+	if (v14.f0 != 1) { v6 = 8; goto L2; }
+	st64(v4, v14.f1);
+	v6 = 0; goto L2;
 L1:
-	v7 = v3; v8 = v26 - v6; v9 = at(v25, v6);
-L2:
-	if (v8 < 16) goto L3;
-	u32 v27 = lu32(v9+8), v28 = (u32)__builtin_bswap32(v27);
-	u64 v29 = v8 - 16;
-	u32 v30 = (u32)__builtin_bswap32(lu32(v9+12));
-	u8 v31 = (v30 > 262144) | ((v28 > 262144) | ((u32)__builtin_bswap32(lu32(v9+4)) > 4294967)) || v30 < v28;
-	if (v31) goto L3;
-	u64 v32 = (u64)v28;
-	if (!((v27 == 0) | (v29 < v32))) goto L4;
-L3:;
-	u64 v33 = v6 + 1;
-	if (v33 == v26) { v23 = 8; goto L17; }
-	v6 = v33; goto L1;
-L4:;
-	u64 v34 = v29 - v32, v35 = v7 - 1;
-	if (!v34 || !v35) { v22 = v6; goto L14; }
-	v7 = v35; v8 = v34; v9 = at(v9+16, v32); goto L2;
-L5:
-	v11 = v3; v12 = v26 - v10; v13 = at(v25, v10);
-L6:
-	if (v12 < 16) goto L7;
-	u32 v36 = lu32(v13+8), v37 = (u32)__builtin_bswap32(v36);
-	u64 v38 = v12 - 16;
-	u32 v39 = (u32)__builtin_bswap32(lu32(v13+12));
-	if ((v37 > 262144) | (v39 > 262144) || v39 < v37) goto L7;
-	u64 v40 = (u64)v37;
-	if (!((v36 == 0) | (v38 < v40))) goto L8;
-L7:;
-	u64 v41 = v10 + 1;
-	if (v41 == v26) { v23 = 8; goto L17; }
-	v10 = v41; goto L5;
-L8:;
-	u64 v42 = v38 - v40, v43 = v11 - 1;
-	if (!v42 || !v43) { v22 = v10; goto L14; }
-	v11 = v43; v12 = v42; v13 = at(v13+16, v40); goto L6;
-L9:
-	v15 = v3; v16 = v26 - v14; v17 = at(v25, v14);
-L10:
-	if (v16 < 16) goto L11;
-	u64 v44 = lu64(v17+8);
-	u32 v45 = (u32)v44;
-	u64 v46 = v16 - 16;
-	u8 v47 = lu32(v17+4) > 4294967 || (v44 > 0x40000ffffffffull) | (v45 > 262144) || (u32)(v44 >> 32) < v45;
-	if (v47) goto L11;
-	u64 v48 = v44 & 524287;
-	if (v48 - 1 >= v46) goto L11;
-	u64 v49 = v46 - v48, v50 = v15 - 1;
-	if (!v49 || !v50) { v22 = v14; goto L14; }
-	v15 = v50; v16 = v49; v17 = at(v17+16, v48); goto L10;
-L11:;
-	u64 v51 = v14 + 1;
-	if (v51 == v26) { v23 = 8; goto L17; }
-	v14 = v51; goto L9;
-L12:
-	v19 = v3; v20 = v26 - v18; v21 = at(v25, v18);
-L13:
-	if (v20 < 16) goto L15;
-	u64 v52 = lu64(v21+8);
-	u32 v53 = (u32)v52;
-	u64 v54 = v20 - 16;
-	if ((v52 > 0x40000ffffffffull) | (v53 > 262144) || (u32)(v52 >> 32) < v53) goto L15;
-	u64 v55 = v52 & 524287;
-	if (v55 - 1 >= v54) goto L15;
-	u64 v56 = v54 - v55, v57 = v19 - 1;
-	if (!(!v56 || !v57)) { v19 = v57; v20 = v56; v21 = at(v21+16, v55); goto L13; }
-	v22 = v18;
-L14:
-	st64(v4, v22);
-	v23 = 0; goto L17;
-L15:;
-	u64 v58 = v18 + 1;
-	if (v58 == v26) { v23 = 8; goto L17; }
-	v18 = v58; goto L12;
-L16:
 	su32(v5, 1);
 	su32(v5+4, 0);
 	su64(v5+8, 0);
-	v23 = 3;
-L17:
-	return (int32_t)(v23);
+	v6 = 3;
+L2:
+	return (int32_t)(v6);
 }
 void pcapfile_rule_name(u32 v1, ptr v2) {
 	ptr v3;
@@ -9953,7 +10636,7 @@ void pcapfile_rule_name(u32 v1, ptr v2) {
 	}
 L0:;
 	u8 v6 = ld8(v5+2);
-	v3 = ldp(at((ptr)&switch_table_pcapfile_rule_name, (u64)v6 * 8)); v4 = ld64(at((ptr)switch_table_pcapfile_rule_name_274, (u64)v6 * 8)); goto L5;
+	v3 = ldp(at((ptr)&switch_table_pcapfile_rule_name, (u64)v6 * 8)); v4 = ld64(at((ptr)switch_table_pcapfile_rule_name_290, (u64)v6 * 8)); goto L5;
 L1:
 	v3 = (ptr)static_43; v4 = 16; goto L5;
 L2:
@@ -9984,7 +10667,7 @@ void pcapfile_rule_text(u32 v1, ptr v2) {
 	}
 L0:;
 	u8 v7 = ld8(v6+2);
-	ptr v8 = ldp(at((ptr)&switch_table_pcapfile_rule_text_275, (u64)v7 * 8));
+	ptr v8 = ldp(at((ptr)&switch_table_pcapfile_rule_text_291, (u64)v7 * 8));
 	u64 v9 = ld64(at((ptr)switch_table_pcapfile_rule_text, (u64)v7 * 8));
 	v3 = (t_p_64){v8, v9}; goto L4;
 L1:
@@ -10143,116 +10826,89 @@ L5:
 	return (int32_t)(v14);
 }
 int32_t pcapfile_take_packet_as_is(ptr v1, ptr v2, u32 v3, ptr v4, ptr v5) {
-	u32 v6, v7, v11, v12, v13, v14, v15, v18, v19, v20, v21;
-	u8 v8;
-	ptr v9, v16;
-	u64 v10, v17;
-	_Alignas(8) u8 v22[40], v23[96];
-	st64(v23, 0);
-	u32 v24 = ld32(v1);
-	switch (v24) {
+	u32 v6, v7, v8, v9;
+	_Alignas(8) u8 v10[104], v11[96], v14[40];
+	_Alignas(1) u8 v12[7];
+	_Alignas(4) u8 v13[20];
+	st64(v11, 0);
+	u32 v15 = ld32(v1);
+	switch (v15) {
 	case 1295823521: case 2712812621u: case 2712847316u: case 3569595041u: goto L0;
-	default: goto L15;
+	default: goto L9;
 	}
 L0:;
-	ptr v25 = lup(v2);
-	u64 v26 = lu64(v2+8);
-	u8 v27 = (v24 == 2712847316u) | (v24 == 3569595041u), v28 = v26 < 16;
-	switch (v24) {
+	ptr v16 = lup(v2);
+	u64 v17 = lu64(v2+8);
+	clear(v10, 104);
+	u8 v18 = (v15 != 2712847316u) & (v15 != 3569595041u);
+	switch (v15) {
 	case 2712847316u: case 2712812621u: goto L1;
-	default: goto L5;
+	default: goto L2;
 	}
 L1:
-	if (!v28) goto L2;
-	M0: v9 = (ptr)0; v10 = 16ull - v26; v16 = (ptr)0; v8 = v11 = v12 = v13 = v14 = v15 = v17 = 0; goto L9;
-L2:;
-	u32 v29 = (u32)__builtin_bswap32(lu32(v25)), v30 = (u32)__builtin_bswap32(lu32(v25+4));
-	u32 v31 = (u32)__builtin_bswap32(lu32(v25+8));
-	u64 v32 = v26 - 16;
-	u32 v33 = (u32)__builtin_bswap32(lu32(v25+12));
-	u8 v34 = v27 & (v30 > 4294967), v35 = v33 > 262144, v36 = v31 > v33;
-	if (!(v36 | (v34 | v35))) { v6 = 0; goto L3; }
-	if ((v3 > 262144 ? v3 : 262144) < v31) { M1: v9 = (ptr)2ull; v10 = (u64)(ptr)static_2; v16 = (ptr)0; v8 = v12 = v13 = v14 = v15 = v17 = 0; v11 = 31; goto L9; }
-	v6 = (v31 > 262144 ? 256u : 0u) | (u32)v34 | (v35 ? 65536u : 0u) | (v36 ? 16777216u : 0u);
+	pcap_tolerant_as_is_PacketAsIs_from_slice_4da0(v10, v16, v17, v18, v3);
+	goto L3;
+L2:
+	pcap_tolerant_as_is_PacketAsIs_from_slice_7f02(v10, v16, v17, v18, v3);
 L3:;
-	u64 v37 = (u64)v31;
-	if (v32 >= v37) goto L4;
-	v9 = (ptr)0; v10 = v37 - v32; v16 = (ptr)0; v8 = v11 = v12 = v13 = v14 = v15 = v17 = 0; goto L9;
-L4:
-	v9 = at(v25+16, v37); v10 = v32 - v37; v11 = v29; v12 = v30; v13 = v31; v14 = v33; v15 = v6; v16 = v25+16; v17 = v37; v8 = 1; goto L9;
-L5:
-	if (!v28) goto L6;
-	goto M0;
-L6:;
-	u32 v38 = lu32(v25), v39 = lu32(v25+4), v40 = lu32(v25+8);
-	u64 v41 = v26 - 16;
-	u32 v42 = lu32(v25+12);
-	u8 v43 = v27 && v39 > 4294967, v44 = v42 > 262144, v45 = v40 > v42;
-	if (!(v45 | (v43 | v44))) { v7 = 0; goto L7; }
-	if ((v3 > 262144 ? v3 : 262144) < v40) goto M1;
-	v7 = (v40 > 262144 ? 256u : 0u) | (u32)v43 | (v44 ? 65536u : 0u) | (v45 ? 16777216u : 0u);
-L7:;
-	u64 v46 = (u64)v40;
-	if (v41 >= v46) goto L8;
-	v9 = (ptr)0; v10 = v46 - v41; v16 = (ptr)0; v8 = v11 = v12 = v13 = v14 = v15 = v17 = 0; goto L9;
-L8:
-	v9 = at(v25+16, v46); v10 = v41 - v46; v11 = v38; v12 = v39; v13 = v40; v14 = v42; v15 = v7; v16 = v25+16; v17 = v46; v8 = 1;
-L9:
-	clear(v22, 40);
-	u64 v47 = (u64)v9;
-	if (!v8) goto L14;
-	switch (v24) {
-	case 3569595041u: case 2712847316u: goto L10;
-	default: goto L11;
+	u8 v19 = ld8(v10+8);
+	u64 v20 = ld64(v10+16);
+	u32 v21 = ld32(v10+24), v22 = ld32(v10+28), v23 = ld32(v10+32), v24 = ld32(v10+36);
+	u32 v25 = ld32(v10+40);
+	u8 v26 = ld8(v10);
+	copy(v12, v10+9, 7);
+	copy(v13, v10+44, 20);
+	copy(v14, v10+64, 40);
+	if (v26) goto L8;
+	switch (v15) {
+	case 3569595041u: case 2712847316u: goto L4;
+	default: goto L5;
 	}
-L10:
-	v18 = v12 / 1000000; v19 = (v12 % 1000000) * 1000; goto L12;
-L11:
-	v18 = v12 / 1000000000; v19 = v12 % 1000000000;
-L12:
-	if (v15 & 1) { v20 = 2; goto L13; }
-	if (v15 & 256) { v20 = 3; goto L13; }
-	if (v15 & 65536) { v20 = 4; goto L13; }
-	v20 = v15 > 16777215 ? 5u : 0u;
-L13:
-	su32(v4, v11);
-	su32(v4+4, v12);
-	su32(v4+8, v14);
-	su32(v4+12, ((v15 << 2) & 4) | ((v15 >> 5) & 8) | ((v15 >> 12) & 16) | ((v15 >> 19) & 32));
-	su32(v4+16, v20);
+L4:
+	v6 = v22 / 1000000; v7 = (v22 % 1000000) * 1000; goto L6;
+L5:
+	v6 = v22 / 1000000000; v7 = v22 % 1000000000;
+L6:
+	if (v25 & 1) { v8 = 2; goto L7; }
+	if (v25 & 256) { v8 = 3; goto L7; }
+	if (v25 & 65536) { v8 = 4; goto L7; }
+	v8 = (v25 & 4278190080u) == 16777216 ? 5u : 0u;
+L7:
+	su32(v4, v21);
+	su32(v4+4, v22);
+	su32(v4+8, v24);
+	su32(v4+12, ((v25 << 2) & 4) | ((v25 >> 5) & 8) | ((v25 >> 12) & 16) | ((v25 >> 19) & 32));
+	su32(v4+16, v8);
 	su32(v4+20, 0);
-	su64(v4+24, (u64)v18 + (u64)v11);
-	su32(v4+32, v19);
+	su64(v4+24, (u64)v6 + (u64)v21);
+	su32(v4+32, v7);
 	su32(v4+36, 0);
-	sup(v4+40, v16);
-	su64(v4+48, v17);
-	su64(v2, v47);
-	su64(v2+8, v10);
-	v21 = 0; goto L16;
-L14:;
-	u8 v48 = (u8)v47;
-	st8(v23, v48);
-	st64(v23+8, v10);
-	st32(v23+16, v11);
-	st32(v23+20, v12);
-	st32(v23+24, v13);
-	st32(v23+28, v14);
-	st32(v23+32, v15);
-	st32(v23+36, 0);
-	stp(v23+40, v16);
-	st64(v23+48, v17);
-	copy(v23+56, v22, 40);
-	u32 v49 = pcapfile_values_errors_tell(v23, v5);
-	if (v48 != 4 || !ld64(v23+24)) { v21 = v49; goto L16; }
-	deallocate((ptr)v10);
-	v21 = v49; goto L16;
-L15:
+	copy(v4+40, v13+4, 16);
+	st8(v2, v19);
+	copy(v2+1, v12, 7);
+	su64(v2+8, v20);
+	v9 = 0; goto L10;
+L8:
+	st8(v11, v19);
+	st64(v11+8, v20);
+	st32(v11+16, v21);
+	st32(v11+20, v22);
+	st32(v11+24, v23);
+	st32(v11+28, v24);
+	st32(v11+32, v25);
+	copy(v11+36, v13, 20);
+	copy(v11+56, v14, 40);
+	u32 v27 = pcapfile_values_errors_tell(v11, v5);
+	if (v19 != 4 || !ld64(v11+24)) { v9 = v27; goto L10; }
+	deallocate((ptr)v20);
+	v9 = v27; goto L10;
+L9:
 	su32(v5, 1);
 	su32(v5+4, 0);
 	su64(v5+8, 0);
-	v21 = 3;
-L16:
-	return (int32_t)(v21);
+	v9 = 3;
+L10:
+	return (int32_t)(v9);
 }
 int32_t pcapfile_time_of(ptr v1, u64 v2, ptr v3) {
 	u32 v4, v6, v10, v12;
@@ -13991,6 +14647,204 @@ L2:
 	v9 = v8;
 L3:
 	return (int32_t)(v9);
+}
+int32_t pcapfile_skip_to_blocks(ptr v1, ptr v2, u8 v3, ptr v4, ptr v5, ptr v6) {
+	u64 v7, v8, v10, v11, v15, v16, v17, v18, v19, v20, v23, v25;
+	u8 v9, v13, v14, v21, v22, v24;
+	ptr v12;
+	u32 v26;
+	_Alignas(8) u8 v27[104], v28[104], v29[104], v30[96] = {0};
+	u32 v31 = ld32(v1);
+	switch (v31) {
+	case 0: case 439041101: goto L0;
+	case 1295788826: goto L8;
+	default: goto L23;
+	}
+L0:;
+	ptr v32 = lup(v2);
+	u64 v33 = lu64(v2+8);
+	if (!((v3 != 0) & (v33 < 2097153))) goto L1;
+	if (v31) { v12 = v32; v15 = v33; v16 = v33; v13 = 0; v14 = 1; goto L10; }
+	if (!v33) { v22 = 1; v23 = v24 = v25 = 0; goto L22; }
+	v7 = v33; v8 = v33; v9 = 1; goto L2;
+L1:
+	if (v33 < 2097152) { v11 = v33; goto L9; }
+	if (v31) { v12 = v32; v15 = 1048512; v16 = 2097152; v13 = v14 = 0; goto L10; }
+	v7 = 2097152; v8 = 1048512; v9 = 0;
+L2:
+	v10 = 0;
+L3:
+	pcap_ng_pcapng_block_Block_from_slice(v27, 0, at(v32, v10), v7 - v10);
+	if (ld8(v27)) goto L5;
+	u8 v34 = !ld8(v27+24) && ld64(v27+56) > 15;
+	if (!(ld8(v27+40) != 1 || !ld64(v27+64))) goto L4;
+	if (v34) { M4: v22 = v9; v23 = v8; v25 = v10; v24 = 1; goto L22; }
+	goto L7;
+L4:
+	deallocate(ldp(v27+48));
+	if (v34) goto M4;
+	goto L7;
+L5:
+	if (ld8(v27+8) != 4 || !ld64(v27+32)) goto L6;
+	deallocate(ldp(v27+16));
+L6:
+L7:;
+	u64 v35 = v10 + 1;
+	if (v35 == v7) { v22 = v9; v23 = v8; v24 = v25 = 0; goto L22; }
+	v10 = v35; goto L3;
+L8:;
+	ptr v36 = lup(v2);
+	u64 v37 = lu64(v2+8);
+	if ((v3 != 0) & (v37 < 2097153)) { v12 = v36; v15 = v37; v16 = v37; v13 = v14 = 1; goto L10; }
+	if (v37 >= 2097152) { v12 = v36; v15 = 1048512; v16 = 2097152; v13 = 1; v14 = 0; goto L10; }
+	v11 = v37;
+L9:
+	st64(v30+8, 2097152ull - v11);
+	clear(v30+16, 80);
+	u32 v38 = pcapfile_values_errors_tell(v30, v6);
+	v26 = v38; goto L24;
+L10:;
+	t_8_64 v39 = pcap_tolerant_captures_resync_resync_in(v13, v12, v16);
+	if (v39.f0 != 1) { v20 = v21 = 0; goto L21; }
+	pcap_ng_pcapng_block_Block_from_slice(v29, v13, at(v12, v39.f1), v16 - v39.f1);
+	u64 v40 = ld64(v29+16);
+	u8 v41 = ld8(v29+40);
+	u64 v42 = ld64(v29+48), v43 = ld64(v29+64);
+	u8 v44 = ld8(v29) == 0;
+	if (!v44) goto L19;
+	if (ld8(v29+24) != 8) goto L18;
+	u64 v45 = v16 - v40, v46 = v39.f1 + 1;
+	if (v46 >= v45) goto L17;
+	v17 = v46;
+L11:;
+	t_8_64 v47 = pcap_tolerant_captures_resync_resync_in(v13, at(v12, v17), v16 - v17);
+	if (v47.f0 != 1) goto L17;
+	u64 v48 = v47.f1 + v17;
+	if (v48 >= v45) goto L16;
+	pcap_ng_pcapng_block_Block_from_slice(v28, v13, at(v12, v48), v16 - v48);
+	if (ld8(v28)) goto L14;
+	u8 v49 = ld8(v28+24) == 8;
+	if (!(ld8(v28+40) != 1 || !ld64(v28+64))) goto L12;
+	if (v49) goto L16;
+	goto L13;
+L12:
+	deallocate(ldp(v28+48));
+	if (v49) goto L16;
+L13:
+	if (v41 != 1 || !v43) { v20 = v48; v21 = 1; goto L21; }
+	v18 = v42; v19 = v48; goto L20;
+L14:
+	if (ld8(v28+8) != 4 || !ld64(v28+32)) goto L15;
+	deallocate(ldp(v28+16));
+L15:
+L16:;
+	u64 v50 = v48 + 1;
+	if (v50 < v45) { v17 = v50; goto L11; }
+L17:
+	if (v41 != 1 || !v43) { M10: v20 = v39.f1; v21 = 1; goto L21; }
+	M11: v18 = v42; v19 = v39.f1; goto L20;
+L18:
+	if (v41 != 1 || !v43) goto M10;
+	goto M11;
+L19:
+	if (ld8(v29+8) != 4 || !ld64(v29+32)) { v20 = v21 = 0; goto L21; }
+	v18 = v40; v19 = 0;
+L20:
+	deallocate((ptr)v18);
+	v20 = v19; v21 = v44;
+L21:
+	v22 = v14; v23 = v15; v24 = v21; v25 = v20;
+L22:;
+	u8 v51 = v24 && v25 < v23;
+	st64(v4, v51 ? v25 : v23);
+	st8(v5, v51 ? 1 : v22);
+	v26 = 0; goto L24;
+L23:
+	su32(v6, 6);
+	su32(v6+4, 0);
+	su64(v6+8, 0);
+	v26 = 3;
+L24:
+	return (int32_t)(v26);
+}
+int32_t pcapfile_skip_to_packets(ptr v1, u32 v2, ptr v3, u8 v4, ptr v5, ptr v6, ptr v7) {
+	u64 v8, v9, v11;
+	u8 v10;
+	u16 v12, v13;
+	t_8_64 v14;
+	u32 v15;
+	_Alignas(4) u8 v16[28];
+	_Alignas(8) u8 v17[96];
+	st64(v17, 0);
+	u32 v18 = ld32(v1);
+	switch (v18) {
+	case 1295823521: case 2712812621u: case 2712847316u: case 3569595041u: goto L0;
+	default: goto L11;
+	}
+L0:;
+	t_8_32 v19 = pcap_core_link_DataLinkFromU32_from(ld32(v1+20));
+	ptr v20 = (ptr)lu64(v1+12);
+	u16 v21 = ld16(v1+4);
+	u32 v22 = ld32(v1+8);
+	u16 v23 = ld16(v1+6);
+	st32(v16, v18);
+	st16(v16+4, v21);
+	st16(v16+6, v23);
+	st32(v16+8, v22);
+	sup(v16+12, v20);
+	su64(v16+20, ((u64)v19.f1 << 32) | (u64)v19.f0);
+	ptr v24 = lup(v3);
+	u64 v25 = lu64(v3+8);
+	if ((v4 != 0) & (v25 < 2097153)) { v8 = v25; v9 = v25; v10 = 1; goto L1; }
+	if (v25 >= 2097152) { v8 = 2097152; v9 = 1048512; v10 = 0; goto L1; }
+	st64(v17+8, 2097152ull - v25);
+	clear(v17+16, 80);
+	u32 v26 = pcapfile_values_errors_tell(v17, v7);
+	v15 = v26; goto L12;
+L1:;
+	u64 v27 = v8 < v9 ? v8 : v9;
+	if (!v27) goto L9;
+	v11 = 0;
+L2:;
+	ptr v28 = at(v24, v11);
+	u64 v29 = v8 - v11;
+	if (v29 < 24) goto L6;
+	switch ((u32)__builtin_bswap32(lu32(v28))) {
+	case 2712812621u: case 2712847316u: goto L3;
+	case 1295823521: case 3569595041u: goto L4;
+	default: goto L6;
+	}
+L3:
+	v12 = (u16)__builtin_bswap16(lu16(v28+4)); v13 = (u16)__builtin_bswap16(lu16(v28+6)); goto L5;
+L4:
+	v12 = lu16(v28+4); v13 = lu16(v28+6);
+L5:
+	if (v12 == 2 && v13 == 4) goto L7;
+L6:;
+	u8 v30 = pcap_damaged_row_is_row(v16, 1, v2, v28, v29, 2);
+	if (v30) goto L7;
+	u8 v31 = pcap_damaged_row_is_row(v16, 0, 0, v28, v29, 4);
+	if (!v31) goto L8;
+L7:
+	v14 = (t_8_64){1, v11}; goto L10;
+L8:;
+	u64 v32 = v11 + 1;
+	if (v32 != v27) { v11 = v32; goto L2; }
+L9:;
+	t_8_64 v33 = pcap_tolerant_resync_resync(v16, v24, v8, 3);
+	v14 = v33;
+L10:;
+	u8 v34 = v14.f0 & 1 && v14.f1 < v9;
+	st64(v5, v34 ? v14.f1 : v9);
+	st8(v6, v34 ? 1 : v10);
+	v15 = 0; goto L12;
+L11:
+	su32(v7, 1);
+	su32(v7+4, 0);
+	su64(v7+8, 0);
+	v15 = 3;
+L12:
+	return (int32_t)(v15);
 }
 int32_t pcapfile_put_section(ptr v1, ptr v2, u64 v3, ptr v4, ptr v5) {
 	u32 v6, v7, v10;

@@ -130,6 +130,18 @@ resync = _library.pcapfile_resync
 resync.argtypes = [_to(Header), _to(Bytes), ctypes.c_size_t, _to(ctypes.c_size_t), _to(Error)]
 resync.restype = ctypes.c_int32
 
+judge_packet = _library.pcapfile_judge_packet
+judge_packet.argtypes = [_to(Header), ctypes.c_uint32, _to(Bytes), ctypes.c_uint8, _to(ctypes.c_size_t), _to(Error)]
+judge_packet.restype = ctypes.c_int32
+
+skip_to_packets = _library.pcapfile_skip_to_packets
+skip_to_packets.argtypes = [_to(Header), ctypes.c_uint32, _to(Bytes), ctypes.c_uint8, _to(ctypes.c_size_t), _to(ctypes.c_uint8), _to(Error)]
+skip_to_packets.restype = ctypes.c_int32
+
+skip_to_blocks = _library.pcapfile_skip_to_blocks
+skip_to_blocks.argtypes = [_to(Section), _to(Bytes), ctypes.c_uint8, _to(ctypes.c_size_t), _to(ctypes.c_uint8), _to(Error)]
+skip_to_blocks.restype = ctypes.c_int32
+
 cut_packets = _library.pcapfile_cut_packets
 cut_packets.argtypes = [_to(Bytes), _to(Cut), ctypes.c_size_t, _to(ctypes.c_size_t), _to(Error)]
 cut_packets.restype = ctypes.c_int32

@@ -31,6 +31,8 @@ def e(data):
     return enhanced(0, 1, data)
 
 
+UNIFORM = [number.to_bytes(4, "little") + bytes(56) for number in range(600)]
+
 # Captures, and what is found in them: the bytes of each packet, or a gap.
 CLASSIC = [
     (classic(p(b"abc"), CORRUPT, p(b"d"), p(b"ef"), p(b"g")), [b"abc", Gap(43, 41, Rule.INCLUDED_TOO_LONG, ""), b"d", b"ef", b"g"]),
@@ -43,7 +45,18 @@ CLASSIC = [
     # A length that is wrong by 5 bytes.
     (
         classic(packet(1600000000, 5, b"abcdef", 11)[:8] + b"\x0b" + packet(1600000000, 5, b"abcdef", 11)[9:], p(b"g"), p(b"h"), p(b"i")),
-        [Gap(24, 22, None, "other packets are inside this one"), b"g", b"h", b"i"],
+        [Gap(24, 22, None, "the stored length of the packet is wrong"), b"g", b"h", b"i"],
+    ),
+    # Packets of one length. Beside their places they may seem to follow each other too.
+    (
+        classic(*map(p, UNIFORM[:3]), packet(1600000000, 5, UNIFORM[3], 4000)[:8] + b"\xa0\x0f" + p(UNIFORM[3])[10:], *map(p, UNIFORM[4:])),
+        [*UNIFORM[:3], Gap(252, 76, Rule.INCLUDED_PAST_ORIGINAL, ""), *UNIFORM[4:]],
+    ),
+    # Packets without data, before a packet and before corrupt bytes.
+    (classic(p(b"abc"), p(b""), p(b"d")), [b"abc", b"", b"d"]),
+    (
+        classic(p(b"abc"), p(b""), CORRUPT, p(b"d")),
+        [b"abc", Gap(43, 57, None, "the packet has no data, and none follows it"), b"d"],
     ),
     # The headers of other captures.
     (
@@ -52,7 +65,7 @@ CLASSIC = [
     ),
     (
         classic(p(b"abc"), p(b"defgh")[:18], header(">"), packet(7, 8, b"x", 1, ">"), packet(7, 8, b"y", 1, ">")),
-        [b"abc", Gap(43, 18, None, "other packets are inside this one"), Gap(61, 24, None, "another capture begins"), b"x", b"y"],
+        [b"abc", Gap(43, 18, None, "the stored length of the packet is wrong"), Gap(61, 24, None, "another capture begins"), b"x", b"y"],
     ),
 ]
 AT = len(CAPTURE)

@@ -69,7 +69,8 @@ impl<'a> PacketsAsIs<'a> {
         self.capture.rest()
     }
 
-    pub(crate) fn take_one(&mut self) -> Result<PacketAsIs<'a>, Error> {
+    /// Returns the next packet, and its seconds as written.
+    pub(crate) fn take_one(&mut self) -> Result<(PacketAsIs<'a>, u32), Error> {
         let bytes = self.capture.rest();
         let (mut left, mut error) = (calls::Bytes::of(bytes), calls::Error::default());
         let mut packet = calls::PacketAsIs {
@@ -91,7 +92,7 @@ impl<'a> PacketsAsIs<'a> {
         self.capture.left = lent(bytes, left);
         let flaws = Flaws { bits: packet.flaws, first: packet.first_flaw };
         let data = lent(bytes, packet.bytes);
-        Ok(PacketAsIs { time: packet.time, original_len: packet.orig_len, data, flaws })
+        Ok((PacketAsIs { time: packet.time, original_len: packet.orig_len, data, flaws }, packet.ts_sec))
     }
 }
 
@@ -104,6 +105,6 @@ impl<'a> Iterator for PacketsAsIs<'a> {
         }
         let taken = self.take_one();
         self.is_done = taken.is_err();
-        Some(taken)
+        Some(taken.map(|(packet, _)| packet))
     }
 }

@@ -144,6 +144,25 @@ extern "C" {
         error: *mut Error,
     ) -> i32;
     #[cfg(feature = "std")]
+    pub fn pcapfile_judge_packet(
+        header: *const crate::Header,
+        time: u32,
+        bytes: *const Bytes,
+        is_all: u8,
+        gap: *mut usize,
+        error: *mut Error,
+    ) -> i32;
+    #[cfg(feature = "std")]
+    pub fn pcapfile_skip_to_packets(
+        header: *const crate::Header,
+        time: u32,
+        bytes: *const Bytes,
+        is_all: u8,
+        skipped: *mut usize,
+        is_over: *mut u8,
+        error: *mut Error,
+    ) -> i32;
+    #[cfg(feature = "std")]
     pub fn pcapfile_write_header(
         header: *const crate::Header,
         room: *mut u8,
@@ -214,6 +233,15 @@ extern "C" {
         block: *mut BlockAsIs,
         flaws: *mut crate::BlockFlaw,
         flaws_len: usize,
+        error: *mut Error,
+    ) -> i32;
+    #[cfg(feature = "std")]
+    pub fn pcapfile_skip_to_blocks(
+        section: *const crate::Section,
+        bytes: *const Bytes,
+        is_all: u8,
+        skipped: *mut usize,
+        is_over: *mut u8,
         error: *mut Error,
     ) -> i32;
     pub fn pcapfile_read_interface(

@@ -1,6 +1,7 @@
 //! Lenient reading of damaged captures of either format, from slices and streams: packets, and gaps where bytes are corrupt.
 
 use crate::blocks::{Block, Interface, Section};
+use crate::calls;
 use crate::packet::Source;
 use crate::{AnyPacket, BlockAsIs, Blocks, Capture, Error, Header, OwnedPacket, Reader, Time};
 use core::ops::Range;
@@ -8,22 +9,12 @@ use std::io::{self, Read};
 use std::vec::Vec;
 
 const MAGIC_OF_SECTION: [u8; 4] = [0x0a, 0x0d, 0x0d, 0x0a];
-/// How many packets must follow each other where reading goes on after corrupt bytes, unless they reach the end.
-const ROW: usize = 3;
-/// The same of blocks.
-const BLOCKS: usize = 2;
 /// The length of a packet's header, and of a capture's.
 const PACKET_HEADER: usize = 16;
 const CAPTURE_HEADER: usize = 24;
-/// The longest packet that breaks no rule, with its header.
-const LONGEST_PACKET: usize = 262_144 + 16;
-/// The longest block at which reading goes on after corrupt bytes.
-const LONGEST_BLOCK: usize = LONGEST_PACKET + 65_536;
 /// The most bytes that a packet of a classic capture may store, unless another limit is set, and that a block may have, unless the limit is
 /// larger.
 const LIMIT: u32 = 1 << 24;
-/// How many bytes are searched at once, in items of the longest kind.
-const WINDOW: usize = 8;
 
 /// A part of a capture that has no packets: it is corrupt or truncated, or it is a packet's block whose body has no room for a packet.
 #[derive(Clone, Copy, Debug, PartialEq, Eq)]
@@ -33,8 +24,8 @@ pub struct Gap {
     pub offset: u64,
     /// How many bytes it has.
     pub len: u64,
-    /// Why its first item is refused. None if it breaks no rule: bytes that are all zero, a packet inside whose data other packets
-    /// follow each other, the frame of a block above the limit, or the header of another classic capture.
+    /// Why its first item is refused. None if it breaks no rule: bytes that are all zero, a packet of a wrong length, one without data that
+    /// none follows, the frame of a block above the limit, or the header of another classic capture.
     pub error: Option<Error>,
 }
 
@@ -133,6 +124,8 @@ struct Walk {
     /// The interfaces by number. None for one whose body has no room for its numbers.
     interfaces: Vec<Option<Interface>>,
     limit: u32,
+    /// The time of the last packet of a classic capture, in seconds.
+    time: Option<u32>,
     /// A gap whose end is not known yet.
     gap: Option<Gap>,
     is_done: bool,
@@ -146,6 +139,7 @@ impl Default for Walk {
             is_ng: false,
             interfaces: Vec::new(),
             limit: LIMIT,
+            time: None,
             gap: None,
             is_done: false,
         }
@@ -160,7 +154,7 @@ impl Walk {
         }
         match (bytes.is_empty(), is_end) {
             (true, true) => Step::End,
-            _ if self.gap.is_some() => self.search(bytes, is_end),
+            _ if self.gap.is_some() => self.skip(bytes, is_end),
             _ if self.is_ng => self.step_ng(bytes, is_end),
             _ => self.step_after_header(bytes, is_end),
         }
@@ -172,6 +166,7 @@ impl Walk {
             Err(missing) if !is_end => Step::More(missing),
             Ok(Some(header)) => {
                 self.header = header;
+                self.time = None;
                 Step::Corrupt(CAPTURE_HEADER, None, true)
             }
             _ => self.step_classic(bytes, is_end),
@@ -194,27 +189,25 @@ impl Walk {
         }
     }
 
-    fn step_classic(&self, bytes: &[u8], is_end: bool) -> Step {
+    fn step_classic(&mut self, bytes: &[u8], is_end: bool) -> Step {
         let mut packets = Capture::at(self.header, bytes).as_is(self.limit);
-        let found = match packets.take_one() {
+        let (found, seconds) = match packets.take_one() {
             Ok(found) => found,
             Err(Error::Incomplete(missing)) if !is_end => return Step::More(missing),
             Err(error) => return Step::Corrupt(1, Some(error), false),
         };
         let used = bytes.len() - packets.rest().len();
-        match self.are_zeros(bytes, is_end) {
-            Err(missing) => return Step::More(missing),
-            Ok(true) => return Step::Corrupt(1, None, false),
-            Ok(false) => {}
+        let flaw = found.flaws.first().map(Error::Invalid);
+        match judge(&self.header, self.time.unwrap_or(seconds), bytes, is_end) {
+            Judged::Packet => {}
+            Judged::Gap(len) => return Step::Corrupt(len, flaw, true),
+            Judged::Corrupt => return Step::Corrupt(1, flaw, false),
+            Judged::Missing(missing) => return Step::More(missing),
         }
-        match self.place_inside(bytes, used, is_end) {
-            Err(missing) => return Step::More(missing),
-            Ok(Some(place)) => return Step::Corrupt(place, found.flaws.first().map(Error::Invalid), true),
-            Ok(None) => {}
-        }
+        self.time = Some(seconds);
         Step::Packet(Taken {
             used,
-            flaw: found.flaws.first().map(Error::Invalid),
+            flaw,
             link: Some(self.header.link),
             interface_id: 0,
             time: Some(found.time),
@@ -224,91 +217,20 @@ impl Walk {
         })
     }
 
-    /// Returns whether an all-zero header is at the front, and zero bytes follow it. Fails with the number of missing bytes.
-    fn are_zeros(&self, bytes: &[u8], is_end: bool) -> Result<bool, usize> {
-        let (header, rest) = bytes.split_at(PACKET_HEADER);
-        let next = &rest[..rest.len().min(PACKET_HEADER)];
-        match is_zero(header) {
-            true if next.len() < PACKET_HEADER && !is_end => Err(PACKET_HEADER - next.len()),
-            true => Ok(!next.is_empty() && is_zero(next)),
-            false => Ok(false),
-        }
-    }
-
-    /// Returns whether a packet is followed by the end, by a packet without a flaw, or by some packets with flaws. Fails with the number of
-    /// missing bytes.
-    fn is_followed(&self, rest: &[u8], is_end: bool) -> Result<bool, usize> {
-        let mut packets = Capture::at(self.header, rest).as_is(0);
-        for count in 0..ROW {
-            let left = packets.rest();
-            if left.is_empty() && is_end {
-                return Ok(true);
+    /// Skips corrupt bytes, up to where packets or blocks go on.
+    fn skip(&self, bytes: &[u8], is_end: bool) -> Step {
+        let (seen, is_all, time) = (calls::Bytes::of(bytes), is_end.into(), self.time.unwrap_or(0));
+        let (mut skipped, mut is_over, mut error) = (0, 0, calls::Error::default());
+        // SAFETY: each pointer points to a value of its own, and `seen` is a slice's.
+        let status = unsafe {
+            match self.is_ng {
+                true => calls::pcapfile_skip_to_blocks(&self.section, &seen, is_all, &mut skipped, &mut is_over, &mut error),
+                false => calls::pcapfile_skip_to_packets(&self.header, time, &seen, is_all, &mut skipped, &mut is_over, &mut error),
             }
-            match packets.take_one() {
-                Ok(_) if is_zero(&left[..PACKET_HEADER]) => return Ok(false),
-                Ok(next) if count == 0 && next.flaws.is_empty() => return Ok(true),
-                Ok(_) => {}
-                Err(Error::Incomplete(missing)) if !is_end => return Err(missing),
-                Err(_) => return Ok(false),
-            }
-        }
-        Ok(true)
-    }
-
-    /// Returns where packets go on inside the first packet, which then has a wrong length. It looks only if no packets follow it. Fails with
-    /// the number of missing bytes.
-    fn place_inside(&self, bytes: &[u8], used: usize, is_end: bool) -> Result<Option<usize>, usize> {
-        if self.is_followed(&bytes[used..], is_end)? {
-            return Ok(None);
-        }
-        let wanted = used + ROW * LONGEST_PACKET;
-        if bytes.len() < wanted && !is_end {
-            return Err(wanted - bytes.len());
-        }
-        Ok((1..used).find(|&place| self.packets_go_on(&bytes[place..])))
-    }
-
-    /// Returns whether another capture begins at the front of these bytes, or packets with data follow each other, or fewer to their end.
-    fn packets_go_on(&self, bytes: &[u8]) -> bool {
-        if let Ok(Some(_)) = capture_at(bytes) {
-            return true;
-        }
-        let mut capture = Capture::at(self.header, bytes);
-        for _ in 0..ROW {
-            match capture.take_one() {
-                Ok(packet) if !packet.data.is_empty() => {}
-                _ => return false,
-            }
-            if capture.rest().is_empty() {
-                return true;
-            }
-        }
-        true
-    }
-
-    /// Finds where packets or blocks go on.
-    fn search(&self, bytes: &[u8], is_end: bool) -> Step {
-        let longest = if self.is_ng { LONGEST_BLOCK } else { LONGEST_PACKET };
-        if bytes.len() < WINDOW * longest && !is_end {
-            return Step::More(WINDOW * longest - bytes.len());
-        }
-        // At a place before the bound, more bytes change nothing.
-        let bound = if is_end { bytes.len() } else { bytes.len() - ROW * longest };
-        for place in 0..bound {
-            match self.place_from(bytes, place) {
-                Ok(Some(found)) => return Step::Corrupt(found, None, true),
-                Ok(None) => {}
-                Err(error) => return Step::Fail(error),
-            }
-        }
-        Step::Corrupt(bound, None, is_end)
-    }
-
-    /// Returns where reading goes on, if packets or blocks go on at this place. Fails if an allocation does.
-    fn place_from(&self, bytes: &[u8], place: usize) -> Result<Option<usize>, Error> {
-        match self.is_ng {
-            true => place_of_blocks(self.section, bytes, place),
-            false => Ok(self.packets_go_on(&bytes[place..]).then_some(place)),
+        };
+        match status {
+            0 => Step::Corrupt(skipped, None, is_over != 0),
+            _ => Step::More(error.missing),
         }
     }
 
@@ -375,10 +297,6 @@ impl Walk {
     }
 }
 
-fn is_zero(bytes: &[u8]) -> bool {
-    bytes.iter().all(|&byte| byte == 0)
-}
-
 /// Returns the header of version 2.4 of a classic capture at the front of these bytes. Fails with the number of missing bytes.
 fn capture_at(bytes: &[u8]) -> Result<Option<Header>, usize> {
     match Capture::parse(bytes) {
@@ -388,49 +306,28 @@ fn capture_at(bytes: &[u8]) -> Result<Option<Header>, usize> {
     }
 }
 
-/// The first of the blocks at a place where blocks go on.
-struct FirstBlock {
-    len: usize,
-    /// Whether its type is known.
-    is_known: bool,
+/// What the library finds at the front of the bytes of a classic capture.
+enum Judged {
+    Packet,
+    /// So many corrupt bytes. Behind them packets go on.
+    Gap(usize),
+    Corrupt,
+    Missing(usize),
 }
 
-/// Returns where blocks go on, if they do at this place. If the first of them has an unknown type, and blocks go on inside it with one of a
-/// known type, that is their place: a byte beside its place, a block seems to have another type and 256 times its length, and 256 blocks of
-/// one length seem to be one. Fails if an allocation does.
-fn place_of_blocks(section: Section, bytes: &[u8], place: usize) -> Result<Option<usize>, Error> {
-    let Some(first) = first_of_row(section, &bytes[place..])? else {
-        return Ok(None);
+/// Finds out whether the packet at the front of these bytes can be trusted. `time` is that of the packet before.
+fn judge(header: &Header, time: u32, bytes: &[u8], is_all: bool) -> Judged {
+    let (mut gap, mut error) = (0, calls::Error::default());
+    // SAFETY: each pointer points to a value of its own, and the bytes are a slice's.
+    let status = unsafe {
+        calls::pcapfile_judge_packet(header, time, &calls::Bytes::of(bytes), is_all.into(), &mut gap, &mut error)
     };
-    let inside = if first.is_known { 0..0 } else { place + 1..place + first.len };
-    for inner in inside {
-        if first_of_row(section, &bytes[inner..])?.is_some_and(|it| it.is_known) {
-            return Ok(Some(inner));
-        }
+    match (status, gap) {
+        (0, 0) => Judged::Packet,
+        (0, _) => Judged::Gap(gap),
+        (1, _) => Judged::Missing(error.missing),
+        _ => Judged::Corrupt,
     }
-    Ok(Some(place))
-}
-
-/// Returns the first block if these bytes begin with a section header, or with some blocks that follow each other, or with fewer to their
-/// end. Fails if an allocation does.
-fn first_of_row(section: Section, bytes: &[u8]) -> Result<Option<FirstBlock>, Error> {
-    let (mut section, mut left, mut first) = (section, bytes, None);
-    for _ in 0..BLOCKS {
-        let seen = &left[..left.len().min(LONGEST_BLOCK)];
-        let mut blocks = Blocks::at(section, seen).as_is();
-        let type_ = match blocks.take_one() {
-            Ok(found) => found.block.type_,
-            Err(Error::NoMemory) => return Err(Error::NoMemory),
-            Err(_) => return Ok(None),
-        };
-        let len = seen.len() - blocks.rest().len();
-        first = first.or(Some(FirstBlock { len, is_known: matches!(type_, 1..=6 | 9 | 0x0a0d_0d0a) }));
-        (section, left) = (*blocks.section(), &left[len..]);
-        if type_ == 0x0a0d_0d0a || left.is_empty() {
-            break;
-        }
-    }
-    Ok(first)
 }
 
 /// Reads a damaged capture of either format in memory: an iterator over packets that borrow from it, and gaps. Every byte after the
@@ -451,10 +348,13 @@ fn first_of_row(section: Section, bytes: &[u8]) -> Result<Option<FirstBlock>, Er
 /// # Ok::<(), pcapfile::Error>(())
 /// ```
 ///
-/// Packets that break a rule are returned with it. A packet of a classic capture is a gap if packets follow each other inside it and not
-/// after it: then its length is wrong. So are two all-zero headers, and the header of another capture, by which the packets after it are
-/// read. Where reading goes on after corrupt bytes is a guess, since corrupt bytes may look like packets: three packets with data follow
-/// each other there without a flaw, or two blocks, or fewer to the end. A block of a known type wins inside one of an unknown type.
+/// Packets that break a rule are returned with it. A packet of a classic capture is a gap if its length is wrong: no packet within a day
+/// follows it, nor do four near each other, and packets go on inside it or where its original length ends. So are a packet without data
+/// that none follows, and the header of another capture, by which the packets after it are read.
+///
+/// Where reading goes on after corrupt bytes is a guess, since corrupt bytes may look like packets: two packets with data and without a flaw
+/// follow each other there within a day of the last packet, or four within a day of each other, or two blocks, or fewer to the end. A block
+/// of a known type wins inside one of an unknown type.
 ///
 /// An error is the last item: the bytes do not begin a capture, or an allocation failed.
 #[derive(Clone, Debug)]

@@ -138,6 +138,25 @@ fn a_wrong_length_hides_no_packets() {
 }
 
 /// A gap may be longer than everything that is read at once.
+/// A byte or more beside their places, packets of one length may seem to follow each other too.
+#[test]
+fn a_wrong_length_hides_no_packets_of_one_length() {
+    let packets: Vec<_> = (0..600u32).map(|number| packet(&[&number.to_le_bytes()[..], &[0; 56]].concat())).collect();
+    let mut bytes = [HEADER, &packets.concat()].concat();
+    bytes[24 + 3 * 76 + 8..][..4].copy_from_slice(&4000u32.to_le_bytes());
+    let mut wanted: Vec<_> = packets.iter().map(|it| data(&it[16..])).collect();
+    wanted[3] = Seen::Gap(24 + 3 * 76, 76, Some(Error::Invalid(Rule::IncludedPastOriginal)));
+    assert_found(&bytes, &wanted);
+}
+
+#[test]
+fn a_packet_without_data_that_none_follows_is_corrupt() {
+    let none = &packet(b"")[..];
+    assert_found(&[HEADER, &packet(b"abc"), none, &packet(b"d")].concat(), &[data(b"abc"), data(b""), data(b"d")]);
+    let bytes = [HEADER, &packet(b"abc"), none, &[0xee; 41], &packet(b"d")].concat();
+    assert_found(&bytes, &[data(b"abc"), Seen::Gap(43, 57, None), data(b"d")]);
+}
+
 #[test]
 fn a_long_gap_is_one_gap() {
     let corrupt = vec![0xee; 5_000_000];

@@ -195,6 +195,135 @@ static void resyncs(void) {
     EXPECT(error.rule == PCAPFILE_RULE_CAPTURE_MAGIC && error.missing == 0);
 }
 
+/* Checks what is at the front of three packets of a damaged capture, in pieces and as a whole. */
+static void judges(void) {
+    uint8_t bytes[3 * 19], zeros[40] = { 0 };
+    pcapfile_bytes all = { bytes, sizeof bytes }, none = { zeros, sizeof zeros };
+    pcapfile_header header = { 0xd4c3b2a1, 2, 4, 0, 0, 65535, 1 };
+    pcapfile_error error = PCAPFILE_ERROR_INIT;
+    size_t gap = 99;
+    for (size_t at = 0; at < sizeof bytes; at += 19) memcpy(bytes + at, capture + 24, 19);
+    all.len = 15;
+    EXPECT(pcapfile_judge_packet(&header, 7, &all, 0, &gap, &error) == PCAPFILE_INCOMPLETE && error.missing == 1);
+    all.len = 19;
+    EXPECT(pcapfile_judge_packet(&header, 7, &all, 0, &gap, &error) == PCAPFILE_INCOMPLETE && error.missing == 16);
+    EXPECT(gap == 99 && error.rule == 0);
+    EXPECT(pcapfile_judge_packet(&header, 7, &all, 1, &gap, &error) == PCAPFILE_OK && gap == 0);
+    all.len = gap = 35;
+    EXPECT(pcapfile_judge_packet(&header, 7, &all, 0, &gap, &error) == PCAPFILE_OK && gap == 0);
+    all.len = sizeof bytes;
+    /* Behind the head of a packet at another time, the bytes of four packets are needed. */
+    EXPECT(pcapfile_judge_packet(&header, 86408, &all, 0, &gap, &error) == PCAPFILE_INCOMPLETE);
+    EXPECT(error.missing == 3 + 4 * (16 + 262144) - (sizeof bytes - 16));
+    EXPECT(pcapfile_judge_packet(&header, 86407, &all, 0, &gap, &error) == PCAPFILE_OK && gap == 0);
+    /* The length is wrong: the original one is right, or the next packets are inside. */
+    memset(bytes + 8, 0xff, 4);
+    bytes[12] = 3;
+    EXPECT(pcapfile_judge_packet(&header, 7, &all, 1, &gap, &error) == PCAPFILE_OK && gap == 19);
+    bytes[12] = 5;
+    gap = 99;
+    EXPECT(pcapfile_judge_packet(&header, 7, &all, 1, &gap, &error) == PCAPFILE_OK && gap == 19);
+    EXPECT(pcapfile_judge_packet(&header, 7, &none, 1, &gap, &error) == PCAPFILE_NOTHING && gap == 19);
+    /* A packet without data, far from the next ones in time, and without them. */
+    zeros[0] = 1;
+    EXPECT(pcapfile_judge_packet(&header, 7, &none, 1, &gap, &error) == PCAPFILE_NOTHING && gap == 19);
+    zeros[16 + 2] = 9;
+    none.len = 32;
+    EXPECT(pcapfile_judge_packet(&header, 7, &none, 1, &gap, &error) == PCAPFILE_OK && gap == 0);
+    header.magic_number = 7;
+    EXPECT(pcapfile_judge_packet(&header, 7, &all, 1, &gap, &error) == PCAPFILE_INVALID && gap == 0);
+    EXPECT(error.rule == PCAPFILE_RULE_CAPTURE_MAGIC && error.missing == 0);
+}
+
+/* Checks seven corrupt bytes before three packets near a time. */
+static void skips_to_packets(void) {
+    uint8_t bytes[7 + 3 * 19];
+    pcapfile_bytes all = { bytes, sizeof bytes };
+    pcapfile_header header = { 0xd4c3b2a1, 2, 4, 0, 0, 65535, 1 };
+    pcapfile_error error = PCAPFILE_ERROR_INIT;
+    size_t skipped = 99;
+    uint8_t is_over = 9;
+    memset(bytes, 0xff, 7);
+    for (size_t at = 7; at < sizeof bytes; at += 19) memcpy(bytes + at, capture + 24, 19);
+    EXPECT(pcapfile_skip_to_packets(&header, 86407, &all, 0, &skipped, &is_over, &error) == PCAPFILE_INCOMPLETE);
+    EXPECT(error.rule == 0 && error.missing == 2097152 - sizeof bytes && skipped == 99 && is_over == 9);
+    EXPECT(pcapfile_skip_to_packets(&header, 86407, &all, 1, &skipped, &is_over, &error) == PCAPFILE_OK);
+    EXPECT(skipped == 7 && is_over == 1);
+    /* Three packets that break no rule are enough at any time and of any length, but two are not. */
+    EXPECT(pcapfile_skip_to_packets(&header, 86408, &all, 1, &skipped, &is_over, &error) == PCAPFILE_OK && skipped == 7);
+    header.snaplen = 2;
+    EXPECT(pcapfile_skip_to_packets(&header, 7, &all, 1, &skipped, &is_over, &error) == PCAPFILE_OK && skipped == 7);
+    bytes[7 + 2 * 19 + 12] = 2;
+    header.snaplen = 3;
+    EXPECT(pcapfile_skip_to_packets(&header, 86407, &all, 1, &skipped, &is_over, &error) == PCAPFILE_OK && skipped == 7);
+    EXPECT(pcapfile_skip_to_packets(&header, 86408, &all, 1, &skipped, &is_over, &error) == PCAPFILE_OK);
+    EXPECT(skipped == sizeof bytes && is_over == 1);
+    header.magic_number = 7;
+    EXPECT(pcapfile_skip_to_packets(&header, 7, &all, 1, &skipped, &is_over, &error) == PCAPFILE_INVALID);
+    EXPECT(error.rule == PCAPFILE_RULE_CAPTURE_MAGIC && error.missing == 0 && skipped == sizeof bytes && is_over == 1);
+}
+
+/* Checks as many corrupt bytes as are searched at once, and one more, before a packet at the end. */
+static void skips_in_windows(void) {
+    static uint8_t bytes[2097152 + 1];
+    pcapfile_bytes all = { bytes, sizeof bytes };
+    pcapfile_header header = { 0xd4c3b2a1, 2, 4, 0, 0, 65535, 1 };
+    pcapfile_section section = PCAPFILE_SECTION_INIT;
+    pcapfile_error error = PCAPFILE_ERROR_INIT;
+    const size_t sure = 2097152 - 4 * (16 + 262144);
+    size_t skipped = 99;
+    uint8_t is_over = 9;
+    memset(bytes, 0xff, sizeof bytes);
+    memcpy(bytes + sizeof bytes - 19, capture + 24, 19);
+    EXPECT(pcapfile_skip_to_packets(&header, 7, &all, 1, &skipped, &is_over, &error) == PCAPFILE_OK);
+    EXPECT(skipped == sure && is_over == 0);
+    EXPECT(pcapfile_skip_to_blocks(&section, &all, 1, &skipped, &is_over, &error) == PCAPFILE_OK);
+    EXPECT(skipped == sure && is_over == 0);
+    all.ptr++;
+    all.len--;
+    EXPECT(pcapfile_skip_to_packets(&header, 7, &all, 0, &skipped, &is_over, &error) == PCAPFILE_OK);
+    EXPECT(skipped == sure && is_over == 0);
+    EXPECT(pcapfile_skip_to_packets(&header, 7, &all, 1, &skipped, &is_over, &error) == PCAPFILE_OK);
+    EXPECT(skipped == 2097152 - 19 && is_over == 1);
+    EXPECT(pcapfile_skip_to_blocks(&section, &all, 1, &skipped, &is_over, &error) == PCAPFILE_OK);
+    EXPECT(skipped == 2097152 && is_over == 1);
+}
+
+/* Checks five corrupt bytes before two blocks, before a block of an unknown type around two of a known one, and before a section. */
+static void skips_to_blocks(void) {
+    static const uint8_t known[] = { 4, 0, 0, 0, 12, 0, 0, 0, 12, 0, 0, 0 };
+    static const uint8_t section_header[] = { 10, 13, 13, 10, 28, 0, 0, 0, 0x4d, 0x3c, 0x2b, 0x1a, 1, 0, 0, 0,
+                                              255, 255, 255, 255, 255, 255, 255, 255, 28, 0, 0, 0 };
+    uint8_t bytes[5 + 36] = { 255, 255, 255, 255, 255, 99, 0, 0, 0, 36 }, is_over = 9;
+    pcapfile_bytes all = { bytes, sizeof bytes };
+    pcapfile_section section = PCAPFILE_SECTION_INIT;
+    pcapfile_error error = PCAPFILE_ERROR_INIT;
+    size_t skipped = 99;
+    section.magic_number = 0x4d3c2b1a;
+    memcpy(bytes + 13, known, sizeof known);
+    memcpy(bytes + 25, known, sizeof known);
+    bytes[37] = 36;
+    EXPECT(pcapfile_skip_to_blocks(&section, &all, 0, &skipped, &is_over, &error) == PCAPFILE_INCOMPLETE);
+    EXPECT(error.rule == 0 && error.missing == 2097152 - sizeof bytes && skipped == 99 && is_over == 9);
+    EXPECT(pcapfile_skip_to_blocks(&section, &all, 1, &skipped, &is_over, &error) == PCAPFILE_OK);
+    EXPECT(skipped == 13 && is_over == 1);
+    bytes[13] = bytes[25] = 98;
+    EXPECT(pcapfile_skip_to_blocks(&section, &all, 1, &skipped, &is_over, &error) == PCAPFILE_OK && skipped == 5);
+    memcpy(bytes + 5, known, sizeof known);
+    memcpy(bytes + 17, known, sizeof known);
+    all.len = 5 + 24;
+    EXPECT(pcapfile_skip_to_blocks(&section, &all, 1, &skipped, &is_over, &error) == PCAPFILE_OK && skipped == 5);
+    section.magic_number = 0;
+    EXPECT(pcapfile_skip_to_blocks(&section, &all, 1, &skipped, &is_over, &error) == PCAPFILE_OK);
+    EXPECT(skipped == 5 + 24 && is_over == 1);
+    memcpy(bytes + 6, section_header, sizeof section_header);
+    all.len = 6 + sizeof section_header;
+    EXPECT(pcapfile_skip_to_blocks(&section, &all, 1, &skipped, &is_over, &error) == PCAPFILE_OK && skipped == 6);
+    section.magic_number = 7;
+    EXPECT(pcapfile_skip_to_blocks(&section, &all, 1, &skipped, &is_over, &error) == PCAPFILE_INVALID && skipped == 6);
+    EXPECT(error.rule == PCAPFILE_RULE_SECTION_MAGIC && error.missing == 0);
+}
+
 static void batches(void) {
     uint8_t twice[2 * 19];
     pcapfile_packet packets[3] = { PCAPFILE_PACKET_INIT, PCAPFILE_PACKET_INIT, PCAPFILE_PACKET_INIT };
@@ -766,6 +895,10 @@ int main(void) {
     packets_as_is_below_a_limit();
     blocks_as_is();
     resyncs();
+    judges();
+    skips_to_packets();
+    skips_in_windows();
+    skips_to_blocks();
     batches();
     rows();
     cuts();

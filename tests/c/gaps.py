@@ -9,12 +9,13 @@ The script adds N captures without damage whose blocks have flaws.
 - Gaps and packets must follow each other, and a sound capture must have all packets and no gap.
 - All packets that the damage does not reach, and whose next packet it does not reach either, must be there.
 - Where PROGRAM, the built pcapfile, skips exactly the bytes of the gaps and changes nothing, `list --as-is` must have the same packets.
-- Over all PcapNg captures of which no length is wrong, 98 of 100 packets that exist must be there.
+- Over all captures whose beginning is known, 98 of 100 packets that exist must be there, and at most 1 of 100 others.
 
 The last line counts captures, and those with the packets of the program.
 """
 import argparse
 import collections
+import itertools
 import os
 import random
 import re
@@ -29,10 +30,9 @@ import captures
 from damages import BLOCKS_ONLY, CLASSIC_ONLY, KINDS, Damaged
 
 PACKETS = 100
-# Kinds whose captures have no beginning that lenient reading knows, or whose lengths are wrong.
-WITHOUT_BEGINNING = {"header lost", "section header lost", "LF to CRLF"}
-WRONG_LENGTHS = {"a huge length", "a large length", "a small length"}
-LEAST = 0.98
+# Kinds whose captures have no beginning that lenient reading knows.
+WITHOUT_BEGINNING = {"header lost", "section header lost", "LF to CRLF", "interface lost"}
+LEAST, MOST_OTHERS = 0.98, 0.01
 
 # A gap that C reports as too long.
 TOO_LONG = re.compile(r"(gap \d+ \d+) 17 0 0")
@@ -78,19 +78,23 @@ def flawed_block(draw, order):
     return captures.block(order, kind, body)
 
 
-def uniform(seed, order):
-    """Returns a sound capture of blocks of one length, and the same with two wrong lengths of one block."""
-    sound = captures.uniform(random.Random(f"{seed} uniform {order}"), order, 10**6, True, PACKETS)
+def uniform(seed, order, is_blocks):
+    """Returns a sound capture of packets of one length, and the same with a wrong length of one packet."""
+    sound = captures.uniform(random.Random(f"{seed} uniform {order}"), order, 10**6, is_blocks, PACKETS)
     damaged = Damaged(sound)
     place = sound.places[3]
-    for at in (place.start + 4, place.end - 4):
-        damaged.overwrite(at, b"\xff" * 4)
+    if is_blocks:
+        for at in (place.start + 4, place.end - 4):
+            damaged.overwrite(at, b"\xff" * 4)
+    else:
+        damaged.overwrite(place.start + 8, struct.pack(order + "I", 4000))
     return sound, damaged
 
 
 def samples(asked):
     made = [(kind, number, *drawn(kind, number, asked.seed)) for kind in [*KINDS, "none"] for number in range(asked.count)]
-    made += [("blocks of one length", number, *uniform(asked.seed, order)) for number, order in enumerate("<>")]
+    for number, (order, is_blocks) in enumerate(itertools.product("<>", (False, True))):
+        made.append(("packets of one length", number, *uniform(asked.seed, order, is_blocks)))
     for kind, number, sound, damaged in made:
         path = os.path.join(asked.folder, f"{kind} {number}".replace(" ", "_"))
         with open(path, "wb") as file:
@@ -175,7 +179,7 @@ def faults_of(sample, lines, program):
     found = packets_in(lines)
     faults = []
     wanted = [row_of(packet) for packet in untouched(sample)]
-    if sample.kind not in WITHOUT_BEGINNING | {"interface lost"} and found[: len(wanted)] != wanted:
+    if sample.kind not in WITHOUT_BEGINNING and found[: len(wanted)] != wanted:
         faults.append("a packet before the damage differs")
     gaps = gaps_in(lines)
     if sample.kind == "none" and (gaps or len(found) != len(wanted)):
@@ -190,9 +194,10 @@ def faults_of(sample, lines, program):
 
 
 def counts_of(sample, lines):
-    """Returns how many packets exist, and how many of them were found."""
-    exist = collections.Counter(row_of(packet) for packet in sample.damaged.exists)
-    return sum(exist.values()), sum((exist & collections.Counter(packets_in(lines))).values())
+    """Returns how many packets exist, how many of them were found, and how many others."""
+    exist, found = collections.Counter(row_of(packet) for packet in sample.damaged.exists), packets_in(lines)
+    kept = sum((exist & collections.Counter(found)).values())
+    return collections.Counter(exist=exist.total(), kept=kept, others=len(found) - kept)
 
 
 def main():
@@ -206,7 +211,7 @@ def main():
     print(f"gaps.py: seed {asked.seed}, {asked.count} captures of each kind", flush=True)
     made = list(samples(asked))
     answers = [answers_by(way, [sample.path for sample in made]) for way in asked.ways]
-    faults, alike, exist, kept = [], 0, 0, 0
+    faults, alike, counts = [], 0, collections.Counter()
     for sample, lines, *others in zip(made, *answers):
         for way, other in zip(asked.ways[1:], others):
             if other != lines:
@@ -214,10 +219,10 @@ def main():
         told, is_same = faults_of(sample, lines, asked.program)
         faults += [f"{sample.name}: {fault}" for fault in told]
         alike += is_same
-        if sample.damaged and sample.damaged.is_blocks and sample.kind not in WITHOUT_BEGINNING | WRONG_LENGTHS | {"interface lost"}:
-            exist, kept = exist + counts_of(sample, lines)[0], kept + counts_of(sample, lines)[1]
-    if kept < LEAST * exist:
-        faults.append(f"{kept} of {exist} packets of PcapNg captures are kept")
+        if sample.damaged and sample.kind not in WITHOUT_BEGINNING:
+            counts += counts_of(sample, lines)
+    if counts["kept"] < LEAST * counts["exist"] or counts["others"] > MOST_OTHERS * counts["exist"]:
+        faults.append(f"{counts['kept']} of {counts['exist']} packets are kept, and {counts['others']} others")
     print("\n".join(faults[:40]), end="\n" * bool(faults))
     print(f"{len(made)} damaged captures by {len(asked.ways)} ways; {alike} have the packets of list --as-is")
     sys.exit(bool(faults))

@@ -97,6 +97,12 @@ static void leaves(int32_t status, const pcapfile_bytes *left, const pcapfile_by
 
 #define CALL(status, call) do { before = error; status = (call); told(status, &error, &before); } while (0)
 
+/* Checks the answer of a call that skips corrupt bytes: the number and the flag are set or unchanged. */
+static void skips(int32_t status, const pcapfile_bytes *left, size_t skipped, uint8_t is_over) {
+    if (status == PCAPFILE_OK) EXPECT(skipped <= left->len && is_over <= 1);
+    else EXPECT(status == PCAPFILE_INCOMPLETE && skipped == SIZE_MAX && is_over == 9);
+}
+
 /* Reads the packets of a classic capture one by one, many at once, as rows and leniently. */
 static void classic(pcapfile_bytes capture) {
     pcapfile_error error = { 77, 77 }, before;
@@ -142,6 +148,14 @@ static void classic(pcapfile_bytes capture) {
     size_t place = SIZE_MAX;
     CALL(status, pcapfile_resync(&header, &left, below(4), &place, &error));
     EXPECT(status == PCAPFILE_OK ? place <= left.len : place == SIZE_MAX);
+    size_t gap = SIZE_MAX, skipped = SIZE_MAX;
+    uint32_t time = below(2) ? standing.ts_sec : (uint32_t)below(1 << 30);
+    uint8_t is_all = (uint8_t)below(3), is_over = 9;
+    CALL(status, pcapfile_skip_to_packets(&header, time, &left, is_all, &skipped, &is_over, &error));
+    skips(status, &left, skipped, is_over);
+    CALL(status, pcapfile_judge_packet(&header, time, &left, is_all, &gap, &error));
+    EXPECT(status == PCAPFILE_OK ? gap <= left.len : gap == SIZE_MAX);
+    EXPECT(status != PCAPFILE_INCOMPLETE || (is_all == 0 && error.missing > 0));
 }
 
 /* Checks the parts of a capture of either format: their bounds rise, and are in the capture. */
@@ -223,6 +237,10 @@ static void walk_blocks(pcapfile_bytes capture) {
         leaves(status, &left, &was);
         if (status == PCAPFILE_OK) EXPECT(lies_in(&standing.body, &was));
     }
+    size_t skipped = SIZE_MAX;
+    uint8_t is_over = 9;
+    CALL(status, pcapfile_skip_to_blocks(&lenient, &left, (uint8_t)below(3), &skipped, &is_over, &error));
+    skips(status, &left, skipped, is_over);
 }
 
 /* Reads the packets of a capture of either format in memory, many at once, and in pieces. All ways must give the same number. */

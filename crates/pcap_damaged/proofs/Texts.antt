@@ -1,5 +1,5 @@
 -- The one head and the one header of given bytes.
-use Rattle.std.proofs.Common.{◌≡◌, ℕ, List, Bool, false, sym, ap, subst, ◌∙◌}
+use Rattle.std.proofs.Common.{◌≡◌, ℕ, List, Bool, false, ap, subst, ◌∙◌}
 use Rattle.std.specs.Prelude.{IsTrue}
 use Rattle.pcap_core.specs.declared.errors.PcapError.{PcapError}
 use Rattle.pcap_core.specs.Answer.{number_in, lacks, faulty, Refuses}

@@ -1,3 +1,4 @@
 pub mod Heads
 pub mod Plausible
 pub mod Weighed
+pub mod Judged

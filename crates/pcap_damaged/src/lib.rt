@@ -7,6 +7,7 @@
 
 mod behind;
 mod heads;
+mod judged;
 mod row;
 mod scrap;
 mod search;
@@ -14,6 +15,7 @@ mod weight;
 
 pub use behind::{begins_near, follows};
 pub use heads::{NEAR, Numbers, begins_capture, head_at};
+pub use judged::{Judged, judge};
 pub use scrap::{LeftOut, Scrap};
 pub use search::resync;
 pub use weight::{Weight, can_be_this_long, weigh};

@@ -2,6 +2,7 @@ pub mod Format
 pub mod Strict
 mod FrameRows
 pub mod StandAgain
+pub mod KnownBlocks
 pub mod Refusing
 mod HeldBlocks
 mod Copied

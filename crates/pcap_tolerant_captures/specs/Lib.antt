@@ -2,6 +2,7 @@ pub mod State
 pub mod Blocks
 pub mod Strict
 pub mod Resync
+pub mod Places
 pub mod HeldAsIs
 pub mod ReaderAsIs
 pub mod Run

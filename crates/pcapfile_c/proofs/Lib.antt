@@ -23,3 +23,4 @@ mod EitherFormat
 pub mod AnyTaken
 mod AnyNgTaken
 mod Standing
+mod ByLength

@@ -26,3 +26,4 @@ pub mod Records
 pub mod AnyCaptures
 pub mod AnyCalls
 pub mod BlocksAsIs
+pub mod Damaged

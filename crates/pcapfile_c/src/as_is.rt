@@ -5,6 +5,7 @@ ghost use Rattle.std.specs.Option.{MatchOption};
 ghost use Rattle.pcap_classic.specs.Magic.{is_magic, resolution_of};
 ghost use Rattle.pcap_classic.specs.Parser.{header_of};
 ghost use Rattle.pcap_tolerant.specs.AsIs.{rules_of, first_rule, as_it_is};
+ghost use Rattle.pcapfile_values.specs.Shown.{shown_header};
 ghost use Rattle.pcapfile_c.specs.AsIs.{bits_of, number_or_0, ShowsAsIs, AsIsSaid, TellsPlace, PacketsStandAgain};
 ghost use Rattle.pcapfile_c.specs.Calls.{Takes, RefusesMagic};
 ghost use Rattle.pcapfile_c.specs.Readers.{reader};
@@ -93,9 +94,9 @@ pub extern "C" fn pcapfile_resync(
 }
 
 // Returns the parser of the packets after a header, or None if its magic number is none of the four.
-fn parser_behind(header: &PcapfileHeader) -> Option<PcapParser>
+pub(crate) fn parser_behind(header: &PcapfileHeader) -> Option<PcapParser>
     ensures { let magic = header.now.magic_number in
-        MatchOption result (is_magic magic ≡ false) (λ parser. IsTrue (is_magic magic) × ((header_of parser).magic_number ≡ magic)) }
+        MatchOption result (is_magic magic ≡ false) (λ parser. IsTrue (is_magic magic) × ((header_of parser).magic_number ≡ magic) × (shown_header (header_of parser) ≡ header.now)) }
 {
     PcapParser::with_header(header.header()).ok()
 }

@@ -13,6 +13,7 @@ mod blocks;
 mod blocks_as_is;
 mod bodies;
 mod cuts;
+mod damaged;
 pub mod laws;
 mod link_field;
 mod options;

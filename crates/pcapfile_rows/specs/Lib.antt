@@ -1,4 +1,3 @@
 pub mod Changes
 pub mod Opened
-pub mod Places
 pub mod Rows

@@ -2,9 +2,9 @@
 
 use crate::change::Change;
 use crate::numbers::{LENGTH, SHORTEST, number_at};
-use crate::places::first_blocks;
 use crate::window::Window;
 use pcap_file::Endianness;
+use pcap_tolerant_captures::first_blocks;
 use std::io;
 use std::io::BufRead;
 

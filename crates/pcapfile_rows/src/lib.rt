@@ -11,7 +11,6 @@ mod numbers;
 mod opened;
 mod opening;
 mod packets;
-mod places;
 mod rows;
 mod stored;
 mod torn;

@@ -2,9 +2,9 @@
 
 use crate::describing::names_a_near_interface;
 use crate::in_force::InForce;
-use crate::places::first_blocks;
 use crate::rows::SECTION;
 use pcap_file::{Endianness, PcapError, PcapNgWriter, ResultParsing};
+use pcap_tolerant_captures::first_blocks;
 use std::alloc::Global;
 
 /// The fewest blocks in a row that are taken for a section without its header.

@@ -4,9 +4,9 @@ use crate::in_force::InForce;
 use crate::numbers::{
     DATA, ENHANCED, HEAD, LENGTH, OBSOLETE, OPTION, SIMPLE, SIMPLE_DATA, STORED, TRAILER, number_at,
 };
-use crate::places::first_blocks;
 use crate::stored::{limit, padded};
 use pcap_file::Endianness;
+use pcap_tolerant_captures::first_blocks;
 use pcapfile_mended::complete;
 use std::alloc::{AllocError, Global};
 

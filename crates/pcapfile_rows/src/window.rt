@@ -4,10 +4,10 @@ ghost use Rattle.std.specs.Prelude.{◌≡◌};
 ghost use Rattle.pcapfile_rows.specs.Opened.{bytes_in};
 
 use crate::packets::ROW;
-use crate::places::first_blocks;
 use crate::undo::Undo;
 use pcap_damaged::resync as first_packets;
 use pcap_file::{Endianness, PcapParser};
+use pcap_tolerant_captures::first_blocks;
 use pcap_tolerant_captures::resync::resync_section;
 use pcap_variants::Variant;
 use std::alloc::Global;

@@ -1,4 +1,4 @@
-use Rattle.std.proofs.Common.{length, ◌-◌, ℕ, ◌<◌, ◌≤◌, drop}
+use Rattle.std.proofs.Common.{◌-◌, ℕ, ◌<◌, ◌≤◌, drop}
 use Rattle.pcap_classic.specs.Parser.{header_of}
 use Rattle.pcap_damaged.specs.Plausible.{GoesOn}
 use Rattle.pcap_damaged.proofs.search.first_of.Given as goal

@@ -1,11 +1,12 @@
 //! The places at which blocks go on after corrupt bytes.
 
 ghost use Rattle.std.specs.Prelude.{◌<◌, ◌≤◌, ◌-◌, ◌↔◌, IsTrue, MatchOption, length};
-ghost use Rattle.pcapfile_rows.specs.Places.{BeginsKnown, FindsBlocks, IsInside, IsKnown, NoneInside};
+ghost use Rattle.pcap_tolerant_captures.specs.Places.{BeginsKnown, FindsBlocks, IsInside, IsKnown, NoneInside};
 
-use pcap_file::Endianness;
-use pcap_file::pcapng::{Block, BlockType};
-use pcap_tolerant_captures::resync::resync_in;
+use crate::resync::resync_in;
+use pcap_blocks::BlockType;
+use pcap_core::Endianness;
+use pcap_ng::pcapng::Block;
 
 /// The number of blocks without a fault in a row that resynchronization needs.
 const IN_A_ROW: usize = 2;
@@ -14,7 +15,7 @@ const IN_A_ROW: usize = 2;
 /// bytes. If the first of them has an unknown type, and inside it is a place with a block of a known type, the result is that place.
 ///
 /// A byte beside its place, a block seems to have another type and 256 times its length, and 256 blocks of one length seem to be one.
-pub(crate) fn first_blocks(order: Endianness, bytes: &[u8]) -> Option<usize>
+pub fn first_blocks(order: Endianness, bytes: &[u8]) -> Option<usize>
     ensures { FindsBlocks order bytes.now result }
 {
     let Some(first) = resync_in(order, bytes, IN_A_ROW) else {

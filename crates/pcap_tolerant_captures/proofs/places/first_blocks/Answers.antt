@@ -3,8 +3,8 @@ use Rattle.std.proofs.lemmas.List.{length-drop}
 use Rattle.pcap_ng.specs.Frames.{framed_of}
 use Rattle.pcap_ng.proofs.Frames.{frame_long}
 use Rattle.pcap_tolerant_captures.specs.Resync.{BlocksStand}
-use Rattle.pcapfile_rows.proofs.KnownBlocks.{sliced, refused_there, first_there}
-use Rattle.pcapfile_rows.proofs.places.first_blocks.Goals as goal
+use Rattle.pcap_tolerant_captures.proofs.KnownBlocks.{sliced, refused_there, first_there}
+use Rattle.pcap_tolerant_captures.proofs.places.first_blocks.Goals as goal
 
 pub returns-in-Ok : goal.returns-in-Ok
 returns-in-Ok c = record {

@@ -1,9 +1,9 @@
 use Rattle.std.proofs.Common.{◌≡◌, ◌<◌, ◌+◌, ◌-◌, ℕ, length, drop, sym, subst, arith, inl, inr}
 use Rattle.std.proofs.lemmas.Bool.{cases_lt}
-use Rattle.pcapfile_rows.specs.Places.{BeginsKnown}
-use Rattle.pcapfile_rows.proofs.KnownBlocks.{sliced, none_behind, found_inside, found_stands, none_before}
-use Rattle.pcapfile_rows.proofs.places.first_inside.Goals.{else-place-end-via-then-place-end+else-begins_known, else-place-end-via-else-place-end}
-use Rattle.pcapfile_rows.proofs.places.first_inside.Goals as goal
+use Rattle.pcap_tolerant_captures.specs.Places.{BeginsKnown}
+use Rattle.pcap_tolerant_captures.proofs.KnownBlocks.{sliced, none_behind, found_inside, found_stands, none_before}
+use Rattle.pcap_tolerant_captures.proofs.places.first_inside.Goals.{else-place-end-via-then-place-end+else-begins_known, else-place-end-via-else-place-end}
+use Rattle.pcap_tolerant_captures.proofs.places.first_inside.Goals as goal
 
 pub returns-in-None : goal.returns-in-None
 returns-in-None c =

@@ -1,6 +1,6 @@
 use Rattle.std.proofs.Common.{◌-◌, ◌<◌, ◌≤◌, ℕ, length, drop}
-use Rattle.pcapfile_rows.specs.Places.{GoesOnKnown}
-use Rattle.pcapfile_rows.proofs.places.first_inside.Given as goal
+use Rattle.pcap_tolerant_captures.specs.Places.{GoesOnKnown}
+use Rattle.pcap_tolerant_captures.proofs.places.first_inside.Given as goal
 
 abbrev pub invariant-loop-place : goal.invariant-loop-place
 invariant-loop-place l = record {

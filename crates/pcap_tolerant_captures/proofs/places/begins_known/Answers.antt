@@ -1,6 +1,6 @@
 use Rattle.pcap_ng.specs.Frames.{framed_of}
-use Rattle.pcapfile_rows.proofs.KnownBlocks.{known_there, none_known}
-use Rattle.pcapfile_rows.proofs.places.begins_known.Goals as goal
+use Rattle.pcap_tolerant_captures.proofs.KnownBlocks.{known_there, none_known}
+use Rattle.pcap_tolerant_captures.proofs.places.begins_known.Goals as goal
 
 pub returns-in-Ok : goal.returns-in-Ok
 returns-in-Ok c =

@@ -9,7 +9,7 @@ use Rattle.pcap_items.proofs.Fronts.{said_not_refused}
 use Rattle.pcap_ng.specs.Frames.{Framed, FrameText, FrameSays}
 use Rattle.pcap_ng.proofs.HeadedFrames.{frame_one}
 use Rattle.pcap_tolerant_captures.specs.Resync.{frames_in_a_row, BlocksStand, BlocksResync}
-use Rattle.pcapfile_rows.specs.Places.{IsKnown, BeginsKnown, FirstBlocks}
+use Rattle.pcap_tolerant_captures.specs.Places.{IsKnown, BeginsKnown, FirstBlocks}
 
 module _ (e : Endianness) (s : List ℕ) where
   -- Where blocks go on, there is a frame.
