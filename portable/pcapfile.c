@@ -5,9 +5,9 @@
  * the translator that wrote this file, nor the compiler that you use.
  *
  * Toolchain: rattle-kit-13f logic dac8208d650f15bf
- * Proof of the crate pcapfile_c: logic=proved functions=146 axioms=3 target=x86_64-unknown-linux-gnu cpu=x86-64-v2
+ * Proof of the crate pcapfile_c: logic=proved functions=144 axioms=3 target=x86_64-unknown-linux-gnu cpu=x86-64-v2
  * sum=dac8208d650f15bf native=nat,char,string
- * Sources: sha256 212e6a11f22a2acc591267cfc5e0f81ab6d74098fc5d98e2e8ef91ac82eb7fa6
+ * Sources: sha256 cc997eaa394f44643285d28a0f850721d9521a0cbdb59bf2f849f2a00bb9d5a1
  * (of src and specs of pcap_blocks, pcap_classic, pcap_core, pcap_damaged, pcap_items, pcap_ng, pcap_options,
  * pcap_parts, pcap_raw_options, pcap_times, pcap_tolerant, pcap_tolerant_blocks, pcap_tolerant_captures, pcap_written,
  * pcapfile_c, pcapfile_values)
@@ -161,7 +161,6 @@ int32_t pcapfile_cut_blocks_at_least(ptr v1, u64 v2, ptr v3, u64 v4, ptr v5, ptr
 int32_t pcapfile_cut_packets(ptr v1, ptr v2, u64 v3, ptr v4, ptr v5);
 int32_t pcapfile_cut_packets_at_least(ptr v1, u64 v2, ptr v3, u64 v4, ptr v5, ptr v6);
 int32_t pcapfile_fcs_len(u32 v1);
-int32_t pcapfile_judge_packet(ptr v1, u32 v2, ptr v3, u8 v4, ptr v5, ptr v6);
 int32_t pcapfile_link_type(u32 v1);
 int32_t pcapfile_push_put(ptr v1, ptr v2, u64 v3, u64 v4);
 int32_t pcapfile_push_space(ptr v1, ptr v2, u64 v3, u64 v4, ptr v5);
@@ -199,6 +198,7 @@ int32_t pcapfile_take_packets(ptr v1, ptr v2, ptr v3, u64 v4, ptr v5, ptr v6);
 int32_t pcapfile_push_next(ptr v1, ptr v2, u64 v3, ptr v4, ptr v5);
 int32_t pcapfile_take_any(ptr v1, ptr v2, ptr v3, u64 v4, ptr v5, ptr v6);
 int32_t pcapfile_push_packets(ptr v1, ptr v2, u64 v3, ptr v4, u64 v5, ptr v6, ptr v7);
+int32_t pcapfile_judge_packet(ptr v1, u32 v2, ptr v3, u8 v4, ptr v5, ptr v6, ptr v7);
 int32_t pcapfile_skip_to_blocks(ptr v1, ptr v2, u8 v3, ptr v4, ptr v5, ptr v6);
 int32_t pcapfile_skip_to_packets(ptr v1, u32 v2, ptr v3, u8 v4, ptr v5, ptr v6, ptr v7);
 int32_t pcapfile_put_section(ptr v1, ptr v2, u64 v3, ptr v4, ptr v5);
@@ -298,7 +298,7 @@ static const u8 static_102[34] = "SectionHeader: too many interfaces";
 static const u8 static_104[5] = "0.2.0";
 static const u8 static_105[4] = {10,13,13,10};
 static const u8 switch_table_pcap_options_refusal_PcapErrorFromRefusal_from[40] = "\035(\037\037 (\035\027&\025%+-:#+\027(2311/1/-02'+\037/00/'(\0321!";
-static _Alignas(8) const u8 switch_table_pcapfile_rule_name_290[320] = {12,0,0,0,0,0,0,0,16,0,0,0,0,0,0,0,15,0,0,0,0,0,0,0,15,0,0,0,0,0,0,0,20,0,0,0,0,0,0,0,12,0,0,0,0,0,0,
+static _Alignas(8) const u8 switch_table_pcapfile_rule_name_292[320] = {12,0,0,0,0,0,0,0,16,0,0,0,0,0,0,0,15,0,0,0,0,0,0,0,15,0,0,0,0,0,0,0,20,0,0,0,0,0,0,0,12,0,0,0,0,0,0,
 0,14,0,0,0,0,0,0,0,13,0,0,0,0,0,0,0,18,0,0,0,0,0,0,0,14,0,0,0,0,0,0,0,15,0,0,0,0,0,0,0,17,0,0,0,0,0,
 0,0,16,0,0,0,0,0,0,0,11,0,0,0,0,0,0,0,14,0,0,0,0,0,0,0,18,0,0,0,0,0,0,0,14,0,0,0,0,0,0,0,9,0,0,0,0,0,
 0,0,19,0,0,0,0,0,0,0,19,0,0,0,0,0,0,0,18,0,0,0,0,0,0,0,18,0,0,0,0,0,0,0,20,0,0,0,0,0,0,0,25,0,0,0,0,
@@ -317,7 +317,7 @@ static _Alignas(4) const u8 switch_table_pcapfile_take_block_as_is[160] = {1,0,0
 0,0,114,7,0,0,115,7,0,0,116,7,0,0,117,7,0,0,118,7,0,0,119,7,0,0,120,7,0,0,121,7,0,0,122,7,0,0,123,7,
 0,0,20,0,0,0,21,0,0,0,22,0,0,0,23,0,0,0,24,0,0,0,25,0,0,0,26,0,0,0};
 static _Alignas(8) const struct __attribute__((packed)) { ptr f0; ptr f1; ptr f2; ptr f3; ptr f4; ptr f5; ptr f6; ptr f7; ptr f8; ptr f9; ptr f10; ptr f11; ptr f12; ptr f13; ptr f14; ptr f15; ptr f16; ptr f17; ptr f18; ptr f19; ptr f20; ptr f21; ptr f22; ptr f23; ptr f24; ptr f25; ptr f26; ptr f27; ptr f28; ptr f29; ptr f30; ptr f31; ptr f32; ptr f33; ptr f34; ptr f35; ptr f36; ptr f37; ptr f38; ptr f39; } switch_table_pcapfile_rule_name = { (ptr)static_46, (ptr)static_47, (ptr)static_48, (ptr)static_49, (ptr)static_50, (ptr)static_51, (ptr)static_52, (ptr)static_53, (ptr)static_54, (ptr)static_55, (ptr)static_56, (ptr)static_57, (ptr)static_58, (ptr)static_59, (ptr)static_60, (ptr)static_61, (ptr)static_62, (ptr)static_63, (ptr)static_64, (ptr)static_65, (ptr)static_66, (ptr)static_67, (ptr)static_68, (ptr)static_69, (ptr)static_70, (ptr)static_71, (ptr)static_72, (ptr)static_73, (ptr)static_74, (ptr)static_75, (ptr)static_76, (ptr)static_77, (ptr)static_78, (ptr)static_79, (ptr)static_80, (ptr)static_81, (ptr)static_82, (ptr)static_83, (ptr)static_84, (ptr)static_85 };
-static _Alignas(8) const struct __attribute__((packed)) { ptr f0; ptr f1; ptr f2; ptr f3; ptr f4; ptr f5; ptr f6; ptr f7; ptr f8; ptr f9; ptr f10; ptr f11; ptr f12; ptr f13; ptr f14; ptr f15; ptr f16; ptr f17; ptr f18; ptr f19; ptr f20; ptr f21; ptr f22; ptr f23; ptr f24; ptr f25; ptr f26; ptr f27; ptr f28; ptr f29; ptr f30; ptr f31; ptr f32; ptr f33; ptr f34; ptr f35; ptr f36; ptr f37; ptr f38; ptr f39; } switch_table_pcapfile_rule_text_291 = { (ptr)static_0, (ptr)static_1, (ptr)static_2, (ptr)static_3, (ptr)static_4, (ptr)static_5, (ptr)static_6, (ptr)static_7, (ptr)static_8, (ptr)static_9, (ptr)static_10, (ptr)static_11, (ptr)static_12, (ptr)static_13, (ptr)static_14, (ptr)static_15, (ptr)static_16, (ptr)static_17, (ptr)static_18, (ptr)static_19, (ptr)static_20, (ptr)static_21, (ptr)static_22, (ptr)static_23, (ptr)static_24, (ptr)static_25, (ptr)static_26, (ptr)static_27, (ptr)static_28, (ptr)static_29, (ptr)static_30, (ptr)static_31, (ptr)static_32, (ptr)static_33, (ptr)static_34, (ptr)static_35, (ptr)static_36, (ptr)static_37, (ptr)static_38, (ptr)static_39 };
+static _Alignas(8) const struct __attribute__((packed)) { ptr f0; ptr f1; ptr f2; ptr f3; ptr f4; ptr f5; ptr f6; ptr f7; ptr f8; ptr f9; ptr f10; ptr f11; ptr f12; ptr f13; ptr f14; ptr f15; ptr f16; ptr f17; ptr f18; ptr f19; ptr f20; ptr f21; ptr f22; ptr f23; ptr f24; ptr f25; ptr f26; ptr f27; ptr f28; ptr f29; ptr f30; ptr f31; ptr f32; ptr f33; ptr f34; ptr f35; ptr f36; ptr f37; ptr f38; ptr f39; } switch_table_pcapfile_rule_text_293 = { (ptr)static_0, (ptr)static_1, (ptr)static_2, (ptr)static_3, (ptr)static_4, (ptr)static_5, (ptr)static_6, (ptr)static_7, (ptr)static_8, (ptr)static_9, (ptr)static_10, (ptr)static_11, (ptr)static_12, (ptr)static_13, (ptr)static_14, (ptr)static_15, (ptr)static_16, (ptr)static_17, (ptr)static_18, (ptr)static_19, (ptr)static_20, (ptr)static_21, (ptr)static_22, (ptr)static_23, (ptr)static_24, (ptr)static_25, (ptr)static_26, (ptr)static_27, (ptr)static_28, (ptr)static_29, (ptr)static_30, (ptr)static_31, (ptr)static_32, (ptr)static_33, (ptr)static_34, (ptr)static_35, (ptr)static_36, (ptr)static_37, (ptr)static_38, (ptr)static_39 };
 
 static void pcap_ng_pcapng_block_Block_from_slice(ptr v1, u8 v2, ptr v3, u64 v4) {
 	u8 v5;
@@ -2574,7 +2574,7 @@ L0:
 L1:
 	v4 = v11; v5 = v11; v6 = v11 & 0xffffffffffff0000ull; v7 = v12; v8 = (u64)v13 << 8; v3 = 3; goto L3;
 L2:;
-	u64 v15 = (u64)ldp(at((ptr)&switch_table_pcapfile_rule_text_291, (u64)v10 * 8));
+	u64 v15 = (u64)ldp(at((ptr)&switch_table_pcapfile_rule_text_293, (u64)v10 * 8));
 	v4 = v15; v5 = v15; v6 = v15 & 0xffffffffffff0000ull; v7 = ld8(at((ptr)switch_table_pcap_options_refusal_PcapErrorFromRefusal_from, (u64)v10)); v3 = 2; v8 = 0;
 L3:
 	st8(v1, v3);
@@ -6938,404 +6938,6 @@ L21:
 L22:
 	return v57;
 }
-static u8 pcap_damaged_row_is_row(ptr v1, u8 v2, u32 v3, ptr v4, u64 v5, u64 v6) {
-	u64 v7, v10, v13, v16;
-	u32 v8, v12, v14, v18;
-	u8 v9, v15, v19;
-	ptr v11, v17;
-	u8 v20 = v2 & 1;
-	u32 v21 = ld32(v1);
-	switch (v21) {
-	case 2712847316u: case 2712812621u: goto L0;
-	default: v13 = v6; v14 = v3; v15 = v20; v16 = v5; v17 = v4; goto L6;
-	}
-L0:
-	v7 = v6; v8 = v3; v9 = v20; v10 = v5; v11 = v4;
-L1:
-	if (v10 < 16) { v19 = 0; goto L11; }
-	u32 v22 = (u32)__builtin_bswap32(lu32(v11)), v23 = (u32)__builtin_bswap32(lu32(v11+4));
-	u32 v24 = lu32(v11+8), v25 = (u32)__builtin_bswap32(v24);
-	u64 v26 = v10 - 16;
-	u32 v27 = lu32(v11+12), v28 = (u32)__builtin_bswap32(v27);
-	switch (v21) {
-	case 3569595041u: case 2712847316u: goto L2;
-	default: v12 = v23; goto L3;
-	}
-L2:
-	if (v23 > 4294967) { v19 = 0; goto L11; }
-	v12 = v23 * 1000;
-L3:
-	if ((v25 > 262144) | (v28 > 262144) || v28 < v25) { v19 = 0; goto L11; }
-	u64 v29 = (u64)__builtin_bswap64(((u64)v24 << 32) | (u64)v27), v30 = v29 & 4294967295u;
-	if (v26 < v30) { v19 = 0; goto L11; }
-	u64 v31 = (u64)v22;
-	ptr v32 = at(v11+16, v30);
-	u64 v33 = v26 - v30;
-	u32 v34 = (u32)v29;
-	if (!v34) { v19 = 0; goto L11; }
-	u32 v35 = ld32(v1+16);
-	if (!((!v35 ? 262144 : (v35 < 262144 ? v35 : 262144)) >= v34 && v12 < 1000000000)) { v19 = 0; goto L11; }
-	if (!v9) goto L4;
-	u64 v36 = (u64)v8;
-	if (v31 + 86400 >= v36 && v36 + 86400 >= v31) goto L5;
-	v19 = 0; goto L11;
-L4:
-	if (v22 <= 262144) { v19 = 0; goto L11; }
-L5:;
-	u64 v37 = v7 - 1;
-	if (!v33 || !v37) { v19 = 1; goto L11; }
-	v7 = v37; v8 = v22; v10 = v33; v11 = v32; v9 = 1; goto L1;
-L6:
-	if (v16 < 16) { v19 = 0; goto L11; }
-	u32 v38 = lu32(v17), v39 = lu32(v17+4);
-	u64 v40 = lu64(v17+8);
-	u32 v41 = (u32)v40;
-	u64 v42 = v16 - 16;
-	u32 v43 = (u32)(v40 >> 32);
-	switch (v21) {
-	case 3569595041u: case 2712847316u: goto L7;
-	default: v18 = v39; goto L8;
-	}
-L7:
-	if (v39 > 4294967) { v19 = 0; goto L11; }
-	v18 = v39 * 1000;
-L8:
-	if ((v41 > 262144) | (v40 > 0x40000ffffffffull) || v43 < v41) { v19 = 0; goto L11; }
-	u64 v44 = v40 & 524287;
-	if (v42 < v44) { v19 = 0; goto L11; }
-	u64 v45 = (u64)v38;
-	ptr v46 = at(v17+16, v44);
-	u64 v47 = v42 - v44;
-	u32 v48 = (u32)v40;
-	if (!v48) { v19 = 0; goto L11; }
-	u32 v49 = ld32(v1+16);
-	if (!((!v49 ? 262144 : (v49 < 262144 ? v49 : 262144)) >= v48 && v18 < 1000000000)) { v19 = 0; goto L11; }
-	if (!v15) goto L9;
-	u64 v50 = (u64)v14;
-	if (v45 + 86400 >= v50 && v50 + 86400 >= v45) goto L10;
-	v19 = 0; goto L11;
-L9:
-	if (v38 <= 262144) { v19 = 0; goto L11; }
-L10:;
-	u64 v51 = v13 - 1;
-	if (!(!v47 || !v51)) { v13 = v51; v14 = v38; v16 = v47; v17 = v46; v15 = 1; goto L6; }
-	v19 = 1;
-L11:
-	return v19;
-}
-static u8 pcap_damaged_weight_ends_well(ptr v1, u32 v2, u32 v3, ptr v4, u64 v5) {
-	u16 v6, v7;
-	u32 v8, v9, v10, v11;
-	u8 v12;
-	u64 v13 = (u64)v3 + 16;
-	if (v13 > v5) { v12 = 0; goto L8; }
-	ptr v14 = at(v4, v13);
-	u64 v15 = v5 - v13;
-	if (v5 == v13) { v12 = 1; goto L8; }
-	if (v15 < 24) goto L3;
-	switch ((u32)__builtin_bswap32(lu32(v14))) {
-	case 2712812621u: case 2712847316u: goto L0;
-	case 1295823521: case 3569595041u: goto L1;
-	default: goto L3;
-	}
-L0:
-	v6 = (u16)__builtin_bswap16(lu16(v14+4)); v7 = (u16)__builtin_bswap16(lu16(v14+6)); goto L2;
-L1:
-	v6 = lu16(v14+4); v7 = lu16(v14+6);
-L2:
-	if (v6 == 2 && v7 == 4) { v12 = 1; goto L8; }
-L3:;
-	u8 v16 = v15 < 16;
-	switch (ld32(v1)) {
-	case 2712847316u: case 2712812621u: goto L4;
-	default: goto L5;
-	}
-L4:
-	if (v16) goto L7;
-	v8 = (u32)__builtin_bswap32(lu32(v14)); v9 = (u32)__builtin_bswap32(lu32(v14+4)); v10 = (u32)__builtin_bswap32(lu32(v14+8)); v11 = (u32)__builtin_bswap32(lu32(v14+12)); goto L6;
-L5:
-	if (v16) goto L7;
-	v8 = lu32(v14); v9 = lu32(v14+4); v10 = lu32(v14+8); v11 = lu32(v14+12);
-L6:
-	if (v10 >= 262145) goto L7;
-	if (!((v10 | v8) != 0 || v9 || v11)) goto L7;
-	u64 v17 = (u64)v2, v18 = (u64)v8;
-	if (v18 + 86400 >= v17 && v17 + 86400 >= v18) { v12 = 1; goto L8; }
-L7:;
-	u8 v19 = pcap_damaged_row_is_row(v1, 0, 0, v14, v15, 4);
-	v12 = v19;
-L8:
-	return v12;
-}
-static void pcap_classic_pcap_packet_Packet_from_slice_4da0(ptr v1, ptr v2, u64 v3, u8 v4) {
-	u32 v5;
-	u64 v6, v9, v10;
-	ptr v7, v8;
-	_Alignas(8) u8 v11[32];
-	if (v3 >= 16) goto L0;
-	v8 = (ptr)0; v9 = 16ull - v3; v10 = 0; goto L3;
-L0:;
-	u32 v12 = (u32)__builtin_bswap32(lu32(v2)), v13 = (u32)__builtin_bswap32(lu32(v2+4));
-	u32 v14 = lu32(v2+8), v15 = (u32)__builtin_bswap32(v14);
-	u64 v16 = v3 - 16;
-	u32 v17 = lu32(v2+12), v18 = (u32)__builtin_bswap32(v17);
-	if (v4 == 1) { v5 = v13; goto L1; }
-	if (v13 > 4294967) { v7 = (ptr)static_1; v6 = 40; goto L2; }
-	v5 = v13 * 1000;
-L1:
-	if (v15 > 262144) { v7 = (ptr)static_2; v6 = 31; goto L2; }
-	if (v18 > 262144) { v7 = (ptr)static_3; v6 = 31; goto L2; }
-	if (v18 >= v15) goto L4;
-	v7 = (ptr)static_4; v6 = 32;
-L2:
-	v8 = (ptr)2ull; v9 = (u64)v7; v10 = v6;
-L3:
-	clear(v11, 32);
-	su64(v1, 1);
-	sup(v1+8, v8);
-	su64(v1+16, v9);
-	su64(v1+24, v10);
-	clear(v1+32, 40);
-	copy(v1+72, v11, 32);
-	goto L6;
-L4:;
-	u64 v19 = (u64)__builtin_bswap64(((u64)v14 << 32) | (u64)v17), v20 = v19 & 4294967295u;
-	if (v16 >= v20) goto L5;
-	su64(v1, 1);
-	sup(v1+8, (ptr)0);
-	su64(v1+16, v20 - v16);
-	clear(v1+24, 80);
-	goto L6;
-L5:
-	su64(v1, 0);
-	sup(v1+8, at(v2+16, v20));
-	su64(v1+16, v16 - v20);
-	su64(v1+24, ((u64)v5 << 32) | (u64)v12);
-	su32(v1+32, (u32)v19);
-	su32(v1+36, (u32)(v19 >> 32));
-	su64(v1+40, 0);
-	sup(v1+48, v2+16);
-	su64(v1+56, v20);
-	clear(v1+64, 40);
-L6:
-	return;
-}
-static void pcap_classic_pcap_packet_Packet_from_slice_7f02(ptr v1, ptr v2, u64 v3, u8 v4) {
-	u32 v5;
-	u64 v6, v9, v10;
-	ptr v7, v8;
-	_Alignas(8) u8 v11[32];
-	if (v3 >= 16) goto L0;
-	v8 = (ptr)0; v9 = 16ull - v3; v10 = 0; goto L3;
-L0:;
-	u32 v12 = lu32(v2), v13 = lu32(v2+4);
-	u64 v14 = lu64(v2+8);
-	u32 v15 = (u32)v14;
-	u64 v16 = v3 - 16;
-	u32 v17 = (u32)(v14 >> 32);
-	if (v4 == 1) { v5 = v13; goto L1; }
-	if (v13 > 4294967) { v7 = (ptr)static_1; v6 = 40; goto L2; }
-	v5 = v13 * 1000;
-L1:
-	if (v15 > 262144) { v7 = (ptr)static_2; v6 = 31; goto L2; }
-	if (v14 > 0x40000ffffffffull) { v7 = (ptr)static_3; v6 = 31; goto L2; }
-	if (v17 >= v15) goto L4;
-	v7 = (ptr)static_4; v6 = 32;
-L2:
-	v8 = (ptr)2ull; v9 = (u64)v7; v10 = v6;
-L3:
-	clear(v11, 32);
-	su64(v1, 1);
-	sup(v1+8, v8);
-	su64(v1+16, v9);
-	su64(v1+24, v10);
-	clear(v1+32, 40);
-	copy(v1+72, v11, 32);
-	goto L6;
-L4:;
-	u64 v18 = v14 & 524287;
-	if (v16 >= v18) goto L5;
-	su64(v1, 1);
-	sup(v1+8, (ptr)0);
-	su64(v1+16, v18 - v16);
-	clear(v1+24, 80);
-	goto L6;
-L5:
-	su64(v1, 0);
-	sup(v1+8, at(v2+16, v18));
-	su64(v1+16, v16 - v18);
-	su64(v1+24, ((u64)v5 << 32) | (u64)v12);
-	su32(v1+32, v15);
-	su32(v1+36, v17);
-	su64(v1+40, 0);
-	sup(v1+48, v2+16);
-	su64(v1+56, v18);
-	clear(v1+64, 40);
-L6:
-	return;
-}
-static void core_result_ResultFromResidualErrResidual_from_residual_553b(ptr v1, u8 v2) {
-	u64 v3 = ld64(at((ptr)switch_table_pcapfile_rule_text, (u64)v2 * 8));
-	ptr v4 = ldp(at((ptr)&switch_table_pcapfile_rule_text_291, (u64)v2 * 8));
-	su64(v1, 1);
-	st8(v1+8, 2);
-	clear(v1+9, 7);
-	sup(v1+16, v4);
-	su64(v1+24, v3);
-	clear(v1+32, 72);
-	return;
-}
-static void pcap_tolerant_as_is_PacketAsIs_from_slice_4da0(ptr v1, ptr v2, u64 v3, u8 v4, u32 v5) {
-	u8 v6, v17;
-	u32 v7, v10, v11, v12, v13, v14, v16, v18, v19, v20, v21, v22;
-	ptr v8;
-	u64 v9, v15, v23, v24;
-	_Alignas(8) u8 v25[104] = {0};
-	_Alignas(1) u8 v26[40];
-	if (v3 >= 16) goto L0;
-	clear(v25+24, 80);
-	clear(v26, 40);
-	v8 = (ptr)0; v15 = 16ull - v3; v6 = v7 = v9 = v10 = v11 = v12 = v13 = v14 = 0; goto L1;
-L0:;
-	u32 v27 = (u32)__builtin_bswap32(lu32(v2)), v28 = (u32)__builtin_bswap32(lu32(v2+4));
-	u32 v29 = (u32)__builtin_bswap32(lu32(v2+8));
-	u64 v30 = v3 - 16;
-	u32 v31 = (u32)__builtin_bswap32(lu32(v2+12));
-	u8 v32 = (v28 > 4294967) & (!(v4 & 1)), v33 = v31 > 262144, v34 = v29 > v31;
-	if (!(v34 | (v33 | v32))) { v16 = 0; goto L3; }
-	if ((v5 > 262144 ? v5 : 262144) >= v29) goto L2;
-	core_result_ResultFromResidualErrResidual_from_residual_553b(v25, 2);
-	u8 v35 = ld8(v25+8);
-	u64 v36 = ld64(v25+16);
-	u32 v37 = ld32(v25+24), v38 = ld32(v25+28), v39 = ld32(v25+32), v40 = ld32(v25+36);
-	u32 v41 = ld32(v25+40);
-	u8 v42 = ld8(v25);
-	u64 v43 = (u64)ld_bytes(v25+9, 7) & 0xffffffffffffffull;
-	u32 v44 = ld32(v25+44);
-	ptr v45 = ldp(v25+48);
-	u64 v46 = ld64(v25+56);
-	copy(v26, v25+64, 40);
-	if (!v42) { v17 = v35; v18 = v41; v19 = v40; v20 = v39; v21 = v38; v22 = v37; v23 = v36; v24 = v43; goto L4; }
-	v6 = v35; v7 = v44; v8 = v45; v9 = v46; v10 = v41; v11 = v40; v12 = v39; v13 = v38; v14 = v37; v15 = v36;
-L1:
-	su64(v1, 1);
-	sup(v1+8, (ptr)(u64)v6);
-	su64(v1+16, v15);
-	su32(v1+24, v14);
-	su32(v1+28, v13);
-	su32(v1+32, v12);
-	su32(v1+36, v11);
-	su32(v1+40, v10);
-	su32(v1+44, v7);
-	sup(v1+48, v8);
-	su64(v1+56, v9);
-	copy(v1+64, v26, 40);
-	goto L6;
-L2:
-	v16 = (v33 ? 65536u : 0u) | (v29 > 262144 ? 256u : 0u) | (v34 ? 16777216u : 0u) | (u32)v32;
-L3:;
-	u64 v47 = (u64)(v2+16);
-	v17 = (u8)v47; v18 = v16; v19 = v31; v20 = v29; v21 = v28; v22 = v27; v23 = v30; v24 = (v47 >> 8) & 0xffffffffffffffull;
-L4:;
-	u64 v48 = (u64)v20;
-	if (v23 >= v48) goto L5;
-	su64(v1, 1);
-	sup(v1+8, (ptr)0);
-	su64(v1+16, v48 - v23);
-	clear(v1+24, 80);
-	goto L6;
-L5:;
-	ptr v49 = (ptr)((v24 << 8) | (u64)v17);
-	su64(v1, 0);
-	sup(v1+8, at(v49, v48));
-	su64(v1+16, v23 - v48);
-	su32(v1+24, v22);
-	su32(v1+28, v21);
-	su32(v1+32, v20);
-	su32(v1+36, v19);
-	su32(v1+40, v18);
-	su32(v1+44, 0);
-	sup(v1+48, v49);
-	su64(v1+56, v48);
-	clear(v1+64, 40);
-L6:
-	return;
-}
-static void pcap_tolerant_as_is_PacketAsIs_from_slice_7f02(ptr v1, ptr v2, u64 v3, u8 v4, u32 v5) {
-	u8 v6, v17;
-	u32 v7, v10, v11, v12, v13, v14, v16, v18, v19, v20, v21, v22;
-	ptr v8;
-	u64 v9, v15, v23, v24;
-	_Alignas(8) u8 v25[104] = {0};
-	_Alignas(1) u8 v26[40];
-	if (v3 >= 16) goto L0;
-	clear(v25+24, 80);
-	clear(v26, 40);
-	v8 = (ptr)0; v15 = 16ull - v3; v6 = v7 = v9 = v10 = v11 = v12 = v13 = v14 = 0; goto L1;
-L0:;
-	u32 v27 = lu32(v2), v28 = lu32(v2+4), v29 = lu32(v2+8);
-	u64 v30 = v3 - 16;
-	u32 v31 = lu32(v2+12);
-	u8 v32 = !(v4 & 1) && v28 > 4294967, v33 = v31 > 262144, v34 = v29 > v31;
-	if (!(v34 | (v33 | v32))) { v16 = 0; goto L3; }
-	if ((v5 > 262144 ? v5 : 262144) >= v29) goto L2;
-	core_result_ResultFromResidualErrResidual_from_residual_553b(v25, 2);
-	u8 v35 = ld8(v25+8);
-	u64 v36 = ld64(v25+16);
-	u32 v37 = ld32(v25+24), v38 = ld32(v25+28), v39 = ld32(v25+32), v40 = ld32(v25+36);
-	u32 v41 = ld32(v25+40);
-	u8 v42 = ld8(v25);
-	u64 v43 = (u64)ld_bytes(v25+9, 7) & 0xffffffffffffffull;
-	u32 v44 = ld32(v25+44);
-	ptr v45 = ldp(v25+48);
-	u64 v46 = ld64(v25+56);
-	copy(v26, v25+64, 40);
-	if (!v42) { v17 = v35; v18 = v41; v19 = v40; v20 = v39; v21 = v38; v22 = v37; v23 = v36; v24 = v43; goto L4; }
-	v6 = v35; v7 = v44; v8 = v45; v9 = v46; v10 = v41; v11 = v40; v12 = v39; v13 = v38; v14 = v37; v15 = v36;
-L1:
-	su64(v1, 1);
-	sup(v1+8, (ptr)(u64)v6);
-	su64(v1+16, v15);
-	su32(v1+24, v14);
-	su32(v1+28, v13);
-	su32(v1+32, v12);
-	su32(v1+36, v11);
-	su32(v1+40, v10);
-	su32(v1+44, v7);
-	sup(v1+48, v8);
-	su64(v1+56, v9);
-	copy(v1+64, v26, 40);
-	goto L6;
-L2:
-	v16 = (v33 ? 65536u : 0u) | (v29 > 262144 ? 256u : 0u) | (v34 ? 16777216u : 0u) | (u32)v32;
-L3:;
-	u64 v47 = (u64)(v2+16);
-	v17 = (u8)v47; v18 = v16; v19 = v31; v20 = v29; v21 = v28; v22 = v27; v23 = v30; v24 = (v47 >> 8) & 0xffffffffffffffull;
-L4:;
-	u64 v48 = (u64)v20;
-	if (v23 >= v48) goto L5;
-	su64(v1, 1);
-	sup(v1+8, (ptr)0);
-	su64(v1+16, v48 - v23);
-	clear(v1+24, 80);
-	goto L6;
-L5:;
-	ptr v49 = (ptr)((v24 << 8) | (u64)v17);
-	su64(v1, 0);
-	sup(v1+8, at(v49, v48));
-	su64(v1+16, v23 - v48);
-	su32(v1+24, v22);
-	su32(v1+28, v21);
-	su32(v1+32, v20);
-	su32(v1+36, v19);
-	su32(v1+40, v18);
-	su32(v1+44, 0);
-	sup(v1+48, v49);
-	su64(v1+56, v48);
-	clear(v1+64, 40);
-L6:
-	return;
-}
 static u32 pcap_core_link_U32FromDataLink_from(u8 v1, u32 v2) {
 	u32 v3;
 	switch (v1) {
@@ -8193,6 +7795,113 @@ L16:
 L17:
 	return;
 }
+static void pcap_classic_pcap_packet_Packet_from_slice_4da0(ptr v1, ptr v2, u64 v3, u8 v4) {
+	u32 v5;
+	u64 v6, v9, v10;
+	ptr v7, v8;
+	_Alignas(8) u8 v11[32];
+	if (v3 >= 16) goto L0;
+	v8 = (ptr)0; v9 = 16ull - v3; v10 = 0; goto L3;
+L0:;
+	u32 v12 = (u32)__builtin_bswap32(lu32(v2)), v13 = (u32)__builtin_bswap32(lu32(v2+4));
+	u32 v14 = lu32(v2+8), v15 = (u32)__builtin_bswap32(v14);
+	u64 v16 = v3 - 16;
+	u32 v17 = lu32(v2+12), v18 = (u32)__builtin_bswap32(v17);
+	if (v4 == 1) { v5 = v13; goto L1; }
+	if (v13 > 4294967) { v7 = (ptr)static_1; v6 = 40; goto L2; }
+	v5 = v13 * 1000;
+L1:
+	if (v15 > 262144) { v7 = (ptr)static_2; v6 = 31; goto L2; }
+	if (v18 > 262144) { v7 = (ptr)static_3; v6 = 31; goto L2; }
+	if (v18 >= v15) goto L4;
+	v7 = (ptr)static_4; v6 = 32;
+L2:
+	v8 = (ptr)2ull; v9 = (u64)v7; v10 = v6;
+L3:
+	clear(v11, 32);
+	su64(v1, 1);
+	sup(v1+8, v8);
+	su64(v1+16, v9);
+	su64(v1+24, v10);
+	clear(v1+32, 40);
+	copy(v1+72, v11, 32);
+	goto L6;
+L4:;
+	u64 v19 = (u64)__builtin_bswap64(((u64)v14 << 32) | (u64)v17), v20 = v19 & 4294967295u;
+	if (v16 >= v20) goto L5;
+	su64(v1, 1);
+	sup(v1+8, (ptr)0);
+	su64(v1+16, v20 - v16);
+	clear(v1+24, 80);
+	goto L6;
+L5:
+	su64(v1, 0);
+	sup(v1+8, at(v2+16, v20));
+	su64(v1+16, v16 - v20);
+	su64(v1+24, ((u64)v5 << 32) | (u64)v12);
+	su32(v1+32, (u32)v19);
+	su32(v1+36, (u32)(v19 >> 32));
+	su64(v1+40, 0);
+	sup(v1+48, v2+16);
+	su64(v1+56, v20);
+	clear(v1+64, 40);
+L6:
+	return;
+}
+static void pcap_classic_pcap_packet_Packet_from_slice_7f02(ptr v1, ptr v2, u64 v3, u8 v4) {
+	u32 v5;
+	u64 v6, v9, v10;
+	ptr v7, v8;
+	_Alignas(8) u8 v11[32];
+	if (v3 >= 16) goto L0;
+	v8 = (ptr)0; v9 = 16ull - v3; v10 = 0; goto L3;
+L0:;
+	u32 v12 = lu32(v2), v13 = lu32(v2+4);
+	u64 v14 = lu64(v2+8);
+	u32 v15 = (u32)v14;
+	u64 v16 = v3 - 16;
+	u32 v17 = (u32)(v14 >> 32);
+	if (v4 == 1) { v5 = v13; goto L1; }
+	if (v13 > 4294967) { v7 = (ptr)static_1; v6 = 40; goto L2; }
+	v5 = v13 * 1000;
+L1:
+	if (v15 > 262144) { v7 = (ptr)static_2; v6 = 31; goto L2; }
+	if (v14 > 0x40000ffffffffull) { v7 = (ptr)static_3; v6 = 31; goto L2; }
+	if (v17 >= v15) goto L4;
+	v7 = (ptr)static_4; v6 = 32;
+L2:
+	v8 = (ptr)2ull; v9 = (u64)v7; v10 = v6;
+L3:
+	clear(v11, 32);
+	su64(v1, 1);
+	sup(v1+8, v8);
+	su64(v1+16, v9);
+	su64(v1+24, v10);
+	clear(v1+32, 40);
+	copy(v1+72, v11, 32);
+	goto L6;
+L4:;
+	u64 v18 = v14 & 524287;
+	if (v16 >= v18) goto L5;
+	su64(v1, 1);
+	sup(v1+8, (ptr)0);
+	su64(v1+16, v18 - v16);
+	clear(v1+24, 80);
+	goto L6;
+L5:
+	su64(v1, 0);
+	sup(v1+8, at(v2+16, v18));
+	su64(v1+16, v16 - v18);
+	su64(v1+24, ((u64)v5 << 32) | (u64)v12);
+	su32(v1+32, v15);
+	su32(v1+36, v17);
+	su64(v1+40, 0);
+	sup(v1+48, v2+16);
+	su64(v1+56, v18);
+	clear(v1+64, 40);
+L6:
+	return;
+}
 static t_8_64 pcap_tolerant_resync_resync(ptr v1, ptr v2, u64 v3, u64 v4) {
 	u64 v5, v6, v7, v8, v10;
 	ptr v9;
@@ -8730,6 +8439,168 @@ L3:
 	su64(v1+32, v23);
 	copy(v1+40, v13, 64);
 L4:
+	return;
+}
+static void core_result_ResultFromResidualErrResidual_from_residual_553b(ptr v1, u8 v2) {
+	u64 v3 = ld64(at((ptr)switch_table_pcapfile_rule_text, (u64)v2 * 8));
+	ptr v4 = ldp(at((ptr)&switch_table_pcapfile_rule_text_293, (u64)v2 * 8));
+	su64(v1, 1);
+	st8(v1+8, 2);
+	clear(v1+9, 7);
+	sup(v1+16, v4);
+	su64(v1+24, v3);
+	clear(v1+32, 72);
+	return;
+}
+static void pcap_tolerant_as_is_PacketAsIs_from_slice_4da0(ptr v1, ptr v2, u64 v3, u8 v4, u32 v5) {
+	u8 v6, v17;
+	u32 v7, v10, v11, v12, v13, v14, v16, v18, v19, v20, v21, v22;
+	ptr v8;
+	u64 v9, v15, v23, v24;
+	_Alignas(8) u8 v25[104] = {0};
+	_Alignas(1) u8 v26[40];
+	if (v3 >= 16) goto L0;
+	clear(v25+24, 80);
+	clear(v26, 40);
+	v8 = (ptr)0; v15 = 16ull - v3; v6 = v7 = v9 = v10 = v11 = v12 = v13 = v14 = 0; goto L1;
+L0:;
+	u32 v27 = (u32)__builtin_bswap32(lu32(v2)), v28 = (u32)__builtin_bswap32(lu32(v2+4));
+	u32 v29 = (u32)__builtin_bswap32(lu32(v2+8));
+	u64 v30 = v3 - 16;
+	u32 v31 = (u32)__builtin_bswap32(lu32(v2+12));
+	u8 v32 = (v28 > 4294967) & (!(v4 & 1)), v33 = v31 > 262144, v34 = v29 > v31;
+	if (!(v34 | (v33 | v32))) { v16 = 0; goto L3; }
+	if ((v5 > 262144 ? v5 : 262144) >= v29) goto L2;
+	core_result_ResultFromResidualErrResidual_from_residual_553b(v25, 2);
+	u8 v35 = ld8(v25+8);
+	u64 v36 = ld64(v25+16);
+	u32 v37 = ld32(v25+24), v38 = ld32(v25+28), v39 = ld32(v25+32), v40 = ld32(v25+36);
+	u32 v41 = ld32(v25+40);
+	u8 v42 = ld8(v25);
+	u64 v43 = (u64)ld_bytes(v25+9, 7) & 0xffffffffffffffull;
+	u32 v44 = ld32(v25+44);
+	ptr v45 = ldp(v25+48);
+	u64 v46 = ld64(v25+56);
+	copy(v26, v25+64, 40);
+	if (!v42) { v17 = v35; v18 = v41; v19 = v40; v20 = v39; v21 = v38; v22 = v37; v23 = v36; v24 = v43; goto L4; }
+	v6 = v35; v7 = v44; v8 = v45; v9 = v46; v10 = v41; v11 = v40; v12 = v39; v13 = v38; v14 = v37; v15 = v36;
+L1:
+	su64(v1, 1);
+	sup(v1+8, (ptr)(u64)v6);
+	su64(v1+16, v15);
+	su32(v1+24, v14);
+	su32(v1+28, v13);
+	su32(v1+32, v12);
+	su32(v1+36, v11);
+	su32(v1+40, v10);
+	su32(v1+44, v7);
+	sup(v1+48, v8);
+	su64(v1+56, v9);
+	copy(v1+64, v26, 40);
+	goto L6;
+L2:
+	v16 = (v33 ? 65536u : 0u) | (v29 > 262144 ? 256u : 0u) | (v34 ? 16777216u : 0u) | (u32)v32;
+L3:;
+	u64 v47 = (u64)(v2+16);
+	v17 = (u8)v47; v18 = v16; v19 = v31; v20 = v29; v21 = v28; v22 = v27; v23 = v30; v24 = (v47 >> 8) & 0xffffffffffffffull;
+L4:;
+	u64 v48 = (u64)v20;
+	if (v23 >= v48) goto L5;
+	su64(v1, 1);
+	sup(v1+8, (ptr)0);
+	su64(v1+16, v48 - v23);
+	clear(v1+24, 80);
+	goto L6;
+L5:;
+	ptr v49 = (ptr)((v24 << 8) | (u64)v17);
+	su64(v1, 0);
+	sup(v1+8, at(v49, v48));
+	su64(v1+16, v23 - v48);
+	su32(v1+24, v22);
+	su32(v1+28, v21);
+	su32(v1+32, v20);
+	su32(v1+36, v19);
+	su32(v1+40, v18);
+	su32(v1+44, 0);
+	sup(v1+48, v49);
+	su64(v1+56, v48);
+	clear(v1+64, 40);
+L6:
+	return;
+}
+static void pcap_tolerant_as_is_PacketAsIs_from_slice_7f02(ptr v1, ptr v2, u64 v3, u8 v4, u32 v5) {
+	u8 v6, v17;
+	u32 v7, v10, v11, v12, v13, v14, v16, v18, v19, v20, v21, v22;
+	ptr v8;
+	u64 v9, v15, v23, v24;
+	_Alignas(8) u8 v25[104] = {0};
+	_Alignas(1) u8 v26[40];
+	if (v3 >= 16) goto L0;
+	clear(v25+24, 80);
+	clear(v26, 40);
+	v8 = (ptr)0; v15 = 16ull - v3; v6 = v7 = v9 = v10 = v11 = v12 = v13 = v14 = 0; goto L1;
+L0:;
+	u32 v27 = lu32(v2), v28 = lu32(v2+4), v29 = lu32(v2+8);
+	u64 v30 = v3 - 16;
+	u32 v31 = lu32(v2+12);
+	u8 v32 = !(v4 & 1) && v28 > 4294967, v33 = v31 > 262144, v34 = v29 > v31;
+	if (!(v34 | (v33 | v32))) { v16 = 0; goto L3; }
+	if ((v5 > 262144 ? v5 : 262144) >= v29) goto L2;
+	core_result_ResultFromResidualErrResidual_from_residual_553b(v25, 2);
+	u8 v35 = ld8(v25+8);
+	u64 v36 = ld64(v25+16);
+	u32 v37 = ld32(v25+24), v38 = ld32(v25+28), v39 = ld32(v25+32), v40 = ld32(v25+36);
+	u32 v41 = ld32(v25+40);
+	u8 v42 = ld8(v25);
+	u64 v43 = (u64)ld_bytes(v25+9, 7) & 0xffffffffffffffull;
+	u32 v44 = ld32(v25+44);
+	ptr v45 = ldp(v25+48);
+	u64 v46 = ld64(v25+56);
+	copy(v26, v25+64, 40);
+	if (!v42) { v17 = v35; v18 = v41; v19 = v40; v20 = v39; v21 = v38; v22 = v37; v23 = v36; v24 = v43; goto L4; }
+	v6 = v35; v7 = v44; v8 = v45; v9 = v46; v10 = v41; v11 = v40; v12 = v39; v13 = v38; v14 = v37; v15 = v36;
+L1:
+	su64(v1, 1);
+	sup(v1+8, (ptr)(u64)v6);
+	su64(v1+16, v15);
+	su32(v1+24, v14);
+	su32(v1+28, v13);
+	su32(v1+32, v12);
+	su32(v1+36, v11);
+	su32(v1+40, v10);
+	su32(v1+44, v7);
+	sup(v1+48, v8);
+	su64(v1+56, v9);
+	copy(v1+64, v26, 40);
+	goto L6;
+L2:
+	v16 = (v33 ? 65536u : 0u) | (v29 > 262144 ? 256u : 0u) | (v34 ? 16777216u : 0u) | (u32)v32;
+L3:;
+	u64 v47 = (u64)(v2+16);
+	v17 = (u8)v47; v18 = v16; v19 = v31; v20 = v29; v21 = v28; v22 = v27; v23 = v30; v24 = (v47 >> 8) & 0xffffffffffffffull;
+L4:;
+	u64 v48 = (u64)v20;
+	if (v23 >= v48) goto L5;
+	su64(v1, 1);
+	sup(v1+8, (ptr)0);
+	su64(v1+16, v48 - v23);
+	clear(v1+24, 80);
+	goto L6;
+L5:;
+	ptr v49 = (ptr)((v24 << 8) | (u64)v17);
+	su64(v1, 0);
+	sup(v1+8, at(v49, v48));
+	su64(v1+16, v23 - v48);
+	su32(v1+24, v22);
+	su32(v1+28, v21);
+	su32(v1+32, v20);
+	su32(v1+36, v19);
+	su32(v1+40, v18);
+	su32(v1+44, 0);
+	sup(v1+48, v49);
+	su64(v1+56, v48);
+	clear(v1+64, 40);
+L6:
 	return;
 }
 static APART RARE void pcapfile_c_batches_any_front(ptr v1, u8 v2, ptr v3, u64 v4) {
@@ -9813,6 +9684,131 @@ static APART RARE u32 pcapfile_c_push_batches_take_first_packets(ptr v1, ptr v2,
 L0:
 	return v7;
 }
+static u8 pcap_damaged_row_is_row(ptr v1, u8 v2, u32 v3, ptr v4, u64 v5, u64 v6) {
+	u64 v7, v10, v13, v16;
+	u32 v8, v12, v14, v18;
+	u8 v9, v15, v19;
+	ptr v11, v17;
+	u8 v20 = v2 & 1;
+	u32 v21 = ld32(v1);
+	switch (v21) {
+	case 2712847316u: case 2712812621u: goto L0;
+	default: v13 = v6; v14 = v3; v15 = v20; v16 = v5; v17 = v4; goto L6;
+	}
+L0:
+	v7 = v6; v8 = v3; v9 = v20; v10 = v5; v11 = v4;
+L1:
+	if (v10 < 16) { v19 = 0; goto L11; }
+	u32 v22 = (u32)__builtin_bswap32(lu32(v11)), v23 = (u32)__builtin_bswap32(lu32(v11+4));
+	u32 v24 = lu32(v11+8), v25 = (u32)__builtin_bswap32(v24);
+	u64 v26 = v10 - 16;
+	u32 v27 = lu32(v11+12), v28 = (u32)__builtin_bswap32(v27);
+	switch (v21) {
+	case 3569595041u: case 2712847316u: goto L2;
+	default: v12 = v23; goto L3;
+	}
+L2:
+	if (v23 > 4294967) { v19 = 0; goto L11; }
+	v12 = v23 * 1000;
+L3:
+	if ((v25 > 262144) | (v28 > 262144) || v28 < v25) { v19 = 0; goto L11; }
+	u64 v29 = (u64)__builtin_bswap64(((u64)v24 << 32) | (u64)v27), v30 = v29 & 4294967295u;
+	if (v26 < v30) { v19 = 0; goto L11; }
+	u64 v31 = (u64)v22;
+	ptr v32 = at(v11+16, v30);
+	u64 v33 = v26 - v30;
+	u32 v34 = (u32)v29;
+	if (!v34) { v19 = 0; goto L11; }
+	u32 v35 = ld32(v1+16);
+	if (!((!v35 ? 262144 : (v35 < 262144 ? v35 : 262144)) >= v34 && v12 < 1000000000)) { v19 = 0; goto L11; }
+	if (!v9) goto L4;
+	u64 v36 = (u64)v8;
+	if (v31 + 86400 >= v36 && v36 + 86400 >= v31) goto L5;
+	v19 = 0; goto L11;
+L4:
+	if (v22 <= 262144) { v19 = 0; goto L11; }
+L5:;
+	u64 v37 = v7 - 1;
+	if (!v33 || !v37) { v19 = 1; goto L11; }
+	v7 = v37; v8 = v22; v10 = v33; v11 = v32; v9 = 1; goto L1;
+L6:
+	if (v16 < 16) { v19 = 0; goto L11; }
+	u32 v38 = lu32(v17), v39 = lu32(v17+4);
+	u64 v40 = lu64(v17+8);
+	u32 v41 = (u32)v40;
+	u64 v42 = v16 - 16;
+	u32 v43 = (u32)(v40 >> 32);
+	switch (v21) {
+	case 3569595041u: case 2712847316u: goto L7;
+	default: v18 = v39; goto L8;
+	}
+L7:
+	if (v39 > 4294967) { v19 = 0; goto L11; }
+	v18 = v39 * 1000;
+L8:
+	if ((v41 > 262144) | (v40 > 0x40000ffffffffull) || v43 < v41) { v19 = 0; goto L11; }
+	u64 v44 = v40 & 524287;
+	if (v42 < v44) { v19 = 0; goto L11; }
+	u64 v45 = (u64)v38;
+	ptr v46 = at(v17+16, v44);
+	u64 v47 = v42 - v44;
+	u32 v48 = (u32)v40;
+	if (!v48) { v19 = 0; goto L11; }
+	u32 v49 = ld32(v1+16);
+	if (!((!v49 ? 262144 : (v49 < 262144 ? v49 : 262144)) >= v48 && v18 < 1000000000)) { v19 = 0; goto L11; }
+	if (!v15) goto L9;
+	u64 v50 = (u64)v14;
+	if (v45 + 86400 >= v50 && v50 + 86400 >= v45) goto L10;
+	v19 = 0; goto L11;
+L9:
+	if (v38 <= 262144) { v19 = 0; goto L11; }
+L10:;
+	u64 v51 = v13 - 1;
+	if (!(!v47 || !v51)) { v13 = v51; v14 = v38; v16 = v47; v17 = v46; v15 = 1; goto L6; }
+	v19 = 1;
+L11:
+	return v19;
+}
+static u8 pcap_damaged_behind_follows(ptr v1, u32 v2, ptr v3, u64 v4) {
+	u16 v5, v6;
+	u32 v7, v8, v9, v10;
+	u8 v11;
+	if (!v4) { v11 = 1; goto L8; }
+	if (v4 < 24) goto L3;
+	switch ((u32)__builtin_bswap32(lu32(v3))) {
+	case 2712812621u: case 2712847316u: goto L0;
+	case 1295823521: case 3569595041u: goto L1;
+	default: goto L3;
+	}
+L0:
+	v5 = (u16)__builtin_bswap16(lu16(v3+4)); v6 = (u16)__builtin_bswap16(lu16(v3+6)); goto L2;
+L1:
+	v5 = lu16(v3+4); v6 = lu16(v3+6);
+L2:
+	if (v5 == 2 && v6 == 4) { v11 = 1; goto L8; }
+L3:;
+	u8 v12 = v4 < 16;
+	switch (ld32(v1)) {
+	case 2712847316u: case 2712812621u: goto L4;
+	default: goto L5;
+	}
+L4:
+	if (v12) goto L7;
+	v7 = (u32)__builtin_bswap32(lu32(v3)); v8 = (u32)__builtin_bswap32(lu32(v3+4)); v9 = (u32)__builtin_bswap32(lu32(v3+8)); v10 = (u32)__builtin_bswap32(lu32(v3+12)); goto L6;
+L5:
+	if (v12) goto L7;
+	v7 = lu32(v3); v8 = lu32(v3+4); v9 = lu32(v3+8); v10 = lu32(v3+12);
+L6:
+	if (v9 >= 262145) goto L7;
+	if (!((v9 | v7) != 0 || v8 || v10)) goto L7;
+	u64 v13 = (u64)v2, v14 = (u64)v7;
+	if (v14 + 86400 >= v13 && v13 + 86400 >= v14) { v11 = 1; goto L8; }
+L7:;
+	u8 v15 = pcap_damaged_row_is_row(v1, 0, 0, v3, v4, 4);
+	v11 = v15;
+L8:
+	return v11;
+}
 static u8 pcap_tolerant_captures_resync_header_stands(u8 v1, ptr v2, u64 v3) {
 	ptr v4;
 	u8 v5, v6;
@@ -9925,229 +9921,6 @@ L0:
 }
 int32_t pcapfile_fcs_len(u32 v1) {
 	return (int32_t)(!(v1 & 67108864) ? 4294967295u : (v1 >> 27) & 30);
-}
-int32_t pcapfile_judge_packet(ptr v1, u32 v2, ptr v3, u8 v4, ptr v5, ptr v6) {
-	u32 v7, v8, v9, v10, v11, v13, v14, v15, v16, v17, v21, v35;
-	u64 v12, v18, v22, v25, v26, v27, v28, v29, v30, v31, v32, v33, v34;
-	u16 v19, v20, v23, v24;
-	_Alignas(8) u8 v36[104], v38[96];
-	_Alignas(4) u8 v37[28];
-	st64(v38, 0);
-	u32 v39 = ld32(v1);
-	switch (v39) {
-	case 1295823521: case 2712812621u: case 2712847316u: case 3569595041u: goto L0;
-	default: goto L43;
-	}
-L0:;
-	t_8_32 v40 = pcap_core_link_DataLinkFromU32_from(ld32(v1+20));
-	u64 v41 = lu64(v1+12);
-	u16 v42 = ld16(v1+4);
-	u32 v43 = ld32(v1+8);
-	u16 v44 = ld16(v1+6);
-	st32(v37, v39);
-	st16(v37+4, v42);
-	st16(v37+6, v44);
-	st32(v37+8, v43);
-	sup(v37+12, (ptr)v41);
-	su64(v37+20, ((u64)v40.f1 << 32) | (u64)v40.f0);
-	ptr v45 = lup(v3);
-	u64 v46 = lu64(v3+8);
-	u8 v47 = v4 != 0, v48 = v46 < 16;
-	u64 v49 = v41 >> 32;
-	u32 v50 = (u32)v49;
-	switch (v39) {
-	case 2712847316u: case 2712812621u: goto L1;
-	default: goto L2;
-	}
-L1:
-	if (v48) goto L3;
-	v7 = (u32)__builtin_bswap32(lu32(v45+8)); goto L5;
-L2:
-	if (!v48) goto L4;
-L3:
-	if (v47) goto L12;
-	v12 = 16ull - v46; goto L11;
-L4:
-	v7 = lu32(v45+8);
-L5:;
-	u64 v51 = v46 - 16, v52 = (u64)v7, v53 = v52 + 16;
-	if (v51 >= v53) goto L6;
-	if (v47) goto L12;
-	v12 = v53 - v51; goto L11;
-L6:;
-	u64 v54 = v52 + 1048640;
-	if (v54 <= v51) goto L12;
-	ptr v55 = at(v45+16, v52);
-	u8 v56 = v51 - v52 < 16;
-	switch (v39) {
-	case 2712847316u: case 2712812621u: goto L7;
-	default: goto L8;
-	}
-L7:
-	if (v56) goto L10;
-	v8 = (u32)__builtin_bswap32(lu32(v55)); v9 = (u32)__builtin_bswap32(lu32(v55+4)); v10 = (u32)__builtin_bswap32(lu32(v55+8)); v11 = (u32)__builtin_bswap32(lu32(v55+12)); goto L9;
-L8:
-	if (v56) goto L10;
-	v8 = lu32(v55); v9 = lu32(v55+4); v10 = lu32(v55+8); v11 = lu32(v55+12);
-L9:
-	if (v10 >= 262145) goto L10;
-	if (!((v10 | v8) != 0 || v9 || v11)) goto L10;
-	u64 v57 = (u64)v2, v58 = (u64)v8;
-	u8 v59 = v58 + 86400 >= v57 && v57 + 86400 >= v58;
-	if (v47 | v59) goto L12;
-	v12 = v59 ? 0 : v54 - v51; goto L11;
-L10:
-	if (v47) goto L12;
-	v12 = v54 - v51;
-L11:
-	st64(v38+8, v12);
-	clear(v38+16, 80);
-	u32 v60 = pcapfile_values_errors_tell(v38, v6);
-	v35 = v60; goto L44;
-L12:
-	switch (v39) {
-	case 2712847316u: case 2712812621u: goto L13;
-	default: goto L14;
-	}
-L13:
-	if (v48) goto L36;
-	u32 v61 = lu32(v45+8);
-	v13 = v61; v14 = (u32)__builtin_bswap32(lu32(v45)); v15 = (u32)__builtin_bswap32(lu32(v45+4)); v16 = (u32)__builtin_bswap32(v61); v17 = (u32)__builtin_bswap32(lu32(v45+12)); goto L15;
-L14:
-	if (v48) goto L36;
-	u32 v62 = lu32(v45+8);
-	v13 = v62; v14 = lu32(v45); v15 = lu32(v45+4); v16 = v62; v17 = lu32(v45+12);
-L15:;
-	u64 v63 = v46 - 16;
-	u8 v64 = pcap_damaged_weight_ends_well(v37, v2, v16, v45, v46);
-	if (v64) goto L42;
-	if (!v17) goto L16;
-	if (v17 > (!v49 ? 262144 : (v50 < 262144 ? v50 : 262144))) goto L16;
-	u64 v65 = (u64)v15;
-	if ((((v39 != 2712847316u) & (v39 != 3569595041u)) ? v65 : v65 * 1000) >= 1000000000) goto L16;
-	u64 v66 = (u64)v2, v67 = (u64)v14;
-	if (!(v67 + 86400 >= v66 && v66 + 86400 >= v67)) goto L16;
-	u8 v68 = pcap_damaged_weight_ends_well(v37, v2, v17, v45, v46);
-	if (!v68) goto L16;
-	v25 = (u64)v17 + 16; goto L32;
-L16:
-	if (!v16) goto L22;
-	if ((!v49 ? 262144 : (v50 < 262144 ? v50 : 262144)) < v16) goto L22;
-	u8 v69 = ((v39 == 2712847316u) | (v39 == 3569595041u) && v15 > 4294967) || (v17 > 262144) | (v17 < v16);
-	if (v69) goto L22;
-	u64 v70 = (u64)v16, v71 = v63 < v70 ? v63 : v70;
-	if (!v63) goto L35;
-	v18 = 0;
-L17:;
-	ptr v72 = at(v45+16, v18);
-	u64 v73 = v63 - v18;
-	if (v73 < 24) goto L21;
-	switch ((u32)__builtin_bswap32(lu32(v72))) {
-	case 2712812621u: case 2712847316u: goto L18;
-	case 1295823521: case 3569595041u: goto L19;
-	default: goto L21;
-	}
-L18:
-	v19 = (u16)__builtin_bswap16(lu16(v72+4)); v20 = (u16)__builtin_bswap16(lu16(v72+6)); goto L20;
-L19:
-	v19 = lu16(v72+4); v20 = lu16(v72+6);
-L20:
-	if (v19 == 2 && v20 == 4) goto L22;
-L21:;
-	u8 v74 = pcap_damaged_row_is_row(v37, 1, v2, v72, v73, 2);
-	if (v74) goto L22;
-	u8 v75 = pcap_damaged_row_is_row(v37, 0, 0, v72, v73, 4);
-	if (!v75) goto L34;
-L22:
-	switch (v39) {
-	case 2712847316u: case 2712812621u: goto L23;
-	default: goto L24;
-	}
-L23:
-	if (v48) goto L36;
-	v21 = (u32)__builtin_bswap32(v13); goto L25;
-L24:
-	if (v48) goto L36;
-	v21 = v13;
-L25:;
-	u64 v76 = v46 - 1, v77 = (u64)v21 + 15, v78 = v76 < v77 ? v76 : v77;
-	v22 = 0;
-L26:;
-	ptr v79 = at(v45+1, v22);
-	u64 v80 = v76 - v22;
-	if (v80 < 24) goto L30;
-	switch ((u32)__builtin_bswap32(lu32(v79))) {
-	case 2712812621u: case 2712847316u: goto L27;
-	case 1295823521: case 3569595041u: goto L28;
-	default: goto L30;
-	}
-L27:
-	v23 = (u16)__builtin_bswap16(lu16(v79+4)); v24 = (u16)__builtin_bswap16(lu16(v79+6)); goto L29;
-L28:
-	v23 = lu16(v79+4); v24 = lu16(v79+6);
-L29:
-	if (v23 == 2 && v24 == 4) goto L31;
-L30:;
-	u8 v81 = pcap_damaged_row_is_row(v37, 1, v2, v79, v80, 2);
-	if (v81) goto L31;
-	u8 v82 = pcap_damaged_row_is_row(v37, 0, 0, v79, v80, 4);
-	if (!v82) goto L33;
-L31:
-	v25 = v22 + 1;
-L32:
-	st64(v5, v25);
-	v35 = 0; goto L44;
-L33:;
-	u64 v83 = v22 + 1;
-	if (v83 != v78) { v22 = v83; goto L26; }
-	if (!v21) goto L36;
-	goto L42;
-L34:;
-	u64 v84 = v18 + 1;
-	if (v84 != v71) { v18 = v84; goto L17; }
-L35:
-	if (v46 >= v70 + 16) goto L42;
-L36:;
-	u64 v85 = (u64)v45;
-	u8 v86 = (v39 != 2712847316u) & (v39 != 3569595041u);
-	switch (v39) {
-	case 2712847316u: case 2712812621u: goto L37;
-	default: v29 = v85; v31 = v46; v30 = 4; goto L39;
-	}
-L37:
-	v26 = v85; v28 = v46; v27 = 4;
-L38:
-	pcap_tolerant_as_is_PacketAsIs_from_slice_4da0(v36, (ptr)v26, v28, v86, 0);
-	u64 v87 = ld64(v36+8), v88 = ld64(v36+16), v89 = ld64(v36+24), v90 = ld64(v36+32);
-	if (ld8(v36)) { v32 = v87; v33 = v88; v34 = v90; goto L41; }
-	if (!(v89 || v90)) { v35 = 8; goto L44; }
-	u64 v91 = v27 - 1;
-	if (!v88 || !v91) goto L40;
-	v26 = v87; v27 = v91; v28 = v88; goto L38;
-L39:
-	pcap_tolerant_as_is_PacketAsIs_from_slice_7f02(v36, (ptr)v29, v31, v86, 0);
-	u64 v92 = ld64(v36+8), v93 = ld64(v36+16), v94 = ld64(v36+24), v95 = ld64(v36+32);
-	if (ld8(v36)) { v32 = v92; v33 = v93; v34 = v95; goto L41; }
-	if (!(v94 || v95)) { v35 = 8; goto L44; }
-	u64 v96 = v30 - 1;
-	if (!(!v93 || !v96)) { v29 = v92; v30 = v96; v31 = v93; goto L39; }
-L40:
-	st64(v5, 0);
-	v35 = 0; goto L44;
-L41:
-	if ((v32 & 255) != 4 || !v34) { v35 = 8; goto L44; }
-	deallocate((ptr)v33);
-	v35 = 8; goto L44;
-L42:
-	st64(v5, 0);
-	v35 = 0; goto L44;
-L43:
-	su32(v6, 1);
-	su32(v6+4, 0);
-	su64(v6+8, 0);
-	v35 = 3;
-L44:
-	return (int32_t)(v35);
 }
 int32_t pcapfile_link_type(u32 v1) {
 	t_8_32 v2 = pcap_core_link_DataLinkFromU32_from(v1 & 65535);
@@ -10636,7 +10409,7 @@ void pcapfile_rule_name(u32 v1, ptr v2) {
 	}
 L0:;
 	u8 v6 = ld8(v5+2);
-	v3 = ldp(at((ptr)&switch_table_pcapfile_rule_name, (u64)v6 * 8)); v4 = ld64(at((ptr)switch_table_pcapfile_rule_name_290, (u64)v6 * 8)); goto L5;
+	v3 = ldp(at((ptr)&switch_table_pcapfile_rule_name, (u64)v6 * 8)); v4 = ld64(at((ptr)switch_table_pcapfile_rule_name_292, (u64)v6 * 8)); goto L5;
 L1:
 	v3 = (ptr)static_43; v4 = 16; goto L5;
 L2:
@@ -10667,7 +10440,7 @@ void pcapfile_rule_text(u32 v1, ptr v2) {
 	}
 L0:;
 	u8 v7 = ld8(v6+2);
-	ptr v8 = ldp(at((ptr)&switch_table_pcapfile_rule_text_291, (u64)v7 * 8));
+	ptr v8 = ldp(at((ptr)&switch_table_pcapfile_rule_text_293, (u64)v7 * 8));
 	u64 v9 = ld64(at((ptr)switch_table_pcapfile_rule_text, (u64)v7 * 8));
 	v3 = (t_p_64){v8, v9}; goto L4;
 L1:
@@ -14647,6 +14420,309 @@ L2:
 	v9 = v8;
 L3:
 	return (int32_t)(v9);
+}
+int32_t pcapfile_judge_packet(ptr v1, u32 v2, ptr v3, u8 v4, ptr v5, ptr v6, ptr v7) {
+	u32 v8, v9, v10, v11, v12, v13, v14, v15, v17, v18, v19, v20, v21, v22, v23, v24, v26, v27, v28, v29, v32, v33, v34, v35, v36, v37, v41, v54;
+	u64 v16, v25, v30, v31, v38, v42, v45, v46, v47, v48, v49, v50, v51, v52, v53;
+	u16 v39, v40, v43, v44;
+	_Alignas(8) u8 v55[104], v57[96];
+	_Alignas(4) u8 v56[28];
+	st64(v57, 0);
+	u32 v58 = ld32(v1);
+	switch (v58) {
+	case 1295823521: case 2712812621u: case 2712847316u: case 3569595041u: goto L0;
+	default: goto L54;
+	}
+L0:;
+	t_8_32 v59 = pcap_core_link_DataLinkFromU32_from(ld32(v1+20));
+	u64 v60 = lu64(v1+12);
+	u16 v61 = ld16(v1+4);
+	u32 v62 = ld32(v1+8);
+	u16 v63 = ld16(v1+6);
+	st32(v56, v58);
+	st16(v56+4, v61);
+	st16(v56+6, v63);
+	st32(v56+8, v62);
+	sup(v56+12, (ptr)v60);
+	su64(v56+20, ((u64)v59.f1 << 32) | (u64)v59.f0);
+	ptr v64 = lup(v3);
+	u64 v65 = lu64(v3+8);
+	u8 v66 = v4 != 0, v67 = v65 < 16;
+	u64 v68 = v60 >> 32;
+	u32 v69 = (u32)v68;
+	switch (v58) {
+	case 2712847316u: case 2712812621u: goto L1;
+	default: goto L2;
+	}
+L1:
+	if (v67) goto L9;
+	v8 = (u32)__builtin_bswap32(lu32(v64)); v9 = (u32)__builtin_bswap32(lu32(v64+4)); v10 = (u32)__builtin_bswap32(lu32(v64+8)); v11 = (u32)__builtin_bswap32(lu32(v64+12)); goto L3;
+L2:
+	if (v67) goto L9;
+	v8 = lu32(v64); v9 = lu32(v64+4); v10 = lu32(v64+8); v11 = lu32(v64+12);
+L3:;
+	u64 v70 = v65 - 16;
+	u32 v71 = !v68 ? 262144 : (v69 < 262144 ? v69 : 262144), v72 = v71 < v11 ? v71 : v11;
+	if ((v10 < 262145) | (v70 >= (u64)v10) | (v72 == 0)) goto L9;
+	u64 v73 = (u64)v9;
+	if ((((v58 != 2712847316u) & (v58 != 3569595041u)) ? v73 : v73 * 1000) >= 1000000000) goto L9;
+	u64 v74 = (u64)v2, v75 = (u64)v8, v76 = v74 + 86400;
+	u8 v77 = v75 + 86400 >= v74 && v76 >= v75;
+	if (!(v66 | (!v77))) goto L4;
+	if (!(v66 & v77)) goto L9;
+	v16 = (u64)v72; goto L8;
+L4:;
+	u64 v78 = (u64)v72;
+	if (v70 < v78 + 16) goto L9;
+	if (v78 + 1048640 <= v70) { v16 = v78; goto L8; }
+	ptr v79 = at(v64+16, v78);
+	u8 v80 = v70 - v78 < 16;
+	switch (v58) {
+	case 2712847316u: case 2712812621u: goto L5;
+	default: goto L6;
+	}
+L5:
+	if (v80) goto L9;
+	v12 = (u32)__builtin_bswap32(lu32(v79)); v13 = (u32)__builtin_bswap32(lu32(v79+4)); v14 = (u32)__builtin_bswap32(lu32(v79+8)); v15 = (u32)__builtin_bswap32(lu32(v79+12)); goto L7;
+L6:
+	if (v80) goto L9;
+	v12 = lu32(v79); v13 = lu32(v79+4); v14 = lu32(v79+8); v15 = lu32(v79+12);
+L7:
+	if (v14 >= 262145) goto L9;
+	if (!((v14 | v12) != 0 || v13 || v15)) goto L9;
+	u64 v81 = (u64)v12;
+	if (!(v81 + 86400 >= v74 && v76 >= v81)) goto L9;
+	v16 = v78;
+L8:
+	if (v70 < v16) goto L9;
+	u8 v82 = pcap_damaged_behind_follows(v56, v2, at(v64+16, v16), v70 - v16);
+	if (v82) { v37 = v72; goto L30; }
+L9:
+	switch (v58) {
+	case 2712847316u: case 2712812621u: goto L10;
+	default: goto L11;
+	}
+L10:
+	if (v67) goto L12;
+	v17 = (u32)__builtin_bswap32(lu32(v64)); v18 = (u32)__builtin_bswap32(lu32(v64+4)); v19 = (u32)__builtin_bswap32(lu32(v64+8)); v20 = (u32)__builtin_bswap32(lu32(v64+12)); goto L14;
+L11:
+	if (!v67) goto L13;
+L12:
+	v31 = 16ull - v65; goto L24;
+L13:
+	v17 = lu32(v64); v18 = lu32(v64+4); v19 = lu32(v64+8); v20 = lu32(v64+12);
+L14:;
+	u64 v83 = v65 - 16, v84 = (u64)v19;
+	if (!((v19 > 262144) & (v83 < v84))) goto L19;
+	u32 v85 = !v68 ? 262144 : (v69 < 262144 ? v69 : 262144), v86 = v85 < v20 ? v85 : v20;
+	if (!v86) goto L19;
+	u64 v87 = (u64)v18;
+	if ((((v58 != 2712847316u) & (v58 != 3569595041u)) ? v87 : v87 * 1000) >= 1000000000) goto L19;
+	u64 v88 = (u64)v2, v89 = (u64)v17, v90 = v88 + 86400;
+	if (!(v89 + 86400 >= v88 && v90 >= v89)) goto L19;
+	u64 v91 = (u64)v86, v92 = v91 + 16;
+	if (v83 < v92) { v25 = v92; goto L18; }
+	u64 v93 = v91 + 1048640;
+	if (v93 <= v83) goto L19;
+	ptr v94 = at(v64+16, v91);
+	u8 v95 = v83 - v91 < 16;
+	switch (v58) {
+	case 2712847316u: case 2712812621u: goto L15;
+	default: goto L16;
+	}
+L15:
+	if (v95) { v25 = v93; goto L18; }
+	v21 = (u32)__builtin_bswap32(lu32(v94)); v22 = (u32)__builtin_bswap32(lu32(v94+4)); v23 = (u32)__builtin_bswap32(lu32(v94+8)); v24 = (u32)__builtin_bswap32(lu32(v94+12)); goto L17;
+L16:
+	if (v95) { v25 = v93; goto L18; }
+	v21 = lu32(v94); v22 = lu32(v94+4); v23 = lu32(v94+8); v24 = lu32(v94+12);
+L17:
+	if (v23 >= 262145) { v25 = v93; goto L18; }
+	if (!((v23 | v21) != 0 || v22 || v24)) { v25 = v93; goto L18; }
+	u64 v96 = (u64)v21;
+	if (!(v96 + 86400 < v88 || v90 < v96)) goto L19;
+	v25 = v93;
+L18:
+	v31 = v25 - v83; goto L24;
+L19:;
+	u64 v97 = v84 + 16;
+	if (v83 < v97) { v30 = v97; goto L23; }
+	u64 v98 = v84 + 1048640;
+	if (v98 <= v83) goto L25;
+	ptr v99 = at(v64+16, v84);
+	u8 v100 = v83 - v84 < 16;
+	switch (v58) {
+	case 2712847316u: case 2712812621u: goto L20;
+	default: goto L21;
+	}
+L20:
+	if (v100) { v30 = v98; goto L23; }
+	v26 = (u32)__builtin_bswap32(lu32(v99)); v27 = (u32)__builtin_bswap32(lu32(v99+4)); v28 = (u32)__builtin_bswap32(lu32(v99+8)); v29 = (u32)__builtin_bswap32(lu32(v99+12)); goto L22;
+L21:
+	if (v100) { v30 = v98; goto L23; }
+	v26 = lu32(v99); v27 = lu32(v99+4); v28 = lu32(v99+8); v29 = lu32(v99+12);
+L22:
+	if (v28 >= 262145) { v30 = v98; goto L23; }
+	if (!((v28 | v26) != 0 || v27 || v29)) { v30 = v98; goto L23; }
+	u64 v101 = (u64)v2, v102 = (u64)v26;
+	if (v102 + 86400 >= v101 && v101 + 86400 >= v102) goto L25;
+	v30 = v98;
+L23:
+	v31 = v30 - v83;
+L24:
+	if (v66) goto L25;
+	st64(v57+8, v31);
+	clear(v57+16, 80);
+	u32 v103 = pcapfile_values_errors_tell(v57, v7);
+	v54 = v103; goto L55;
+L25:
+	switch (v58) {
+	case 2712847316u: case 2712812621u: goto L26;
+	default: goto L27;
+	}
+L26:
+	if (v67) { v54 = 8; goto L55; }
+	u32 v104 = lu32(v64+8);
+	v32 = v104; v33 = (u32)__builtin_bswap32(lu32(v64)); v34 = (u32)__builtin_bswap32(lu32(v64+4)); v35 = (u32)__builtin_bswap32(v104); v36 = (u32)__builtin_bswap32(lu32(v64+12)); goto L28;
+L27:
+	if (v67) { v54 = 8; goto L55; }
+	u32 v105 = lu32(v64+8);
+	v32 = v105; v33 = lu32(v64); v34 = lu32(v64+4); v35 = v105; v36 = lu32(v64+12);
+L28:;
+	u64 v106 = v65 - 16, v107 = (u64)v35, v108 = v107 + 16;
+	u8 v109 = v108 > v65;
+	if (v109) goto L29;
+	u8 v110 = pcap_damaged_behind_follows(v56, v2, at(v64, v108), v65 - v108);
+	if (v110) goto L53;
+L29:;
+	u32 v111 = !v68 ? 262144 : (v69 < 262144 ? v69 : 262144), v112 = v111 < v36 ? v111 : v36;
+	if (!v112) goto L31;
+	u64 v113 = (u64)v34;
+	if ((((v58 != 2712847316u) & (v58 != 3569595041u)) ? v113 : v113 * 1000) >= 1000000000) goto L31;
+	u64 v114 = (u64)v2, v115 = (u64)v33;
+	if (!(v115 + 86400 >= v114 && v114 + 86400 >= v115)) goto L31;
+	u64 v116 = (u64)(v112 + 16);
+	if (v65 < v116) goto L31;
+	u8 v117 = pcap_damaged_behind_follows(v56, v2, at(v64, v116), v65 - v116);
+	if (!v117) goto L31;
+	v37 = v112;
+L30:
+	st64(v5, 0);
+	st32(v6, v37);
+	v54 = 0; goto L55;
+L31:
+	if (v35 - 1 >= v111) goto L38;
+	u8 v118 = ((v58 == 2712847316u) | (v58 == 3569595041u) && v34 > 4294967) || (v36 > 262144) | (v36 < v35);
+	if (v118) goto L38;
+	u64 v119 = v106 < v107 ? v106 : v107;
+	if (!v106) goto L37;
+	v38 = 0;
+L32:;
+	ptr v120 = at(v64+16, v38);
+	u64 v121 = v106 - v38;
+	if (v121 < 24) goto L36;
+	switch ((u32)__builtin_bswap32(lu32(v120))) {
+	case 2712812621u: case 2712847316u: goto L33;
+	case 1295823521: case 3569595041u: goto L34;
+	default: goto L36;
+	}
+L33:
+	v39 = (u16)__builtin_bswap16(lu16(v120+4)); v40 = (u16)__builtin_bswap16(lu16(v120+6)); goto L35;
+L34:
+	v39 = lu16(v120+4); v40 = lu16(v120+6);
+L35:
+	if (v39 == 2 && v40 == 4) goto L38;
+L36:;
+	u8 v122 = pcap_damaged_row_is_row(v56, 1, v2, v120, v121, 2);
+	if (v122) goto L38;
+	u8 v123 = pcap_damaged_row_is_row(v56, 0, 0, v120, v121, 4);
+	if (v123) goto L38;
+	u64 v124 = v38 + 1;
+	if (v124 != v119) { v38 = v124; goto L32; }
+L37:
+	if (v109) { v54 = 8; goto L55; }
+	goto L53;
+L38:
+	switch (v58) {
+	case 2712847316u: case 2712812621u: goto L39;
+	default: goto L40;
+	}
+L39:
+	if (v67) { v54 = 8; goto L55; }
+	v41 = (u32)__builtin_bswap32(v32); goto L41;
+L40:
+	if (v67) { v54 = 8; goto L55; }
+	v41 = v32;
+L41:;
+	u64 v125 = v65 - 1, v126 = (u64)v41 + 15, v127 = v125 < v126 ? v125 : v126;
+	v42 = 0;
+L42:;
+	ptr v128 = at(v64+1, v42);
+	u64 v129 = v125 - v42;
+	if (v129 < 24) goto L46;
+	switch ((u32)__builtin_bswap32(lu32(v128))) {
+	case 2712812621u: case 2712847316u: goto L43;
+	case 1295823521: case 3569595041u: goto L44;
+	default: goto L46;
+	}
+L43:
+	v43 = (u16)__builtin_bswap16(lu16(v128+4)); v44 = (u16)__builtin_bswap16(lu16(v128+6)); goto L45;
+L44:
+	v43 = lu16(v128+4); v44 = lu16(v128+6);
+L45:
+	if (v43 == 2 && v44 == 4) goto L47;
+L46:;
+	u8 v130 = pcap_damaged_row_is_row(v56, 1, v2, v128, v129, 2);
+	if (v130) goto L47;
+	u8 v131 = pcap_damaged_row_is_row(v56, 0, 0, v128, v129, 4);
+	if (!v131) goto L48;
+L47:
+	st64(v5, v42 + 1);
+	st32(v6, 0);
+	v54 = 0; goto L55;
+L48:;
+	u64 v132 = v42 + 1;
+	if (v132 != v127) { v42 = v132; goto L42; }
+	if (v41) goto L53;
+	u64 v133 = (u64)v64;
+	u8 v134 = (v58 != 2712847316u) & (v58 != 3569595041u);
+	switch (v58) {
+	case 2712847316u: case 2712812621u: goto L49;
+	default: v48 = v133; v50 = v65; v49 = 4; goto L51;
+	}
+L49:
+	v45 = v133; v47 = v65; v46 = 4;
+L50:
+	pcap_tolerant_as_is_PacketAsIs_from_slice_4da0(v55, (ptr)v45, v47, v134, 0);
+	u64 v135 = ld64(v55+8), v136 = ld64(v55+16), v137 = ld64(v55+24), v138 = ld64(v55+32);
+	if (ld8(v55)) { v51 = v135; v52 = v136; v53 = v138; goto L52; }
+	if (!(v137 || v138)) { v54 = 8; goto L55; }
+	u64 v139 = v46 - 1;
+	if (!v136 || !v139) goto L53;
+	v45 = v135; v46 = v139; v47 = v136; goto L50;
+L51:
+	pcap_tolerant_as_is_PacketAsIs_from_slice_7f02(v55, (ptr)v48, v50, v134, 0);
+	u64 v140 = ld64(v55+8), v141 = ld64(v55+16), v142 = ld64(v55+24), v143 = ld64(v55+32);
+	if (ld8(v55)) { v51 = v140; v52 = v141; v53 = v143; goto L52; }
+	if (!(v142 || v143)) { v54 = 8; goto L55; }
+	u64 v144 = v49 - 1;
+	if (!v141 || !v144) goto L53;
+	v48 = v140; v49 = v144; v50 = v141; goto L51;
+L52:
+	if ((v51 & 255) != 4 || !v53) { v54 = 8; goto L55; }
+	deallocate((ptr)v52);
+	v54 = 8; goto L55;
+L53:
+	st64(v5, 0);
+	st32(v6, 0);
+	v54 = 0; goto L55;
+L54:
+	su32(v7, 1);
+	su32(v7+4, 0);
+	su64(v7+8, 0);
+	v54 = 3;
+L55:
+	return (int32_t)(v54);
 }
 int32_t pcapfile_skip_to_blocks(ptr v1, ptr v2, u8 v3, ptr v4, ptr v5, ptr v6) {
 	u64 v7, v8, v10, v11, v15, v16, v17, v18, v19, v20, v23, v25;

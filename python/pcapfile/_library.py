@@ -131,7 +131,7 @@ resync.argtypes = [_to(Header), _to(Bytes), ctypes.c_size_t, _to(ctypes.c_size_t
 resync.restype = ctypes.c_int32
 
 judge_packet = _library.pcapfile_judge_packet
-judge_packet.argtypes = [_to(Header), ctypes.c_uint32, _to(Bytes), ctypes.c_uint8, _to(ctypes.c_size_t), _to(Error)]
+judge_packet.argtypes = [_to(Header), ctypes.c_uint32, _to(Bytes), ctypes.c_uint8, _to(ctypes.c_size_t), _to(ctypes.c_uint32), _to(Error)]
 judge_packet.restype = ctypes.c_int32
 
 skip_to_packets = _library.pcapfile_skip_to_packets

@@ -23,6 +23,21 @@ def classic(*parts):
     return header() + b"".join(parts)
 
 
+class Few(io.RawIOBase):
+    """A stream that gives at most `most` bytes a read."""
+
+    def __init__(self, data, most):
+        self._data, self._most = io.BytesIO(data), most
+
+    def readable(self):
+        return True
+
+    def readinto(self, room):
+        data = self._data.read(min(len(room), self._most))
+        room[: len(data)] = data
+        return len(data)
+
+
 def p(data):
     return packet(1600000000, 5, data, len(data))
 
@@ -31,7 +46,22 @@ def e(data):
     return enhanced(0, 1, data)
 
 
+def stating(length, data, original=None):
+    """Returns a packet whose stored length is replaced by this one."""
+    record = packet(1600000000, 5, data, len(data) if original is None else original)
+    return record[:8] + length.to_bytes(4, "little") + record[12:]
+
+
 UNIFORM = [number.to_bytes(4, "little") + bytes(56) for number in range(600)]
+
+# Stored lengths that are wrong where the original one is right, and the rules that they break.
+WRONG = [
+    (2, ()),
+    (9, (Rule.INCLUDED_PAST_ORIGINAL,)),
+    (300000, (Rule.INCLUDED_TOO_LONG, Rule.INCLUDED_PAST_ORIGINAL)),
+    (1 << 24, (Rule.INCLUDED_TOO_LONG, Rule.INCLUDED_PAST_ORIGINAL)),
+    (0xFFFFFFFF, (Rule.INCLUDED_TOO_LONG, Rule.INCLUDED_PAST_ORIGINAL)),
+]
 
 # Captures, and what is found in them: the bytes of each packet, or a gap.
 CLASSIC = [
@@ -49,8 +79,8 @@ CLASSIC = [
     ),
     # Packets of one length. Beside their places they may seem to follow each other too.
     (
-        classic(*map(p, UNIFORM[:3]), packet(1600000000, 5, UNIFORM[3], 4000)[:8] + b"\xa0\x0f" + p(UNIFORM[3])[10:], *map(p, UNIFORM[4:])),
-        [*UNIFORM[:3], Gap(252, 76, Rule.INCLUDED_PAST_ORIGINAL, ""), *UNIFORM[4:]],
+        classic(*map(p, UNIFORM[:3]), stating(4000, UNIFORM[3]), *map(p, UNIFORM[4:])),
+        UNIFORM,
     ),
     # Packets without data, before a packet and before corrupt bytes.
     (classic(p(b"abc"), p(b""), p(b"d")), [b"abc", b"", b"d"]),
@@ -68,6 +98,7 @@ CLASSIC = [
         [b"abc", Gap(43, 18, None, "the stored length of the packet is wrong"), Gap(61, 24, None, "another capture begins"), b"x", b"y"],
     ),
 ]
+CLASSIC += [(classic(p(b"abc"), stating(length, b"abcdef"), p(b"g"), p(b"h")), [b"abc", b"abcdef", b"g", b"h"]) for length, _ in WRONG]
 AT = len(CAPTURE)
 BLOCKS = [
     (
@@ -99,6 +130,27 @@ def with_texts(wanted):
 
 
 class Gaps(unittest.TestCase):
+    def test_packets_of_wrong_lengths(self):
+        for length, flaws in WRONG:
+            for before, after in (([], [b"g", b"h"]), ([b"abc"], [b"g", b"h", b"i"]), ([b"abc"], [])):
+                data = classic(*map(p, before), stating(length, b"abcdef"), *map(p, after))
+                found, at = list(pcapfile.parse(data, strict=False)), len(before)
+                self.assertEqual([bytes(it.data) for it in found], [*before, b"abcdef", *after])
+                self.assertEqual([it.has_wrong_length for it in found], [index == at for index in range(len(found))])
+                self.assertEqual((found[at].flaws, found[at].original_length, found[at].seconds), (flaws, 6, 1600000000))
+
+    def test_no_length_is_right(self):
+        # The original length is wrong too, or it is that of another packet.
+        long, past = Rule.INCLUDED_TOO_LONG, Rule.INCLUDED_PAST_ORIGINAL
+        for length, original, rule in ((9, 8, past), (0xFFFFFFFF, 8, long), (0xFFFFFFFF, 0, long), (0xFFFFFFFF, 300000, long)):
+            for before in ([], [b"abc"]):
+                data = classic(*map(p, before), stating(length, b"abcdef", original), p(b"g"), p(b"h"), p(b"i"))
+                wanted = [*before, Gap(24 + 19 * len(before), 22, rule, rule.text), b"g", b"h", b"i"]
+                self.assertEqual([shown(it) for it in pcapfile.parse(data, strict=False, gaps=True)], wanted)
+                for most in (1, 8):
+                    with pcapfile.open(Few(data, most), strict=False, gaps=True) as capture:
+                        self.assertEqual([shown(it) for it in capture], wanted)
+
     def test_of_memory(self):
         for data, wanted in ALL:
             found = [shown(it) for it in pcapfile.parse(data, strict=False, gaps=True)]

@@ -26,6 +26,7 @@ fn numbers_of(error: Option<Error>) -> (i32, u32, usize) {
         Some(Error::Incomplete(missing)) => (1, 0, missing),
         Some(Error::BadValue) => (2, 0, 0),
         Some(Error::NotUtf8) => (4, 0, 0),
+        Some(Error::WrongLength) => (25, 0, 0),
         Some(error) => (3, error.rule().map_or(0, |rule| rule.number()), 0),
     }
 }

@@ -150,6 +150,7 @@ extern "C" {
         bytes: *const Bytes,
         is_all: u8,
         gap: *mut usize,
+        length: *mut u32,
         error: *mut Error,
     ) -> i32;
     #[cfg(feature = "std")]

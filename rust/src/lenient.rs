@@ -3,7 +3,7 @@
 use crate::blocks::{Block, Interface, Section};
 use crate::calls;
 use crate::packet::Source;
-use crate::{AnyPacket, BlockAsIs, Blocks, Capture, Error, Header, OwnedPacket, Reader, Time};
+use crate::{AnyPacket, BlockAsIs, Blocks, Capture, Error, Header, OwnedPacket, PacketAsIs, Reader, Time};
 use core::ops::Range;
 use std::io::{self, Read};
 use std::vec::Vec;
@@ -15,6 +15,10 @@ const CAPTURE_HEADER: usize = 24;
 /// The most bytes that a packet of a classic capture may store, unless another limit is set, and that a block may have, unless the limit is
 /// larger.
 const LIMIT: u32 = 1 << 24;
+/// The most bytes that a sound packet stores, and the least limit.
+const PACKET_LIMIT: u32 = 1 << 18;
+/// The most bytes from a packet on that can show its right length.
+const MOST_JUDGED: usize = 5 * (PACKET_HEADER + PACKET_LIMIT as usize);
 
 /// A part of a capture that has no packets: it is corrupt or truncated, or it is a packet's block whose body has no room for a packet.
 #[derive(Clone, Copy, Debug, PartialEq, Eq)]
@@ -33,11 +37,11 @@ pub struct Gap {
 #[derive(Clone, Copy, Debug, PartialEq, Eq)]
 #[non_exhaustive]
 pub enum Found<P> {
-    /// A packet, and its first flaw, by which strict reading refuses it. None if it has no flaw.
+    /// A packet, and its first flaw. None if it has no flaw.
     Packet {
         /// The packet.
         packet: P,
-        /// Why strict reading refuses it.
+        /// Why strict reading refuses it, or `Error::WrongLength` if its stored length is wrong and `packet` has the right one.
         flaw: Option<Error>,
     },
     /// A gap.
@@ -191,19 +195,45 @@ impl Walk {
 
     fn step_classic(&mut self, bytes: &[u8], is_end: bool) -> Step {
         let mut packets = Capture::at(self.header, bytes).as_is(self.limit);
-        let (found, seconds) = match packets.take_one() {
-            Ok(found) => found,
-            Err(Error::Incomplete(missing)) if !is_end => return Step::More(missing),
-            Err(error) => return Step::Corrupt(1, Some(error), false),
-        };
-        let used = bytes.len() - packets.rest().len();
-        let flaw = found.flaws.first().map(Error::Invalid);
-        match judge(&self.header, self.time.unwrap_or(seconds), bytes, is_end) {
-            Judged::Packet => {}
-            Judged::Gap(len) => return Step::Corrupt(len, flaw, true),
-            Judged::Corrupt => return Step::Corrupt(1, flaw, false),
-            Judged::Missing(missing) => return Step::More(missing),
+        match packets.take_one() {
+            Ok((found, seconds)) => {
+                let used = bytes.len() - packets.rest().len();
+                let flaw = found.flaws.first().map(Error::Invalid);
+                match judge(&self.header, self.time.unwrap_or(seconds), bytes, is_end) {
+                    Judged::Packet => self.packet(&found, seconds, used, flaw),
+                    Judged::Length(len) => self.packet(&found, seconds, PACKET_HEADER + len, Some(Error::WrongLength)),
+                    Judged::Gap(len) => Step::Corrupt(len, flaw, true),
+                    Judged::Corrupt => Step::Corrupt(1, flaw, false),
+                    Judged::Missing(missing) => Step::More(missing),
+                }
+            }
+            Err(Error::Incomplete(missing)) if !is_end => Step::More(missing),
+            Err(error) => self.step_refused(bytes, is_end, error),
         }
+    }
+
+    /// Takes a packet whose stored length was refused, if its original length or the snapshot length is right.
+    fn step_refused(&mut self, bytes: &[u8], is_end: bool, error: Error) -> Step {
+        let Some(mut head) = bytes.first_chunk::<PACKET_HEADER>().copied() else {
+            return Step::Corrupt(1, Some(error), false);
+        };
+        head[8..12].fill(0); // the stored length
+        let mut packets = Capture::at(self.header, &head).as_is(0);
+        let Ok((found, seconds)) = packets.take_one() else {
+            return Step::Corrupt(1, Some(error), false);
+        };
+        // The stored bytes are not all among these, so that the result does not depend on how many bytes have come.
+        let most = MOST_JUDGED.min(PACKET_HEADER + self.limit.max(PACKET_LIMIT) as usize);
+        let front = &bytes[..bytes.len().min(most)];
+        match judge(&self.header, self.time.unwrap_or(seconds), front, is_end && bytes.len() <= most) {
+            Judged::Length(len) => self.packet(&found, seconds, PACKET_HEADER + len, Some(Error::WrongLength)),
+            Judged::Missing(missing) if front.len() < most => Step::More(missing.min(most - front.len())),
+            _ => Step::Corrupt(1, Some(error), false),
+        }
+    }
+
+    /// Returns the packet with these numbers, which has `used` bytes with its header.
+    fn packet(&mut self, found: &PacketAsIs<'_>, seconds: u32, used: usize, flaw: Option<Error>) -> Step {
         self.time = Some(seconds);
         Step::Packet(Taken {
             used,
@@ -309,6 +339,8 @@ fn capture_at(bytes: &[u8]) -> Result<Option<Header>, usize> {
 /// What the library finds at the front of the bytes of a classic capture.
 enum Judged {
     Packet,
+    /// A packet with so many bytes of data. Its stored length is wrong.
+    Length(usize),
     /// So many corrupt bytes. Behind them packets go on.
     Gap(usize),
     Corrupt,
@@ -317,15 +349,16 @@ enum Judged {
 
 /// Finds out whether the packet at the front of these bytes can be trusted. `time` is that of the packet before.
 fn judge(header: &Header, time: u32, bytes: &[u8], is_all: bool) -> Judged {
-    let (mut gap, mut error) = (0, calls::Error::default());
+    let (mut gap, mut length, mut error) = (0, 0, calls::Error::default());
     // SAFETY: each pointer points to a value of its own, and the bytes are a slice's.
     let status = unsafe {
-        calls::pcapfile_judge_packet(header, time, &calls::Bytes::of(bytes), is_all.into(), &mut gap, &mut error)
+        calls::pcapfile_judge_packet(header, time, &calls::Bytes::of(bytes), is_all.into(), &mut gap, &mut length, &mut error)
     };
-    match (status, gap) {
-        (0, 0) => Judged::Packet,
-        (0, _) => Judged::Gap(gap),
-        (1, _) => Judged::Missing(error.missing),
+    match (status, gap, length) {
+        (0, 0, 0) => Judged::Packet,
+        (0, 0, _) => Judged::Length(length as usize),
+        (0, _, _) => Judged::Gap(gap),
+        (1, _, _) => Judged::Missing(error.missing),
         _ => Judged::Corrupt,
     }
 }
@@ -348,9 +381,10 @@ fn judge(header: &Header, time: u32, bytes: &[u8], is_all: bool) -> Judged {
 /// # Ok::<(), pcapfile::Error>(())
 /// ```
 ///
-/// Packets that break a rule are returned with it. A packet of a classic capture is a gap if its length is wrong: no packet within a day
-/// follows it, nor do four near each other, and packets go on inside it or where its original length ends. So are a packet without data
-/// that none follows, and the header of another capture, by which the packets after it are read.
+/// Packets that break a rule are returned with it. A packet of a classic capture has its stored length if a packet within a day follows it,
+/// or four near each other do. Otherwise the reader tries its original length, or the snapshot length if that is less. If packets go on
+/// there, the packet has that length and the flaw `Error::WrongLength`. If they go on inside its data, the bytes before them are a gap.
+/// So are a packet without data that none follows, and the header of another capture, by which the packets after it are read.
 ///
 /// Where reading goes on after corrupt bytes is a guess, since corrupt bytes may look like packets: two packets with data and without a flaw
 /// follow each other there within a day of the last packet, or four within a day of each other, or two blocks, or fewer to the end. A block

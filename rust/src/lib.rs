@@ -135,6 +135,9 @@ pub enum Error {
     NotUtf8,
     /// An allocation failed.
     NoMemory,
+    /// The stored length of a packet is wrong, though it may break no rule. Lenient reading gives the packet its original length, or the
+    /// snapshot length if that is less.
+    WrongLength,
 }
 
 impl Error {
@@ -179,6 +182,7 @@ impl fmt::Display for Error {
             Error::BadValue => f.write_str("a value in a block is too short"),
             Error::NotUtf8 => f.write_str("a string in a block is not UTF-8"),
             Error::NoMemory => f.write_str("memory was refused"),
+            Error::WrongLength => f.write_str("the stored length of the packet is wrong"),
         }
     }
 }

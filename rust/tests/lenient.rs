@@ -137,7 +137,6 @@ fn a_wrong_length_hides_no_packets() {
     assert_found(&bytes, &[Seen::Gap(24, 22, None), data(b"gh"), data(b"i"), data(b"j"), data(b"k")]);
 }
 
-/// A gap may be longer than everything that is read at once.
 /// A byte or more beside their places, packets of one length may seem to follow each other too.
 #[test]
 fn a_wrong_length_hides_no_packets_of_one_length() {
@@ -145,8 +144,48 @@ fn a_wrong_length_hides_no_packets_of_one_length() {
     let mut bytes = [HEADER, &packets.concat()].concat();
     bytes[24 + 3 * 76 + 8..][..4].copy_from_slice(&4000u32.to_le_bytes());
     let mut wanted: Vec<_> = packets.iter().map(|it| data(&it[16..])).collect();
-    wanted[3] = Seen::Gap(24 + 3 * 76, 76, Some(Error::Invalid(Rule::IncludedPastOriginal)));
+    wanted[3] = Seen::Data(packets[3][16..].to_vec(), Some(Error::WrongLength));
     assert_found(&bytes, &wanted);
+}
+
+/// A packet whose stored length is wrong gets its original length, if the next packet is there, or the capture ends there.
+#[test]
+fn a_packet_gets_its_original_length() {
+    for stored in [2u32, 9, 300_000, 1 << 24, u32::MAX] {
+        let mut wrong = packet(b"abcdef");
+        wrong[8..12].copy_from_slice(&stored.to_le_bytes());
+        let seen = Seen::Data(b"abcdef".to_vec(), Some(Error::WrongLength));
+        let bytes = [HEADER, &packet(b"abc"), &wrong, &packet(b"g"), &packet(b"h")].concat();
+        assert_found(&bytes, &[data(b"abc"), seen.clone(), data(b"g"), data(b"h")]);
+        assert_found(&[HEADER, &wrong, &packet(b"g"), &packet(b"h")].concat(), &[seen.clone(), data(b"g"), data(b"h")]);
+        assert_found(&[HEADER, &packet(b"abc"), &wrong].concat(), &[data(b"abc"), seen]);
+    }
+}
+
+/// If the original length is wrong too, the packet is a gap.
+#[test]
+fn a_packet_without_a_right_length_is_a_gap() {
+    for original in [8u32, 0, 262_145] {
+        let mut wrong = packet(b"abcdef");
+        wrong[8..12].fill(0xff);
+        wrong[12..16].copy_from_slice(&original.to_le_bytes());
+        let bytes = [HEADER, &packet(b"abc"), &wrong, &packet(b"g"), &packet(b"h"), &packet(b"i")].concat();
+        let gap = Seen::Gap(43, 22, Some(Error::Invalid(Rule::IncludedTooLong)));
+        assert_found(&bytes, &[data(b"abc"), gap, data(b"g"), data(b"h"), data(b"i")]);
+        let bytes = [HEADER, &wrong, &packet(b"g"), &packet(b"h"), &packet(b"i")].concat();
+        let gap = Seen::Gap(24, 22, Some(Error::Invalid(Rule::IncludedTooLong)));
+        assert_found(&bytes, &[gap, data(b"g"), data(b"h"), data(b"i")]);
+    }
+}
+
+/// A packet of more than 262144 bytes keeps its stored length, also if packets seem to go on where the snapshot length ends.
+#[test]
+fn a_long_packet_keeps_its_length() {
+    let mut long = packet(&vec![0; 300_000]);
+    let inside = packet(b"xyz").repeat(5);
+    long[16 + 65535..][..inside.len()].copy_from_slice(&inside);
+    let seen = Seen::Data(long[16..].to_vec(), Some(Error::Invalid(Rule::IncludedTooLong)));
+    assert_found(&[HEADER, &long, &packet(b"g"), &packet(b"h")].concat(), &[seen, data(b"g"), data(b"h")]);
 }
 
 #[test]
@@ -157,6 +196,7 @@ fn a_packet_without_data_that_none_follows_is_corrupt() {
     assert_found(&bytes, &[data(b"abc"), Seen::Gap(43, 57, None), data(b"d")]);
 }
 
+/// A gap may be longer than everything that is read at once.
 #[test]
 fn a_long_gap_is_one_gap() {
     let corrupt = vec![0xee; 5_000_000];

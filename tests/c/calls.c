@@ -195,6 +195,60 @@ static void resyncs(void) {
     EXPECT(error.rule == PCAPFILE_RULE_CAPTURE_MAGIC && error.missing == 0);
 }
 
+/* Checks wrong lengths of the first of three packets: the original one is right, or the next packets are inside. */
+static void judges_lengths(const pcapfile_header *header, pcapfile_bytes *all) {
+    uint8_t bytes[3 * 19];
+    pcapfile_bytes changed = { bytes, sizeof bytes };
+    pcapfile_error error = PCAPFILE_ERROR_INIT;
+    size_t gap = 99;
+    uint32_t length = 98;
+    memcpy(bytes, all->ptr, sizeof bytes);
+    bytes[8] = 4;
+    bytes[12] = 3;
+    EXPECT(pcapfile_judge_packet(header, 7, &changed, 1, &gap, &length, &error) == PCAPFILE_OK && gap == 0 && length == 3);
+    memset(bytes + 8, 0xff, 4);
+    EXPECT(pcapfile_judge_packet(header, 7, &changed, 1, &gap, &length, &error) == PCAPFILE_OK && gap == 0 && length == 3);
+    /* Bytes of a stored length above the limit are not needed. Those behind the original length are, and the end of a piece is no end. */
+    length = 98;
+    changed.len = 19 + 16;
+    EXPECT(pcapfile_judge_packet(header, 7, &changed, 0, &gap, &length, &error) == PCAPFILE_OK && gap == 0 && length == 3);
+    gap = length = 98;
+    changed.len = 19 + 15;
+    EXPECT(pcapfile_judge_packet(header, 7, &changed, 0, &gap, &length, &error) == PCAPFILE_INCOMPLETE && error.missing == 1);
+    changed.len = 19;
+    EXPECT(pcapfile_judge_packet(header, 7, &changed, 0, &gap, &length, &error) == PCAPFILE_INCOMPLETE && error.missing == 16);
+    EXPECT(gap == 98 && length == 98);
+    EXPECT(pcapfile_judge_packet(header, 7, &changed, 1, &gap, &length, &error) == PCAPFILE_OK && gap == 0 && length == 3);
+    /* The next packet is far in time. */
+    bytes[19 + 3] = 0x7f;
+    gap = length = 98;
+    changed.len = sizeof bytes;
+    EXPECT(pcapfile_judge_packet(header, 7, &changed, 0, &gap, &length, &error) == PCAPFILE_INCOMPLETE && gap == 98 && length == 98);
+    EXPECT(error.missing == 3 + 4 * (16 + 262144) - (changed.len - 16));
+    bytes[19 + 3] = 0;
+    bytes[12] = 5;
+    EXPECT(pcapfile_judge_packet(header, 7, &changed, 1, &gap, &length, &error) == PCAPFILE_OK && gap == 19 && length == 0);
+}
+
+/* Checks a packet above 262144 bytes that contains packets behind the snapshot length. Its stored length is right. */
+static void judges_a_long_packet(void) {
+    static uint8_t bytes[16 + 300000 + 19];
+    pcapfile_bytes all = { bytes, sizeof bytes };
+    pcapfile_header header = { 0xd4c3b2a1, 2, 4, 0, 0, 96, 1 };
+    pcapfile_error error = PCAPFILE_ERROR_INIT;
+    size_t gap = 99;
+    uint32_t length = 98;
+    const uint8_t long_length[] = { 0xe0, 0x93, 4, 0, 0xe0, 0x93, 4, 0 };
+    memcpy(bytes, capture + 24, 8);
+    memcpy(bytes + 8, long_length, 8);
+    for (size_t at = 16 + 96; at < 16 + 96 + 5 * 19; at += 19) memcpy(bytes + at, capture + 24, 19);
+    memcpy(bytes + sizeof bytes - 19, capture + 24, 19);
+    EXPECT(pcapfile_judge_packet(&header, 7, &all, 1, &gap, &length, &error) == PCAPFILE_OK && gap == 0 && length == 0);
+    gap = length = 99;
+    all.len -= 3;
+    EXPECT(pcapfile_judge_packet(&header, 7, &all, 0, &gap, &length, &error) == PCAPFILE_OK && gap == 0 && length == 0);
+}
+
 /* Checks what is at the front of three packets of a damaged capture, in pieces and as a whole. */
 static void judges(void) {
     uint8_t bytes[3 * 19], zeros[40] = { 0 };
@@ -202,36 +256,32 @@ static void judges(void) {
     pcapfile_header header = { 0xd4c3b2a1, 2, 4, 0, 0, 65535, 1 };
     pcapfile_error error = PCAPFILE_ERROR_INIT;
     size_t gap = 99;
+    uint32_t length = 98;
     for (size_t at = 0; at < sizeof bytes; at += 19) memcpy(bytes + at, capture + 24, 19);
     all.len = 15;
-    EXPECT(pcapfile_judge_packet(&header, 7, &all, 0, &gap, &error) == PCAPFILE_INCOMPLETE && error.missing == 1);
+    EXPECT(pcapfile_judge_packet(&header, 7, &all, 0, &gap, &length, &error) == PCAPFILE_INCOMPLETE && error.missing == 1);
     all.len = 19;
-    EXPECT(pcapfile_judge_packet(&header, 7, &all, 0, &gap, &error) == PCAPFILE_INCOMPLETE && error.missing == 16);
-    EXPECT(gap == 99 && error.rule == 0);
-    EXPECT(pcapfile_judge_packet(&header, 7, &all, 1, &gap, &error) == PCAPFILE_OK && gap == 0);
-    all.len = gap = 35;
-    EXPECT(pcapfile_judge_packet(&header, 7, &all, 0, &gap, &error) == PCAPFILE_OK && gap == 0);
+    EXPECT(pcapfile_judge_packet(&header, 7, &all, 0, &gap, &length, &error) == PCAPFILE_INCOMPLETE && error.missing == 16);
+    EXPECT(gap == 99 && length == 98 && error.rule == 0);
+    EXPECT(pcapfile_judge_packet(&header, 7, &all, 1, &gap, &length, &error) == PCAPFILE_OK && gap == 0 && length == 0);
+    all.len = gap = length = 35;
+    EXPECT(pcapfile_judge_packet(&header, 7, &all, 0, &gap, &length, &error) == PCAPFILE_OK && gap == 0 && length == 0);
     all.len = sizeof bytes;
     /* Behind the head of a packet at another time, the bytes of four packets are needed. */
-    EXPECT(pcapfile_judge_packet(&header, 86408, &all, 0, &gap, &error) == PCAPFILE_INCOMPLETE);
+    EXPECT(pcapfile_judge_packet(&header, 86408, &all, 0, &gap, &length, &error) == PCAPFILE_INCOMPLETE);
     EXPECT(error.missing == 3 + 4 * (16 + 262144) - (sizeof bytes - 16));
-    EXPECT(pcapfile_judge_packet(&header, 86407, &all, 0, &gap, &error) == PCAPFILE_OK && gap == 0);
-    /* The length is wrong: the original one is right, or the next packets are inside. */
-    memset(bytes + 8, 0xff, 4);
-    bytes[12] = 3;
-    EXPECT(pcapfile_judge_packet(&header, 7, &all, 1, &gap, &error) == PCAPFILE_OK && gap == 19);
-    bytes[12] = 5;
-    gap = 99;
-    EXPECT(pcapfile_judge_packet(&header, 7, &all, 1, &gap, &error) == PCAPFILE_OK && gap == 19);
-    EXPECT(pcapfile_judge_packet(&header, 7, &none, 1, &gap, &error) == PCAPFILE_NOTHING && gap == 19);
+    EXPECT(pcapfile_judge_packet(&header, 86407, &all, 0, &gap, &length, &error) == PCAPFILE_OK && gap == 0 && length == 0);
+    judges_lengths(&header, &all);
+    EXPECT(pcapfile_judge_packet(&header, 7, &none, 1, &gap, &length, &error) == PCAPFILE_NOTHING && gap == 0 && length == 0);
     /* A packet without data, far from the next ones in time, and without them. */
     zeros[0] = 1;
-    EXPECT(pcapfile_judge_packet(&header, 7, &none, 1, &gap, &error) == PCAPFILE_NOTHING && gap == 19);
+    EXPECT(pcapfile_judge_packet(&header, 7, &none, 1, &gap, &length, &error) == PCAPFILE_NOTHING && gap == 0 && length == 0);
     zeros[16 + 2] = 9;
     none.len = 32;
-    EXPECT(pcapfile_judge_packet(&header, 7, &none, 1, &gap, &error) == PCAPFILE_OK && gap == 0);
+    EXPECT(pcapfile_judge_packet(&header, 7, &none, 1, &gap, &length, &error) == PCAPFILE_OK && gap == 0 && length == 0);
     header.magic_number = 7;
-    EXPECT(pcapfile_judge_packet(&header, 7, &all, 1, &gap, &error) == PCAPFILE_INVALID && gap == 0);
+    gap = length = 99;
+    EXPECT(pcapfile_judge_packet(&header, 7, &all, 1, &gap, &length, &error) == PCAPFILE_INVALID && gap == 99 && length == 99);
     EXPECT(error.rule == PCAPFILE_RULE_CAPTURE_MAGIC && error.missing == 0);
 }
 
@@ -896,6 +946,7 @@ int main(void) {
     blocks_as_is();
     resyncs();
     judges();
+    judges_a_long_packet();
     skips_to_packets();
     skips_in_windows();
     skips_to_blocks();

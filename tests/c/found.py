@@ -10,6 +10,9 @@ import sys
 
 import pcapfile
 
+# The status of a packet whose stored length is wrong.
+WRONG_LENGTH = 25
+
 
 class Pieces(io.RawIOBase):
     """A stream that gives few bytes a read."""
@@ -55,6 +58,8 @@ def line_of(packet, data):
         status, rule, missing = gap_numbers(packet)
         return f"gap {packet.offset} {packet.length} {status} {rule} {missing}"
     status, rule = flaw_numbers(packet.flaws[0]) if packet.flaws else (0, 0)
+    if packet.has_wrong_length:
+        status, rule = WRONG_LENGTH, 0
     if is_unread(packet):
         return f"gap {packet.offset - 8} {block_length(data, packet.offset - 8)} {status} {rule} 0"
     time = "none" if packet.seconds is None else f"{packet.seconds}.{packet.nanoseconds:09}"

@@ -6,7 +6,8 @@ in a file as `open -l` of tests/c/open.c does, or, if it begins with python3, in
 
 The script adds N captures without damage whose blocks have flaws.
 
-- Gaps and packets must follow each other, and a sound capture must have all packets and no gap.
+- Gaps and packets must follow each other, and a sound capture must have all packets and no gap. So must a classic one with one wrong
+  length.
 - All packets that the damage does not reach, and whose next packet it does not reach either, must be there.
 - Where PROGRAM, the built pcapfile, skips exactly the bytes of the gaps and changes nothing, `list --as-is` must have the same packets.
 - Over all captures whose beginning is known, 98 of 100 packets that exist must be there, and at most 1 of 100 others.
@@ -33,6 +34,8 @@ PACKETS = 100
 # Kinds whose captures have no beginning that lenient reading knows.
 WITHOUT_BEGINNING = {"header lost", "section header lost", "LF to CRLF", "interface lost"}
 LEAST, MOST_OTHERS = 0.98, 0.01
+# The kind of captures whose packets have one length, with a wrong length of one of them.
+UNIFORM = "packets of one length"
 
 # A gap that C reports as too long.
 TOO_LONG = re.compile(r"(gap \d+ \d+) 17 0 0")
@@ -94,7 +97,7 @@ def uniform(seed, order, is_blocks):
 def samples(asked):
     made = [(kind, number, *drawn(kind, number, asked.seed)) for kind in [*KINDS, "none"] for number in range(asked.count)]
     for number, (order, is_blocks) in enumerate(itertools.product("<>", (False, True))):
-        made.append(("packets of one length", number, *uniform(asked.seed, order, is_blocks)))
+        made.append((UNIFORM, number, *uniform(asked.seed, order, is_blocks)))
     for kind, number, sound, damaged in made:
         path = os.path.join(asked.folder, f"{kind} {number}".replace(" ", "_"))
         with open(path, "wb") as file:
@@ -184,6 +187,8 @@ def faults_of(sample, lines, program):
     gaps = gaps_in(lines)
     if sample.kind == "none" and (gaps or len(found) != len(wanted)):
         faults.append("a sound capture has gaps")
+    if sample.kind == UNIFORM and not sample.sound.is_blocks and found != [row_of(packet) for packet in sample.sound.packets]:
+        faults.append("the packet of a wrong length is lost")
     if any(begin + length > after for (begin, length), (after, _) in zip(gaps, gaps[1:])):
         faults.append("gaps overlap")
     listed, skipped = program_says(program, sample.path)

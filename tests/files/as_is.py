@@ -797,6 +797,9 @@ def gaps():
         size = 2097152 - 524320 + draw.randrange(-300, 66000)
         yield f"a gap of {size} bytes", whole + b"\xff" * size + capture_of("<", 0xA1B2C3D4, long)[24:] + whole[24:]
     yield "two gaps", whole + b"\xff" * 2621440 + whole[24:] + b"\xff" * 77 + whole[24:]
+    for size in (30, 2097152, 3000000):
+        few, more = (capture_of("<", 0xA1B2C3D4, of_random_times(seed, 40, (1, 60, 300))) for seed in (37, 38))
+        yield f"a gap of {size} bytes between packets of random times", few + b"\xff" * size + more[24:]
 
 
 def ran(tally, folder, *words, given=b""):
@@ -868,12 +871,16 @@ def try_by_hand(tally, help):
         )
 
 
+# Captures of thousands of random times and lengths: where the first repair changed lengths, the second one may find other packets.
+DRIFTING = ("3000 packets, little a1b2c3d4", "3000 packets, big a1b23c4d")
+
+
 def try_repairs(tally, help):
-    """Repairs each capture into a file and through pipes, and checks that a second repair changes nothing."""
+    """Repairs each capture into a file and through pipes, and checks what a second repair does, which hardly ever changes anything."""
     for name, capture in (*captures(), *gaps()):
         out, said, status = repaired("in", capture)
         wanted = {"in": capture, "out": b"old" if out is None else out}
-        _, said_again, status_again = repaired("out", out or b"")
+        out_again, said_again, status_again = repaired("out", out or b"")
         with tempfile.TemporaryDirectory() as folder:
             help.put(folder, "in", capture)
             help.put(folder, "out", b"old")
@@ -888,13 +895,23 @@ def try_repairs(tally, help):
             ended != (status, b"", said) and f"it gave {str(ended)[-300:]}, and not {str((status, said))[-300:]}",
             left != wanted and f"it left {sorted(left)}, and not the capture of {len(out or b'')} bytes",
             piped != (status, out or b"", said.replace("pcapfile: in: ", "pcapfile: -: ")) and f"through pipes it gave {str(piped)[-300:]}",
-            out is not None and (again != (status_again, out, said_again) or check[0] != DONE) and f"again it gave {str(again)[-300:]}, and {check}",
+            out is not None and (again != (status_again, out_again, said_again) or check[0] != DONE) and f"again it gave {str(again)[-300:]}, and {check}",
+            name not in DRIFTING and out_again != out and "a second repair changes it",
         )
+
+
+def of_random_times(seed, count, sizes=(0, 0, 1, 60, 300)):
+    """Returns packets without a flaw of these sizes, whose times are mostly more than a day apart."""
+    draw = random.Random(seed)
+    sizes = draw.choices(sizes, k=count)
+    return [((draw.randrange(1, 1 << 31), k, size, size), bytes([k % 255 + 1]) * size) for k, size in enumerate(sizes)]
 
 
 def sound():
     """Yields packets that break no rule, with their names and the snapshot length of their capture."""
     yield "sound packets", 65535, [((1700000000 + k, k % 1000000, k % 90, k % 90 + k % 3), bytes(k % 90)) for k in range(2000)]
+    for seed, count in ((34, 5), (35, 60), (36, 1000)):
+        yield f"{count} packets of random times", 65535, of_random_times(seed, count)
     jumps = {"a jump": lambda k: -k // 20, "a jump before the last": lambda k: k // 39, "a jump before two": lambda k: k // 38, "jumps everywhere": lambda k: k % 7 * 2}
     for (name, days), size in itertools.product(jumps.items(), (60, 200)):
         sizes = [size if k < 20 else 200 for k in range(40)]

@@ -5,6 +5,10 @@ import struct
 LONGEST, DAY, BILLION = 262144, 86400, 10**9
 # The longest packet that is usual on networks, and how many packets must stand behind one whose time is far from the one before.
 USUAL, BEHIND = 1518, 3
+# How many packets must follow each other by their lengths, and how many of those without a flaw behind corrupt bytes.
+BY_LENGTH, BY_RULES = 4, 3
+# How many bytes are searched at once, and the most bytes of four packets that break no rule.
+WINDOW, ROW = 2097152, 4 * (16 + LONGEST)
 STANDS, LENGTH, WRONG, SHORT = range(4)
 MAGICS = {0xA1B2C3D4: 1000, 0xA1B23C4D: 1}
 HEADERS = [struct.pack(order + "IHH", magic, 2, 4) for magic in MAGICS for order in "<>"]
@@ -87,7 +91,8 @@ class Reading:
             return SHORT
         if self.ends_well(at, head.stored, time):
             return STANDS
-        if self.can_be(head, head.wire, time) and self.ends_well(at, head.wire, time):
+        whole = min(head.wire, self.limit)
+        if self.can_be(head, whole, time) and self.ends_well(at, whole, time):
             return LENGTH
         if self.is_opposed(at, head, time):
             return WRONG
@@ -162,7 +167,7 @@ class Reading:
         if weight == SHORT:
             return None, None, None
         if weight == LENGTH:
-            return head.wire, True, False
+            return min(head.wire, self.limit), True, head.wire > LONGEST
         if weight == STANDS:
             if self.ends_well(at, head.stored, time):
                 is_zero = is_doubted and not any(vars(head).values())
@@ -178,7 +183,33 @@ class Reading:
                 return size, is_confirmed, False
         if self.can_be(head, head.stored, time) and self.is_misstated(at + 16 + head.stored, time):
             return head.stored, True, False
-        return self.whole_length(at, time) or self.size_by_search(at, head, time, before)
+        if whole := self.whole_length(at, time):
+            return whole
+        if self.is_row_by_length(at) and self.first(at + 16, at + 16 + head.stored, time) is None:
+            return head.stored, False, False
+        return self.size_by_search(at, head, time, before)
+
+    def is_row_by_length(self, at):
+        """Returns whether four packets follow each other by their stored lengths, or fewer, at least one, to the end, and no head is zeros."""
+        for _ in range(BY_LENGTH):
+            head = self.head(at)
+            if not head or head.stored > LONGEST or not any(vars(head).values()):
+                return False
+            at += 16 + head.stored
+            if at >= len(self.capture):
+                return at == len(self.capture)
+        return True
+
+    def is_row_by_rules(self, at, end):
+        """Returns whether three packets with data and without a flaw follow each other, or fewer, at least one, up to this end."""
+        for _ in range(BY_RULES):
+            head = self.head(at)
+            if not head or self.breaks_a_rule(head) or head.stored == 0 or at + 16 + head.stored > end:
+                return False
+            at += 16 + head.stored
+            if at == end:
+                return True
+        return True
 
     def size_by_search(self, at, head, time, before):
         """Returns the same if neither the stored length is right nor the original one."""
@@ -188,5 +219,15 @@ class Reading:
         return None, self.corrupt_until(at, before), None
 
     def corrupt_until(self, at, time):
-        found = self.first(at + 1, len(self.capture), time)
-        return len(self.capture) if found is None else found
+        """Returns where packets go on after corrupt bytes at this offset: by their times, or if those say nothing in a window, by the rules."""
+        start, last = at + 1, len(self.capture)
+        while True:
+            end, is_all = min(start + WINDOW, last), last - start < WINDOW
+            bound = end if is_all else end - ROW
+            found = self.first(start, bound, time)
+            if found is None:
+                places = (it.start() for it in MAY_GO_ON[self.order].finditer(self.capture, start, min(bound + 12, last)))
+                found = next((place for place in places if place < bound and self.is_row_by_rules(place, end)), None)
+            if found is not None or is_all:
+                return last if found is None else found
+            start = bound

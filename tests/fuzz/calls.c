@@ -153,8 +153,10 @@ static void classic(pcapfile_bytes capture) {
     uint8_t is_all = (uint8_t)below(3), is_over = 9;
     CALL(status, pcapfile_skip_to_packets(&header, time, &left, is_all, &skipped, &is_over, &error));
     skips(status, &left, skipped, is_over);
-    CALL(status, pcapfile_judge_packet(&header, time, &left, is_all, &gap, &error));
-    EXPECT(status == PCAPFILE_OK ? gap <= left.len : gap == SIZE_MAX);
+    uint32_t right = UINT32_MAX;
+    CALL(status, pcapfile_judge_packet(&header, time, &left, is_all, &gap, &right, &error));
+    EXPECT(status == PCAPFILE_OK ? gap <= left.len : gap == SIZE_MAX && right == UINT32_MAX);
+    EXPECT(status != PCAPFILE_OK || right == 0 || (gap == 0 && right <= left.len && left.len - right >= 16));
     EXPECT(status != PCAPFILE_INCOMPLETE || (is_all == 0 && error.missing > 0));
 }
 

@@ -1,3 +1,4 @@
 mod Texts
 mod Rows
-mod Judging
+pub mod Judging
+mod ByLength

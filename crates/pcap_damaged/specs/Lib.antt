@@ -1,4 +1,5 @@
 pub mod Heads
 pub mod Plausible
 pub mod Weighed
+pub mod Lengths
 pub mod Judged

@@ -1,5 +1,5 @@
 -- What a packet's head is worth, by the bytes behind it.
-use Rattle.std.specs.Prelude.{◌≡◌, ◌<◌, ◌≤◌, ◌+◌, ◌⊎◌, ℕ, List, length, drop, true}
+use Rattle.std.specs.Prelude.{◌≡◌, ◌<◌, ◌≤◌, ◌+◌, ◌⊎◌, ℕ, List, length, drop, min, true}
 use Rattle.pcap_classic.specs.declared.pcap.header.PcapHeader.{PcapHeader}
 use Rattle.pcap_classic.specs.Magic.{order_of, resolution_of}
 use Rattle.pcap_classic.specs.PacketText.{packet_limit, Head, RecordHeadText, nanoseconds}
@@ -27,10 +27,14 @@ pub record CanBe (header : PcapHeader) (time : ℕ) (head : Head) (n : ℕ) : Ty
   pub near : Near time head.seconds
   pub original : (n ≤ head.original) ⊎ (packet_limit < head.original)
 
--- The original length is the stored one: it ends well, and it can be the length.
-pub record OriginalEndsWell (header : PcapHeader) (time : ℕ) (head : Head) (s : List ℕ) : Type 0 where
-  pub can : CanBe header time head head.original
-  pub ends : EndsWell header time head.original s
+-- The length of the whole packet of this head, or of as much of it as its capture stores.
+abbrev pub whole_length : PcapHeader → Head → ℕ
+whole_length header head = min head.original (stored_limit header)
+
+-- The data have this length: it ends well, and it can be the length.
+pub record WholeEndsWell (header : PcapHeader) (time : ℕ) (head : Head) (s : List ℕ) : Type 0 where
+  pub can : CanBe header time head (whole_length header head)
+  pub ends : EndsWell header time (whole_length header head) s
 
 -- Packets go on inside the data that the head claims.
 abbrev pub GoesOnWithin : PcapHeader → ℕ → ℕ → List ℕ → Type 0
@@ -40,10 +44,10 @@ GoesOnWithin header time n bytes = (m : ℕ) × (m < n) × (m < length bytes) ×
 abbrev pub Opposed : PcapHeader → ℕ → Head → List ℕ → Type 0
 Opposed header time head bytes = Doubtful header head ⊎ GoesOnWithin header time head.included bytes
 
--- The stored length does not end well, nor does the original one.
+-- The stored length does not end well, nor does that of the whole packet.
 pub record EndsNowhere (header : PcapHeader) (time : ℕ) (head : Head) (s : List ℕ) : Type 0 where
   pub stored : EndsWell header time head.included s → ⊥
-  pub original : OriginalEndsWell header time head s → ⊥
+  pub whole : WholeEndsWell header time head s → ⊥
 
 -- Nothing shows where the packet ends, and nothing opposes its head.
 pub record Unopposed (header : PcapHeader) (time : ℕ) (head : Head) (s bytes : List ℕ) : Type 0 where
@@ -53,7 +57,7 @@ pub record Unopposed (header : PcapHeader) (time : ℕ) (head : Head) (s bytes :
 -- The weight of the head of `s`, behind which these bytes follow.
 abbrev pub IsWeight : PcapHeader → ℕ → Head → List ℕ → List ℕ → Weight → Type 0
 IsWeight header time head s bytes Stands = EndsWell header time head.included s ⊎ (Unopposed header time head s bytes × (16 + head.included ≤ length s))
-IsWeight header time head s bytes (Length n) = (EndsWell header time head.included s → ⊥) × OriginalEndsWell header time head s × (n ≡ head.original)
+IsWeight header time head s bytes (Length n) = (EndsWell header time head.included s → ⊥) × WholeEndsWell header time head s × (n ≡ whole_length header head)
 IsWeight header time head s bytes Wrong = EndsNowhere header time head s × Opposed header time head bytes
 IsWeight header time head s bytes Short = Unopposed header time head s bytes × (length s < 16 + head.included)
 

@@ -8,6 +8,7 @@
 mod behind;
 mod heads;
 mod judged;
+mod lengths;
 mod row;
 mod scrap;
 mod search;
@@ -16,6 +17,7 @@ mod weight;
 pub use behind::{begins_near, follows};
 pub use heads::{NEAR, Numbers, begins_capture, head_at};
 pub use judged::{Judged, judge};
+pub use lengths::follow_by_length;
 pub use scrap::{LeftOut, Scrap};
-pub use search::resync;
+pub use search::{first_packets, resync};
 pub use weight::{Weight, can_be_this_long, weigh};

@@ -3,7 +3,7 @@
 ghost use Rattle.std.specs.Prelude.{◌≡◌, ◌↔◌, IsTrue};
 ghost use Rattle.pcap_classic.specs.Parser.{header_of};
 ghost use Rattle.pcap_damaged.specs.Heads.{head_in};
-ghost use Rattle.pcap_damaged.specs.Weighed.{CanBe, Doubtful, EndsWell, GoesOnWithin, HeadCanBe, Opposed, OriginalEndsWell, Weighs};
+ghost use Rattle.pcap_damaged.specs.Weighed.{CanBe, Doubtful, EndsWell, GoesOnWithin, HeadCanBe, Opposed, Weighs, WholeEndsWell, whole_length};
 
 use crate::behind::follows;
 use crate::heads::{Numbers, breaks_a_rule, head_at, is_near, limit_of, nanos_of};
@@ -15,7 +15,7 @@ use pcap_classic::pcap::{PACKET_LIMIT, PcapParser};
 pub enum Weight {
     /// The packet is there with its stored length.
     Stands,
-    /// The stored length is wrong, and the packet has this many bytes: its original length.
+    /// The stored length is wrong, and the packet has this many bytes: its original length, or as many as the capture stores.
     Length(u32),
     /// There is no packet of the stored length.
     Wrong,
@@ -41,7 +41,7 @@ fn is_doubtful(parser: &PcapParser, head: Numbers) -> bool
 }
 
 // Returns whether a packet of this head may have `n` bytes of data.
-fn can_be(parser: &PcapParser, time: u32, head: Numbers, n: u32) -> bool
+pub(crate) fn can_be(parser: &PcapParser, time: u32, head: Numbers, n: u32) -> bool
     ensures { IsTrue result ↔ CanBe (header_of parser.now) time (head_in head) n }
 {
     n > 0
@@ -51,11 +51,19 @@ fn can_be(parser: &PcapParser, time: u32, head: Numbers, n: u32) -> bool
         && (n <= head.original || head.original > PACKET_LIMIT)
 }
 
-// Returns whether the original length of a head is the stored one.
-fn original_ends_well(parser: &PcapParser, time: u32, head: Numbers, slice: &[u8]) -> bool
-    ensures { IsTrue result ↔ OriginalEndsWell (header_of parser.now) time (head_in head) slice.now }
+// Returns the length of the whole packet of this head, or of as much of it as the capture stores.
+pub(crate) fn whole_length(parser: &PcapParser, head: Numbers) -> u32
+    ensures { result ≡ whole_length (header_of parser.now) (head_in head) }
 {
-    can_be(parser, time, head, head.original) && ends_well(parser, time, head.original, slice)
+    head.original.min(limit_of(parser))
+}
+
+// Returns whether a head is that of a whole packet, or of as much of it as the capture stores.
+fn whole_ends_well(parser: &PcapParser, time: u32, head: Numbers, slice: &[u8]) -> bool
+    ensures { IsTrue result ↔ WholeEndsWell (header_of parser.now) time (head_in head) slice.now }
+{
+    let length = whole_length(parser, head);
+    can_be(parser, time, head, length) && ends_well(parser, time, length, slice)
 }
 
 // Returns whether packets go on inside the first `n` bytes of the data.
@@ -75,9 +83,9 @@ fn is_opposed(parser: &PcapParser, time: u32, head: Numbers, data: &[u8]) -> boo
 /// Compares the packet at the front of the slice with what follows it. `time` is that of the packet before, in seconds since
 /// 1970, or its own. The slice reaches to the end of the capture, or at least 1048640 bytes past the packet.
 ///
-/// The packet stands if something may follow it (`follows`). Otherwise its original length is tried. Otherwise the length is
-/// wrong if the head has no data, breaks a rule or is longer than the snapshot length, or if packets go on inside its data. A
-/// packet against which nothing speaks stands, so the last one before corrupt bytes is kept.
+/// The packet stands if something may follow it (`follows`). Otherwise its original length is tried, or the snapshot length if that is
+/// less. Otherwise the length is wrong if the head has no data, breaks a rule or is longer than the snapshot length, or if packets go on
+/// inside its data. A packet against which nothing speaks stands, so the last one before corrupt bytes is kept.
 pub fn weigh(parser: &PcapParser, time: u32, slice: &[u8]) -> Weight
     ensures { Weighs (header_of parser.now) time slice.now result }
 {
@@ -87,8 +95,8 @@ pub fn weigh(parser: &PcapParser, time: u32, slice: &[u8]) -> Weight
     if ends_well(parser, time, head.included, slice) {
         return Weight::Stands;
     }
-    if original_ends_well(parser, time, head, slice) {
-        return Weight::Length(head.original);
+    if whole_ends_well(parser, time, head, slice) {
+        return Weight::Length(whole_length(parser, head));
     }
     if is_opposed(parser, time, head, data) {
         return Weight::Wrong;

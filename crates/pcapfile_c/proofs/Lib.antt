@@ -23,4 +23,3 @@ mod EitherFormat
 pub mod AnyTaken
 mod AnyNgTaken
 mod Standing
-mod ByLength

@@ -1,15 +1,12 @@
 -- What the calls return that read damaged captures.
-use Rattle.std.specs.Prelude.{◌≡◌, ◌<◌, ◌≤◌, ◌+◌, ◌⊎◌, ℕ, ℤ, pos, List, length, take, Bool, true, false, Option, Some, None, Result, Ok, Err, nat_lt, if◌then◌else◌}
+use Rattle.std.specs.Prelude.{◌≡◌, ◌<◌, ◌≤◌, ◌+◌, ◌⊎◌, ℕ, ℤ, pos, List, length, take, Bool, true, false, Option, Some, Result, Ok, Err, nat_lt, if◌then◌else◌}
 use Rattle.pcap_core.specs.declared.common.Endianness.{Endianness}
 use Rattle.pcap_core.specs.declared.rules.Rule.TheVariants.{SectionMagic}
 use Rattle.pcap_classic.specs.declared.pcap.header.PcapHeader.{PcapHeader}
 use Rattle.pcap_damaged.specs.declared.judged.Judged.{Judged}
 use Rattle.pcap_damaged.specs.declared.judged.Judged.TheVariants as judged
 use Rattle.pcap_damaged.specs.Judged.{Judges}
-use Rattle.pcap_damaged.specs.Plausible.{FirstBefore, GoesOn, IsNotZero}
-use Rattle.pcap_tolerant.specs.AsIs.{AsIs}
-use Rattle.pcap_tolerant.specs.Resync.{PacketsResync, Row}
-use Rattle.pcap_tolerant.specs.Run.{as_is_under}
+use Rattle.pcap_damaged.specs.Lengths.{FirstPackets}
 use Rattle.pcap_tolerant_captures.specs.Places.{FindsBlocks}
 use Rattle.pcap_tolerant_captures.specs.Resync.{SectionResyncs}
 use Rattle.pcapfile_values.specs.declared.errors.PcapfileError.{PcapfileError}
@@ -24,30 +21,23 @@ use Rattle.pcapfile_c.specs.Readers.{Reader}
 abbrev pub Under : PcapfileHeader → (PcapHeader → Type 0) → Type 0
 Under shown Has = (header : PcapHeader) × (shown_header header ≡ shown) × Has header
 
--- One of the packet's numbers is not 0.
-abbrev pub HasNumbers : AsIs → Type 0
-HasNumbers packet = IsNotZero packet.head
+-- What a gap and a length say of the front: a packet of its stored length, one of this length, or so many corrupt bytes before other packets.
+abbrev pub ShowsFront : (Judged → Type 0) → ℕ × ℕ → Type 0
+ShowsFront Is told = ((told.0 ≡ 0) × (told.1 ≡ 0) × Is judged.Packet)
+    ⊎ (((told.0 ≡ 0) × (0 < told.1) × Is (judged.Length told.1))
+    ⊎ ((0 < told.0) × (told.1 ≡ 0) × Is (judged.Gap told.0)))
 
--- So many packets follow each other from the front by their stored lengths, or fewer, at least one, to the end. They may break rules.
-abbrev pub FollowByLength : PcapHeader → ℕ → List ℕ → Type 0
-FollowByLength header = Row (as_is_under 0 header) HasNumbers tt
-
--- A packet is at the front, by its time or by the lengths of four packets.
-abbrev pub IsPacket : (Judged → Type 0) → Type 0 → Type 0
-IsPacket Is Follow = Is judged.Packet ⊎ (Is judged.Corrupt × Follow)
-
--- Status 0: a packet is at the front if the gap is 0, and otherwise so many corrupt bytes before other packets. Status 8: corrupt bytes.
--- Status 1: so many bytes are missing.
-abbrev pub TellsJudged : (Judged → Type 0) → Type 0 → Reader (List ℕ) ℕ → Reader (List ℕ) ℕ → ℤ → Type 0
-TellsJudged Is Follow old new status =
-    ((status ≡ pos 0) × (new.error ≡ old.error) × (((new.value ≡ 0) × IsPacket Is Follow) ⊎ ((0 < new.value) × Is (judged.Gap new.value))))
-    ⊎ (((status ≡ pos 8) × (new.error ≡ old.error) × (new.value ≡ old.value) × Is judged.Corrupt × (Follow → ⊥))
+-- Status 0: a packet or a gap is at the front. Status 8: corrupt bytes. Status 1: so many bytes are missing.
+abbrev pub TellsJudged : (Judged → Type 0) → Reader (List ℕ) (ℕ × ℕ) → Reader (List ℕ) (ℕ × ℕ) → ℤ → Type 0
+TellsJudged Is old new status =
+    ((status ≡ pos 0) × (new.error ≡ old.error) × ShowsFront Is new.value)
+    ⊎ (((status ≡ pos 8) × (new.error ≡ old.error) × (new.value ≡ old.value) × Is judged.Corrupt)
     ⊎ ((status ≡ pos 1) × (new.error.rule ≡ 0) × (new.value ≡ old.value) × Is (judged.Missing new.error.missing)))
 
 -- What a call returns of the front of the bytes behind a packet at this time. They end the capture if `all` is not 0.
-abbrev pub TellsFront : PcapfileHeader → ℕ → ℕ → Reader (List ℕ) ℕ → Reader (List ℕ) ℕ → ℤ → Type 0
+abbrev pub TellsFront : PcapfileHeader → ℕ → ℕ → Reader (List ℕ) (ℕ × ℕ) → Reader (List ℕ) (ℕ × ℕ) → ℤ → Type 0
 TellsFront shown time all old new status =
-    Under shown (λ header. TellsJudged (Judges header time (nat_lt 0 all) old.left) (FollowByLength header 4 old.left) old new status)
+    Under shown (λ header. TellsJudged (Judges header time (nat_lt 0 all) old.left) old new status)
 
 -- Bytes that are searched at once: at the places before the bound, and whether the capture ends with them.
 pub record Searched : Type 0 where
@@ -83,15 +73,9 @@ IsSearched all s searched = IsWhole all s searched ⊎ IsFront all s searched
 abbrev pub LacksSearched : Bool → List ℕ → ℕ → Type 0
 LacksSearched all s n = (all ≡ false) × (length s < most_searched) × (length s + n ≡ most_searched)
 
--- The first place before the bound from which packets go on behind a packet at this time. Without one, the first place of three packets that
--- break no rule and have data.
-abbrev pub GoOnAt : PcapHeader → ℕ → Searched → Option ℕ → Type 0
-GoOnAt header time searched found = ((place : ℕ) × (found ≡ Some place) × FirstBefore (GoesOn header time) searched.bound searched.bytes (Some place))
-    ⊎ (FirstBefore (GoesOn header time) searched.bound searched.bytes None × PacketsResync header 3 searched.bytes found)
-
--- The same under the header that a struct shows.
+-- The first place in the searched bytes from which packets go on behind a packet at this time, or else three that break no rule.
 abbrev pub PacketsGoOn : PcapfileHeader → ℕ → Searched → Option ℕ → Type 0
-PacketsGoOn shown time searched found = Under shown (λ header. GoOnAt header time searched found)
+PacketsGoOn shown time searched found = Under shown (λ header. FirstPackets header time searched.bound searched.bytes found)
 
 -- The first place of a section header before the first section, and later the place at which blocks go on in the section's byte order.
 pub record BlocksGoOn (magic : ℕ) (searched : Searched) (found : Option ℕ) : Type 0 where

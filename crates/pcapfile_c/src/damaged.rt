@@ -1,21 +1,16 @@
 //! Finds out in damaged captures whether a packet can be trusted, and where packets or blocks go on after corrupt bytes.
 
-ghost use Rattle.std.specs.Prelude.{◌≡◌, ◌≢◌, ◌↔◌, ℕ, false, pos, IsTrue, None};
+ghost use Rattle.std.specs.Prelude.{◌≡◌, ◌≢◌, ℕ, false, pos, IsTrue, None};
 ghost use Rattle.pcap_classic.specs.Magic.{is_magic};
-ghost use Rattle.pcap_classic.specs.Parser.{header_of};
-ghost use Rattle.pcap_tolerant.specs.AsIs.{as_it_is};
 ghost use Rattle.pcapfile_values.specs.Blocks.{order_shown};
 ghost use Rattle.pcapfile_c.specs.Calls.{RefusesMagic};
-ghost use Rattle.pcapfile_c.specs.Damaged.{BlocksGoOn, FollowByLength, GoOnAt, HasNumbers, PacketsGoOn, RefusesSection, ShowsWindow, Skips, SkipsTo, TellsFront, searched_in};
+ghost use Rattle.pcapfile_c.specs.Damaged.{BlocksGoOn, PacketsGoOn, RefusesSection, ShowsWindow, Skips, SkipsTo, TellsFront, searched_in};
 ghost use Rattle.pcapfile_c.specs.Readers.{reader};
 
 use crate::as_is::parser_behind;
-use pcap_classic::pcap::PcapParser;
 use pcap_core::PcapError;
 use pcap_core::rules::Rule;
-use pcap_damaged::{Judged, judge, resync};
-use pcap_tolerant::resync::resync as resync_by_rules;
-use pcap_tolerant::{PacketAsIs, next_packet_as_is};
+use pcap_damaged::{Judged, first_packets, judge};
 use pcap_tolerant_captures::first_blocks;
 use pcap_tolerant_captures::resync::resync_section;
 use pcapfile_values::blocks::PcapfileSection;
@@ -28,15 +23,9 @@ const WINDOW: usize = 2_097_152;
 /// The most bytes of four packets that break no rule.
 const ROW: usize = 1_048_640;
 
-/// The number of packet records that must follow each other by their lengths, whatever their times.
-const ROW_BY_LENGTH: usize = 4;
-
-/// The same of packet records that break no rule and have data.
-const ROW_BY_RULES: usize = 3;
-
 /// Finds out whether a packet record is at the front of `bytes`, by what follows it. Sets `gap` to 0 if there is one, and otherwise to the
-/// number of corrupt bytes before the first packet record inside it. `time` is that of the packet record before, in seconds. `is_all` is not
-/// 0 if `bytes` reaches to the end of the capture.
+/// number of corrupt bytes before the first packet record inside it. Sets `length` to the length of its data if the stored one is wrong, and
+/// otherwise to 0. `time` is that of the packet record before, in seconds. `is_all` is not 0 if `bytes` reaches to the end of the capture.
 #[unsafe(no_mangle)]
 pub extern "C" fn pcapfile_judge_packet(
     header: &PcapfileHeader,
@@ -44,28 +33,22 @@ pub extern "C" fn pcapfile_judge_packet(
     bytes: &PcapfileBytes<'_>,
     is_all: u8,
     gap: &mut usize,
+    length: &mut u32,
     error: &mut PcapfileError,
 ) -> i32
     ensures told { IsTrue (is_magic header.now.magic_number) →
-        TellsFront header.now time is_all (reader bytes.now.bytes.now gap.old error.old) (reader bytes.now.bytes.now gap.new error.new) result }
-    ensures refused { is_magic header.now.magic_number ≡ false → RefusesMagic bytes.now bytes.now gap.old gap.new error.new result }
+        TellsFront header.now time is_all (reader bytes.now.bytes.now (gap.old, length.old) error.old)
+        (reader bytes.now.bytes.now (gap.new, length.new) error.new) result }
+    ensures refused { is_magic header.now.magic_number ≡ false →
+        RefusesMagic {S = ℕ × ℕ} bytes.now bytes.now (gap.old, length.old) (gap.new, length.new) error.new result }
 {
     let Some(parser) = parser_behind(header) else {
         return tell_broken(Rule::CaptureMagic, error);
     };
     match judge(&parser, time, bytes.bytes, is_all > 0) {
-        Judged::Packet => {
-            *gap = 0;
-            0
-        }
-        Judged::Gap(corrupt) => {
-            *gap = corrupt;
-            0
-        }
-        Judged::Corrupt if follow_by_length(&parser, bytes.bytes, ROW_BY_LENGTH) => {
-            *gap = 0;
-            0
-        }
+        Judged::Packet => tell_front(0, 0, gap, length),
+        Judged::Length(right) => tell_front(0, right, gap, length),
+        Judged::Gap(corrupt) => tell_front(corrupt, 0, gap, length),
         Judged::Corrupt => 8,
         Judged::Missing(missing) => tell(&PcapError::IncompleteBuffer(missing), error),
     }
@@ -94,7 +77,7 @@ pub extern "C" fn pcapfile_skip_to_packets(
     };
     match first_window(bytes.bytes, is_all > 0) {
         Ok(window) => {
-            let found = first_packets(&parser, time, window);
+            let found = first_packets(&parser, time, window.bytes, window.bound);
             tell_skipped(found, window, skipped, is_over)
         }
         Err(missing) => tell(&PcapError::IncompleteBuffer(missing), error),
@@ -133,36 +116,15 @@ pub extern "C" fn pcapfile_skip_to_blocks(
     }
 }
 
-// Returns whether so many packet records follow each other from the front of the slice by their stored lengths, or fewer, at least one, to
-// its end. They may break rules, but none has only zeros for numbers.
-fn follow_by_length(parser: &PcapParser, slice: &[u8], count: usize) -> bool
-    ensures { IsTrue result ↔ FollowByLength (header_of parser.now) count slice.now }
+// Sets the number of corrupt bytes at the front, and the length of a packet there whose stored length is wrong.
+fn tell_front(corrupt: usize, right: u32, gap: &mut usize, length: &mut u32) -> i32
+    ensures status { result ≡ pos 0 }
+    ensures gap { gap.new ≡ corrupt }
+    ensures length { length.new ≡ right }
 {
-    let mut left = slice;
-    let mut more = count;
-    while more > 0 {
-        match next_packet_as_is(parser, left, 0) {
-            Ok((rest, packet)) => {
-                if !has_numbers(&packet) {
-                    return false;
-                }
-                if rest.len() == 0 {
-                    return true;
-                }
-                left = rest;
-                more -= 1;
-            }
-            Err(_e) => return false,
-        }
-    }
-    true
-}
-
-// Returns whether one of the numbers of a packet record is not 0.
-fn has_numbers(packet: &PacketAsIs<'_>) -> bool
-    ensures { IsTrue result ↔ HasNumbers (as_it_is packet.now) }
-{
-    packet.ts_sec > 0 || packet.fraction > 0 || packet.incl_len > 0 || packet.orig_len > 0
+    *gap = corrupt;
+    *length = right;
+    0
 }
 
 // The bytes that are searched at once.
@@ -194,17 +156,6 @@ fn first_window(bytes: &[u8], is_all: bool) -> Result<Window<'_>, usize>
         bound: WINDOW - ROW,
         is_last: false,
     })
-}
-
-// Returns the first place of a window from which packet records go on by their times, or without one the first place of three that break
-// no rule and have data.
-fn first_packets(parser: &PcapParser, time: u32, window: Window<'_>) -> Option<usize>
-    ensures { GoOnAt (header_of parser.now) time (searched_in window.entry) result }
-{
-    match resync(parser, time, window.bytes, window.bound) {
-        Some(place) => Some(place),
-        None => resync_by_rules(parser, window.bytes, ROW_BY_RULES),
-    }
 }
 
 // Sets the number of corrupt bytes before a place that was found in a window, and whether no more follow them.

@@ -3,8 +3,8 @@
 use crate::change::Change;
 use crate::window::Window;
 use pcap_damaged::{
-    NEAR, Numbers, Weight, begins_capture, begins_near, can_be_this_long, follows, head_at, resync,
-    weigh,
+    NEAR, Numbers, Weight, begins_capture, begins_near, can_be_this_long, follow_by_length,
+    follows, head_at, resync, weigh,
 };
 use pcap_file::pcap::{PACKET_LIMIT, PcapHeader};
 use pcap_file::{Endianness, PcapParser, ResultParsing, Rule, TsResolution};
@@ -232,7 +232,10 @@ impl Packets {
         window.reach(end.min(HEAD + LIMIT as usize).saturating_add(ROW))?;
         match weigh(&self.parser, time, window.shown()) {
             Weight::Stands => self.stand(window, head, time),
-            Weight::Length(length) => Ok(self.change(window, head, length, false)),
+            Weight::Length(length) => {
+                let is_guess = head.original > PACKET_LIMIT;
+                Ok(self.change(window, head, length, is_guess))
+            }
             Weight::Wrong if head.included > self.limit() => self.exceed(window, head, time),
             Weight::Wrong => self.look_on(window, head, time),
             Weight::Short => Ok(Here::Torn),
@@ -349,6 +352,13 @@ impl Packets {
         Ok(true)
     }
 
+    // Returns whether other packets follow the one at the front by their lengths, and none go on inside its data.
+    fn stands_by_length(&self, bytes: &[u8], head: Numbers, time: u32) -> bool {
+        let data = bytes.get(HEAD..).unwrap_or_default();
+        follow_by_length(&self.parser, bytes)
+            && resync(&self.parser, time, data, head.included as usize).is_none()
+    }
+
     // Returns the longest data that a packet of the capture may have.
     fn limit(&self) -> u32 {
         match self.parser.header().snaplen {
@@ -452,6 +462,9 @@ impl Packets {
         }
         if let Some((length, is_guess)) = self.whole_length(window.shown(), head, time) {
             return Ok(self.change(window, head, length, is_guess));
+        }
+        if self.stands_by_length(window.shown(), head, time) {
+            return Ok(self.take_unconfirmed(window, head));
         }
         let behind = window.shown().get(HEAD..).unwrap_or_default();
         let bound = sure.saturating_sub(HEAD).min(PACKET_LIMIT as usize + 1);

@@ -5,7 +5,7 @@ ghost use Rattle.pcapfile_rows.specs.Opened.{bytes_in};
 
 use crate::packets::ROW;
 use crate::undo::Undo;
-use pcap_damaged::resync as first_packets;
+use pcap_damaged::first_packets;
 use pcap_file::{Endianness, PcapParser};
 use pcap_tolerant_captures::first_blocks;
 use pcap_tolerant_captures::resync::resync_section;
@@ -138,6 +138,14 @@ impl<R> Window<R> {
         len.saturating_sub(ROW)
     }
 
+    // Returns the bytes that are searched at once for these items, and the number of places in them at which more bytes would change nothing.
+    fn searched(&self, sought: Sought<'_>, is_all: bool) -> (&[u8], usize) {
+        match (sought, self.shown().get(0..WINDOW)) {
+            (Sought::Packets(..), Some(front)) if !is_all => (front, WINDOW - ROW),
+            _ => (self.shown(), self.sure(is_all)),
+        }
+    }
+
     /// Puts other bytes into the window, from this offset on.
     pub(crate) fn put(&mut self, offset: usize, bytes: &[u8]) {
         let from = self.passed.saturating_add(offset);
@@ -198,8 +206,8 @@ impl<R: BufRead> Window<R> {
         let mut bytes: u64 = 0;
         for _ in 0..u64::MAX {
             let is_all = !self.reach(WINDOW)?;
-            let sure = self.sure(is_all);
-            let found = sought.first(self.shown(), sure);
+            let (searched, sure) = self.searched(sought, is_all);
+            let found = sought.first(searched, sure);
             let passed = found.unwrap_or(sure).min(sure);
             self.pass(passed);
             bytes = bytes.saturating_add(passed as u64);

@@ -1,4 +1,4 @@
-use Rattle.std.proofs.Common.{arith, inl, inr, refl}
+use Rattle.std.proofs.Common.{arith, inl, inr}
 use Rattle.pcap_damaged.specs.Heads.{head_in}
 use Rattle.pcap_damaged.proofs.Texts.{untrue}
 use Rattle.pcap_damaged.proofs.weight.weigh.Goals as goal
@@ -6,16 +6,16 @@ use Rattle.pcap_damaged.proofs.weight.weigh.Goals as goal
 pub returns-then-ends_well : goal.returns-then-ends_well
 returns-then-ends_well c = inr (head_in c.in-Some.head, c.in-Some.data.now, c.in-Some.ensures, inl (c.ends_well.ensures.0 c.if-ends_well.true))
 
-pub returns-then-original_ends_well : goal.returns-then-original_ends_well
-returns-then-original_ends_well c =
+pub returns-then-whole_ends_well : goal.returns-then-whole_ends_well
+returns-then-whole_ends_well c =
     inr (
       head_in c.in-Some.head,
       c.in-Some.data.now,
       c.in-Some.ensures,
       (
         (λ ends. untrue c.if-ends_well.false (c.ends_well.ensures.1 ends)),
-        c.original_ends_well.ensures.0 c.if-original_ends_well.true,
-        refl,
+        c.whole_ends_well.ensures.0 c.if-whole_ends_well.true,
+        c.whole_length.ensures,
       ),
     )
 
@@ -26,7 +26,7 @@ returns-then-is_opposed c =
       c.in-Some.data.now,
       c.in-Some.ensures,
       (
-        record { stored = λ ends. untrue c.if-ends_well.false (c.ends_well.ensures.1 ends); original = λ ends. untrue c.if-original_ends_well.false (c.original_ends_well.ensures.1 ends) },
+        record { stored = λ ends. untrue c.if-ends_well.false (c.ends_well.ensures.1 ends); whole = λ ends. untrue c.if-whole_ends_well.false (c.whole_ends_well.ensures.1 ends) },
         c.is_opposed.ensures.0 c.if-is_opposed.true,
       ),
     )
@@ -39,7 +39,7 @@ returns-then-slice-head c =
       c.in-Some.ensures,
       (
         record {
-          nowhere = record { stored = λ ends. untrue c.if-ends_well.false (c.ends_well.ensures.1 ends); original = λ ends. untrue c.if-original_ends_well.false (c.original_ends_well.ensures.1 ends) };
+          nowhere = record { stored = λ ends. untrue c.if-ends_well.false (c.ends_well.ensures.1 ends); whole = λ ends. untrue c.if-whole_ends_well.false (c.whole_ends_well.ensures.1 ends) };
           unopposed = λ opposed. untrue c.if-is_opposed.false (c.is_opposed.ensures.1 opposed);
         },
         omega (arith, c.if-slice-head.true),
@@ -54,7 +54,7 @@ returns c =
       c.in-Some.ensures,
       inr (
         record {
-          nowhere = record { stored = λ ends. untrue c.if-ends_well.false (c.ends_well.ensures.1 ends); original = λ ends. untrue c.if-original_ends_well.false (c.original_ends_well.ensures.1 ends) };
+          nowhere = record { stored = λ ends. untrue c.if-ends_well.false (c.ends_well.ensures.1 ends); whole = λ ends. untrue c.if-whole_ends_well.false (c.whole_ends_well.ensures.1 ends) };
           unopposed = λ opposed. untrue c.if-is_opposed.false (c.is_opposed.ensures.1 opposed);
         },
         omega (arith, c.if-slice-head.false),

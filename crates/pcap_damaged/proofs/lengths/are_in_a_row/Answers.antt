@@ -1,9 +1,9 @@
 use Rattle.std.proofs.Common.{◌≡◌, ◌<◌, length, refl, arith}
 use Rattle.pcap_classic.specs.Parser.{header_of}
 use Rattle.pcap_tolerant.specs.AsIs.{as_it_is}
-use Rattle.pcapfile_c.specs.Damaged.{HasNumbers}
-use Rattle.pcapfile_c.proofs.ByLength.{follow_down, follow_up, follow_end, follow_refused, follow_zeros}
-use Rattle.pcapfile_c.proofs.damaged.follow_by_length.Goals as goal
+use Rattle.pcap_damaged.specs.Lengths.{HasNumbers}
+use Rattle.pcap_damaged.proofs.ByLength.{follow_down, follow_up, follow_end, follow_refused, follow_zeros}
+use Rattle.pcap_damaged.proofs.lengths.are_in_a_row.Goals as goal
 
 pub returns-then-not-has_numbers : goal.returns-then-not-has_numbers
 returns-then-not-has_numbers c =

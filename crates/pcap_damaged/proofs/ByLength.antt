@@ -8,7 +8,7 @@ use Rattle.pcap_tolerant.specs.AsIs.{AsIs, AsIsSays, as_is_format, raised}
 use Rattle.pcap_tolerant.specs.Run.{as_is_under}
 use Rattle.pcap_tolerant.proofs.KnownPackets.{under_lawful}
 use Rattle.pcap_tolerant.proofs.Rows.{goes_down, goes_up, goes_to_the_end, goes_no_further, goes_not_over}
-use Rattle.pcapfile_c.specs.Damaged.{FollowByLength, HasNumbers}
+use Rattle.pcap_damaged.specs.Lengths.{FollowByLength, HasNumbers}
 
 module _ (header : PcapHeader) where
   abbrev pub Says : List ℕ → Verdict AsIs → Type 0

@@ -1,6 +1,6 @@
 use Rattle.pcap_classic.specs.Parser.{header_of}
-use Rattle.pcapfile_c.specs.Damaged.{FollowByLength}
-use Rattle.pcapfile_c.proofs.damaged.follow_by_length.Given as goal
+use Rattle.pcap_damaged.specs.Lengths.{FollowByLength}
+use Rattle.pcap_damaged.proofs.lengths.are_in_a_row.Given as goal
 
 abbrev pub invariant-loop-more : goal.invariant-loop-more
 invariant-loop-more l =
