@@ -876,7 +876,8 @@ DRIFTING = ("3000 packets, little a1b2c3d4", "3000 packets, big a1b23c4d")
 
 
 def try_repairs(tally, help):
-    """Repairs each capture into a file and through pipes, and checks what a second repair does, which hardly ever changes anything."""
+    """Repairs each capture into a file and through pipes, and checks that a second repair does what the rules say: nothing, but for the
+    captures that drift."""
     for name, capture in (*captures(), *gaps()):
         out, said, status = repaired("in", capture)
         wanted = {"in": capture, "out": b"old" if out is None else out}
